@@ -1,0 +1,57 @@
+ghost use Rattle.std.specs.Prelude.{◌≡◌, ◌≤◌, ◌<◌, ◌∷◌, ◌++◌, [], length};
+
+use arrayvec::ArrayVec;
+use std::marker::Model;
+
+/// The bytes of a write: at most 512, in the value itself. Contracts see them as their list.
+#[derive(Drop)]
+pub struct Payload {
+    bytes: ArrayVec<u8, 512>,
+}
+
+impl Model for Payload {
+    ghost use Rattle.std.specs.Prelude.{◌≤◌, List, ℕ, length};
+
+    ghost Value = { List ℕ };
+
+    ghost view = { λ a. a.bytes.items };
+
+    ghost invariant = { λ a. length a.bytes.items ≤ 512 };
+}
+
+impl Payload {
+    /// No bytes.
+    pub fn new() -> Self
+        ensures { result ≡ [] }
+    {
+        Payload {
+            bytes: ArrayVec::new(),
+        }
+    }
+
+    /// A copy of these bytes.
+    pub fn from_slice(bytes: &[u8]) -> Self
+        requires { length bytes.now ≤ 512 }
+        ensures { result ≡ bytes.now }
+    {
+        let mut copy = ArrayVec::new();
+        for byte in bytes {
+            copy.push(*byte);
+        }
+        Payload { bytes: copy }
+    }
+
+    pub fn as_slice(&self) -> &[u8]
+        ensures { result.now ≡ self.now }
+    {
+        self.bytes.as_slice()
+    }
+
+    /// Adds a byte at the end.
+    pub fn push(&mut self, byte: u8)
+        requires { length self.old < 512 }
+        ensures { self.new ≡ self.old ++ byte ∷ [] }
+    {
+        self.bytes.push(byte);
+    }
+}

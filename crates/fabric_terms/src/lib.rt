@@ -1,0 +1,23 @@
+//! What the fabric's messages, schedules, records and reports are made of, and what is seen of a run.
+//!
+//! The types have no behaviour of their own: readers and printers stand above, each in its crate. Beside
+//! them stand the definitions that the program's promise is made of: a run as a list of moments, who holds
+//! a point, and what a safe run is. They speak of reports, readings and running instances alone, and know
+//! no lease, message or table.
+#![tactic(auto)]
+
+mod bytes;
+mod command;
+mod config;
+mod event;
+mod message;
+mod record;
+mod report;
+
+pub use bytes::Payload;
+pub use command::Command;
+pub use config::{Address, Arbiters, FabricConfig, NodeEntry, Nodes};
+pub use event::{Event, JunkBytes, Readings};
+pub use message::{Body, Message};
+pub use record::Record;
+pub use report::{Head, Partitions, Reason, Report, Verb, Why};
