@@ -1,0 +1,6 @@
+//! What a majority of arbitrators has said.
+#![tactic(auto)]
+
+mod verdict;
+
+pub use verdict::Verdict;
