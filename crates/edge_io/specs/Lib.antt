@@ -1,0 +1,3 @@
+pub mod Edge
+pub mod Plan
+pub mod Memory

@@ -1,0 +1,21 @@
+//! What the program reads from and writes to, as traits with a meaning, and their forms in memory.
+//!
+//! A device is the outside: bytes that come in, bytes that go out. Its trait says what each call does to
+//! what the device has left or holds, as far as the device tells it, and counts how often it failed.
+//! This crate stands on nothing of the project. Above it the program is written once, over the traits:
+//! run on the real devices it is the product, and on the devices in memory, which tell all, it is what
+//! the theorems speak of.
+#![tactic(auto)]
+
+mod fault_plan;
+mod mem_sink;
+mod mem_source;
+mod refusal;
+mod sink;
+mod source;
+
+pub use mem_sink::MemSink;
+pub use mem_source::MemSource;
+pub use refusal::{EdgeRefusal, Failed};
+pub use sink::{Sink, write_all};
+pub use source::Source;
