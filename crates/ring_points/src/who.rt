@@ -15,8 +15,9 @@ pub struct Who {
 
 /// What an arbitrator rules on an accusation: the accuser is the first of this victim, another was
 /// first, or the accuser is accused itself.
-#[derive(Clone, Copy, Debug, PartialEq, Eq)]
+#[derive(Clone, Copy, Debug, PartialEq, Eq, Default)]
 pub enum Ruling {
+    #[default]
     Granted,
     Taken,
     Refused,

@@ -1,0 +1,14 @@
+pub mod Rings
+pub mod Slots
+pub mod Links
+pub mod Deeds
+pub mod Handshakes
+pub mod Renewals
+pub mod Flights
+pub mod Rulings
+pub mod Commands
+pub mod Seeks
+pub mod Firing
+pub mod Steps
+pub mod Arbiters
+pub mod Waits
