@@ -1,0 +1,41 @@
+ghost use Rattle.std.specs.Prelude.{◌≡◌};
+ghost use Rattle.sched_text.specs.Fields.{Gives, node_at, arbiter_at, actor_at};
+
+use crate::bad_line::BadLine;
+use crate::number::number_in;
+use crate::word::after_word;
+
+/// The greatest number of a node.
+const LAST_NODE: u64 = 999;
+
+/// The greatest number of an arbitrator.
+const LAST_ARBITER: u64 = 9;
+
+/// An arbitrator's number as an actor is this plus its own.
+pub const ARBITERS: u16 = 32768;
+
+/// A node, and what follows it.
+pub fn node_at(bytes: &[u8]) -> Result<(u16, &[u8]), BadLine>
+    ensures { Gives (λ x. (x.0, x.1.now)) result (node_at bytes.now) }
+{
+    let (node, rest) = number_in(1, LAST_NODE, bytes)?;
+    Ok((node as u16, rest))
+}
+
+/// The number of an arbitrator, without its letter, as an actor, and what follows it.
+pub fn arbiter_at(bytes: &[u8]) -> Result<(u16, &[u8]), BadLine>
+    ensures { Gives (λ x. (x.0, x.1.now)) result (arbiter_at bytes.now) }
+{
+    let (arbiter, rest) = number_in(1, LAST_ARBITER, bytes)?;
+    Ok((ARBITERS + arbiter as u16, rest))
+}
+
+/// An actor, and what follows it.
+pub fn actor_at(bytes: &[u8]) -> Result<(u16, &[u8]), BadLine>
+    ensures { Gives (λ x. (x.0, x.1.now)) result (actor_at bytes.now) }
+{
+    match after_word(b"a", bytes) {
+        Ok(rest) => arbiter_at(rest),
+        Err(_) => node_at(bytes),
+    }
+}

@@ -1,0 +1,3 @@
+/// The bytes are no line of a schedule.
+#[derive(Clone, Copy, Debug, PartialEq, Eq)]
+pub struct BadLine;
