@@ -1,0 +1,10 @@
+pub mod Checks
+pub mod Fields
+pub mod Words
+pub mod Numbers
+pub mod Points
+pub mod Entries
+pub mod Nodes
+pub mod Arbiters
+pub mod Config
+pub mod Worked
