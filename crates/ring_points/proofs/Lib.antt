@@ -1,0 +1,11 @@
+pub mod Rising
+pub mod OneList
+pub mod Spans
+pub mod Meets
+pub mod Cuts
+pub mod Joins
+pub mod Arcs
+pub mod Ahead
+pub mod Swept
+pub mod Fitting
+pub mod Answered
