@@ -1,0 +1,75 @@
+-- What each event does, and when it may come. Nobody above unfolds these.
+use Rattle.std.specs.Prelude.{◌≡◌, refl, ℕ, ◌+◌, Bool, not, ◌&&◌, List, Option, nat_le}
+use Rattle.fabric_terms.specs.declared.command.Command.{Command}
+use Rattle.fabric_terms.specs.declared.config.FabricConfig.{FabricConfig}
+use Rattle.fabric_terms.specs.declared.event.Event.TheVariants.{Start, Stop, Tick, Fire, Give, Do, Junk}
+use Rattle.ring_rules.specs.declared.input.Input.TheVariants as input
+use Rattle.world_rules.specs.Maps.{at}
+use Rattle.world_rules.specs.Uppers.{Upper}
+use Rattle.world_rules.specs.Worlds.{World, frame_in}
+use Rattle.world_rules.specs.Acts.{quiet}
+use Rattle.world_rules.specs.Events.{world_step, starts, stops, ticks, acts_at, arrives, is_arbiter_actor}
+use Rattle.world_rules.specs.Schedules.{is_there, may_start, runs, are_of, node_runs, command_names, keeps_bound, readings_fit}
+
+module _ (a : Upper) (c : FabricConfig) (w : World a) where
+  pub world_step-start : (actor : ℕ) (reading : Option ℕ) → world_step a c w (Start actor reading) ≡ starts a c w actor reading
+  unfolding world_step
+  world_step-start actor reading = refl
+
+  pub world_step-stop : (actor : ℕ) → world_step a c w (Stop actor) ≡ stops a w actor (is_arbiter_actor actor)
+  unfolding world_step
+  world_step-stop actor = refl
+
+  pub world_step-tick : (advance : ℕ) (readings : List (ℕ × ℕ)) → world_step a c w (Tick advance readings) ≡ ticks a w (w.time + advance) readings
+  unfolding world_step
+  world_step-tick advance readings = refl
+
+  pub world_step-fire : (node : ℕ) → world_step a c w (Fire node) ≡ acts_at a c w node input.Fire (at node w.nodes)
+  unfolding world_step
+  world_step-fire node = refl
+
+  pub world_step-give : (frame : ℕ) → world_step a c w (Give frame) ≡ arrives a c w (frame_in w frame)
+  unfolding world_step
+  world_step-give frame = refl
+
+  pub world_step-do : (node : ℕ) (command : Command) → world_step a c w (Do node command) ≡ acts_at a c w node (input.Do command) (at node w.nodes)
+  unfolding world_step
+  world_step-do node command = refl
+
+  pub world_step-junk : (actor : ℕ) (bytes : List ℕ) → world_step a c w (Junk actor bytes) ≡ quiet a w
+  unfolding world_step
+  world_step-junk actor bytes = refl
+
+module _ {a : Upper} (is_frame : List ℕ → Bool) (c : FabricConfig) (w : World a) where
+  pub is_there-start : (actor : ℕ) (reading : Option ℕ) → is_there is_frame c w (Start actor reading) ≡ may_start c w actor reading
+  unfolding is_there
+  is_there-start actor reading = refl
+
+  pub is_there-stop : (actor : ℕ) → is_there is_frame c w (Stop actor) ≡ runs w actor
+  unfolding is_there
+  is_there-stop actor = refl
+
+  pub is_there-tick : (advance : ℕ) (readings : List (ℕ × ℕ)) → is_there is_frame c w (Tick advance readings) ≡ are_of readings w.nodes
+  unfolding is_there
+  is_there-tick advance readings = refl
+
+  pub is_there-fire : (node : ℕ) → is_there is_frame c w (Fire node) ≡ node_runs w node
+  unfolding is_there
+  is_there-fire node = refl
+
+  pub is_there-give : (frame : ℕ) → is_there is_frame c w (Give frame) ≡ (nat_le 1 frame && nat_le frame w.count)
+  unfolding is_there
+  is_there-give frame = refl
+
+  pub is_there-do : (node : ℕ) (command : Command) → is_there is_frame c w (Do node command) ≡ (node_runs w node && command_names c node command)
+  unfolding is_there
+  is_there-do node command = refl
+
+  pub is_there-junk : (actor : ℕ) (bytes : List ℕ) → is_there is_frame c w (Junk actor bytes) ≡ (runs w actor && not (is_frame bytes))
+  unfolding is_there
+  is_there-junk actor bytes = refl
+
+module _ {a : Upper} (c : FabricConfig) (w : World a) where
+  pub keeps_bound-tick : (advance : ℕ) (readings : List (ℕ × ℕ)) → keeps_bound c w (Tick advance readings) ≡ readings_fit c w (w.time + advance) readings
+  unfolding keeps_bound
+  keeps_bound-tick advance readings = refl
