@@ -8,7 +8,9 @@ use Rattle.ring_rules.specs.Rulings.{ruling_received}
 use Rattle.ring_rules.specs.Commands.{link_commanded, part_commanded, give_commanded, join_commanded}
 use Rattle.ring_rules.specs.Seeks.{find_commanded, seek_received, found_received}
 use Rattle.ring_rules.specs.Arbiters.{accusation_ruled, accusation_kept}
-use Rattle.ring_rules.specs.Steps.{node_started, frame_received, command_received, ring_step}
+use Rattle.ring_rules.specs.Starts.{node_started}
+use Rattle.ring_rules.specs.Frames.{frame_received}
+use Rattle.ring_rules.specs.Steps.{command_received, ring_step}
 use Rattle.world_rules.specs.Events.{world_step}
 use Rattle.rules_examples.specs.Joins.{Joins, TakesOnce}
 use Rattle.rules_examples.specs.Lengths.{AgreesLength, CutsLength, TakesOverSooner}

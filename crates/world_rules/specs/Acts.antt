@@ -14,7 +14,9 @@ use Rattle.ring_rules.specs.declared.input.Input.{Input}
 use Rattle.ring_rules.specs.declared.input.Input.TheVariants as input
 use Rattle.ring_rules.specs.Rings.{Settings, Ring, Work, settings_of}
 use Rattle.ring_rules.specs.Arbiters.{accusation_kept, accusation_ruled, accusations_after, takes_frame}
-use Rattle.ring_rules.specs.Steps.{ring_step, passes, own_after}
+use Rattle.ring_rules.specs.Frames.{passes}
+use Rattle.ring_rules.specs.Owns.{own_after}
+use Rattle.ring_rules.specs.Steps.{ring_step}
 use Rattle.world_rules.specs.Maps.{put}
 use Rattle.world_rules.specs.Uppers.{Upper, Did, idle}
 use Rattle.world_rules.specs.Worlds.{World, Node, Arbiter, Stepped, kept_of, posted, numbers_of}

@@ -16,7 +16,8 @@ use Rattle.ring_rules.specs.declared.input.Input.{Input}
 use Rattle.ring_rules.specs.declared.input.Input.TheVariants as input
 use Rattle.ring_rules.specs.Rings.{Work, settings_of}
 use Rattle.ring_rules.specs.Arbiters.{accusations_after}
-use Rattle.ring_rules.specs.Steps.{node_started, own_of_ring}
+use Rattle.ring_rules.specs.Owns.{own_of_ring}
+use Rattle.ring_rules.specs.Starts.{node_started}
 use Rattle.world_rules.specs.Maps.{at, put, without}
 use Rattle.world_rules.specs.Uppers.{Upper}
 use Rattle.world_rules.specs.Worlds.{World, Node, Arbiter, Stepped, kept_of, frame_in}
