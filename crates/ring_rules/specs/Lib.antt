@@ -14,4 +14,3 @@ pub mod Frames
 pub mod Steps
 pub mod Owns
 pub mod Arbiters
-pub mod Waits

@@ -7,7 +7,7 @@ use Rattle.fabric_terms.specs.declared.command.Command.TheVariants as command
 use Rattle.fabric_terms.specs.declared.config.FabricConfig.{FabricConfig}
 use Rattle.fabric_terms.specs.declared.event.Event.{Event}
 use Rattle.fabric_terms.specs.declared.event.Event.TheVariants.{Start, Stop, Tick, Fire, Give, Do, Junk}
-use Rattle.ring_rules.specs.Waits.{fits_all}
+use Rattle.drift_clock.specs.Within.{fits_all}
 use Rattle.world_rules.specs.Maps.{at}
 use Rattle.world_rules.specs.Uppers.{Upper}
 use Rattle.world_rules.specs.Worlds.{World, Node}

@@ -7,7 +7,7 @@ use Rattle.fabric_terms.specs.declared.record.Record.{Record}
 use Rattle.fabric_terms.specs.Runs.{Clocks, Entry}
 use Rattle.ring_rules.specs.Rings.{Ring}
 use Rattle.ring_rules.specs.Arbiters.{Accusations}
-use Rattle.ring_rules.specs.Waits.{Pair}
+use Rattle.drift_clock.specs.Within.{Pair}
 use Rattle.world_rules.specs.Maps.{at}
 use Rattle.world_rules.specs.Uppers.{Upper}
 
