@@ -11,6 +11,8 @@ use Rattle.ring_rules.specs.Arbiters.{accusation_ruled, accusation_kept}
 use Rattle.ring_rules.specs.Starts.{node_started}
 use Rattle.ring_rules.specs.Frames.{frame_received}
 use Rattle.ring_rules.specs.Steps.{command_received, ring_step}
+use Rattle.world_rules.specs.Nodes.{node_begun, node_step}
+use Rattle.world_rules.specs.Arbiters.{arbiter_begun, arbiter_step}
 use Rattle.world_rules.specs.Events.{world_step}
 use Rattle.rules_examples.specs.Joins.{Joins, TakesOnce}
 use Rattle.rules_examples.specs.Lengths.{AgreesLength, CutsLength, TakesOverSooner}
@@ -19,7 +21,7 @@ use Rattle.rules_examples.specs.TakeOvers.{TakesOver, LeavesBefore, TakesNothing
 
 -- every rule, opened
 all_rules : Unit {0}
-unfolding peer_accused discharged_fired slot_fired slots_fired freeze_given place_sought timer_fired hello_received offer_received take_received renew_received ack_received transfer_received gone_received ruling_received link_commanded part_commanded give_commanded join_commanded find_commanded seek_received found_received accusation_ruled accusation_kept node_started frame_received command_received ring_step world_step
+unfolding peer_accused discharged_fired slot_fired slots_fired freeze_given place_sought timer_fired hello_received offer_received take_received renew_received ack_received transfer_received gone_received ruling_received link_commanded part_commanded give_commanded join_commanded find_commanded seek_received found_received accusation_ruled accusation_kept node_started frame_received command_received ring_step node_begun node_step arbiter_begun arbiter_step world_step
 all_rules = tt
 
 pub joins : Joins

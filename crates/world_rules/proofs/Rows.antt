@@ -1,15 +1,40 @@
--- What each event does, and when it may come. Nobody above unfolds these.
-use Rattle.std.specs.Prelude.{◌≡◌, refl, ℕ, ◌+◌, Bool, not, ◌&&◌, List, Option, nat_le}
+-- What each step and each event does, and when an event may come. Nobody above unfolds these.
+use Rattle.std.specs.Prelude.{◌≡◌, refl, ℕ, ◌+◌, Bool, not, ◌&&◌, List, [], Option, nat_le}
 use Rattle.fabric_terms.specs.declared.command.Command.{Command}
 use Rattle.fabric_terms.specs.declared.config.FabricConfig.{FabricConfig}
 use Rattle.fabric_terms.specs.declared.event.Event.TheVariants.{Start, Stop, Tick, Fire, Give, Do, Junk}
 use Rattle.ring_rules.specs.declared.input.Input.TheVariants as input
+use Rattle.fabric_terms.specs.declared.message.Message.{Message}
+use Rattle.fabric_terms.specs.declared.record.Record.{Record}
+use Rattle.ring_points.specs.Whos.{node_instance}
+use Rattle.ring_rules.specs.declared.input.Input.{Input}
+use Rattle.ring_rules.specs.Arbiters.{accusations_after, takes_frame}
+use Rattle.ring_rules.specs.Rings.{settings_of}
+use Rattle.ring_rules.specs.Steps.{ring_step}
+use Rattle.world_rules.specs.Nodes.{NodeState, node_begun, node_step, instance_starts, instance_begun, ring_did}
+use Rattle.world_rules.specs.Arbiters.{ArbiterState, arbiter_begun, arbiter_step, arbiter_takes}
 use Rattle.world_rules.specs.Maps.{at}
 use Rattle.world_rules.specs.Uppers.{Upper}
-use Rattle.world_rules.specs.Worlds.{World, frame_in}
-use Rattle.world_rules.specs.Acts.{quiet}
+use Rattle.world_rules.specs.Worlds.{World, frame_in, quiet}
 use Rattle.world_rules.specs.Events.{world_step, starts, stops, ticks, acts_at, arrives, is_arbiter_actor}
 use Rattle.world_rules.specs.Schedules.{is_there, may_start, runs, are_of, node_runs, command_names, keeps_bound, readings_fit}
+
+module _ (a : Upper) (c : FabricConfig) where
+  pub node_begun-is : (node : ℕ) (records : List Record) → node_begun a c node records ≡ instance_starts a c (node_instance node (instance_begun records)) records
+  unfolding node_begun
+  node_begun-is node records = refl
+
+  pub node_step-is : (now : ℕ) (i : Input) (s : NodeState a) → node_step a c now i s ≡ ring_did a c now i s (ring_step (settings_of c s.ring.me.actor) now i s.ring)
+  unfolding node_step
+  node_step-is now i s = refl
+
+  pub arbiter_begun-is : (arbiter : ℕ) (records : List Record) → arbiter_begun a c arbiter records ≡ record { table = accusations_after [] records; beside = a.beside_begun c arbiter records }
+  unfolding arbiter_begun
+  arbiter_begun-is arbiter records = refl
+
+  pub arbiter_step-is : (arbiter : ℕ) (m : Message) (s : ArbiterState a) → arbiter_step a c arbiter m s ≡ arbiter_takes a c arbiter m s m.body (takes_frame arbiter m)
+  unfolding arbiter_step
+  arbiter_step-is arbiter m s = refl
 
 module _ (a : Upper) (c : FabricConfig) (w : World a) where
   pub world_step-start : (actor : ℕ) (reading : Option ℕ) → world_step a c w (Start actor reading) ≡ starts a c w actor reading
