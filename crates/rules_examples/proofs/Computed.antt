@@ -17,7 +17,7 @@ use Rattle.world_rules.specs.Events.{world_step}
 use Rattle.rules_examples.specs.Joins.{Joins, TakesOnce}
 use Rattle.rules_examples.specs.Lengths.{AgreesLength, CutsLength, TakesOverSooner}
 use Rattle.rules_examples.specs.Searches.{FindsPeer, FindsItself, JoinsThrough}
-use Rattle.rules_examples.specs.TakeOvers.{TakesOver, LeavesBefore, TakesNothing}
+use Rattle.rules_examples.specs.TakeOvers.{TakesOver, LeavesBefore, TakesNothing, BothLeave, RestartsEmpty}
 
 -- every rule, opened
 all_rules : Unit {0}
@@ -67,3 +67,11 @@ cuts_length = refl
 pub takes_over_sooner : TakesOverSooner
 unfolding all_rules
 takes_over_sooner = refl
+
+pub both_leave : BothLeave
+unfolding all_rules
+both_leave = refl
+
+pub restarts_empty : RestartsEmpty
+unfolding all_rules
+restarts_empty = refl

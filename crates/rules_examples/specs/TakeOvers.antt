@@ -1,10 +1,11 @@
 -- A node falls silent, and its peer takes over.
 use Rattle.std.specs.Prelude.{◌≡◌, ℕ, List, [], ◌∷◌, ◌++◌, Some, None}
 use Rattle.ring_points.specs.Ranges.{whole_ring}
+use Rattle.ring_points.specs.Whos.{node_instance}
 use Rattle.fabric_terms.specs.declared.command.Command.TheVariants as command
 use Rattle.fabric_terms.specs.declared.event.Event.{Event}
-use Rattle.fabric_terms.specs.declared.event.Event.TheVariants.{Fire, Give, Do}
-use Rattle.fabric_terms.specs.declared.report.Report.TheVariants.{Own, Accused, Discharged, Heir, TookOver, LeftRing}
+use Rattle.fabric_terms.specs.declared.event.Event.TheVariants.{Stop, Fire, Give, Do}
+use Rattle.fabric_terms.specs.declared.report.Report.TheVariants.{Own, Accused, Discharged, Heir, TookOver, LeftRing, Stopped}
 use Rattle.fabric_terms.specs.declared.report.Why.TheVariants.{Fence}
 use Rattle.rules_examples.specs.Lines.{Line, start_node, start_arbiter, says, arbiter_says}
 use Rattle.rules_examples.specs.Joins.{n1, n2, far_half, near_half, tick_both, joined_events, joined_lines, print_of}
@@ -93,3 +94,40 @@ unseen_lines =
 
 abbrev pub TakesNothing : Type 0
 TakesNothing = print_of 2 unseen_events ≡ unseen_lines
+
+-- Each accuses the other. One arbitrator grants to the one, one to the other, and both then refuse whom they have heard
+-- accused: nobody gets a majority, and both leave at their fences.
+abbrev pub mutual_events : List Event
+mutual_events =
+    start_arbiter 1 ∷ start_arbiter 2
+    ∷ tick_both 3000 3100
+    ∷ Fire 1 ∷ Fire 2
+    ∷ Give 14 ∷ Give 18 ∷ Give 17 ∷ Give 15
+    ∷ Give 20 ∷ Give 23 ∷ Give 21 ∷ Give 22
+    ∷ tick_both 1000 4100
+    ∷ Fire 1 ∷ Fire 2
+    ∷ []
+
+abbrev pub mutual_lines : List Line
+mutual_lines =
+    says 24 3100 n1 3100 (Accused n2 ∷ []) (14, 16)
+    ∷ says 25 3100 n2 3100 (Accused n1 ∷ []) (17, 19)
+    ∷ arbiter_says 26 3100 1 (20, 20)
+    ∷ arbiter_says 27 3100 2 (21, 21)
+    ∷ arbiter_says 28 3100 1 (22, 22)
+    ∷ arbiter_says 29 3100 2 (23, 23)
+    ∷ says 35 4100 n1 4100 (LeftRing Fence ∷ Own [] None ∷ []) (0, 0)
+    ∷ says 36 4100 n2 4100 (LeftRing Fence ∷ Own [] None ∷ []) (0, 0)
+    ∷ []
+
+abbrev pub BothLeave : Type 0
+BothLeave = print_of 1 (joined_events (command.Link 1) ++ mutual_events) ≡ joined_lines 4000 ++ mutual_lines
+
+-- the first node begins with the ring at its first start alone
+abbrev pub RestartsEmpty : Type 0
+RestartsEmpty =
+    print_of 1 (start_node 1 0 ∷ Stop 1 ∷ start_node 1 0 ∷ [])
+    ≡ says 2 0 n1 0 (Own whole_ring None ∷ []) (0, 0)
+    ∷ says 3 0 n1 0 (Stopped ∷ []) (0, 0)
+    ∷ says 4 0 (node_instance 1 2) 0 (Own [] None ∷ []) (0, 0)
+    ∷ []

@@ -7,7 +7,7 @@
 ghost use Rattle.rules_examples.specs.Joins.{Joins, TakesOnce};
 ghost use Rattle.rules_examples.specs.Lengths.{AgreesLength, CutsLength, TakesOverSooner};
 ghost use Rattle.rules_examples.specs.Searches.{FindsItself, FindsPeer, JoinsThrough};
-ghost use Rattle.rules_examples.specs.TakeOvers.{LeavesBefore, TakesNothing, TakesOver};
+ghost use Rattle.rules_examples.specs.TakeOvers.{BothLeave, LeavesBefore, RestartsEmpty, TakesNothing, TakesOver};
 
 /// A node joins a ring of one, and gets the half that is nearer to it.
 pub fn joins()
@@ -32,6 +32,16 @@ pub fn leaves_before()
 /// Who holds no record of a silent node is discharged, and takes over nothing.
 pub fn takes_nothing()
     ensures { TakesNothing }
+{}
+
+/// Where each accuses the other, nobody takes over.
+pub fn both_leave()
+    ensures { BothLeave }
+{}
+
+/// A restarted first node begins with nothing.
+pub fn restarts_empty()
+    ensures { RestartsEmpty }
 {}
 
 /// A point that a peer holds is found through it.
