@@ -14,12 +14,12 @@ pub struct Who {
 }
 
 /// What an arbitrator rules on an accusation: the accuser is the first of this victim, another was
-/// first, or the accuser is accused itself.
+/// first, or the accuser is accused itself. The default only fills places that hold no ruling.
 #[derive(Clone, Copy, Debug, PartialEq, Eq, Default)]
 pub enum Ruling {
-    #[default]
     Granted,
     Taken,
+    #[default]
     Refused,
 }
 

@@ -14,20 +14,23 @@ use Rattle.ring_rules.specs.Commands.{give_commanded, give_if, join_commanded, j
 use Rattle.ring_rules.specs.Deeds.{answer_unknown, counted, in_found, in_session, refuse, tell, then_unless_left}
 use Rattle.ring_rules.specs.Firing.{accuse_if, discharged_due, discharged_fired, fired_at, freeze_given, give_frozen, peer_accused, place_sought, search_by, slot_fired, slots_fired, timer_fired}
 use Rattle.ring_rules.specs.Flights.{gone_elsewhere, gone_received, gone_seen, transfer_received, transfer_seen}
-use Rattle.ring_rules.specs.Handshakes.{greet, hello_of_instance, hello_received, offer_received, offer_seen, take_received, take_seen}
+use Rattle.ring_rules.specs.Frames.{frame_received, frame_row}
+use Rattle.ring_rules.specs.Handshakes.{greet, hello_meets, hello_received, offer_received, offer_seen, take_received, take_seen}
+use Rattle.ring_rules.specs.Links.{greeting_link, offered_link}
 use Rattle.ring_rules.specs.Renewals.{ack_received, ack_seen, renew_received, renew_seen}
-use Rattle.ring_rules.specs.Rings.{Ring, Settings, Work, ◌▷◌}
+use Rattle.ring_rules.specs.Rings.{Ring, Settings, Work, accused_limit, hop_limit, slot_count, ◌▷◌}
 use Rattle.ring_rules.specs.Rulings.{ruling_received, ruling_seen}
 use Rattle.ring_rules.specs.Seeks.{find_by, find_commanded, found_received, greet_holder, hop_from, seek_on, seek_received, seeks_own}
 use Rattle.ring_rules.specs.Slots.{greets_node_by, may_part, of_instance, of_node, slot_at, slot_where}
-use Rattle.ring_rules.specs.Steps.{begun, command_received, command_row, frame_received, frame_row, node_started, ring_step, start_if, step_if}
+use Rattle.ring_rules.specs.Starts.{begun, node_started, start_if}
+use Rattle.ring_rules.specs.Steps.{command_received, command_row, ring_step, step_if}
 use Rattle.ring_rules.specs.declared.input.Input.{Input}
 use Rattle.ring_rules.specs.declared.link.Link.{Link}
 use Rattle.std.specs.Prelude.{Bool, List, None, Some, length, nat_le, nat_lt, refl, suc, zero, ℕ, ◌+◌, ◌-◌, ◌≡◌}
 use Rattle.fabric_terms.specs.declared.report.Report.TheVariants as report
 use Rattle.fabric_terms.specs.declared.report.Verb.TheVariants as verb
 
-pub peer_accused-is : (c : Settings) (i : ℕ) (l : Link) (w : Work) → peer_accused c i l w ≡ accuse_if c i l w (nat_lt (length w.ring.accused) 1024)
+pub peer_accused-is : (c : Settings) (i : ℕ) (l : Link) (w : Work) → peer_accused c i l w ≡ accuse_if c i l w (nat_lt (length w.ring.accused) accused_limit)
 unfolding peer_accused
 peer_accused-is c i l w = refl
 
@@ -47,11 +50,11 @@ pub place_sought-is : (c : Settings) (now : ℕ) (w : Work) → place_sought c n
 unfolding place_sought
 place_sought-is c now w = refl
 
-pub timer_fired-is : (c : Settings) (now : ℕ) (w : Work) → timer_fired c now w ≡ (slots_fired c now 16 w ▷ then_unless_left freeze_given ▷ then_unless_left (place_sought c now))
+pub timer_fired-is : (c : Settings) (now : ℕ) (w : Work) → timer_fired c now w ≡ (slots_fired c now slot_count w ▷ then_unless_left freeze_given ▷ then_unless_left (place_sought c now))
 unfolding timer_fired
 timer_fired-is c now w = refl
 
-pub hello_received-is : (c : Settings) (now : ℕ) (from : Who) (theirs : ℕ) (wire : ℕ) (len : ℕ) (w : Work) → hello_received c now from theirs wire len w ≡ hello_of_instance c now from theirs wire len w (slot_where (of_instance from) w.ring.slots)
+pub hello_received-is : (c : Settings) (now : ℕ) (from : Who) (theirs : ℕ) (wire : ℕ) (len : ℕ) (w : Work) → hello_received c now from theirs wire len w ≡ hello_meets (offered_link c now w.ring from theirs wire len) w
 unfolding hello_received
 hello_received-is c now from theirs wire len w = refl
 
@@ -83,7 +86,7 @@ pub ruling_received-is : (c : Settings) (now : ℕ) (from : Who) (victim : Who) 
 unfolding ruling_received
 ruling_received-is c now from victim ruling w = refl
 
-pub link_commanded-is : (c : Settings) (now : ℕ) (node : ℕ) (wire : ℕ) (len : ℕ) (w : Work) → link_commanded c now node wire len w ≡ greet c now node wire len (refuse verb.Link) w
+pub link_commanded-is : (c : Settings) (now : ℕ) (node : ℕ) (wire : ℕ) (len : ℕ) (w : Work) → link_commanded c now node wire len w ≡ greet (greeting_link c now w.ring node wire len) (refuse verb.Link) w
 unfolding link_commanded
 link_commanded-is c now node wire len w = refl
 
@@ -103,7 +106,7 @@ pub find_commanded-is : (key : Point) (w : Work) → find_commanded key w ≡ fi
 unfolding find_commanded
 find_commanded-is key w = refl
 
-pub seek_received-is : (origin : Who) (key : Point) (hops : ℕ) (w : Work) → seek_received origin key hops w ≡ seek_on origin key hops (hop_from w.ring key (Some origin.actor)) (nat_lt hops 64) w
+pub seek_received-is : (origin : Who) (key : Point) (hops : ℕ) (w : Work) → seek_received origin key hops w ≡ seek_on origin key hops (hop_from w.ring key (Some origin.actor)) (nat_lt hops hop_limit) w
 unfolding seek_received
 seek_received-is origin key hops w = refl
 

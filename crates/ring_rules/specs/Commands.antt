@@ -11,14 +11,14 @@ use Rattle.ring_route.specs.Routes.{point_of}
 use Rattle.ring_rules.specs.declared.link.Link.{Link}
 use Rattle.ring_rules.specs.Rings.{Settings, Ring, Work, ◌▷◌}
 use Rattle.ring_rules.specs.Slots.{slot_at, slot_where, is_bound, may_part, of_node}
-use Rattle.ring_rules.specs.Links.{parting_link, has_flight}
-use Rattle.ring_rules.specs.Deeds.{on_ring, put_slot, set_token, send, refuse, undo_freeze, part_again}
+use Rattle.ring_rules.specs.Links.{greeting_link, parting_link, has_flight}
+use Rattle.ring_rules.specs.Deeds.{on_ring, put_slot, set_token, send, refuse, undo_freeze, say_gone}
 use Rattle.ring_rules.specs.Handshakes.{greet}
 use Rattle.ring_rules.specs.Renewals.{near_part, may_freeze, owns_none}
 
 -- Link: the node is greeted by this frame version, with this length.
 unfoldable pub link_commanded : Settings → ℕ → ℕ → ℕ → ℕ → Work → Work
-link_commanded c now node wire len w = greet c now node wire len (refuse verb.Link) w
+link_commanded c now node wire len w = greet (greeting_link c now w.ring node wire len) (refuse verb.Link) w
 
 -- Part: the slot gives up its record and what is frozen for it, and says so to the peer.
 
@@ -28,7 +28,7 @@ part_unless i l w false =
     w
     ▷ put_slot i (parting_link l)
     ▷ undo_freeze i
-    ▷ part_again l
+    ▷ say_gone l
 
 abbrev pub part_at : ℕ → Option Link → Work → Work
 part_at i None w = w

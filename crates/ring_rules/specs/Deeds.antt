@@ -17,12 +17,15 @@ use Rattle.ring_rules.specs.declared.link.LinkState.{LinkState}
 use Rattle.ring_rules.specs.Rings.{Ring, Work, no_slots, ◌▷◌}
 use Rattle.ring_rules.specs.Slots.{slot_at, slot_where, of_session}
 
+-- a change of the ring alone
 abbrev pub on_ring : (Ring → Ring) → Work → Work
 on_ring change w = record w { ring = change w.ring }
 
+-- the place has this link
 abbrev pub put_slot : ℕ → Link → Work → Work
 put_slot i l w = on_ring (λ r. record r { slots = slice_set r.slots i (Some l) }) w
 
+-- the place is free
 abbrev pub drop_slot : ℕ → Work → Work
 drop_slot i w = on_ring (λ r. record r { slots = slice_set r.slots i None }) w
 
@@ -32,12 +35,15 @@ set_token t w = on_ring (λ r. record r { token = t }) w
 abbrev pub set_phase : (Phase → Phase) → Work → Work
 set_phase next w = on_ring (λ r. record r { phase = next r.phase }) w
 
+-- a frame is sent to this actor
 abbrev pub send : Who → Body → Work → Work
 send to b w = record w { sent = w.sent ++ (to, b) ∷ [] }
 
+-- a report is made
 abbrev pub tell : Report → Work → Work
 tell r w = record w { told = w.told ++ r ∷ [] }
 
+-- a command is refused
 abbrev pub refuse : Verb → Reason → Work → Work
 refuse verb reason w = tell (Refused verb reason) w
 
@@ -86,25 +92,28 @@ counted_if old new false = leave Counters old
 abbrev pub counted : Work → Work → Work
 counted old new = counted_if old new (has_numbers new.ring)
 
--- The look-up of a session: what a frame of a session does with the place, the link and the link's state of its
--- session, and what it does in none.
+-- The look-up of a session, once for all frames of sessions.
 
-abbrev pub in_slot : (ℕ → Link → LinkState → Work → Work) → ℕ → Option Link → Work → Work
+-- what a frame does in its session, by the place, the link and the link's state
+abbrev pub SessionRow : Type 0
+SessionRow = ℕ → Link → LinkState → Work → Work
+
+abbrev pub in_slot : SessionRow → ℕ → Option Link → Work → Work
 in_slot row i None w = w
 in_slot row i (Some l) w = row i l l.state w
 
-abbrev pub in_found : (ℕ → Link → LinkState → Work → Work) → (Work → Work) → Option ℕ → Work → Work
+abbrev pub in_found : SessionRow → (Work → Work) → Option ℕ → Work → Work
 in_found row none None w = none w
 in_found row none (Some i) w = in_slot row i (slot_at i w.ring.slots) w
 
--- the session in which the sender's number is `theirs` and the own one is `own`
-abbrev pub in_session : Who → ℕ → ℕ → (ℕ → Link → LinkState → Work → Work) → (Work → Work) → Work → Work
+-- in the session of the sender in which its number is `theirs` and the own one is `own`; `none` is done where no slot has it
+abbrev pub in_session : Who → ℕ → ℕ → SessionRow → (Work → Work) → Work → Work
 in_session from theirs own row none w = in_found row none (slot_where (of_session from own theirs) w.ring.slots) w
 
 -- the answer in no session
 abbrev pub answer_unknown : Who → ℕ → ℕ → Work → Work
 answer_unknown from theirs own w = send from (Gone own theirs 0 false) w
 
--- the answer of a slot that is parting
-abbrev pub part_again : Link → Work → Work
-part_again l w = send l.peer (Gone l.mine l.yours l.got true) w
+-- what a slot that parts says: it has no record, it took so much, and it is still bound
+abbrev pub say_gone : Link → Work → Work
+say_gone l w = send l.peer (Gone l.mine l.yours l.got true) w

@@ -15,10 +15,10 @@ use Rattle.ring_route.specs.Routes.{near_nodes}
 use Rattle.ring_rules.specs.declared.link.Link.{Link}
 use Rattle.ring_rules.specs.declared.link.LinkState.{LinkState}
 use Rattle.ring_rules.specs.declared.link.LinkState.TheVariants as state
-use Rattle.ring_rules.specs.Rings.{Settings, Slots, Work, ◌▷◌}
+use Rattle.ring_rules.specs.Rings.{Settings, Slots, Work, slot_count, accused_limit, ◌▷◌}
 use Rattle.ring_rules.specs.Slots.{slot_at, guards}
 use Rattle.ring_rules.specs.Links.{accused_link, flight_part, hello_body, offer_body, renew_body, transfer_body}
-use Rattle.ring_rules.specs.Deeds.{on_ring, put_slot, drop_slot, set_token, set_phase, send, tell, undo_freeze, leave, then_unless_left, counted, part_again}
+use Rattle.ring_rules.specs.Deeds.{on_ring, put_slot, drop_slot, set_token, set_phase, send, tell, undo_freeze, leave, then_unless_left, counted, say_gone}
 use Rattle.ring_rules.specs.Handshakes.{greet_plainly}
 use Rattle.ring_rules.specs.Commands.{seek_place}
 
@@ -51,7 +51,7 @@ accuse_if c i l w true = accuse_at c i l w
 accuse_if c i l w false = leave AccusedFull w
 
 unfoldable pub peer_accused : Settings → ℕ → Link → Work → Work
-peer_accused c i l w = accuse_if c i l w (nat_lt (length w.ring.accused) 1024)
+peer_accused c i l w = accuse_if c i l w (nat_lt (length w.ring.accused) accused_limit)
 
 -- A slot that greets says Hello again, until its time is over.
 
@@ -82,7 +82,7 @@ abbrev pub bound_fired : Settings → ℕ → ℕ → Link → Work → Work
 bound_fired c now i l w = leased c now i l (λ v. v ▷ send l.peer (renew_body now l v.ring) ▷ transfer_again l l.flight) w
 
 abbrev pub parting_fired : Settings → ℕ → ℕ → Link → Work → Work
-parting_fired c now i l w = leased c now i l (part_again l) w
+parting_fired c now i l w = leased c now i l (say_gone l) w
 
 -- A slot that accuses asks the arbitrators again.
 abbrev pub accused_fired : Settings → Link → Work → Work
@@ -196,6 +196,6 @@ place_sought c now w = counted w (search_by c now w (is_routing w.ring.phase))
 
 unfoldable pub timer_fired : Settings → ℕ → Work → Work
 timer_fired c now w =
-    slots_fired c now 16 w
+    slots_fired c now slot_count w
     ▷ then_unless_left freeze_given
     ▷ then_unless_left (place_sought c now)

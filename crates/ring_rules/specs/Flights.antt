@@ -13,7 +13,7 @@ use Rattle.ring_rules.specs.declared.link.LinkState.{LinkState}
 use Rattle.ring_rules.specs.declared.link.LinkState.TheVariants as state
 use Rattle.ring_rules.specs.Rings.{Work, ◌▷◌}
 use Rattle.ring_rules.specs.Slots.{slot_where, greets_by}
-use Rattle.ring_rules.specs.Deeds.{put_slot, drop_slot, set_token, set_phase, send, tell, undo_freeze, in_session, answer_unknown, part_again}
+use Rattle.ring_rules.specs.Deeds.{put_slot, drop_slot, set_token, set_phase, send, tell, undo_freeze, in_session, answer_unknown, say_gone}
 
 -- A flight is taken once, with a number above the last one taken, and where it fits.
 
@@ -28,7 +28,7 @@ take_flight i l number part w true =
 
 abbrev pub transfer_seen : ℕ → List Interval → ℕ → Link → LinkState → Work → Work
 transfer_seen number part i l state.Bound w = take_flight i l number part w (nat_lt l.got number && can_gain w.ring.token part)
-transfer_seen number part i l state.Parting w = part_again l w
+transfer_seen number part i l state.Parting w = say_gone l w
 transfer_seen number part i l _ w = w
 
 unfoldable pub transfer_received : Who → ℕ → ℕ → ℕ → List Interval → Work → Work

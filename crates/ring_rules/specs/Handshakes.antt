@@ -11,53 +11,47 @@ use Rattle.ring_rules.specs.declared.link.LinkState.TheVariants as state
 use Rattle.ring_rules.specs.Rings.{Settings, Work, ◌▷◌}
 use Rattle.ring_rules.specs.Slots.{slot_at, slot_where, is_free, is_hello, bars_link, of_instance, of_node, greets_node_by}
 use Rattle.ring_rules.specs.Links.{greeting_link, offered_link, bound_link, hello_body, offer_body, renew_body}
-use Rattle.ring_rules.specs.Deeds.{on_ring, put_slot, drop_slot, set_phase, send, in_session, answer_unknown, part_again}
+use Rattle.ring_rules.specs.Deeds.{on_ring, put_slot, drop_slot, set_phase, send, in_session, answer_unknown, say_gone}
 
 -- the number of a session is used up
 abbrev pub count_session : Work → Work
 count_session w = on_ring (λ r. record r { next_session = r.next_session + 1 }) w
 
--- A node is greeted, unless a slot with it bars another link, or no slot is free.
+-- A node is greeted by a new link, unless a slot with it bars another link, or no slot is free.
 
-abbrev pub greet_in : ℕ → Link → Work → Work
-greet_in i l w = w ▷ put_slot i l ▷ count_session ▷ send l.peer (hello_body l)
+abbrev pub greet_free : Link → (Reason → Work → Work) → Work → Option ℕ → Work
+greet_free l refused w None = refused reason.Full w
+greet_free l refused w (Some i) = w ▷ put_slot i l ▷ count_session ▷ send l.peer (hello_body l)
 
-abbrev pub greet_free : Settings → ℕ → ℕ → ℕ → ℕ → (Reason → Work → Work) → Work → Option ℕ → Work
-greet_free c now node wire len refused w None = refused reason.Full w
-greet_free c now node wire len refused w (Some i) = greet_in i (greeting_link c now w.ring node wire len) w
+abbrev pub greet_unless : Link → (Reason → Work → Work) → Work → Option ℕ → Work
+greet_unless l refused w (Some i) = refused reason.Linked w
+greet_unless l refused w None = greet_free l refused w (slot_where is_free w.ring.slots)
 
-abbrev pub greet_unless : Settings → ℕ → ℕ → ℕ → ℕ → (Reason → Work → Work) → Work → Option ℕ → Work
-greet_unless c now node wire len refused w (Some i) = refused reason.Linked w
-greet_unless c now node wire len refused w None = greet_free c now node wire len refused w (slot_where is_free w.ring.slots)
-
-abbrev pub greet : Settings → ℕ → ℕ → ℕ → ℕ → (Reason → Work → Work) → Work → Work
-greet c now node wire len refused w = greet_unless c now node wire len refused w (slot_where (of_node bars_link node) w.ring.slots)
+abbrev pub greet : Link → (Reason → Work → Work) → Work → Work
+greet l refused w = greet_unless l refused w (slot_where (of_node bars_link l.peer.actor) w.ring.slots)
 
 -- by frame version 1, with the configured length; a refusal is silent
 abbrev pub greet_plainly : Settings → ℕ → ℕ → Work → Work
-greet_plainly c now node w = greet c now node 1 c.lease (λ r v. v) w
+greet_plainly c now node w = greet (greeting_link c now w.ring node 1 c.lease) (λ r v. v) w
 
--- A Hello is accepted in the free slot, if there is one.
+-- A Hello is accepted by a new link in the free slot, if there is one.
 
-abbrev pub accept_in : ℕ → Link → Work → Work
-accept_in i l w = w ▷ put_slot i l ▷ count_session ▷ send l.peer (offer_body l)
+abbrev pub accept_free : Link → Work → Option ℕ → Work
+accept_free l w None = w
+accept_free l w (Some i) = w ▷ put_slot i l ▷ count_session ▷ send l.peer (offer_body l)
 
-abbrev pub accept_free : Settings → ℕ → Who → ℕ → ℕ → ℕ → Work → Option ℕ → Work
-accept_free c now from theirs wire len w None = w
-accept_free c now from theirs wire len w (Some i) = accept_in i (offered_link c now w.ring from theirs wire len) w
-
-abbrev pub hello_accepted : Settings → ℕ → Who → ℕ → ℕ → ℕ → Work → Work
-hello_accepted c now from theirs wire len w = accept_free c now from theirs wire len w (slot_where is_free w.ring.slots)
+abbrev pub hello_accepted : Link → Work → Work
+hello_accepted l w = accept_free l w (slot_where is_free w.ring.slots)
 
 -- Of two Hellos that cross, the one of the lower node stands.
 
-abbrev pub hello_crossed : Settings → ℕ → Who → ℕ → ℕ → ℕ → ℕ → Work → Bool → Work
-hello_crossed c now from theirs wire len i w true = w
-hello_crossed c now from theirs wire len i w false = w ▷ drop_slot i ▷ hello_accepted c now from theirs wire len
+abbrev pub hello_crossed : Link → ℕ → Work → Bool → Work
+hello_crossed l i w true = w
+hello_crossed l i w false = w ▷ drop_slot i ▷ hello_accepted l
 
-abbrev pub hello_of_node : Settings → ℕ → Who → ℕ → ℕ → ℕ → Work → Option ℕ → Work
-hello_of_node c now from theirs wire len w None = hello_accepted c now from theirs wire len w
-hello_of_node c now from theirs wire len w (Some i) = hello_crossed c now from theirs wire len i w (nat_lt w.ring.me.actor from.actor)
+abbrev pub hello_of_node : Link → Work → Option ℕ → Work
+hello_of_node l w None = hello_accepted l w
+hello_of_node l w (Some i) = hello_crossed l i w (nat_lt w.ring.me.actor l.peer.actor)
 
 -- A Hello that was accepted before gets its Offer again.
 
@@ -73,12 +67,16 @@ abbrev pub hello_repeated : ℕ → Option Link → Work → Work
 hello_repeated theirs None w = w
 hello_repeated theirs (Some l) w = offer_again theirs l l.state w
 
-abbrev pub hello_of_instance : Settings → ℕ → Who → ℕ → ℕ → ℕ → Work → Option ℕ → Work
-hello_of_instance c now from theirs wire len w (Some i) = hello_repeated theirs (slot_at i w.ring.slots) w
-hello_of_instance c now from theirs wire len w None = hello_of_node c now from theirs wire len w (slot_where (of_node is_hello from.actor) w.ring.slots)
+abbrev pub hello_of_instance : Link → Work → Option ℕ → Work
+hello_of_instance l w (Some i) = hello_repeated l.yours (slot_at i w.ring.slots) w
+hello_of_instance l w None = hello_of_node l w (slot_where (of_node is_hello l.peer.actor) w.ring.slots)
+
+-- by the slot of the sender's instance, if there is one; the link is the one that would begin
+abbrev pub hello_meets : Link → Work → Work
+hello_meets l w = hello_of_instance l w (slot_where (of_instance l.peer) w.ring.slots)
 
 unfoldable pub hello_received : Settings → ℕ → Who → ℕ → ℕ → ℕ → Work → Work
-hello_received c now from theirs wire len w = hello_of_instance c now from theirs wire len w (slot_where (of_instance from) w.ring.slots)
+hello_received c now from theirs wire len w = hello_meets (offered_link c now w.ring from theirs wire len) w
 
 -- An Offer is taken by the slot that greeted, once more by the slot that took it, and by nobody else.
 
@@ -92,7 +90,7 @@ offer_taken now from theirs len i (Some l) w =
 
 abbrev pub offer_repeated : ℕ → Link → LinkState → Work → Work
 offer_repeated i l state.Bound w = send l.peer (body.Take l.mine l.yours) w
-offer_repeated i l state.Parting w = part_again l w
+offer_repeated i l state.Parting w = say_gone l w
 offer_repeated i l _ w = w
 
 abbrev pub offer_seen : ℕ → Who → ℕ → ℕ → ℕ → Work → Option ℕ → Work
@@ -110,7 +108,7 @@ take_seen now i l state.Offered w =
     ▷ put_slot i (record l { state = state.Bound })
     ▷ send l.peer (renew_body now l w.ring)
     ▷ set_phase bound_phase
-take_seen now i l state.Parting w = part_again l w
+take_seen now i l state.Parting w = say_gone l w
 take_seen now i l _ w = w
 
 unfoldable pub take_received : ℕ → Who → ℕ → ℕ → Work → Work

@@ -9,6 +9,8 @@ pub mod Rulings
 pub mod Commands
 pub mod Seeks
 pub mod Firing
+pub mod Starts
+pub mod Frames
 pub mod Steps
+pub mod Owns
 pub mod Arbiters
-pub mod Waits

@@ -14,7 +14,7 @@ use Rattle.ring_rules.specs.declared.link.LinkState.{LinkState}
 use Rattle.ring_rules.specs.declared.link.LinkState.TheVariants as state
 use Rattle.ring_rules.specs.Rings.{Ring, Work, ◌▷◌}
 use Rattle.ring_rules.specs.Links.{renewed, acknowledged, has_flight}
-use Rattle.ring_rules.specs.Deeds.{put_slot, set_token, set_phase, send, in_session, answer_unknown, part_again}
+use Rattle.ring_rules.specs.Deeds.{put_slot, set_token, set_phase, send, in_session, answer_unknown, say_gone}
 
 -- the owned points that are nearer to the peer
 abbrev pub near_part : Ring → Link → List Interval
@@ -56,7 +56,7 @@ abbrev pub renew_seen : ℕ → ℕ → ℕ → Bool → List Interval → ℕ �
 renew_seen stamp version got want ranges i l state.Offered w =
     w ▷ set_phase bound_phase ▷ renew_heard i (renewed l version got ranges) stamp version want
 renew_seen stamp version got want ranges i l state.Bound w = renew_heard i (renewed l version got ranges) stamp version want w
-renew_seen stamp version got want ranges i l state.Parting w = part_again l w
+renew_seen stamp version got want ranges i l state.Parting w = say_gone l w
 renew_seen stamp version got want ranges i l _ w = w
 
 unfoldable pub renew_received : Who → ℕ → ℕ → ℕ → ℕ → ℕ → Bool → List Interval → Work → Work

@@ -32,6 +32,17 @@ settings_of c node =
 abbrev pub points_of : List NodeEntry → List (ℕ × ℕ)
 points_of nodes = map (λ e. (e.node, e.point.0)) nodes
 
+-- the limits of a node: its slots, the instances that it can accuse, the hops of a Seek
+
+abbrev pub slot_count : ℕ
+slot_count = 16
+
+abbrev pub accused_limit : ℕ
+accused_limit = 1024
+
+abbrev pub hop_limit : ℕ
+hop_limit = 64
+
 -- sixteen places for links
 abbrev pub Slots : Type 0
 Slots = List (Option Link)

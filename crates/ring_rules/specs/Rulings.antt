@@ -8,7 +8,7 @@ use Rattle.fabric_terms.specs.declared.report.Why.TheVariants.{Lost}
 use Rattle.arbiter_quorum.specs.declared.verdict.Verdict.{Verdict}
 use Rattle.arbiter_quorum.specs.declared.verdict.Verdict.TheVariants as verdict
 use Rattle.arbiter_quorum.specs.Tallies.{noted, verdict_of, may_be_heir}
-use Rattle.ring_rules.specs.Waits.{wait}
+use Rattle.drift_clock.specs.Wait.{wait}
 use Rattle.ring_rules.specs.declared.link.Link.{Link}
 use Rattle.ring_rules.specs.declared.link.LinkState.{LinkState}
 use Rattle.ring_rules.specs.declared.link.LinkState.TheVariants as state

@@ -9,7 +9,7 @@ use Rattle.join_phases.specs.Phases.{is_routing}
 use Rattle.ring_route.specs.declared.hop.Hop.{Hop}
 use Rattle.ring_route.specs.declared.hop.Hop.TheVariants as hop
 use Rattle.ring_route.specs.Routes.{next_hop, point_of}
-use Rattle.ring_rules.specs.Rings.{Settings, Ring, Work, ◌▷◌}
+use Rattle.ring_rules.specs.Rings.{Settings, Ring, Work, hop_limit, ◌▷◌}
 use Rattle.ring_rules.specs.Deeds.{on_ring, send, tell}
 use Rattle.ring_rules.specs.Handshakes.{greet_plainly}
 
@@ -27,8 +27,8 @@ find_by key hop.Nowhere w = tell (report.Nowhere key) w
 unfoldable pub find_commanded : Point → Work → Work
 find_commanded key w = find_by key (hop_from w.ring key None) w
 
--- A Seek is answered to its origin, or goes on to a node other than the origin's; after 64 hops it is dropped unless
--- the point is held here.
+-- A Seek is answered to its origin, or goes on to a node other than the origin's; at the limit of hops it is dropped
+-- unless the point is held here.
 
 abbrev pub seek_on : Who → Point → ℕ → Hop → Bool → Work → Work
 seek_on origin key hops hop.Here may_go w = send origin (body.Found key w.ring.me) w
@@ -37,7 +37,7 @@ seek_on origin key hops (hop.To next) true w = send next (body.Seek origin key (
 seek_on origin key hops hop.Nowhere true w = tell (report.Nowhere key) w
 
 unfoldable pub seek_received : Who → Point → ℕ → Work → Work
-seek_received origin key hops w = seek_on origin key hops (hop_from w.ring key (Some origin.actor)) (nat_lt hops 64) w
+seek_received origin key hops w = seek_on origin key hops (hop_from w.ring key (Some origin.actor)) (nat_lt hops hop_limit) w
 
 -- Found: it is reported. The holder of the own point is greeted by a node that looks for its place, and the search is over.
 

@@ -1,2 +1,5 @@
 pub mod Lines
 pub mod Joins
+pub mod TakeOvers
+pub mod Searches
+pub mod Lengths

@@ -10,7 +10,7 @@ use Rattle.fabric_terms.specs.declared.event.Event.TheVariants as event
 use Rattle.fabric_terms.specs.declared.report.Report.{Report}
 use Rattle.fabric_terms.specs.Runs.{Entry, Moment, Run}
 use Rattle.world_rules.specs.Uppers.{Upper, idle}
-use Rattle.world_rules.specs.Runs.{History, played}
+use Rattle.world_rules.specs.Runs.{History, run_of}
 
 -- nothing runs above the ring, and nothing beside the accusations
 abbrev pub bare : Upper
@@ -90,7 +90,7 @@ lines_of (m ∷ ms) = line_of m m.entry (lines_of ms)
 
 -- the same of a schedule
 abbrev pub lines_from : FabricConfig → History → List Line
-lines_from c h = lines_of (played bare c h).run
+lines_from c h = lines_of (run_of bare c h)
 
 abbrev pub says : ℕ → ℕ → Who → ℕ → List Report → ℕ × ℕ → Line
 says line time who reading reports sent = record { line = line; time = time; who = who; reading = Some reading; reports = reports; sent = sent }

@@ -1,7 +1,8 @@
 pub mod Maps
 pub mod Uppers
+pub mod Nodes
+pub mod Arbiters
 pub mod Worlds
-pub mod Acts
 pub mod Events
 pub mod Runs
 pub mod Schedules

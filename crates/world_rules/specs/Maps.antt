@@ -1,5 +1,5 @@
 -- Maps from numbers, as lists that rise by number.
-use Rattle.std.specs.Prelude.{ℕ, Bool, true, false, not, List, [], ◌∷◌, Option, Some, None, ◌==◌, nat_lt, filter, if◌then◌else◌}
+use Rattle.std.specs.Prelude.{ℕ, ◌+◌, Bool, true, false, not, List, [], ◌∷◌, Option, Some, None, ◌==◌, nat_lt, nat_le, ◌&&◌, filter, if◌then◌else◌}
 
 -- what stands at the number, if something does
 abbrev pub at : {X : Type 0} → ℕ → List (ℕ × X) → Option X
@@ -19,3 +19,11 @@ put k x (e ∷ es) = put_here k x e es (put k x es) (nat_lt k e.0) (k == e.0)
 -- with nothing at the number
 abbrev pub without : {X : Type 0} → ℕ → List (ℕ × X) → List (ℕ × X)
 without k es = filter (λ e. not (e.0 == k)) es
+
+-- the numbers rise, from this one on
+abbrev pub rises_from : {X : Type 0} → ℕ → List (ℕ × X) → Bool
+rises_from low [] = true
+rises_from low (e ∷ es) = nat_le low e.0 && rises_from (e.0 + 1) es
+
+abbrev pub rises : {X : Type 0} → List (ℕ × X) → Bool
+rises es = rises_from 0 es

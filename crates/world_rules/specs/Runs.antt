@@ -22,19 +22,3 @@ moment_of line s = record { line = line; time = s.world.time; clocks = clocks_in
 abbrev pub run_of : (a : Upper) → FabricConfig → History → Run
 run_of a c [] = []
 run_of a c (e ∷ es) = moment_of {a = a} e.0 (world_step a c (world_after a c es) e.1) ∷ run_of a c es
-
--- world and run together, each step done once
-
-pub record Played (a : Upper) : Type 0 where
-  pub world : World a
-  pub run : Run
-
-abbrev pub play_on : (a : Upper) → ℕ → Run → Stepped a → Played a
-play_on a line run s = record { world = s.world; run = moment_of {a = a} line s ∷ run }
-
-abbrev pub play : (a : Upper) → FabricConfig → ℕ × Event → Played a → Played a
-play a c e p = play_on a e.0 p.run (world_step a c p.world e.1)
-
-abbrev pub played : (a : Upper) → FabricConfig → History → Played a
-played a c [] = record { world = empty_world a; run = [] }
-played a c (e ∷ es) = play a c e (played a c es)

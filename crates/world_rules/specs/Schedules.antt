@@ -7,10 +7,10 @@ use Rattle.fabric_terms.specs.declared.command.Command.TheVariants as command
 use Rattle.fabric_terms.specs.declared.config.FabricConfig.{FabricConfig}
 use Rattle.fabric_terms.specs.declared.event.Event.{Event}
 use Rattle.fabric_terms.specs.declared.event.Event.TheVariants.{Start, Stop, Tick, Fire, Give, Do, Junk}
-use Rattle.ring_rules.specs.Waits.{fits_all}
+use Rattle.drift_clock.specs.Within.{fits_all}
 use Rattle.world_rules.specs.Maps.{at}
 use Rattle.world_rules.specs.Uppers.{Upper}
-use Rattle.world_rules.specs.Worlds.{World, Node}
+use Rattle.world_rules.specs.Worlds.{World, Running}
 use Rattle.world_rules.specs.Events.{is_arbiter_actor, arbiter_number}
 use Rattle.world_rules.specs.Runs.{History, world_after}
 
@@ -70,7 +70,7 @@ is_there is_frame c w (Junk actor bytes) = runs w actor && not (is_frame bytes)
 
 -- each reading of a tick is within the bound of every earlier pair of its boot
 
-abbrev pub fits_pairs : {a : Upper} → FabricConfig → ℕ → ℕ → Option (Node a) → Bool
+abbrev pub fits_pairs : {a : Upper} → FabricConfig → ℕ → ℕ → Option (Running a) → Bool
 fits_pairs c time reading None = true
 fits_pairs c time reading (Some s) = fits_all c.bound s.pairs (time, reading)
 

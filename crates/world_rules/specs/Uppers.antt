@@ -1,4 +1,4 @@
--- What runs above the ring at a node, and beside the accusations at an arbitrator.
+-- What an actor does in a step, and what runs above the ring at a node and beside the accusations at an arbitrator.
 use Rattle.std.specs.Prelude.{ℕ, List, []}
 use Rattle.ring_points.specs.declared.who.Who.{Who}
 use Rattle.fabric_terms.specs.declared.config.FabricConfig.{FabricConfig}
@@ -9,19 +9,19 @@ use Rattle.fabric_terms.specs.declared.report.Report.{Report}
 use Rattle.ring_rules.specs.declared.input.Input.{Input}
 use Rattle.ring_rules.specs.Rings.{Ring}
 
--- what it does in a step: its new state, and what it records, sends to whom, and tells
-pub record Did (U : Type 0) : Type 0 where
-  pub state : U
+-- what is done in a step: the new state, what is recorded before a frame leaves, what is sent to whom, and what is told
+pub record Did (S : Type 0) : Type 0 where
+  pub state : S
   pub records : List Record
   pub sent : List (Who × Body)
   pub told : List Report
 
--- it does nothing
-abbrev pub idle : {U : Type 0} → U → Did U
-idle u = record { state = u; records = []; sent = []; told = [] }
+-- nothing
+abbrev pub idle : {S : Type 0} → S → Did S
+idle s = record { state = s; records = []; sent = []; told = [] }
 
--- Its states at a node and at an arbitrator, how each begins from the kept records, and its step: at a node with the
--- reading and the ring after the ring's own step, at an arbitrator with a frame. What an arbitrator tells is not seen.
+-- The states of what runs above and beside, how each begins from the kept records, and its steps: above with the reading
+-- and the ring after the ring's own step, beside with a frame. What is told beside is not seen.
 pub record Upper : Type 1 where
   pub Above : Type 0
   pub Beside : Type 0
