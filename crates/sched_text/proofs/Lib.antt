@@ -1,6 +1,10 @@
 pub mod Lists
+pub mod PointSteps
+pub mod ByteSteps
 pub mod Numbers
-pub mod TickLaws
 pub mod FieldLaws
 pub mod NumberLaws
+pub mod DigitLaws
+pub mod CommandLaws
+pub mod TickLaws
 pub mod LineLaws

@@ -1,75 +1,99 @@
 -- Each line is read exactly where it is spelled.
-use Rattle.std.proofs.Common.{◌≡◌, ℕ, ⊎_elim, List, [], ◌++◌, map, Option, Some, None, ap, sym, subst, ◌∙◌, refl, lit≤}
+use Rattle.std.proofs.Common.{◌≡◌, ℕ, List, [], ◌++◌, Option, Some, None, arith, ap, sym, ◌∙◌, refl}
 use Rattle.std.specs.Prelude.{codes, decimal}
+use Rattle.fabric_terms.specs.declared.command.Command.{Command}
 use Rattle.fabric_terms.specs.declared.event.Event.{Event}
 use Rattle.fabric_terms.specs.declared.event.Event.TheVariants.{Start, Stop, Tick, Fire, Give, Do, Junk}
-use Rattle.sched_text.specs.Texts.{actor_text}
-use Rattle.sched_text.specs.Fields.{◌>>=◌, Field, after_word, last, followed, behind, nothing, most, number_in, node_at, arbiter_at}
-use Rattle.sched_text.specs.Lines.{Fits, event_text, event_of, start_of, stop_of, tick_of, readings_of, reading_text, ReadIsSpelled, SpelledIsRead}
+use Rattle.sched_text.specs.Texts.{actor_text, bytes_text}
+use Rattle.sched_text.specs.Fields.{◌>>=◌, Field, after_word, last, made, followed, behind, nothing}
+use Rattle.sched_text.specs.Numbers.{IsNumber, IsNode, IsArbiter, IsActor, number_in, count_at, node_at, arbiter_at, actor_at}
+use Rattle.sched_text.specs.Commands.{FitsCommand, command_text}
+use Rattle.sched_text.specs.Lines.{IsJunk, AreReadings, Fits, event_text, event_of, arbiter_start, node_start, start_of, tick_of, readings_of, reading_text, junk_bytes_of, do_of, junk_of, ReadIsSpelled, SpelledIsRead}
 use Rattle.sched_text.proofs.Lists.{joined_is}
-use Rattle.sched_text.proofs.Numbers.{none_found}
-use Rattle.sched_text.proofs.FieldLaws.{bind_some, last_is, behind_found, behind_again, behind_other, apart, followed_found, followed_again, made_found, made_again}
-use Rattle.sched_text.proofs.NumberLaws.{number_is, node_is, arbiter_is, actor_is, actor_text_arbiter, arbiter_number}
-use Rattle.sched_text.proofs.TickLaws.{ends_readings, readings_are, readings_text}
+use Rattle.sched_text.proofs.FieldLaws.{IsRest, IsSpelled, last_is, behind_again, behind_other, apart, sized_is, refit, found_behind, found_nothing, headed_found, followed_found, followed_again, made_found, made_again}
+use Rattle.sched_text.proofs.NumberLaws.{count_is, node_is, last_node_is, arbiter_is, actor_is, actor_text_arbiter, arbiter_number}
+use Rattle.sched_text.proofs.DigitLaws.{bytes_are, length-bytes_text}
+use Rattle.sched_text.proofs.CommandLaws.{command_is}
+use Rattle.sched_text.proofs.TickLaws.{readings_are, readings_text, ends_readings}
 
--- what is read behind a word is spelled so, with that word
-abbrev IsSpelled : List ℕ → (List ℕ → Option Event) → Type 0
-IsSpelled word reader = (bytes : List ℕ) (e : Event) → reader bytes ≡ Some e → Fits e × (word ++ bytes ≡ event_text e)
+abbrev IsEvent : List ℕ → (List ℕ → Option Event) → Type 0
+IsEvent word reader = IsSpelled Fits event_text word reader
 
-abbrev node_start : ℕ → ℕ → Event
-node_start node reading = Start node (Some reading)
+last_count_is : IsRest (last count_at) IsNumber decimal
+last_count_is = last_is count_is tt
 
-abbrev arbiter_start : ℕ → Event
-arbiter_start actor = Start actor None
+last_actor_is : IsRest (last actor_at) IsActor actor_text
+last_actor_is = last_is actor_is tt
 
-abbrev time_last : List ℕ → Option ℕ
-time_last = last (number_in 0 most)
+last_arbiter_is : IsRest (last arbiter_at) IsArbiter arbiter_number
+last_arbiter_is = last_is arbiter_is tt
 
-start_found : IsSpelled (codes "start ") start_of
+junk_bytes_are : IsRest junk_bytes_of IsJunk bytes_text
+unfolding junk_bytes_of
+junk_bytes_are =
+    refit (sized_is bytes_are 2 2400)
+    (λ bs h. let twice = length-bytes_text bs in (omega (arith, h.1), omega (arith, h.2), h.0))
+    (λ bs h. let twice = length-bytes_text bs in (h.2, omega (arith, h.0), omega (arith, h.1)))
+
+arbiter_start_of : List ℕ → Option Event
+arbiter_start_of = made arbiter_start (last arbiter_at)
+
+node_start_of : List ℕ → Option Event
+node_start_of = followed node_at (codes " ") (last count_at) node_start
+
+start_found : IsEvent (codes "start ") start_of
 unfolding start_of
-start_found bytes e h =
-    let P : Event → Type 0 = λ x. Fits x × (codes "start " ++ bytes ≡ event_text x) in
-    ⊎_elim
-    (λ a.
-    let m = made_found (last_is arbiter_is tt) arbiter_start a.0 e a.2 in
-    subst P m.1 (m.2, ap (λ t. codes "start " ++ t) (a.1 ∙ (ap (λ t. codes "a" ++ t) m.3 ∙ sym (actor_text_arbiter m.0 m.2)))))
-    (λ n.
-    let m = followed_found node_is (last_is (number_is 0 most (lit≤ tt)) tt) (codes " ") node_start bytes e n in
-    subst P m.2 ((m.3, m.4), ap (λ t. codes "start " ++ t) m.5))
-    (behind_found (codes "a") (λ bytes. last arbiter_at bytes >>= λ actor. Some (arbiter_start actor)) (followed node_at (codes " ") time_last node_start) bytes e h)
+start_found =
+    found_behind Fits event_text (codes "start ") (codes "a") (made arbiter_start (last arbiter_at)) (followed node_at (codes " ") (last count_at) node_start)
+    (made_found last_arbiter_is Fits event_text (codes "start " ++ codes "a") arbiter_start (λ a h. (h, ap (λ t. codes "start " ++ t) (sym (actor_text_arbiter a h)))))
+    (followed_found node_is last_count_is Fits event_text (codes "start ") (codes " ") node_start (λ n r a b. ((a, b), refl)))
 
-stop_found : IsSpelled (codes "stop ") stop_of
-unfolding stop_of
-stop_found bytes e h =
-    let P : Event → Type 0 = λ x. Fits x × (codes "stop " ++ bytes ≡ event_text x) in
-    let m = made_found (last_is actor_is tt) Stop bytes e h in
-    subst P m.1 (m.2, ap (λ t. codes "stop " ++ t) m.3)
+stop_found : IsEvent (codes "stop ") (made Stop (last actor_at))
+stop_found = made_found last_actor_is Fits event_text (codes "stop ") Stop (λ a h. (h, refl))
 
 tick_spelled : (advance : ℕ) (readings : List (ℕ × ℕ)) → event_text (Tick advance readings) ≡ codes "tick " ++ (decimal advance ++ readings_text readings)
-tick_spelled advance readings = ap (λ t. codes "tick " ++ t) (joined_is 32 (decimal advance) (map reading_text readings))
+tick_spelled advance readings = ap (λ t. codes "tick " ++ t) (joined_is 32 (decimal advance) reading_text readings)
 
-tick_found : IsSpelled (codes "tick ") tick_of
-unfolding tick_of
-tick_found bytes e h =
-    let P : Event → Type 0 = λ x. Fits x × (codes "tick " ++ bytes ≡ event_text x) in
-    let a = bind_some (number_in 0 most bytes) (λ advance. readings_of 64 advance.1 >>= λ readings. Some (Tick advance.0 readings)) e h in
-    let m = made_found (readings_are 64) (Tick a.0.0) a.0.1 e a.2 in
-    let n = (number_is 0 most (lit≤ tt)).found bytes a.0 a.1 in
-    subst P m.1 ((n.0, m.2.0, m.2.1), ap (λ t. codes "tick " ++ t) (n.1 ∙ ap (λ t. decimal a.0.0 ++ t) m.3) ∙ sym (tick_spelled a.0.0 m.0))
+ticked_of : ℕ → List ℕ → Option Event
+ticked_of advance = made (Tick advance) (readings_of 64)
 
--- what is read behind the word, or by another reader
-found_behind : (word : List ℕ) (reader other : List ℕ → Option Event) → IsSpelled word reader → IsSpelled [] other → IsSpelled [] (behind word reader other)
-found_behind word reader other law others bytes e h =
-    ⊎_elim (λ r. let f = law r.0 e r.2 in (f.0, r.1 ∙ f.1)) (others bytes e) (behind_found word reader other bytes e h)
+tick_found : IsEvent (codes "tick ") tick_of
+unfolding tick_of ticked_of
+tick_found =
+    headed_found count_is Fits event_text (codes "tick ") ticked_of
+    (λ advance h. made_found (readings_are 64) Fits event_text (codes "tick " ++ decimal advance) (Tick advance) (λ readings are. ((h, are), sym (tick_spelled advance readings))))
 
-found_nothing : IsSpelled [] nothing
-found_nothing bytes e h = absurd (none_found e h)
+fire_found : IsEvent (codes "fire ") (made Fire (last node_at))
+fire_found = made_found last_node_is Fits event_text (codes "fire ") Fire (λ n h. (h, refl))
+
+give_found : IsEvent (codes "give ") (made Give (last count_at))
+give_found = made_found last_count_is Fits event_text (codes "give ") Give (λ k h. (h, refl))
+
+do_found : IsEvent (codes "do ") do_of
+unfolding do_of
+do_found = followed_found node_is command_is Fits event_text (codes "do ") (codes " ") Do (λ n c a b. ((a, b), refl))
+
+junk_found : IsEvent (codes "junk ") junk_of
+unfolding junk_of
+junk_found = followed_found actor_is junk_bytes_are Fits event_text (codes "junk ") (codes " ") Junk (λ n bs a b. ((a, b), refl))
+
+-- behind the word, or by the other reader
+abbrev or_behind : (word : List ℕ) (reader other : List ℕ → Option Event) → IsEvent word reader → IsEvent [] other → IsEvent [] (behind word reader other)
+or_behind = found_behind Fits event_text []
 
 pub read_is_spelled : ReadIsSpelled
 unfolding event_of
 read_is_spelled =
-    found_behind (codes "start ") start_of _ start_found (
-    found_behind (codes "stop ") stop_of _ stop_found (found_behind (codes "tick ") tick_of nothing tick_found found_nothing)
+    or_behind (codes "start ") start_of _ start_found (
+    or_behind (codes "stop ") (made Stop (last actor_at)) _ stop_found (
+    or_behind (codes "tick ") tick_of _ tick_found (
+    or_behind (codes "fire ") (made Fire (last node_at)) _ fire_found (
+    or_behind (codes "give ") (made Give (last count_at)) _ give_found (
+    or_behind (codes "do ") do_of _ do_found (or_behind (codes "junk ") junk_of nothing junk_found (found_nothing Fits event_text []))
+    )
+    )
+    )
+    )
     )
 
 -- the first word says which line it is
@@ -78,7 +102,7 @@ at_start : (words : List ℕ) → event_of (codes "start " ++ words) ≡ start_o
 unfolding event_of after_word
 at_start words = refl
 
-at_stop : (words : List ℕ) → event_of (codes "stop " ++ words) ≡ stop_of words
+at_stop : (words : List ℕ) → event_of (codes "stop " ++ words) ≡ made Stop (last actor_at) words
 unfolding event_of after_word
 at_stop words = refl
 
@@ -86,46 +110,60 @@ at_tick : (words : List ℕ) → event_of (codes "tick " ++ words) ≡ tick_of w
 unfolding event_of after_word
 at_tick words = refl
 
-abbrev arbiter_start_of : List ℕ → Option Event
-arbiter_start_of bytes = last arbiter_at bytes >>= λ actor. Some (arbiter_start actor)
+at_fire : (words : List ℕ) → event_of (codes "fire " ++ words) ≡ made Fire (last node_at) words
+unfolding event_of after_word
+at_fire words = refl
 
-abbrev node_start_of : List ℕ → Option Event
-node_start_of = followed node_at (codes " ") time_last node_start
+at_give : (words : List ℕ) → event_of (codes "give " ++ words) ≡ made Give (last count_at) words
+unfolding event_of after_word
+at_give words = refl
+
+at_do : (words : List ℕ) → event_of (codes "do " ++ words) ≡ do_of words
+unfolding event_of after_word
+at_do words = refl
+
+at_junk : (words : List ℕ) → event_of (codes "junk " ++ words) ≡ junk_of words
+unfolding event_of after_word
+at_junk words = refl
 
 no_start : (rest : List ℕ) → node_start_of (codes "a" ++ rest) ≡ None
-unfolding number_in
+unfolding number_in node_start_of
 no_start rest = refl
 
-start_node_again : (node reading : ℕ) → Fits (Start node (Some reading)) → start_of (decimal node ++ (codes " " ++ decimal reading)) ≡ Some (Start node (Some reading))
-unfolding start_of
-start_node_again node reading h =
+start_node_again : (node reading : ℕ) → IsNode node → IsNumber reading → start_of (decimal node ++ (codes " " ++ decimal reading)) ≡ Some (Start node (Some reading))
+unfolding start_of node_start_of arbiter_start_of
+start_node_again node reading h r =
     let words = decimal node ++ (codes " " ++ decimal reading) in
-    let read = followed_again node_is (last_is (number_is 0 most (lit≤ tt)) tt) (codes " ") node_start node reading refl h.0 h.1 in
+    let read = followed_again node_is last_count_is (codes " ") node_start node reading refl h r in
     behind_other (codes "a") arbiter_start_of node_start_of words (apart node_start_of (codes "a") words (node_start node reading) read no_start) ∙ read
 
-start_arbiter_again : (actor : ℕ) → Fits (Start actor None) → start_of (actor_text actor) ≡ Some (Start actor None)
-unfolding start_of
+start_arbiter_again : (actor : ℕ) → IsArbiter actor → start_of (actor_text actor) ≡ Some (Start actor None)
+unfolding start_of node_start_of arbiter_start_of
 start_arbiter_again actor h =
     ap start_of (actor_text_arbiter actor h)
-    ∙ (behind_again (codes "a") arbiter_start_of node_start_of (arbiter_number actor) ∙ made_again (last_is arbiter_is tt) arbiter_start actor h)
+    ∙ (behind_again (codes "a") arbiter_start_of node_start_of (arbiter_number actor) ∙ made_again last_arbiter_is arbiter_start actor h)
 
-stop_again : (actor : ℕ) → Fits (Stop actor) → stop_of (actor_text actor) ≡ Some (Stop actor)
-unfolding stop_of
-stop_again actor h = made_again (last_is actor_is tt) Stop actor h
-
-tick_again : (advance : ℕ) (readings : List (ℕ × ℕ)) → Fits (Tick advance readings) → tick_of (decimal advance ++ readings_text readings) ≡ Some (Tick advance readings)
+tick_again : (advance : ℕ) (readings : List (ℕ × ℕ)) → IsNumber advance → AreReadings readings → tick_of (decimal advance ++ readings_text readings) ≡ Some (Tick advance readings)
 unfolding tick_of
-tick_again advance readings h =
-    ap (λ (o : Field ℕ). o >>= λ advance. readings_of 64 advance.1 >>= λ readings. Some (Tick advance.0 readings)) ((number_is 0 most (lit≤ tt)).again advance (readings_text readings) h.0 (ends_readings readings))
-    ∙ made_again (readings_are 64) (Tick advance) readings (h.1, h.2)
+tick_again advance readings h are =
+    ap (λ (o : Field ℕ). o >>= λ advance. made (Tick advance.0) (readings_of 64) advance.1) (count_is.again advance (readings_text readings) h (ends_readings readings))
+    ∙ made_again (readings_are 64) (Tick advance) readings are
+
+do_again : (node : ℕ) (command : Command) → IsNode node → FitsCommand command → do_of (decimal node ++ (codes " " ++ command_text command)) ≡ Some (Do node command)
+unfolding do_of
+do_again node command h c = followed_again node_is command_is (codes " ") Do node command refl h c
+
+junk_again : (actor : ℕ) (bytes : List ℕ) → IsActor actor → IsJunk bytes → junk_of (actor_text actor ++ (codes " " ++ bytes_text bytes)) ≡ Some (Junk actor bytes)
+unfolding junk_of
+junk_again actor bytes h b = followed_again actor_is junk_bytes_are (codes " ") Junk actor bytes refl h b
 
 pub spelled_is_read : SpelledIsRead
 spelled_is_read (Start actor None) h = at_start (actor_text actor) ∙ start_arbiter_again actor h
-spelled_is_read (Start actor (Some reading)) h = at_start (decimal actor ++ (codes " " ++ decimal reading)) ∙ start_node_again actor reading h
-spelled_is_read (Stop actor) h = at_stop (actor_text actor) ∙ stop_again actor h
+spelled_is_read (Start actor (Some reading)) h = at_start (decimal actor ++ (codes " " ++ decimal reading)) ∙ start_node_again actor reading h.0 h.1
+spelled_is_read (Stop actor) h = at_stop (actor_text actor) ∙ made_again last_actor_is Stop actor h
 spelled_is_read (Tick advance readings) h =
-    ap event_of (tick_spelled advance readings) ∙ (at_tick (decimal advance ++ readings_text readings) ∙ tick_again advance readings h)
-spelled_is_read (Fire _) h = absurd h
-spelled_is_read (Give _) h = absurd h
-spelled_is_read (Do _ _) h = absurd h
-spelled_is_read (Junk _ _) h = absurd h
+    ap event_of (tick_spelled advance readings) ∙ (at_tick (decimal advance ++ readings_text readings) ∙ tick_again advance readings h.0 h.1)
+spelled_is_read (Fire node) h = at_fire (decimal node) ∙ made_again last_node_is Fire node h
+spelled_is_read (Give frame) h = at_give (decimal frame) ∙ made_again last_count_is Give frame h
+spelled_is_read (Do node command) h = at_do (decimal node ++ (codes " " ++ command_text command)) ∙ do_again node command h.0 h.1
+spelled_is_read (Junk actor bytes) h = at_junk (actor_text actor ++ (codes " " ++ bytes_text bytes)) ∙ junk_again actor bytes h.0 h.1

@@ -1,62 +1,60 @@
 -- The readings of a tick are read exactly where they are spelled.
-use Rattle.std.proofs.Common.{◌≡◌, ℕ, suc, zero, ◌-◌, ◌≤◌, ◌<◌, List, [], ◌∷◌, ◌++◌, length, map, All, Option, Some, None, arith, ap, sym, subst, ◌∙◌, refl, lit≤}
+use Rattle.std.proofs.Common.{◌≡◌, ℕ, suc, zero, ◌-◌, ◌≤◌, ◌<◌, List, [], ◌∷◌, ◌++◌, length, All, Option, Some, None, arith, ap, sym, subst, ◌∙◌, refl}
 use Rattle.std.specs.Prelude.{codes}
-use Rattle.std.proofs.lemmas.List.{append_assoc, append-nil}
+use Rattle.std.specs.List.{flat_map}
+use Rattle.std.proofs.lemmas.List.{append-nil}
 use Rattle.std.proofs.lemmas.List.Elements.{All-nil, All-cons, All-head, All-tail}
-use Rattle.sched_text.specs.Fields.{◌>>=◌, Field, after_word, most, number_in, node_at, pair_at}
+use Rattle.sched_text.specs.Fields.{◌>>=◌, Field, after_word, pair_at}
+use Rattle.sched_text.specs.Numbers.{count_at, node_at}
 use Rattle.sched_text.specs.Lines.{IsReading, reading_text, reading_at, readings_of}
-use Rattle.sched_text.proofs.Lists.{after_each}
+use Rattle.sched_text.proofs.Lists.{put_before, put_next}
 use Rattle.sched_text.proofs.Numbers.{EndsNumber, some_same, none_found}
 use Rattle.sched_text.proofs.FieldLaws.{IsField, IsRest, bind_some, word_found, word_again, pair_is}
-use Rattle.sched_text.proofs.NumberLaws.{number_is, node_is}
+use Rattle.sched_text.proofs.NumberLaws.{count_is, node_is}
 
-abbrev pub put_before : {A : Type 0} → List A → Option (List A) → Option (List A)
-put_before xs None = None
-put_before xs (Some ys) = Some (xs ++ ys)
-
-abbrev Pair : Type 0
+abbrev pub Pair : Type 0
 Pair = ℕ × ℕ
 
-pair_law : IsField (pair_at node_at (codes ":") (number_in 0 most)) IsReading reading_text EndsNumber
-pair_law = pair_is node_is (codes ":") (number_is 0 most (lit≤ tt)) (λ _. refl)
+pair_law : IsField (pair_at node_at (codes ":") count_at) IsReading reading_text EndsNumber
+pair_law = pair_is node_is (codes ":") count_is (λ _. refl)
 
-abbrev blank_reading : Pair → List ℕ
+abbrev pub blank_reading : Pair → List ℕ
 blank_reading r = codes " " ++ reading_text r
 
 reading_is : IsField reading_at IsReading blank_reading EndsNumber
 unfolding reading_at
 reading_is = record {
   found = λ bytes f e.
-      let w = bind_some (after_word (codes " ") bytes) (pair_at node_at (codes ":") (number_in 0 most)) f e in
+      let w = bind_some (after_word (codes " ") bytes) (pair_at node_at (codes ":") count_at) f e in
       let p = pair_law.found w.0 f w.2 in
       (p.0, word_found (codes " ") bytes w.0 w.1 ∙ ap (λ t. codes " " ++ t) p.1);
   again = λ r rest h ends.
-      ap (λ (o : Option (List ℕ)). o >>= pair_at node_at (codes ":") (number_in 0 most)) (word_again (codes " ") (reading_text r ++ rest)) ∙ pair_law.again r rest h ends;
+      ap (λ (o : Option (List ℕ)). o >>= pair_at node_at (codes ":") count_at) (word_again (codes " ") (reading_text r ++ rest)) ∙ pair_law.again r rest h ends;
 }
 
 abbrev pub readings_text : List Pair → List ℕ
-readings_text rs = after_each 32 (map reading_text rs)
+readings_text rs = flat_map blank_reading rs
 
-abbrev pub AreReadings : ℕ → List Pair → Type 0
-AreReadings k rs = (length rs ≤ k) × All IsReading rs
+abbrev pub AreUpTo : ℕ → List Pair → Type 0
+AreUpTo k rs = (length rs ≤ k) × All IsReading rs
 
-readings_found : (k : ℕ) (bytes : List ℕ) (rs : List Pair) → readings_of k bytes ≡ Some rs → AreReadings k rs × (bytes ≡ readings_text rs)
+readings_found : (k : ℕ) (bytes : List ℕ) (rs : List Pair) → readings_of k bytes ≡ Some rs → AreUpTo k rs × (bytes ≡ readings_text rs)
 unfolding readings_of
-readings_found k [] rs e = subst (λ (xs : List Pair). AreReadings k xs × ([] ≡ readings_text xs)) (some_same [] rs e) ((omega arith, All-nil IsReading), refl)
+readings_found k [] rs e = subst (λ (xs : List Pair). AreUpTo k xs × ([] ≡ readings_text xs)) (some_same [] rs e) ((omega arith, All-nil IsReading), refl)
 readings_found zero (b ∷ bs) rs e = absurd (none_found rs e)
 readings_found (suc k) (b ∷ bs) rs e =
     let f = bind_some (reading_at (b ∷ bs)) (λ first. readings_of k first.1 >>= λ more. Some (first.0 ∷ more)) rs e in
     let m = bind_some (readings_of k f.0.1) (λ more. Some (f.0.0 ∷ more)) rs f.2 in
     let first = reading_is.found (b ∷ bs) f.0 f.1 in
     let more = readings_found k f.0.1 m.0 m.1 in
-    let P : List Pair → Type 0 = λ xs. AreReadings (suc k) xs × ((b ∷ bs) ≡ readings_text xs) in
+    let P : List Pair → Type 0 = λ xs. AreUpTo (suc k) xs × ((b ∷ bs) ≡ readings_text xs) in
     subst P (some_same (f.0.0 ∷ m.0) rs m.2) ((omega (arith, more.0.0), All-cons IsReading f.0.0 m.0 first.0 more.0.1), first.1 ∙ ap (λ t. blank_reading f.0.0 ++ t) more.1)
 
 pub ends_readings : (rs : List Pair) → EndsNumber (readings_text rs)
 ends_readings [] = tt
 ends_readings (r ∷ rs) = refl
 
-readings_again : (k : ℕ) (rs : List Pair) → AreReadings k rs → readings_of k (readings_text rs) ≡ Some rs
+readings_again : (k : ℕ) (rs : List Pair) → AreUpTo k rs → readings_of k (readings_text rs) ≡ Some rs
 unfolding readings_of
 readings_again k [] h = refl
 readings_again zero (r ∷ rs) h = absurd (omega (arith, h.0))
@@ -64,7 +62,7 @@ readings_again (suc k) (r ∷ rs) h =
     ap (λ (o : Field Pair). o >>= λ first. readings_of k first.1 >>= λ more. Some (first.0 ∷ more)) (reading_is.again r (readings_text rs) (All-head IsReading r rs h.1) (ends_readings rs))
     ∙ ap (λ (o : Option (List Pair)). o >>= λ more. Some (r ∷ more)) (readings_again k rs (omega (arith, h.0), All-tail IsReading r rs h.1))
 
-pub readings_are : (k : ℕ) → IsRest (readings_of k) (AreReadings k) readings_text
+pub readings_are : (k : ℕ) → IsRest (readings_of k) (AreUpTo k) readings_text
 readings_are k = record { found = readings_found k; again = readings_again k }
 
 -- the steps of reading them one by one: the readings so far, and then those of the rest
@@ -80,10 +78,6 @@ unfolding readings_of
 readings_bad k rs [] room some bad = absurd (omega arith)
 readings_bad zero rs (b ∷ bs) room some bad = absurd (omega arith)
 readings_bad (suc k) rs (b ∷ bs) room some bad = ap (λ (o : Field Pair). put_before rs (o >>= λ first. readings_of k first.1 >>= λ more. Some (first.0 ∷ more))) bad
-
-put_next : (rs : List Pair) (r : Pair) (o : Option (List Pair)) → put_before rs (o >>= λ more. Some (r ∷ more)) ≡ put_before (rs ++ r ∷ []) o
-put_next rs r None = refl
-put_next rs r (Some more) = ap Some (sym (append_assoc rs (r ∷ []) more))
 
 pub readings_next : (k : ℕ) (rs : List Pair) (rest : List ℕ) (r : Pair) (after : List ℕ) → 0 < k → 0 < length rest → reading_at rest ≡ Some (r, after)
     → put_before (rs ++ r ∷ []) (readings_of (k - 1) after) ≡ put_before rs (readings_of k rest)

@@ -1,6 +1,5 @@
 -- The lines of a report.
 use Rattle.std.specs.Prelude.{ℕ, List, [], ◌∷◌, ◌++◌, codes, decimal}
-use Rattle.std.specs.List.{join_with_byte}
 use Rattle.fabric_terms.specs.declared.report.Report.{Report}
 use Rattle.fabric_terms.specs.declared.report.Report.TheVariants.{Own, Accused, Discharged, Heir, TookOver, Gave, Took, Returned, LeftRing, Stopped, Found, Nowhere, Promised, Adopted, Accepted, IsPrimary, Committed, Configured, Superseded, UnitList, Refused}
 use Rattle.fabric_terms.specs.declared.report.Head.{Head}
@@ -80,4 +79,4 @@ report_line head report = spaced (head_text head ∷ report_text report ∷ []) 
 -- the numbers of the first and the last frame of a step
 abbrev pub sent_line : Head → ℕ × ℕ → List ℕ
 sent_line head sent =
-    spaced (head_text head ∷ codes "sent" ∷ join_with_byte 45 (decimal sent.0 ∷ decimal sent.1 ∷ []) ∷ []) ++ codes "\n"
+    spaced (head_text head ∷ codes "sent" ∷ (decimal sent.0 ++ (codes "-" ++ decimal sent.1)) ∷ []) ++ codes "\n"

@@ -1,8 +1,9 @@
 ghost use Rattle.std.specs.Prelude.{◌≡◌};
-ghost use Rattle.sched_text.specs.Fields.{Gives, node_at, arbiter_at, actor_at};
+ghost use Rattle.sched_text.specs.Fields.{Gives, last};
+ghost use Rattle.sched_text.specs.Numbers.{node_at, arbiter_at, actor_at};
 
 use crate::bad_line::BadLine;
-use crate::number::number_in;
+use crate::number::{last_number, number_in};
 use crate::word::after_word;
 
 /// The greatest number of a node.
@@ -22,12 +23,29 @@ pub fn node_at(bytes: &[u8]) -> Result<(u16, &[u8]), BadLine>
     Ok((node as u16, rest))
 }
 
-/// The number of an arbitrator, without its letter, as an actor, and what follows it.
-pub fn arbiter_at(bytes: &[u8]) -> Result<(u16, &[u8]), BadLine>
+/// A node that nothing follows.
+pub fn last_node(bytes: &[u8]) -> Result<u16, BadLine>
+    ensures { Gives (λ x. x) result (last node_at bytes.now) }
+{
+    Ok(last_number(1, LAST_NODE, bytes)? as u16)
+}
+
+// The number of an arbitrator, without its letter, as an actor, and what follows it.
+fn arbiter_at(bytes: &[u8]) -> Result<(u16, &[u8]), BadLine>
     ensures { Gives (λ x. (x.0, x.1.now)) result (arbiter_at bytes.now) }
 {
     let (arbiter, rest) = number_in(1, LAST_ARBITER, bytes)?;
     Ok((ARBITERS + arbiter as u16, rest))
+}
+
+/// The same, with nothing behind it.
+pub fn last_arbiter(bytes: &[u8]) -> Result<u16, BadLine>
+    ensures { Gives (λ x. x) result (last arbiter_at bytes.now) }
+{
+    match arbiter_at(bytes)? {
+        (actor, []) => Ok(actor),
+        _ => Err(BadLine),
+    }
 }
 
 /// An actor, and what follows it.
@@ -37,5 +55,15 @@ pub fn actor_at(bytes: &[u8]) -> Result<(u16, &[u8]), BadLine>
     match after_word(b"a", bytes) {
         Ok(rest) => arbiter_at(rest),
         Err(_) => node_at(bytes),
+    }
+}
+
+/// An actor that nothing follows.
+pub fn last_actor(bytes: &[u8]) -> Result<u16, BadLine>
+    ensures { Gives (λ x. x) result (last actor_at bytes.now) }
+{
+    match actor_at(bytes)? {
+        (actor, []) => Ok(actor),
+        _ => Err(BadLine),
     }
 }

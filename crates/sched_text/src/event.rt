@@ -1,10 +1,12 @@
 ghost use Rattle.std.specs.Prelude.{◌≡◌, IfOk, OnErr};
 ghost use Rattle.sched_text.specs.Fields.{Gives};
-ghost use Rattle.sched_text.specs.Lines.{start_of, stop_of, tick_of, event_of, ReadIsSpelled, SpelledIsRead};
+ghost use Rattle.sched_text.specs.Lines.{start_of, tick_of, do_of, junk_of, event_of, ReadIsSpelled, SpelledIsRead};
 
-use crate::actor::{actor_at, arbiter_at, node_at};
+use crate::actor::{actor_at, last_actor, last_arbiter, last_node, node_at};
 use crate::bad_line::BadLine;
-use crate::number::{MOST, last_number, number_in};
+use crate::command::read_command;
+use crate::junk::junk_bytes_of;
+use crate::number::{count_at, last_count};
 use crate::tick::readings_of;
 use crate::word::after_word;
 use fabric_terms::Event;
@@ -14,39 +16,44 @@ fn start_of(words: &[u8]) -> Result<Event, BadLine>
     ensures { Gives (λ e. e) result (start_of words.now) }
 {
     if let Ok(rest) = after_word(b"a", words) {
-        return match arbiter_at(rest)? {
-            (actor, []) => Ok(Event::Start {
-                actor,
-                reading: None,
-            }),
-            _ => Err(BadLine),
-        };
+        return Ok(Event::Start {
+            actor: last_arbiter(rest)?,
+            reading: None,
+        });
     }
     let (actor, rest) = node_at(words)?;
-    let reading = last_number(0, MOST, after_word(b" ", rest)?)?;
+    let reading = last_count(after_word(b" ", rest)?)?;
     Ok(Event::Start {
         actor,
         reading: Some(reading),
     })
 }
 
-#[tactic(auto, unfolding(crate::specs::Lines::stop_of))]
-fn stop_of(words: &[u8]) -> Result<Event, BadLine>
-    ensures { Gives (λ e. e) result (stop_of words.now) }
-{
-    match actor_at(words)? {
-        (actor, []) => Ok(Event::Stop { actor }),
-        _ => Err(BadLine),
-    }
-}
-
 #[tactic(auto, unfolding(crate::specs::Lines::tick_of))]
 fn tick_of(words: &[u8]) -> Result<Event, BadLine>
     ensures { Gives (λ e. e) result (tick_of words.now) }
 {
-    let (advance, rest) = number_in(0, MOST, words)?;
+    let (advance, rest) = count_at(words)?;
     let readings = readings_of(rest)?;
     Ok(Event::Tick { advance, readings })
+}
+
+#[tactic(auto, unfolding(crate::specs::Lines::do_of))]
+fn do_of(words: &[u8]) -> Result<Event, BadLine>
+    ensures { Gives (λ e. e) result (do_of words.now) }
+{
+    let (node, rest) = node_at(words)?;
+    let command = read_command(after_word(b" ", rest)?)?;
+    Ok(Event::Do { node, command })
+}
+
+#[tactic(auto, unfolding(crate::specs::Lines::junk_of))]
+fn junk_of(words: &[u8]) -> Result<Event, BadLine>
+    ensures { Gives (λ e. e) result (junk_of words.now) }
+{
+    let (actor, rest) = actor_at(words)?;
+    let bytes = junk_bytes_of(after_word(b" ", rest)?)?;
+    Ok(Event::Junk { actor, bytes })
 }
 
 /// The event of a schedule's line, without its line feed. BadLine comes exactly where the bytes are none.
@@ -59,11 +66,20 @@ pub fn read_event(line: &[u8]) -> Result<Event, BadLine>
     if let Ok(words) = after_word(b"start ", line) {
         start_of(words)
     } else if let Ok(words) = after_word(b"stop ", line) {
-        stop_of(words)
+        let actor = last_actor(words)?;
+        Ok(Event::Stop { actor })
     } else if let Ok(words) = after_word(b"tick ", line) {
         tick_of(words)
+    } else if let Ok(words) = after_word(b"fire ", line) {
+        let node = last_node(words)?;
+        Ok(Event::Fire { node })
+    } else if let Ok(words) = after_word(b"give ", line) {
+        let frame = last_count(words)?;
+        Ok(Event::Give { frame })
+    } else if let Ok(words) = after_word(b"do ", line) {
+        do_of(words)
     } else {
-        Err(BadLine)
+        junk_of(after_word(b"junk ", line)?)
     }
 }
 

@@ -9,7 +9,10 @@
 
 mod actor;
 mod bad_line;
+mod command;
+mod digit;
 mod event;
+mod junk;
 mod number;
 mod report;
 mod text;
@@ -17,9 +20,11 @@ mod tick;
 mod word;
 
 pub use bad_line::BadLine;
+pub use command::{one_command_spelling, read_command};
 pub use event::{one_spelling, read_event};
 pub use fabric_terms::{
     Command, Event, Head, JunkBytes, OutOfMemory, Payload, Readings, Reason, Report, Verb,
 };
+pub use number::{last_number, number_in};
 pub use report::{print_report, print_sent};
 pub use text::{push_bytes, push_number, push_ranges, push_who};

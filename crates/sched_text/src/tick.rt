@@ -4,7 +4,7 @@ ghost use Rattle.sched_text.specs.Lines.{reading_at, readings_of};
 
 use crate::actor::node_at;
 use crate::bad_line::BadLine;
-use crate::number::{MOST, number_in};
+use crate::number::count_at;
 use crate::word::after_word;
 use fabric_terms::Readings;
 
@@ -17,7 +17,7 @@ fn reading_at(bytes: &[u8]) -> Result<(u16, u64, &[u8]), BadLine>
     ensures { Gives (λ x. ((x.0, x.1), x.2.now)) result (reading_at bytes.now) }
 {
     let (node, rest) = node_at(after_word(b" ", bytes)?)?;
-    let (reading, rest) = number_in(0, MOST, after_word(b":", rest)?)?;
+    let (reading, rest) = count_at(after_word(b":", rest)?)?;
     Ok((node, reading, rest))
 }
 

@@ -1,6 +1,7 @@
-use Rattle.std.proofs.Common.{◌≡◌, ◌≤◌, drop}
-use Rattle.sched_text.specs.Fields.{more_digits, most}
+use Rattle.std.proofs.Common.{◌≡◌, drop}
+use Rattle.sched_text.specs.Numbers.{more_digits}
 use Rattle.sched_text.proofs.number.more_digits.Given as goal
 
+-- what is read of the rest is what is read of all
 abbrev pub invariant-loop-i : goal.invariant-loop-i
-invariant-loop-i l = (l.n ≤ most) × (more_digits l.n (drop l.i l.bytes) ≡ more_digits l.first l.bytes)
+invariant-loop-i l = more_digits l.hi l.n (drop l.i l.bytes) ≡ more_digits l.hi l.first l.bytes

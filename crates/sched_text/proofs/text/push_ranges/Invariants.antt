@@ -1,10 +1,11 @@
-use Rattle.std.proofs.Common.{◌≡◌, ◌++◌, drop, map}
+use Rattle.std.proofs.Common.{◌≡◌, ◌++◌, drop}
+use Rattle.std.specs.Prelude.{codes}
+use Rattle.std.specs.List.{flat_map}
 use Rattle.sched_text.specs.Texts.{Keeps, interval_text, ranges_text}
-use Rattle.sched_text.proofs.Lists.{after_each}
 use Rattle.sched_text.proofs.text.push_ranges.Given as goal
 
 -- what is written so far, and what is left to write
 abbrev pub invariant-loop-i : goal.invariant-loop-i
 invariant-loop-i l =
-    (l.into.items ++ after_each 44 (map interval_text (drop l.i-index l.more)) ≡ l.fn.into.items ++ ranges_text l.ranges)
+    (l.into.items ++ flat_map (λ i. codes "," ++ interval_text i) (drop l.i-index l.more) ≡ l.fn.into.items ++ ranges_text l.ranges)
     × Keeps l.fn.into.items l.into.items

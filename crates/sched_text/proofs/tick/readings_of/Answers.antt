@@ -2,7 +2,8 @@ use Rattle.std.proofs.Common.{◌≡◌, ◌<◌, ◌+◌, ◌-◌, ◌++◌, []
 use Rattle.std.proofs.lemmas.Bool.Decides.{nat_tests}
 use Rattle.std.proofs.lemmas.Result.{err_from_is_err_and}
 use Rattle.sched_text.specs.Lines.{readings_of}
-use Rattle.sched_text.proofs.TickLaws.{put_before, readings_full, readings_bad, readings_next, readings_done}
+use Rattle.sched_text.proofs.Lists.{put_before}
+use Rattle.sched_text.proofs.TickLaws.{readings_full, readings_bad, readings_next, readings_done}
 use Rattle.sched_text.proofs.tick.readings_of.Goals as goal
 
 pub returns-then-as_slice-eq-MOST_READINGS : goal.returns-then-as_slice-eq-MOST_READINGS

@@ -1,0 +1,144 @@
+-- The commands of a schedule: what is read as a command, and how a command is spelled.
+use Rattle.std.specs.Prelude.{◌≡◌, ℕ, ◌≤◌, ◌&&◌, Bool, List, [], ◌∷◌, length, Option, Some, All, codes, decimal, nat_le}
+use Rattle.std.specs.List.{list_all}
+use Rattle.ring_points.specs.declared.interval.Interval.{Interval}
+use Rattle.ring_points.specs.declared.point.Point.{Point}
+use Rattle.fabric_terms.specs.declared.command.Command.{Command}
+use Rattle.fabric_terms.specs.declared.command.Command.TheVariants.{Link, LinkFor, Part, GiveNear, GiveAll, Join, Find, Create, Swap, Heal, Lose, Write, Units}
+use Rattle.sched_text.specs.Fields.{◌>>=◌, Field, whole_of, last, made, followed, pair_at, behind, nothing, such_that, sized}
+use Rattle.sched_text.specs.Numbers.{IsNode, number_in, node_at}
+use Rattle.sched_text.specs.Digits.{IsPoint, point_at}
+use Rattle.sched_text.specs.Texts.{spaced, point_text, interval_text}
+
+-- a partition
+abbrev pub partition_at : List ℕ → Field ℕ
+partition_at = number_in 0 65535
+
+-- how many replicas
+abbrev pub members_of : List ℕ → Option ℕ
+members_of = last (number_in 1 7)
+
+-- the length of a lease, in ticks
+abbrev pub lease_of : List ℕ → Option ℕ
+lease_of = last (number_in 10 1000000000)
+
+-- behind `link N`: nothing, or ` for LEN`
+abbrev pub linked_of : ℕ → List ℕ → Option Command
+linked_of node = behind (codes " for ") (made (LinkFor node) lease_of) (whole_of (Link node))
+
+-- behind `link`: `N` or `N for LEN`
+unfoldable pub link_of : List ℕ → Option Command
+link_of bytes = node_at bytes >>= λ node. linked_of node.0 node.1
+
+-- behind `give N`: ` near` or ` all`
+abbrev pub given_of : ℕ → List ℕ → Option Command
+given_of node = behind (codes " near") (whole_of (GiveNear node)) (behind (codes " all") (whole_of (GiveAll node)) nothing)
+
+-- behind `give`: `N near` or `N all`
+unfoldable pub give_of : List ℕ → Option Command
+give_of bytes = node_at bytes >>= λ node. given_of node.0 node.1
+
+abbrev pub point_made : ℕ → Point
+point_made p = record { 0 = p }
+
+abbrev pub interval_made : ℕ × ℕ → Interval
+interval_made ends = record { lo = ends.0; hi = ends.1 }
+
+-- the first point is not above the second
+abbrev pub is_rising : ℕ × ℕ → Bool
+is_rising ends = nat_le ends.0 ends.1
+
+-- `POINT-POINT`
+unfoldable pub interval_of : List ℕ → Option Interval
+interval_of = made interval_made (such_that is_rising (last (pair_at point_at (codes "-") point_at)))
+
+-- a blank or a visible sign
+abbrev pub is_printable : ℕ → Bool
+is_printable b = nat_le 32 b && nat_le b 126
+
+-- a text, to the end of the line
+unfoldable pub text_of : List ℕ → Option (List ℕ)
+text_of = sized 1 512 (such_that (list_all is_printable) Some)
+
+-- a command to a partition
+unfoldable pub partition_command_of : List ℕ → Option Command
+partition_command_of =
+    behind (codes "create ") (followed partition_at (codes " ") members_of Create) (
+    behind (codes "swap ") (followed partition_at (codes " ") (last node_at) Swap) (
+    behind (codes "heal ") (followed partition_at (codes " ") members_of Heal) (
+    behind (codes "lose ") (followed partition_at (codes " ") (last node_at) Lose) (
+    behind (codes "write ") (followed partition_at (codes " ") text_of Write) (
+    behind (codes "units ") (made Units interval_of) nothing
+    )
+    )
+    )
+    )
+    )
+
+-- a command
+unfoldable pub command_of : List ℕ → Option Command
+command_of =
+    behind (codes "link ") link_of (
+    behind (codes "part ") (made Part (last node_at)) (
+    behind (codes "give ") give_of (
+    behind (codes "join ") (made Join (last node_at)) (
+    behind (codes "find ") (made (λ p. Find (point_made p)) (last point_at)) partition_command_of
+    )
+    )
+    )
+    )
+
+-- How a command is spelled.
+
+abbrev pub IsPartition : ℕ → Type 0
+IsPartition p = p ≤ 65535
+
+abbrev pub IsMembers : ℕ → Type 0
+IsMembers c = (1 ≤ c) × (c ≤ 7)
+
+abbrev pub IsLease : ℕ → Type 0
+IsLease ticks = (10 ≤ ticks) × (ticks ≤ 1000000000)
+
+abbrev pub IsText : List ℕ → Type 0
+IsText text = (1 ≤ length text) × (length text ≤ 512) × All (λ b. (32 ≤ b) × (b ≤ 126)) text
+
+abbrev pub IsSpan : Interval → Type 0
+IsSpan i = IsPoint i.lo × IsPoint i.hi × (i.lo ≤ i.hi)
+
+-- the numbers and texts of a command are in their ranges
+abbrev pub FitsCommand : Command → Type 0
+FitsCommand (Link node) = IsNode node
+FitsCommand (LinkFor node length) = IsNode node × IsLease length
+FitsCommand (Part node) = IsNode node
+FitsCommand (GiveNear node) = IsNode node
+FitsCommand (GiveAll node) = IsNode node
+FitsCommand (Join node) = IsNode node
+FitsCommand (Find key) = IsPoint key.0
+FitsCommand (Create partition count) = IsPartition partition × IsMembers count
+FitsCommand (Swap partition node) = IsPartition partition × IsNode node
+FitsCommand (Heal partition count) = IsPartition partition × IsMembers count
+FitsCommand (Lose partition node) = IsPartition partition × IsNode node
+FitsCommand (Write partition text) = IsPartition partition × IsText text
+FitsCommand (Units part) = IsSpan part
+
+abbrev pub command_text : Command → List ℕ
+command_text (Link node) = spaced (codes "link" ∷ decimal node ∷ [])
+command_text (LinkFor node length) = spaced (codes "link" ∷ decimal node ∷ codes "for" ∷ decimal length ∷ [])
+command_text (Part node) = spaced (codes "part" ∷ decimal node ∷ [])
+command_text (GiveNear node) = spaced (codes "give" ∷ decimal node ∷ codes "near" ∷ [])
+command_text (GiveAll node) = spaced (codes "give" ∷ decimal node ∷ codes "all" ∷ [])
+command_text (Join node) = spaced (codes "join" ∷ decimal node ∷ [])
+command_text (Find key) = spaced (codes "find" ∷ point_text key.0 ∷ [])
+command_text (Create partition count) = spaced (codes "create" ∷ decimal partition ∷ decimal count ∷ [])
+command_text (Swap partition node) = spaced (codes "swap" ∷ decimal partition ∷ decimal node ∷ [])
+command_text (Heal partition count) = spaced (codes "heal" ∷ decimal partition ∷ decimal count ∷ [])
+command_text (Lose partition node) = spaced (codes "lose" ∷ decimal partition ∷ decimal node ∷ [])
+command_text (Write partition text) = spaced (codes "write" ∷ decimal partition ∷ text ∷ [])
+command_text (Units part) = spaced (codes "units" ∷ interval_text part ∷ [])
+
+-- what is read as a command is spelled so, and what is spelled so is read
+abbrev pub CommandReadIsSpelled : Type 0
+CommandReadIsSpelled = (bytes : List ℕ) (c : Command) → command_of bytes ≡ Some c → FitsCommand c × (bytes ≡ command_text c)
+
+abbrev pub SpelledCommandIsRead : Type 0
+SpelledCommandIsRead = (c : Command) → FitsCommand c → command_of (command_text c) ≡ Some c

@@ -1,0 +1,164 @@
+ghost use Rattle.std.specs.Prelude.{◌≡◌, IfOk, OnErr};
+ghost use Rattle.std.specs.List.{list_all};
+ghost use Rattle.sched_text.specs.Fields.{Gives, whole_of};
+ghost use Rattle.sched_text.specs.Numbers.{number_in};
+ghost use Rattle.sched_text.specs.Commands.{partition_at, members_of, lease_of, link_of, give_of, interval_of, is_printable, text_of, partition_command_of, command_of, CommandReadIsSpelled, SpelledCommandIsRead};
+
+use crate::actor::{last_node, node_at};
+use crate::bad_line::BadLine;
+use crate::digit::{last_point, point_at};
+use crate::number::{last_number, number_in};
+use crate::word::after_word;
+use fabric_terms::{Command, Payload};
+use ring_points::{Interval, Point};
+
+/// The shortest lease that a link may ask for, in ticks.
+const SHORTEST_LEASE: u64 = 10;
+
+/// The longest, in ticks.
+const LONGEST_LEASE: u64 = 1_000_000_000;
+
+/// The greatest number of a partition.
+const LAST_PARTITION: u64 = 65535;
+
+/// How many replicas a partition may have at most.
+const MOST_MEMBERS: u64 = 7;
+
+/// How many bytes a write may have at most.
+const MOST_TEXT: usize = 512;
+
+fn partition_at(bytes: &[u8]) -> Result<(u16, &[u8]), BadLine>
+    ensures { Gives (λ x. (x.0, x.1.now)) result (partition_at bytes.now) }
+{
+    let (partition, rest) = number_in(0, LAST_PARTITION, bytes)?;
+    Ok((partition as u16, rest))
+}
+
+fn members_of(bytes: &[u8]) -> Result<u8, BadLine>
+    ensures { Gives (λ x. x) result (members_of bytes.now) }
+{
+    Ok(last_number(1, MOST_MEMBERS, bytes)? as u8)
+}
+
+// The command, where nothing is left.
+fn whole_of(command: Command, rest: &[u8]) -> Result<Command, BadLine>
+    ensures { Gives (λ x. x) result (whole_of command rest.now) }
+{
+    if rest.is_empty() {
+        Ok(command)
+    } else {
+        Err(BadLine)
+    }
+}
+
+#[tactic(auto, unfolding(crate::specs::Commands::link_of))]
+fn link_of(words: &[u8]) -> Result<Command, BadLine>
+    ensures { Gives (λ x. x) result (link_of words.now) }
+{
+    let (node, rest) = node_at(words)?;
+    if let Ok(lease) = after_word(b" for ", rest) {
+        let lease = last_number(SHORTEST_LEASE, LONGEST_LEASE, lease)?;
+        Ok(Command::LinkFor(node, lease))
+    } else {
+        whole_of(Command::Link(node), rest)
+    }
+}
+
+#[tactic(auto, unfolding(crate::specs::Commands::give_of))]
+fn give_of(words: &[u8]) -> Result<Command, BadLine>
+    ensures { Gives (λ x. x) result (give_of words.now) }
+{
+    let (node, rest) = node_at(words)?;
+    if let Ok(rest) = after_word(b" near", rest) {
+        whole_of(Command::GiveNear(node), rest)
+    } else {
+        whole_of(Command::GiveAll(node), after_word(b" all", rest)?)
+    }
+}
+
+#[tactic(auto, unfolding(crate::specs::Commands::interval_of))]
+fn interval_of(words: &[u8]) -> Result<Interval, BadLine>
+    ensures { Gives (λ x. x) result (interval_of words.now) }
+{
+    let (lo, rest) = point_at(words)?;
+    let hi = last_point(after_word(b"-", rest)?)?;
+    if lo <= hi {
+        Ok(Interval { lo, hi })
+    } else {
+        Err(BadLine)
+    }
+}
+
+fn is_printable(b: u8) -> bool
+    ensures { result ≡ is_printable b }
+{
+    b' ' <= b && b <= b'~'
+}
+
+fn all_printable(bytes: &[u8]) -> bool
+    ensures { result ≡ list_all is_printable bytes.now }
+{
+    bytes.iter().all(|b| is_printable(*b))
+}
+
+#[tactic(auto, unfolding(crate::specs::Commands::text_of))]
+fn text_of(bytes: &[u8]) -> Result<Payload, BadLine>
+    ensures { Gives (λ x. x) result (text_of bytes.now) }
+{
+    if bytes.is_empty() || bytes.len() > MOST_TEXT || !all_printable(bytes) {
+        return Err(BadLine);
+    }
+    Ok(Payload::from_slice(bytes))
+}
+
+#[tactic(auto, unfolding(crate::specs::Commands::partition_command_of))]
+fn partition_command_of(words: &[u8]) -> Result<Command, BadLine>
+    ensures { Gives (λ x. x) result (partition_command_of words.now) }
+{
+    if let Ok(rest) = after_word(b"create ", words) {
+        let (partition, rest) = partition_at(rest)?;
+        Ok(Command::Create(partition, members_of(after_word(b" ", rest)?)?))
+    } else if let Ok(rest) = after_word(b"swap ", words) {
+        let (partition, rest) = partition_at(rest)?;
+        Ok(Command::Swap(partition, last_node(after_word(b" ", rest)?)?))
+    } else if let Ok(rest) = after_word(b"heal ", words) {
+        let (partition, rest) = partition_at(rest)?;
+        Ok(Command::Heal(partition, members_of(after_word(b" ", rest)?)?))
+    } else if let Ok(rest) = after_word(b"lose ", words) {
+        let (partition, rest) = partition_at(rest)?;
+        Ok(Command::Lose(partition, last_node(after_word(b" ", rest)?)?))
+    } else if let Ok(rest) = after_word(b"write ", words) {
+        let (partition, rest) = partition_at(rest)?;
+        Ok(Command::Write(partition, text_of(after_word(b" ", rest)?)?))
+    } else {
+        Ok(Command::Units(interval_of(after_word(b"units ", words)?)?))
+    }
+}
+
+/// The command of these words, as they stand behind `do N`. BadLine comes exactly where the bytes are
+/// none.
+#[tactic(auto, unfolding(crate::specs::Commands::command_of))]
+pub fn read_command(words: &[u8]) -> Result<Command, BadLine>
+    ensures ok { IfOk result (λ c. command_of words.now ≡ Some c) }
+    ensures err { OnErr result (command_of words.now ≡ None) }
+{
+    if let Ok(rest) = after_word(b"link ", words) {
+        link_of(rest)
+    } else if let Ok(rest) = after_word(b"part ", words) {
+        Ok(Command::Part(last_node(rest)?))
+    } else if let Ok(rest) = after_word(b"give ", words) {
+        give_of(rest)
+    } else if let Ok(rest) = after_word(b"join ", words) {
+        Ok(Command::Join(last_node(rest)?))
+    } else if let Ok(rest) = after_word(b"find ", words) {
+        Ok(Command::Find(Point(last_point(rest)?)))
+    } else {
+        partition_command_of(words)
+    }
+}
+
+/// Each command has one spelling, and nothing else is read as a command.
+pub fn one_command_spelling()
+    ensures read { CommandReadIsSpelled }
+    ensures spelled { SpelledCommandIsRead }
+{}

@@ -1,0 +1,45 @@
+ghost use Rattle.std.specs.Prelude.{◌≡◌, ◌<◌, IfOk};
+ghost use Rattle.sched_text.specs.Fields.{Gives, last};
+ghost use Rattle.sched_text.specs.Digits.{hex_value, point_at};
+
+use crate::bad_line::BadLine;
+
+/// How many hexadecimal digits a point has.
+const POINT_DIGITS: usize = 16;
+
+/// The value of a hexadecimal digit.
+pub fn hex_value(b: u8) -> Result<u8, BadLine>
+    ensures value { Gives (λ x. x) result (hex_value b) }
+    ensures small { IfOk result (λ d. d < 16) }
+{
+    match b {
+        b'0'..=b'9' => Ok(b - b'0'),
+        b'a'..=b'f' => Ok(b - b'a' + 10),
+        _ => Err(BadLine),
+    }
+}
+
+/// A point, and what follows it.
+#[tactic(auto, unfolding(crate::specs::Digits::point_at))]
+pub fn point_at(bytes: &[u8]) -> Result<(u64, &[u8]), BadLine>
+    ensures { Gives (λ x. (x.0, x.1.now)) result (point_at bytes.now) }
+{
+    let mut n: u64 = 0;
+    for i in 0..POINT_DIGITS {
+        if i >= bytes.len() {
+            return Err(BadLine);
+        }
+        n = 16 * n + u64::from(hex_value(bytes[i])?);
+    }
+    Ok((n, &bytes[POINT_DIGITS..]))
+}
+
+/// A point that nothing follows.
+pub fn last_point(bytes: &[u8]) -> Result<u64, BadLine>
+    ensures { Gives (λ x. x) result (last point_at bytes.now) }
+{
+    match point_at(bytes)? {
+        (point, []) => Ok(point),
+        _ => Err(BadLine),
+    }
+}
