@@ -1,0 +1,8 @@
+pub mod Blocks
+pub mod Bits
+pub mod Bounds
+pub mod Span
+pub mod First
+pub mod Distance
+pub mod Ring
+pub mod Place
