@@ -1,6 +1,8 @@
-ghost use Rattle.std.specs.Prelude.{◌≡◌, ◌≢◌, ◌∷◌, ◌++◌, [], ℕ, List, Option, Some, map, vec_items, IfOk, OnOk, OnErr, IsErr, IsErrOf, ◌%◌, if◌then◌else◌};
+ghost use Rattle.std.specs.Prelude.{◌≡◌, ◌≢◌, ◌∷◌, ◌++◌, [], ℕ, List, Option, Some, map, vec_items, IfOk, OnOk, OnErr, IsErr, IsErrOf, IsTrue, ◌%◌};
+ghost use Rattle.edge_io.specs.Edge.{HasCauseOf};
 ghost use Rattle.edge_io.specs.Lists.{records_of, AddsRecord};
 ghost use Rattle.edge_io.specs.Memory.{told_list};
+ghost use Rattle.edge_io.specs.Plan.{next_fails, faults_after};
 
 use crate::entries::place_of;
 use crate::fault_plan::FaultPlan;
@@ -115,7 +117,18 @@ impl Keeper for MemKeeper {
         Ok(copy_of(self.alloc, records_at(&self.lists, actor))?)
     }
 
-    fn append_synced(&mut self, actor: u16, bytes: &[u8]) -> Result<(), EdgeRefusal> {
+    fn append_synced(&mut self, actor: u16, bytes: &[u8]) -> Result<(), EdgeRefusal>
+        ensures ok { OnOk result (AddsRecord actor bytes.now self.old.lists self.new.lists) }
+        ensures out_of_memory { IsErrOf result EdgeRefusal.OutOfMemory → self.new.lists ≡ self.old.lists }
+        ensures cause { HasCauseOf EdgeRefusal.Failed self.old.faults.faults self.new.faults.faults result }
+        ensures faults { self.new.faults ≡ faults_after self.old.faults }
+        ensures failed { IsErrOf result EdgeRefusal.Failed → IsTrue (next_fails self.old.faults.plan) }
+        ensures refused { IsTrue (next_fails self.old.faults.plan) → IsErr result }
+
+        // A failing append keeps its record where the call's number is even.
+        ensures even { IsErrOf result EdgeRefusal.Failed → self.new.faults.plan.calls % 2 ≡ 0 → AddsRecord actor bytes.now self.old.lists self.new.lists }
+        ensures odd { IsErrOf result EdgeRefusal.Failed → self.new.faults.plan.calls % 2 ≢ 0 → self.new.lists ≡ self.old.lists }
+    {
         if !self.faults.next_fails() {
             add_record(self.alloc, &mut self.lists, actor, bytes)?;
             return Ok(());
