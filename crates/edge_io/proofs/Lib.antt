@@ -1,2 +1,6 @@
 mod Counts
+mod Lists
 mod PlannedSoFar
+mod Positions
+mod ToldArrivals
+mod ToldLists

@@ -16,23 +16,23 @@ NoneFailed old new = (plan : Plan) → old ≡ Some plan → Passed plan new
 pub none_failed_on : (a b c : Option Plan) (before now : ℕ) (Failed : Type 0) → NoneFailed a b → FollowsPlan b c before now Failed → (Failed → ⊥) → NoneFailed a c
 none_failed_on a b c before now Failed passed follows well plan told =
     let p : Passed plan b = passed plan told in
-    let call : PlannedCall (after_calls p.calls plan) c before now Failed = follows (after_calls p.calls plan) p.moved in
+    let call : PlannedCall (after_calls p.calls plan) c before now Failed Failed = follows (after_calls p.calls plan) p.moved in
     record {
       calls = suc p.calls;
       moved = call.moved;
-      well = ap (λ some. some || next_fails (after_calls p.calls plan)) p.well ∙ false_from_ne_true _ (λ fails. well (call.failed.1 fails));
+      well = ap (λ some. some || next_fails (after_calls p.calls plan)) p.well ∙ false_from_ne_true _ (λ fails. well (call.refused fails));
     }
 
 -- one more call, whether it fails or not, where `Answered` says the same as that it failed
 pub planned_on : (a b c : Option Plan) (before now : ℕ) (Failed Answered : Type 0) → NoneFailed a b → FollowsPlan b c before now Failed → (Failed → Answered) → (Answered → Failed) → FollowsPlanAll a c Answered
 planned_on a b c before now Failed Answered passed follows answered failed plan told =
     let p : Passed plan b = passed plan told in
-    let call : PlannedCall (after_calls p.calls plan) c before now Failed = follows (after_calls p.calls plan) p.moved in
+    let call : PlannedCall (after_calls p.calls plan) c before now Failed Failed = follows (after_calls p.calls plan) p.moved in
     let last : some_fails (suc p.calls) plan ≡ next_fails (after_calls p.calls plan) = ap (λ some. some || next_fails (after_calls p.calls plan)) p.well in
     record {
       calls = suc p.calls;
       moved = call.moved;
-      failed = (λ x. last ∙ call.failed.0 (failed x), λ fails. answered (call.failed.1 (sym last ∙ fails)));
+      failed = (λ x. last ∙ call.failed (failed x), λ fails. answered (call.refused (sym last ∙ fails)));
     }
 
 -- no more call

@@ -1,4 +1,4 @@
--- What the calls of a source and a sink do to what it has left or holds, where it tells, and when they fail.
+-- What the calls of a device do to what it has left or holds, where it tells, and when they fail.
 use Rattle.std.specs.Prelude.{◌≡◌, ℕ, ◌+◌, ◌^◌, ◌≤◌, ◌<◌, ◌⊎◌, List, [], ◌++◌, length, take, drop, Option, Some, Result, IsErr, IsErrOf}
 
 -- a read of n bytes into a buffer that then is `into`
@@ -12,13 +12,21 @@ pub record ReadOf (bytes : List ℕ) (new : Option (List ℕ)) (n : ℕ) (into :
 abbrev pub Reads : Option (List ℕ) → Option (List ℕ) → ℕ → List ℕ → Type 0
 Reads old new n into = (bytes : List ℕ) → old ≡ Some bytes → ReadOf bytes new n into
 
--- where it tells, it has these bytes more
-abbrev pub Grew : Option (List ℕ) → Option (List ℕ) → List ℕ → Type 0
-Grew old new more = (held : List ℕ) → old ≡ Some held → new ≡ Some (held ++ more)
+-- where it tells what it has, it is this
+abbrev pub Tells : {A : Type 0} → Option A → A → Type 0
+Tells {A} told this = (all : A) → told ≡ Some all → this ≡ all
 
--- where it tells, it has a front of these bytes more
-abbrev pub GrewByFront : Option (List ℕ) → Option (List ℕ) → List ℕ → Type 0
+-- where it tells what it holds, it has these more
+abbrev pub Grew : {A : Type 0} → Option (List A) → Option (List A) → List A → Type 0
+Grew {A} old new more = (held : List A) → old ≡ Some held → new ≡ Some (held ++ more)
+
+-- where it tells what it holds, it has a front of these more
+abbrev pub GrewByFront : {A : Type 0} → Option (List A) → Option (List A) → List A → Type 0
 GrewByFront old new more = (n : ℕ) × Grew old new (take n more)
+
+-- where it tells what it holds, it has these more, or is as before
+abbrev pub GrewOrNot : {A : Type 0} → Option (List A) → Option (List A) → List A → Type 0
+GrewOrNot {A} old new more = (held : List A) → old ≡ Some held → (new ≡ Some held) ⊎ (new ≡ Some (held ++ more))
 
 -- the count has risen, or stands at the end of its type
 abbrev pub HasRisen : ℕ → ℕ → Type 0

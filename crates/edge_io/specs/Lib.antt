@@ -1,3 +1,6 @@
-pub mod Edge
 pub mod Plan
+pub mod Edge
+pub mod Arrivals
+pub mod Readings
+pub mod Lists
 pub mod Memory

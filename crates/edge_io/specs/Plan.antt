@@ -37,15 +37,21 @@ faults_after f = record { plan = after_call f.plan; faults = count_after f.plan 
 abbrev pub fresh_faults : List ℕ → Faults
 fresh_faults fail = record { plan = record { calls = 0; fail = fail }; faults = 0 }
 
--- One call of a device with this plan: it fails exactly where its number is listed, and then the count rises.
-pub record PlannedCall (plan : Plan) (now : Option Plan) (faults faults' : ℕ) (Failed : Type 0) : Type 0 where
+-- One call of a device with this plan: it fails only where its number is listed, and there it is refused. The
+-- count rises exactly there.
+pub record PlannedCall (plan : Plan) (now : Option Plan) (faults faults' : ℕ) (Failed Refused : Type 0) : Type 0 where
   pub moved : now ≡ Some (after_call plan)
-  pub failed : Failed ↔ IsTrue (next_fails plan)
+  pub failed : Failed → IsTrue (next_fails plan)
+  pub refused : IsTrue (next_fails plan) → Refused
   pub count : faults' ≡ count_after plan faults
 
 -- where the plan is told, the call is that of the plan
+abbrev pub FollowsPlanUnlessRefused : Option Plan → Option Plan → ℕ → ℕ → Type 0 → Type 0 → Type 0
+FollowsPlanUnlessRefused old new before now Failed Refused = (plan : Plan) → old ≡ Some plan → PlannedCall plan new before now Failed Refused
+
+-- the same, and it fails wherever it is to fail
 abbrev pub FollowsPlan : Option Plan → Option Plan → ℕ → ℕ → Type 0 → Type 0
-FollowsPlan old new before now Failed = (plan : Plan) → old ≡ Some plan → PlannedCall plan new before now Failed
+FollowsPlan old new before now Failed = FollowsPlanUnlessRefused old new before now Failed Failed
 
 -- after that many calls
 abbrev pub after_calls : ℕ → Plan → Plan

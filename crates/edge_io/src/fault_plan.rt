@@ -1,4 +1,4 @@
-ghost use Rattle.std.specs.Prelude.{◌≡◌, ◌≤◌};
+ghost use Rattle.std.specs.Prelude.{◌≡◌, ◌≤◌, ◌%◌, ◌↔◌, IsTrue};
 ghost use Rattle.std.specs.Bool.{OnTrue};
 ghost use Rattle.edge_io.specs.Edge.{HasRisen};
 ghost use Rattle.edge_io.specs.Plan.{fresh_faults, next_fails, faults_after};
@@ -47,5 +47,12 @@ impl FaultPlan {
             self.failed = self.failed.saturating_add(1);
         }
         fails
+    }
+
+    /// Whether the number of the last call is even.
+    pub fn last_is_even(&self) -> bool
+        ensures { IsTrue result ↔ (self.now.plan.calls % 2 ≡ 0) }
+    {
+        self.calls % 2 == 0
     }
 }

@@ -7,13 +7,32 @@
 //! the theorems speak of.
 #![tactic(auto)]
 
+mod clock;
+mod datagram;
+mod endpoint;
+mod entries;
 mod fault_plan;
+mod keeper;
+mod links;
+mod mem_clock;
+mod mem_keeper;
+mod mem_links;
 mod mem_sink;
 mod mem_source;
 mod refusal;
 mod sink;
 mod source;
+#[cfg(test)]
+mod tests;
 
+pub use clock::Clock;
+pub use datagram::{DATAGRAM_BYTES, Datagram, DatagramBytes};
+pub use endpoint::{Endpoint, SocketAddress};
+pub use keeper::Keeper;
+pub use links::Links;
+pub use mem_clock::MemClock;
+pub use mem_keeper::MemKeeper;
+pub use mem_links::MemLinks;
 pub use mem_sink::MemSink;
 pub use mem_source::MemSource;
 pub use refusal::{EdgeRefusal, Failed};
