@@ -1,6 +1,6 @@
 mod Counts
 mod Lists
 mod PlannedSoFar
-mod Positions
+pub mod Positions
 mod ToldArrivals
 mod ToldLists

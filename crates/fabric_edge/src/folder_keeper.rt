@@ -1,0 +1,47 @@
+use crate::failures::Failures;
+use crate::folder::Folder;
+use edge_io::{EdgeRefusal, Keeper};
+use std::alloc::Global;
+use std::rt::Files;
+
+/// Records in files: those of an actor in `kept/<actor>`, under the current folder, which is made where it
+/// is missing. Per record the file holds its length in two bytes, big-endian, then the record. What is no
+/// whole record at the end of a file is cut off where the list is read, since no append of it answered Ok.
+#[derive(Drop)]
+pub struct FolderKeeper<'a, R: Files> {
+    folder: Folder<'a, R>,
+    failures: Failures,
+}
+
+impl<'a, R: Files> FolderKeeper<'a, R> {
+    pub fn new(rt: &'a R, alloc: Global) -> Self {
+        FolderKeeper {
+            folder: Folder::new(rt, alloc),
+            failures: Failures::none(),
+        }
+    }
+}
+
+impl<R: Files> Keeper for FolderKeeper<'_, R> {
+    ghost use Rattle.std.specs.Prelude.{None};
+
+    ghost kept = { λ k actor. None };
+
+    ghost faults = { λ k. k.failures };
+
+    ghost plan = { λ k. None };
+
+    fn records(&mut self, actor: u16) -> Result<Vec<Vec<u8>>, EdgeRefusal> {
+        match self.folder.read(actor) {
+            Ok(records) => Ok(records),
+            Err(error) => Err(self.failures.refusal(error)),
+        }
+    }
+
+    fn append_synced(&mut self, actor: u16, bytes: &[u8]) -> Result<(), EdgeRefusal> {
+        match self.folder.append(actor, bytes) {
+            Ok(()) => Ok(()),
+            Err(error) => Err(self.failures.refusal(error)),
+        }
+    }
+}

@@ -1,0 +1,158 @@
+ghost use Rattle.std.specs.Prelude.{◌≡◌, ◌==◌, ◌≤◌, length, map, position, IfOk, IfSome};
+ghost use Rattle.edge_io.specs.Arrivals.{IsListening};
+
+use crate::failures::Failures;
+use edge_io::{EdgeRefusal, Endpoint, Failed, Links, SocketAddress};
+use std::alloc::{AllocError, Global};
+use std::io;
+use std::io::ErrorKind;
+use std::net::{Net, UdpSocket};
+use std::time::Duration;
+
+/// The longest that a receive waits for a datagram, in milliseconds.
+const LONGEST_WAIT: u64 = 10;
+
+/// An endpoint, and the socket that is bound to it.
+#[derive(Drop)]
+struct OpenSocket {
+    endpoint: Endpoint,
+    socket: UdpSocket,
+}
+
+/// Datagrams over UDP. An endpoint is a bound socket.
+///
+/// A receive waits at most 10 ms, and only where each of the last receives, as many as there are endpoints,
+/// found nothing. So a process of many actors waits once in a round in which nothing arrived, and not at
+/// all in another.
+#[derive(Drop)]
+pub struct UdpLinks<'a, R: Net> {
+    rt: &'a R,
+    alloc: Global,
+    sockets: Vec<OpenSocket>,
+    quiet: usize,
+    failures: Failures,
+}
+
+impl<'a, R: Net> UdpLinks<'a, R> {
+    pub fn new(rt: &'a R, alloc: Global) -> Self {
+        UdpLinks {
+            rt,
+            alloc,
+            sockets: Vec::new(alloc),
+            quiet: 0,
+            failures: Failures::none(),
+        }
+    }
+}
+
+/// A socket that is bound to the address. It does not wait.
+fn bind<R: Net>(rt: &R, at: &str) -> io::Result<UdpSocket> {
+    let socket = UdpSocket::bind(rt, at)?;
+    socket.set_read_timeout(Some(Duration::from_millis(LONGEST_WAIT)))?;
+    socket.set_nonblocking(true)?;
+    Ok(socket)
+}
+
+/// Where the first socket of the actor stands.
+fn place_of(sockets: &[OpenSocket], actor: u16) -> Option<usize>
+    ensures { result ≡ position (λ o. o.endpoint.actor == actor) sockets.now }
+{
+    sockets.iter().position(|open| open.endpoint.actor == actor)
+}
+
+/// The socket of an actor that listens.
+fn socket_of(sockets: &[OpenSocket], actor: u16) -> &UdpSocket
+    requires { IsListening actor (map (λ o. o.endpoint) sockets.now) }
+{
+    &sockets[place_of(sockets, actor).unwrap()].socket
+}
+
+/// The next datagram of the socket; None where none is there.
+fn next_datagram(socket: &UdpSocket, into: &mut [u8], waits: bool) -> io::Result<Option<usize>>
+    ensures { IfOk result (λ answer. IfSome answer (λ n. n ≤ length into.old)) }
+{
+    if waits {
+        socket.set_nonblocking(false)?;
+    }
+    let got = socket.recv(into);
+    if waits {
+        socket.set_nonblocking(true)?;
+    }
+    match got {
+        Ok(count) => Ok(Some(count)),
+        Err(error) if is_quiet(error.kind()) => Ok(None),
+        Err(error) => Err(error),
+    }
+}
+
+/// Whether the error says that nothing arrived.
+fn is_quiet(kind: ErrorKind) -> bool {
+    matches!(
+        kind,
+        ErrorKind::WouldBlock | ErrorKind::TimedOut | ErrorKind::Interrupted
+    )
+}
+
+/// The endpoint of an actor beside its bound socket.
+fn open_at(alloc: Global, actor: u16, at: &str, socket: UdpSocket) -> Result<OpenSocket, AllocError>
+    ensures { IfOk result (λ o. o.endpoint ≡ record { actor = actor; at = at.now }) }
+{
+    let at = SocketAddress::new(String::from_str(alloc, at)?);
+    let endpoint = Endpoint { actor, at };
+    Ok(OpenSocket { endpoint, socket })
+}
+
+impl<R: Net> Links for UdpLinks<'_, R> {
+    ghost use Rattle.std.specs.Prelude.{None, map};
+
+    ghost opened = { λ l. map (λ o. o.endpoint) l.sockets.items };
+
+    ghost arrivals = { λ l actor. None };
+
+    ghost sent = { λ l. None };
+
+    ghost faults = { λ l. l.failures };
+
+    ghost plan = { λ l. None };
+
+    fn listen(&mut self, actor: u16, at: &str) -> Result<(), EdgeRefusal> {
+        let Ok(socket) = bind(self.rt, at) else {
+            self.failures.add();
+            return Err(EdgeRefusal::Failed);
+        };
+        self.sockets.push(open_at(self.alloc, actor, at, socket)?)?;
+        Ok(())
+    }
+
+    fn send(&mut self, from: u16, to: &str, bytes: &[u8]) -> Result<(), EdgeRefusal> {
+        match socket_of(&self.sockets, from).send_to(bytes, to) {
+            Ok(count) if count == bytes.len() => Ok(()),
+            _ => {
+                self.failures.add();
+                Err(EdgeRefusal::Failed)
+            }
+        }
+    }
+
+    fn receive(&mut self, actor: u16, into: &mut [u8; 1500]) -> Result<Option<usize>, Failed> {
+        let waits = self.quiet >= self.sockets.len();
+        match next_datagram(socket_of(&self.sockets, actor), into, waits) {
+            Ok(Some(count)) => {
+                self.quiet = 0;
+                Ok(Some(count))
+            }
+            Ok(None) => {
+                self.quiet = if waits {
+                    1
+                } else {
+                    self.quiet.saturating_add(1)
+                };
+                Ok(None)
+            }
+            Err(_) => {
+                self.failures.add();
+                Err(Failed)
+            }
+        }
+    }
+}
