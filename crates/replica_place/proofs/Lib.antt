@@ -1,0 +1,8 @@
+pub mod Domains
+pub mod DomainsUp
+pub mod SortedLists
+pub mod Order
+pub mod InOrder
+pub mod Placed
+pub mod LeastNodes
+pub mod CheapestChoice

@@ -1,0 +1,3 @@
+pub mod Placement
+pub mod Candidates
+pub mod Choices
