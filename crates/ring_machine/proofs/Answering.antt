@@ -15,7 +15,7 @@ use Rattle.ring_machine.specs.SoundSlots.{SoundSlot}
 use Rattle.ring_machine.specs.SoundFrames.{SoundRuling, SoundFrame}
 use Rattle.ring_machine.specs.Invariant.{Invariant}
 use Rattle.ring_machine.proofs.Whos.{same_who-true, same_who-false, updated_cases, replaced_cases}
-use Rattle.ring_machine.proofs.Later.{Later, later_refl, tied_later, both_tied_later, closed_later, granted_by_later, answered_later, freed_later, backed_later, hello_later, offer_later, renew_later, ack_later, gone_later}
+use Rattle.ring_machine.proofs.Later.{Later, later_refl, tied_later, both_tied_later, closed_later, granted_by_later, freed_later, backed_later, hello_later, offer_later, renew_later, ack_later, gone_later}
 
 abbrev is_ruling : Frame → Bool
 is_ruling (Ruled a to victim ruling) = true
@@ -160,8 +160,6 @@ module _ {c : Settings} {w : World} (inv : Invariant c w) (a : ℕ) (x y : Who) 
     agreed = λ h t. s.agreed h (record { engaged = t.engaged; far = t.far });
     plain = s.plain;
     recorded = s.recorded;
-    granted = λ b h. inr (s.granted b h);
-    answered = λ b h. answered_later answered_world_later b e.who (slot w e).far.who (s.answered b h);
     leased = s.leased;
     heir = λ h. heir_still e (slot w e).far (slot w e).len (slot w e).ripe (s.heir h);
     heir_claims = s.heir_claims;

@@ -4,7 +4,7 @@ use Rattle.ring_points.specs.declared.who.Who.{Who}
 use Rattle.ring_points.specs.Whos.{same_who}
 use Rattle.ring_machine.specs.Ends.{End, end_of}
 use Rattle.ring_machine.specs.World.{Settings, Instance, World, Live, slot}
-use Rattle.ring_machine.specs.Deeds.{SlotDeed, HelloAgain, HelloDropped, HelloDenied, OfferTaken, OfferAgain, TakeAgain, TakeHeard, RenewSent, RenewHeard, AckHeard, PartFrozen, PartGiven, FlightAgain, FlightTaken, PartingBegun, GoneAgain, GoneHeard, FlightReturned, UnknownDenied, PeerAccused, AccuseAgain, AnswerHeard, SessionDropped, TakenOver, Deed, HelloBegun, OfferBegun, InSlot}
+use Rattle.ring_machine.specs.Deeds.{SlotDeed, HelloAgain, HelloDropped, HelloDenied, OfferAgain, OfferTaken, TakeAgain, TakeHeard, RenewSent, RenewHeard, AckHeard, PartFrozen, PartGiven, FlightAgain, FlightTaken, FlightReturned, PartingBegun, GoneAgain, GoneHeard, UnknownDenied, PeerAccused, AccuseAgain, MajorityAnswered, MajorityGranted, SessionDropped, TakenOver, Deed, HelloBegun, OfferBegun, InSlot}
 use Rattle.ring_machine.specs.Guards.{MayInSlot, May}
 use Rattle.ring_machine.specs.Effects.{Outcome, effect, done, stepped}
 use Rattle.ring_machine.specs.Events.{IsSound}
@@ -19,7 +19,7 @@ use Rattle.ring_machine.proofs.HandshakeDuties.{hello_begun_duty, offer_begun_du
 use Rattle.ring_machine.proofs.RenewDuties.{ack_heard_duty, renew_sent_duty}
 use Rattle.ring_machine.proofs.HearDuties.{renew_heard_duty}
 use Rattle.ring_machine.proofs.PartDuties.{parting_begun_duty, gone_heard_duty}
-use Rattle.ring_machine.proofs.AccuseDuties.{peer_accused_duty, answer_heard_duty, session_dropped_duty}
+use Rattle.ring_machine.proofs.AccuseDuties.{peer_accused_duty, majority_answered_duty, majority_granted_duty, session_dropped_duty}
 use Rattle.ring_machine.proofs.GiveDuties.{part_frozen_duty, part_given_duty}
 use Rattle.ring_machine.proofs.TakeDuties.{flight_taken_duty, flight_returned_duty}
 use Rattle.ring_machine.proofs.TakeOverDuty.{taken_over_duty}
@@ -30,8 +30,8 @@ module _ {c : Settings} {w : World} {e : End} (sound : IsSound c) (a : Acting c 
   slot_duty HelloAgain may = hello_again a may
   slot_duty HelloDropped may = hello_dropped_duty a may
   slot_duty (HelloDenied from got bound) may = hello_denied_duty a may.0 from got bound may.1
-  slot_duty (OfferTaken from len) may = offer_taken_duty a sound.answer may.0 from len may.1 may.2
   slot_duty OfferAgain may = offer_again a may
+  slot_duty (OfferTaken from len) may = offer_taken_duty a sound.answer may.0 from len may.1 may.2
   slot_duty TakeAgain may = take_again a may
   slot_duty TakeHeard may = take_heard_duty a may.0 may.1
   slot_duty RenewSent may = renew_sent_duty a may
@@ -41,16 +41,17 @@ module _ {c : Settings} {w : World} {e : End} (sound : IsSound c) (a : Acting c 
   slot_duty (PartGiven freeze) may = part_given_duty a may.0 freeze may.1 may.3
   slot_duty (FlightAgain flight) may = flight_again a may.0 flight may.1
   slot_duty (FlightTaken number part) may = flight_taken_duty a may.0 number part may.1 may.2
+  slot_duty (FlightReturned flight got bound) may = flight_returned_duty a may.0 flight got bound may.1 may.2 may.3
   slot_duty PartingBegun may = parting_begun_duty a may.0 may.1
   slot_duty GoneAgain may = gone_again a may
   slot_duty (GoneHeard got bound) may = gone_heard_duty a may.0 got bound may.1
-  slot_duty (FlightReturned flight got bound) may = flight_returned_duty a may.0 flight got bound may.1 may.2 may.3
   slot_duty (UnknownDenied from) may = unknown_denied a from may.0 may.1
   slot_duty PeerAccused may = peer_accused_duty a may
   slot_duty AccuseAgain may = accuse_again a may
-  slot_duty (AnswerHeard arbiter ruling verdict) may = answer_heard_duty a may.0 arbiter ruling may.1 verdict may.2
+  slot_duty MajorityAnswered may = majority_answered_duty a may.0 may.1
+  slot_duty MajorityGranted may = majority_granted_duty a may.0 may.1 may.2
   slot_duty SessionDropped may = session_dropped_duty a may
-  slot_duty TakenOver may = taken_over_duty sound.drift a may.0 may.1
+  slot_duty (TakenOver part) may = taken_over_duty sound.drift a may.0 may.1 part may.2
 
 -- what a deed of x leaves as it was in the world w
 pub record Rest (w : World) (x : Who) (v : World) : Type 0 where
@@ -80,9 +81,9 @@ pub deed_done : {c : Settings} {w : World} → IsSound c → Invariant c w → (
 deed_done {w = w} sound inv x live (HelloBegun node len) may =
     let e = end_of x (w.instance x).next_session in
     duty_done {e = e} (record { inv = inv; live = live; duty = hello_begun_duty (record { inv = inv; live = live }) refl node len })
-deed_done {w = w} sound inv x live (OfferBegun from proposed longest) may =
+deed_done {w = w} sound inv x live (OfferBegun from proposed len) may =
     let e = end_of x (w.instance x).next_session in
-    duty_done {e = e} (record { inv = inv; live = live; duty = offer_begun_duty (record { inv = inv; live = live }) sound.answer refl from proposed longest may.0 may.1 may.2 })
+    duty_done {e = e} (record { inv = inv; live = live; duty = offer_begun_duty (record { inv = inv; live = live }) sound.answer refl from proposed len may.0 may.1 may.2 may.3 })
 deed_done {w = w} sound inv x live (InSlot number deed) may =
     let e = end_of x number in
     duty_done {e = e} (record { inv = inv; live = live; duty = slot_duty sound (record { inv = inv; live = live }) deed may })

@@ -2,7 +2,6 @@
 -- s is e's slot before it, t its slot after it, token the token after it, sent what it sends, place where the points are then.
 use Rattle.std.proofs.Common.{◌≡◌, ℕ, ◌+◌, ◌<◌, ◌≤◌, true, false, List, [], ◌++◌, Some, None, ◌⊎◌}
 use Rattle.ring_points.specs.declared.who.Who.{Who}
-use Rattle.ring_points.specs.declared.who.Ruling.TheVariants.{Granted}
 use Rattle.ring_points.specs.Whos.{same_who}
 use Rattle.ring_machine.specs.Members.{IsMember}
 use Rattle.ring_machine.specs.Points.{Points}
@@ -11,7 +10,6 @@ use Rattle.ring_machine.specs.Slots.{Slot, Flight, Asking, Bound, Parting, Heir,
 use Rattle.ring_machine.specs.Tokens.{Token, Freeze}
 use Rattle.ring_machine.specs.Frames.{Frame, Hello, Offer, Take, Renew, RenewAck, Transfer, Gone, Accuse, Ruled}
 use Rattle.ring_machine.specs.World.{Settings, World, Unborn, Place, At, InFlight, Live, Dead, slot}
-use Rattle.ring_machine.specs.Arbitration.{Answered}
 use Rattle.ring_machine.specs.Effects.{Outcome}
 use Rattle.ring_machine.specs.Sessions.{Tied, BothTied, Touched, Untouched, IsEmpty, Quiet, Closed, ClosedTo}
 use Rattle.ring_machine.specs.Claims.{Barred, Claim}
@@ -43,8 +41,6 @@ pub record LinkDuty (c : Settings) (w : World) (e : End) (s t : Slot) (next : �
   pub agreed : is_engaged t.state ≡ true → Tied w t.far e → t.len ≡ (slot w t.far).len
   pub plain : is_engaged t.state ≡ false → Untouched t × IsEmpty t.held
   pub recorded : (p : ℕ) → t.held p ≡ true → 0 < t.held_version
-  pub granted : (a : ℕ) → t.granted a ≡ true → IsMember (Ruled a e.who t.far.who Granted) w.sent
-  pub answered : (a : ℕ) → t.answered a ≡ true → Answered w.sent a e.who t.far.who
   pub leased : guards t.state ≡ true → Leased (w.instance e.who).pairs w.time t.until t.len
   pub heir : t.state ≡ Heir → SoundHeir c w e t.far t.len t.ripe
   pub heir_claims : t.state ≡ Heir → HasClaim t.held t.flight

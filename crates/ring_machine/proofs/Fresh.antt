@@ -1,33 +1,30 @@
 -- Deeds of a slot that had no session: it asks, gives up, or begins a session. It has no content before or after.
 use Rattle.std.proofs.Common.{◌≡◌, ℕ, ◌+◌, ◌<◌, ◌≤◌, Bool, true, false, List, ◌⊎◌, refl, sym, ap, ◌∙◌, subst, inl, inr, ⊎_elim, arith}
 use Rattle.std.proofs.lemmas.Bool.{both_ways}
-use Rattle.ring_points.specs.declared.who.Ruling.TheVariants.{Granted}
 use Rattle.ring_points.specs.Whos.{same_who}
 use Rattle.ring_machine.specs.Members.{IsMember}
 use Rattle.ring_machine.specs.Ends.{End}
 use Rattle.ring_machine.specs.Slots.{Slot, State, Asking, Offered, Bound, HasClaim, of_record, of_flight, guards, is_used, is_settled, is_engaged, is_active}
-use Rattle.ring_machine.specs.Frames.{Frame, Ruled}
+use Rattle.ring_machine.specs.Frames.{Frame}
 use Rattle.ring_machine.specs.World.{Settings, World, slot}
-use Rattle.ring_machine.specs.Arbitration.{Answered}
 use Rattle.ring_machine.specs.Guards.{IsAlone}
 use Rattle.ring_machine.specs.Sessions.{Tied, Untouched, IsEmpty}
 use Rattle.ring_machine.specs.Leases.{Leased}
 use Rattle.ring_machine.specs.SoundSlots.{AsksFor}
+use Rattle.ring_machine.specs.Effects.{outcome}
 use Rattle.ring_machine.proofs.States.{implied, not_touched}
 use Rattle.ring_machine.proofs.Later.{AskedBefore}
 use Rattle.ring_machine.proofs.Duty.{LinkDuty, Sent, TokenDuty, PlaceDuty, Duty}
 use Rattle.ring_machine.proofs.Acting.{Acting, good, here, back, from_now, NoRenewal}
 
--- the slot has no content, and counts no answer that was not sent
-pub record IsBare (w : World) (e : End) (t : Slot) : Type 0 where
+-- the slot has no content
+pub record IsBare (t : Slot) : Type 0 where
   pub untouched : Untouched t
   pub empty : IsEmpty t.held
-  pub granted : (a : ℕ) → t.granted a ≡ true → IsMember (Ruled a e.who t.far.who Granted) w.sent
-  pub answered : (a : ℕ) → t.answered a ≡ true → Answered w.sent a e.who t.far.who
 
-no_claim : (w : World) (e : End) (t : Slot) → IsBare w e t → HasClaim t.held t.flight → ⊥
-no_claim w e t bare (of_record p h) = bare.empty p h
-no_claim w e t bare (of_flight l h) = let n = bare.untouched.flight in cc
+no_claim : (t : Slot) → IsBare t → HasClaim t.held t.flight → ⊥
+no_claim t bare (of_record p h) = bare.empty p h
+no_claim t bare (of_flight l h) = let n = bare.untouched.flight in cc
 
 -- t begins a session with f, or makes whole what f offered
 pub record Begins (c : Settings) (w : World) (e : End) (t : Slot) (f : End) : Type 0 where
@@ -89,7 +86,7 @@ module _ {c : Settings} {w : World} {e : End} (a : Acting c w e) (unsettled : is
   }
 
   -- a slot that asks, or asks no more
-  pub lone_link : (t : Slot) (next : ℕ) → e.number < next → (w.instance e.who).next_session ≤ next → IsBare w e t → is_used t.state ≡ true → is_engaged t.state ≡ false →
+  pub lone_link : (t : Slot) (next : ℕ) → e.number < next → (w.instance e.who).next_session ≤ next → IsBare t → is_used t.state ≡ true → is_engaged t.state ≡ false →
       (is_used s.state ≡ true → t.state ≡ Asking → AskedBefore s t) → LinkDuty c w e s t next
   lone_link t next numbered counter bare used lone asks = record {
     numbered = numbered;
@@ -111,22 +108,20 @@ module _ {c : Settings} {w : World} {e : End} (a : Acting c w e) (unsettled : is
     agreed = λ h. absurd (both_ways _ lone h);
     plain = λ h. (bare.untouched, bare.empty);
     recorded = λ p h. absurd (bare.empty p h);
-    granted = bare.granted;
-    answered = bare.answered;
     leased = λ h. absurd (both_ways _ lone (implied guards is_engaged refl t.state h));
     heir = λ h. absurd (both_ways _ lone (ap is_engaged h));
     heir_claims = λ h. absurd (both_ways _ lone (ap is_engaged h));
-    claims = λ h. absurd (no_claim w e t bare h);
+    claims = λ h. absurd (no_claim t bare h);
     parting = λ h. absurd (both_ways _ lone (ap is_engaged h));
     parted = λ h. absurd (both_ways _ lone (ap is_engaged h));
     freed = λ h. absurd (both_ways _ lone h);
     since = λ moment h. absurd (not_engaged h);
   }
 
-  pub lone_duty : (t : Slot) (next : ℕ) (sent : List Frame) → e.number < next → (w.instance e.who).next_session ≤ next → IsBare w e t → is_used t.state ≡ true → is_engaged t.state ≡ false →
+  pub lone_duty : (t : Slot) (next : ℕ) (sent : List Frame) → e.number < next → (w.instance e.who).next_session ≤ next → IsBare t → is_used t.state ≡ true → is_engaged t.state ≡ false →
       (is_used s.state ≡ true → t.state ≡ Asking → AskedBefore s t) → NoRenewal sent →
-      ((f : Frame) → IsMember f sent → Sent c w e s (record { slot = t; token = (w.instance e.who).token; sent = sent; place = w.place }) f) →
-      Duty c w e next (record { slot = t; token = (w.instance e.who).token; sent = sent; place = w.place })
+      ((f : Frame) → IsMember f sent → Sent c w e s (outcome t ((w.instance e.who).token) sent w.place) f) →
+      Duty c w e next (outcome t ((w.instance e.who).token) sent w.place)
   lone_duty t next sent numbered counter bare used lone asks none sends = record {
     fence = λ h. absurd (both_ways _ lone (implied guards is_engaged refl t.state h));
     link = lone_link t next numbered counter bare used lone asks;
@@ -136,7 +131,7 @@ module _ {c : Settings} {w : World} {e : End} (a : Acting c w e) (unsettled : is
   }
 
   -- a slot that begins a session
-  begun_link : (t : Slot) (f : End) (next : ℕ) → e.number < next → (w.instance e.who).next_session ≤ next → IsBare w e t → Begins c w e t f → LinkDuty c w e s t next
+  begun_link : (t : Slot) (f : End) (next : ℕ) → e.number < next → (w.instance e.who).next_session ≤ next → IsBare t → Begins c w e t f → LinkDuty c w e s t next
   begun_link t f next numbered counter bare b = record {
     numbered = numbered;
     counter = counter;
@@ -158,12 +153,10 @@ module _ {c : Settings} {w : World} {e : End} (a : Acting c w e) (unsettled : is
     agreed = λ h. subst (λ f. Tied w f e → t.len ≡ (slot w f).len) (sym b.far) b.agreed;
     plain = λ h. absurd (both_ways _ h engaged);
     recorded = λ p h. absurd (bare.empty p h);
-    granted = bare.granted;
-    answered = bare.answered;
     leased = λ h. lease;
     heir = λ h. absurd (⊎_elim (λ i. cc (h, i)) (λ i. let j = i.0 in cc (h, j)) b.state);
     heir_claims = λ h. absurd (⊎_elim (λ i. cc (h, i)) (λ i. let j = i.0 in cc (h, j)) b.state);
-    claims = λ h. absurd (no_claim w e t bare h);
+    claims = λ h. absurd (no_claim t bare h);
     parting = λ h. absurd (⊎_elim (λ i. cc (h, i)) (λ i. let j = i.0 in cc (h, j)) b.state);
     parted = λ h. absurd (⊎_elim (λ i. cc (h, i)) (λ i. let j = i.0 in cc (h, j)) b.state);
     freed = λ h i. absurd (both_ways _ i (by_state guards refl refl));
@@ -179,9 +172,9 @@ module _ {c : Settings} {w : World} {e : End} (a : Acting c w e) (unsettled : is
       lease : Leased (w.instance e.who).pairs w.time t.until t.len
       lease = subst (λ until. Leased (w.instance e.who).pairs w.time until t.len) (sym b.until) (from_now a t.len)
 
-  pub begun_duty : 0 < c.answer → (t : Slot) (f : End) (next : ℕ) (sent : List Frame) → e.number < next → (w.instance e.who).next_session ≤ next → IsBare w e t → Begins c w e t f → NoRenewal sent →
-      ((f : Frame) → IsMember f sent → Sent c w e s (record { slot = t; token = (w.instance e.who).token; sent = sent; place = w.place }) f) →
-      Duty c w e next (record { slot = t; token = (w.instance e.who).token; sent = sent; place = w.place })
+  pub begun_duty : 0 < c.answer → (t : Slot) (f : End) (next : ℕ) (sent : List Frame) → e.number < next → (w.instance e.who).next_session ≤ next → IsBare t → Begins c w e t f → NoRenewal sent →
+      ((f : Frame) → IsMember f sent → Sent c w e s (outcome t ((w.instance e.who).token) sent w.place) f) →
+      Duty c w e next (outcome t ((w.instance e.who).token) sent w.place)
   begun_duty pos t f next sent numbered counter bare b none sends = record {
     fence = λ h. let u = b.until in omega arith;
     link = begun_link t f next numbered counter bare b;

@@ -1,5 +1,5 @@
 -- A part is frozen, and given once every slot that guards has acknowledged the freeze.
-use Rattle.std.proofs.Common.{◌≡◌, ℕ, suc, ◌<◌, ◌≤◌, Bool, true, false, cond, not, ◌&&◌, [], ◌∷◌, Some, None, ◌⊎◌, refl, sym, ap, subst, inl, inr, arith}
+use Rattle.std.proofs.Common.{◌≡◌, ◌+◌, ℕ, ◌<◌, ◌≤◌, Bool, true, false, cond, not, ◌&&◌, [], ◌∷◌, Some, None, ◌⊎◌, refl, sym, ap, subst, inl, inr, arith}
 use Rattle.std.proofs.lemmas.Bool.{both_ways, and_parts, and_from}
 use Rattle.ring_points.specs.declared.who.Who.{Who}
 use Rattle.ring_machine.specs.Points.{Points, meet, minus}
@@ -9,7 +9,7 @@ use Rattle.ring_machine.specs.Tokens.{Token, Freeze}
 use Rattle.ring_machine.specs.Frames.{Frame, Renew, Transfer}
 use Rattle.ring_machine.specs.World.{Settings, World, Place, At, InFlight, slot}
 use Rattle.ring_machine.specs.Guards.{AllAcked}
-use Rattle.ring_machine.specs.Effects.{Outcome, moved}
+use Rattle.ring_machine.specs.Effects.{Outcome, outcome, moved}
 use Rattle.ring_machine.specs.Sessions.{Tied, BothTied, flew, heard, Closed, elsewhere, over}
 use Rattle.ring_machine.specs.Claims.{Barred, discharged, Claim, by_record, by_renew, by_flight}
 use Rattle.ring_machine.specs.SoundSlots.{Freed, by_answers, by_closing}
@@ -88,17 +88,12 @@ module _ {c : Settings} {w : World} {e : End} (a : Acting c w e) (bound : (slot 
   abbrev token : Token
   token = (w.instance e.who).token
 
-  pub part_frozen_duty : token.freeze ≡ None → (part : Points) → Duty c w e (w.instance e.who).next_session (record {
-    slot = s;
-    token = record token { version = suc token.version; freeze = Some (record { part = meet token.ranges part; number = e.number; version = suc token.version }) };
-    sent = [];
-    place = w.place;
-  })
+  pub part_frozen_duty : token.freeze ≡ None → (part : Points) → Duty c w e (w.instance e.who).next_session (outcome s (record token { version = token.version + 1; freeze = Some (record { part = meet token.ranges part; number = e.number; version = token.version + 1 }) }) [] w.place)
   part_frozen_duty none part =
-      let new : Freeze = record { part = meet token.ranges part; number = e.number; version = suc token.version } in
-      let frozen : Token = record token { version = suc token.version; freeze = Some new } in
-      let still = token_shrunk a s.state s.until s.ripe s.held s.flight s.granted s.answered token [] (not_less s) (not_undone token) (λ g h. absurd h) in
-      let where_they_were = place_shrunk a s.state s.until s.ripe s.held s.flight s.granted s.answered token [] (not_less s) (not_undone token) (λ g h. absurd h) (λ h. h) in
+      let new : Freeze = record { part = meet token.ranges part; number = e.number; version = token.version + 1 } in
+      let frozen : Token = record token { version = token.version + 1; freeze = Some new } in
+      let still = token_shrunk a s.state s.until s.ripe s.held s.flight token [] (not_less s) (not_undone token) (λ g h. absurd h) in
+      let where_they_were = place_shrunk a s.state s.until s.ripe s.held s.flight token [] (not_less s) (not_undone token) (λ g h. absurd h) (λ h. h) in
       record {
         fence = λ g. a.live.below e.number g;
         link = link_same a (ap is_used bound);
@@ -145,7 +140,7 @@ module _ {c : Settings} {w : World} {e : End} (a : Acting c w e) (bound : (slot 
     given = record (slot w e) { flight = Some flight }
 
     abbrev rest : Token
-    rest = record (w.instance e.who).token { ranges = minus (w.instance e.who).token.ranges z.part; freeze = None; next_flight = suc (w.instance e.who).token.next_flight }
+    rest = record (w.instance e.who).token { ranges = minus (w.instance e.who).token.ranges z.part; freeze = None; next_flight = (w.instance e.who).token.next_flight + 1 }
 
     abbrev places : ℕ → Place
     places = moved z.part (InFlight e (slot w e).far (w.instance e.who).token.next_flight) w.place
@@ -190,7 +185,7 @@ module _ {c : Settings} {w : World} {e : End} (a : Acting c w e) (bound : (slot 
         acks = λ stamp version m le l i. not_pending y l i;
         settled = λ le l i. not_pending y l i;
       };
-      newly = λ h. absurd (cc (h, ap is_engaged bound));
+      newly = λ h. absurd (cc (h));
     }
 
     whole : IsWhole places e token.next_flight z.part
@@ -205,9 +200,9 @@ module _ {c : Settings} {w : World} {e : End} (a : Acting c w e) (bound : (slot 
       keeps_unborn = λ y p unborn i. at p (λ o. o ≡ At y) (λ h. absurd (let mine = given_here p h in let same : e.who ≡ y = cc in let r = a.live.running in cc (ap (λ y. (w.instance y).phase) same, r, unborn))) (λ h. i);
       gets_none = λ y p n. at p (λ o. o ≡ At y → w.place p ≡ At y) (λ i h. absurd (cc (h))) (λ i h. h);
       flies = λ g h number p i. inl (at p (λ o. o ≡ InFlight g h number) (λ j. absurd (let mine = given_here p j in cc)) (λ j. i));
-      flew = λ g h number p. at p (λ o. o ≡ InFlight g h number → (w.place p ≡ InFlight g h number) ⊎ ((g ≡ e) × (token.next_flight ≤ number) × (number < suc token.next_flight)))
+      flew = λ g h number p. at p (λ o. o ≡ InFlight g h number → (w.place p ≡ InFlight g h number) ⊎ ((g ≡ e) × (token.next_flight ≤ number) × (number < token.next_flight + 1)))
           (λ i j. let same : g ≡ e = cc in let n : number ≡ token.next_flight = cc in inr (same, omega arith, omega arith)) (λ i j. inl j);
-      flight = λ l h. subst (SoundFlight (suc token.next_flight) places (slot w s.far).got e s.far) (is_new h) (record {
+      flight = λ l h. subst (SoundFlight (token.next_flight + 1) places (slot w s.far).got e s.far) (is_new h) (record {
         numbered = omega arith;
         flying = λ lt p i. at p (λ o. o ≡ InFlight e s.far token.next_flight) (λ j. refl) (λ j. absurd (both_ways _ j i));
         whole = whole;
@@ -230,9 +225,9 @@ module _ {c : Settings} {w : World} {e : End} (a : Acting c w e) (bound : (slot 
             let taken : token.next_flight ≤ (slot w s.far).got = subst (λ (l : Flight). l.number ≤ (slot w s.far).got) (sym (is_new h)) le in
             let lt = far_got in absurd (omega arith)
 
-    pub part_given_duty : Duty c w e (w.instance e.who).next_session (record { slot = given; token = rest; sent = transfer ∷ []; place = places })
+    pub part_given_duty : Duty c w e (w.instance e.who).next_session (outcome given rest (transfer ∷ []) places)
     part_given_duty =
-        let out : Outcome = record { slot = given; token = rest; sent = transfer ∷ []; place = places } in
+        let out : Outcome = outcome given rest (transfer ∷ []) places in
         kept_duty a out
         (bound_link a bound s.got (Some flight))
         (each_of_one (Sent c w e s out) transfer (record {

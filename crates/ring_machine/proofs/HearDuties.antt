@@ -8,7 +8,7 @@ use Rattle.ring_machine.specs.Slots.{Slot, Flight, Bound, guards, is_engaged, is
 use Rattle.ring_machine.specs.Tokens.{Token, Freeze}
 use Rattle.ring_machine.specs.Frames.{Frame, Renew, RenewAck}
 use Rattle.ring_machine.specs.World.{Settings, World, slot}
-use Rattle.ring_machine.specs.Effects.{unconfirmed, renewed}
+use Rattle.ring_machine.specs.Effects.{outcome, unconfirmed, renewed}
 use Rattle.ring_machine.specs.Claims.{Claim, by_record, by_renew, by_flight}
 use Rattle.ring_machine.specs.SoundFlights.{Pending}
 use Rattle.ring_machine.specs.SoundFrames.{SoundRenew}
@@ -65,8 +65,6 @@ module _ {c : Settings} {w : World} {e : End} (a : Acting c w e) where
             quiets = λ q. absurd (both_ways _ q.deaf willing);
             touched = λ h. sound.tied.mine;
             recorded = r.positive;
-            granted = (good a).granted;
-            answered = (good a).answered;
             claims = λ h. refl;
             in_state = sound.tied.mine;
             guarding = lease_same a t (implied is_willing guards refl s.state willing) refl refl;
@@ -122,9 +120,9 @@ module _ {c : Settings} {w : World} {e : End} (a : Acting c w e) where
           mine p (by_renew h st v theirs pts k lt i) = by_renew willing st v theirs pts (⊎_elim (λ j. absurd (cc)) (λ j. j) k) (let le = r.rises in omega arith) i
           mine p (by_flight l h le i) = by_flight l (unconfirmed_before got s.flight l h).0 le i
 
-      recorded_duty : Duty c w e (w.instance e.who).next_session (record { slot = t; token = token; sent = ack ∷ []; place = w.place })
-      recorded_duty = kept_duty a (record { slot = t; token = token; sent = ack ∷ []; place = w.place }) heard_link
-          (each_of_one (Sent c w e s (record { slot = t; token = token; sent = ack ∷ []; place = w.place })) ack (record {
+      recorded_duty : Duty c w e (w.instance e.who).next_session (outcome t token (ack ∷ []) w.place)
+      recorded_duty = kept_duty a (outcome t token (ack ∷ []) w.place) heard_link
+          (each_of_one (Sent c w e s (outcome t token (ack ∷ []) w.place)) ack (record {
             own = refl;
             far = refl;
             was_willing = willing;
@@ -134,7 +132,7 @@ module _ {c : Settings} {w : World} {e : End} (a : Acting c w e) where
           }))
           heard_token heard_place
 
-    heard_by : (b : Bool) → ltb s.held_version version ≡ b → Duty c w e (w.instance e.who).next_session (record { slot = renewed s version got points b; token = token; sent = ack ∷ []; place = w.place })
+    heard_by : (b : Bool) → ltb s.held_version version ≡ b → Duty c w e (w.instance e.who).next_session (outcome (renewed s version got points b) token (ack ∷ []) w.place)
     heard_by true i =
         let lt = ltb-true s.held_version version i in
         recorded_duty points version (record {
@@ -156,5 +154,5 @@ module _ {c : Settings} {w : World} {e : End} (a : Acting c w e) where
           allowed = λ z is le p h. (freeze_theirs a z is (implied is_willing is_engaged refl s.state willing) sound.tied.mine).recorded le p h;
         })
 
-    pub renew_heard_duty : Duty c w e (w.instance e.who).next_session (record { slot = renewed s version got points (ltb s.held_version version); token = token; sent = ack ∷ []; place = w.place })
+    pub renew_heard_duty : Duty c w e (w.instance e.who).next_session (outcome (renewed s version got points (ltb s.held_version version)) token (ack ∷ []) w.place)
     renew_heard_duty = heard_by (ltb s.held_version version) refl

@@ -52,8 +52,6 @@ module _ (c : Settings) where
       agreed = λ h. absurd (cc (h));
       plain = λ h. (record { flight = refl; held_version = refl; got = refl; acked = refl }, λ p i. cc (i));
       recorded = λ p h. absurd (cc (h));
-      granted = λ a h. absurd (cc (h));
-      answered = λ a h. absurd (cc (h));
       leased = λ h. absurd (cc (h));
       heir = λ h. absurd (cc (h));
       heir_claims = λ h. absurd (cc (h));

@@ -1,14 +1,12 @@
 -- The duty of a deed in a session that goes on, or ends: its far end and its length stay.
 use Rattle.std.proofs.Common.{◌≡◌, ℕ, ◌+◌, ◌<◌, Bool, true, false, Option, None, refl, sym, ap, ◌∙◌, subst, inl, arith}
 use Rattle.std.proofs.lemmas.Bool.{both_ways}
-use Rattle.ring_points.specs.declared.who.Ruling.TheVariants.{Granted}
 use Rattle.ring_points.specs.Whos.{same_who}
 use Rattle.ring_machine.specs.Members.{IsMember}
 use Rattle.ring_machine.specs.Ends.{End}
 use Rattle.ring_machine.specs.Slots.{Slot, Flight, State, Asking, Bound, Parting, Heir, Parted, HasClaim, guards, is_used, is_settled, is_engaged, is_active, is_willing}
-use Rattle.ring_machine.specs.Frames.{Frame, RenewAck, Ruled}
+use Rattle.ring_machine.specs.Frames.{Frame, RenewAck}
 use Rattle.ring_machine.specs.World.{Settings, World, slot}
-use Rattle.ring_machine.specs.Arbitration.{Answered}
 use Rattle.ring_machine.specs.Effects.{Outcome}
 use Rattle.ring_machine.specs.Sessions.{Tied, Touched, IsEmpty, Quiet, Closed}
 use Rattle.ring_machine.specs.Leases.{Rests, Leased, SoundHeir}
@@ -49,8 +47,6 @@ pub record KeptLink (c : Settings) (w : World) (e : End) (s t : Slot) : Type 0 w
   pub quiets : Quiet s.state s.held s.flight → Quiet t.state t.held t.flight
   pub touched : Touched t → Tied w t.far e
   pub recorded : (p : ℕ) → t.held p ≡ true → 0 < t.held_version
-  pub granted : (a : ℕ) → t.granted a ≡ true → IsMember (Ruled a e.who t.far.who Granted) w.sent
-  pub answered : (a : ℕ) → t.answered a ≡ true → Answered w.sent a e.who t.far.who
   pub claims : HasClaim t.held t.flight → is_active t.state ≡ true
   pub in_state : InState c w e t t.state
   pub guarding : Guarding c w e s t (guards t.state)
@@ -80,8 +76,6 @@ module _ {c : Settings} {w : World} {e : End} (a : Acting c w e) where
     agreed = λ h. subst (λ f. Tied w f e → t.len ≡ (slot w f).len) (sym k.far) (λ tie. k.len ∙ (good a).agreed k.was_engaged tie);
     plain = λ h. absurd (both_ways _ h k.engaged);
     recorded = k.recorded;
-    granted = k.granted;
-    answered = k.answered;
     leased = λ h. (lease h).leased;
     heir = λ h. let i : InState c w e t Heir = subst (InState c w e t) h k.in_state in i.0;
     heir_claims = λ h. let i : InState c w e t Heir = subst (InState c w e t) h k.in_state in i.1;
@@ -140,8 +134,6 @@ module _ {c : Settings} {w : World} {e : End} (a : Acting c w e) where
     quiets = λ q. absurd (let n = q.deaf in cc (n, ap is_willing bound));
     touched = λ h. (good a).bound bound;
     recorded = (good a).recorded;
-    granted = (good a).granted;
-    answered = (good a).answered;
     claims = λ h. ap is_active bound;
     in_state = subst (InState c w e (record s { got = got; flight = flight })) (sym bound) ((good a).bound bound);
     guarding = subst (λ st. Guarding c w e s (record s { got = got; flight = flight }) (guards st)) (sym bound) (lease_same (record s { got = got; flight = flight }) (ap guards bound) refl refl);

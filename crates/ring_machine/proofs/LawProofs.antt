@@ -49,8 +49,8 @@ valid_before c [] before valid = valid
 valid_before c (event ∷ later) before valid = valid_before c later before valid.1
 
 pub taken_after_leave_lem : TakenAfterLeave
-taken_after_leave_lem c later earlier heir sound valid p holds =
-    let takeover : Event = Does heir.who (InSlot heir.number TakenOver) in
+taken_after_leave_lem c later earlier heir part sound valid p holds =
+    let takeover : Event = Does heir.who (InSlot heir.number (TakenOver part)) in
     let now = valid_before c later (takeover ∷ earlier) valid in
     let inv = history_sound c sound earlier now.1 in
     let can = now.0 in
@@ -70,7 +70,7 @@ module _ {c : Settings} {w : World} (sound : IsSound c) (inv : Invariant c w) (e
   moves_in_slot (PartGiven freeze) may = given_here acting may.0 freeze may.1 may.3
   moves_in_slot (FlightTaken number part) may = record { flying = taken_flown acting may.0 number part may.1 may.2; whole = taken_whole acting may.0 number part may.1 may.2 }
   moves_in_slot (FlightReturned flight got bound) may = record { flying = returned_flown acting may.0 flight got bound may.1 may.2 may.3; whole = returned_whole acting may.0 flight got bound may.1 may.2 may.3 }
-  moves_in_slot TakenOver may = taken_from sound.drift acting may.0 may.1
+  moves_in_slot (TakenOver part) may = taken_from sound.drift acting may.0 may.1 part may.2
   moves_in_slot deed may = refl
 
 pub each_moves_lem : EachMovesFromItsPlace
@@ -85,7 +85,7 @@ each_moves_lem c event events sound valid = go event valid.0
     go : (event : Event) → Can c (world_after c events) event → Moves c (world_after c events) event
     go (Does x (InSlot number deed)) can = moves_in_slot sound inv (end_of x number) can.0 deed can.1
     go (Does x (HelloBegun node len)) can = refl
-    go (Does x (OfferBegun from proposed longest)) can = refl
+    go (Does x (OfferBegun from proposed len)) can = refl
     go event can = refl
 
 -- the counter is above a flight that was given

@@ -4,7 +4,7 @@ use Rattle.ring_points.specs.declared.who.Who.{Who}
 use Rattle.ring_machine.specs.Members.{IsMember}
 use Rattle.ring_machine.specs.Points.{is_point}
 use Rattle.ring_machine.specs.Tokens.{Freeze}
-use Rattle.ring_machine.specs.Clocks.{Within}
+use Rattle.drift_clock.specs.Within.{Within}
 use Rattle.ring_machine.specs.World.{Settings, Instance, World, Phase, Unborn, Running, At, Live, Dead, first_of, unborn}
 use Rattle.ring_machine.specs.SoundFlights.{SoundToken}
 use Rattle.ring_machine.specs.Events.{in_phase}
@@ -50,7 +50,7 @@ module _ {c : Settings} {w : World} (inv : Invariant c w) (x : Who) (phase : Pha
     whole_ring = inv.whole_ring;
     not_started = instance_cases (λ y i. w.starts y.actor < y.instance → i.phase ≡ Unborn) (λ h. absurd (born (inv.not_started x h))) inv.not_started;
     blank = instance_cases (λ y i. i.phase ≡ Unborn → i ≡ unborn) (λ h. absurd (not_unborn h)) inv.blank;
-    clocks = instance_cases (λ y i. (time reading : ℕ) → i.phase ≡ Running → IsMember (time, reading) i.pairs → Within c.bound time reading w.time i.reading) (λ time reading h. absurd (not_running h)) inv.clocks;
+    clocks = instance_cases (λ y i. (time reading : ℕ) → i.phase ≡ Running → IsMember (time, reading) i.pairs → Within c.bound (time, reading) (w.time, i.reading)) (λ time reading h. absurd (not_running h)) inv.clocks;
     present = instance_cases (λ y i. i.phase ≡ Running → IsMember (w.time, i.reading) i.pairs) (λ h. absurd (not_running h)) inv.present;
     slots = slots_unmoved inv w.starts left;
     frames = frames_unmoved inv w.starts left;

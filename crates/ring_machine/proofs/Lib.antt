@@ -1,6 +1,7 @@
 pub mod Lists
 pub mod Whos
 pub mod Majorities
+pub mod Counts
 pub mod Waits
 pub mod States
 pub mod Later
@@ -15,6 +16,7 @@ pub mod Acting
 pub mod Kept
 pub mod Shrunk
 pub mod SendDuties
+pub mod Askers
 pub mod Fresh
 pub mod HandshakeDuties
 pub mod AccuseDuties

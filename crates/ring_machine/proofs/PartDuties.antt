@@ -8,7 +8,7 @@ use Rattle.ring_machine.specs.Slots.{Slot, Parting, Parted, guards, is_engaged, 
 use Rattle.ring_machine.specs.Tokens.{undone}
 use Rattle.ring_machine.specs.Frames.{Gone, answer_if}
 use Rattle.ring_machine.specs.World.{Settings, World, slot}
-use Rattle.ring_machine.specs.Effects.{Outcome, parted}
+use Rattle.ring_machine.specs.Effects.{Outcome, outcome, parted}
 use Rattle.ring_machine.specs.Sessions.{over}
 use Rattle.ring_machine.specs.SoundSlots.{by_closing}
 use Rattle.ring_machine.specs.SoundFrames.{SoundGone}
@@ -22,15 +22,10 @@ module _ {c : Settings} {w : World} {e : End} (a : Acting c w e) where
   abbrev s : Slot
   s = slot w e
 
-  pub parting_begun_duty : is_willing s.state ≡ true → s.flight ≡ None → Duty c w e (w.instance e.who).next_session (record {
-    slot = record s { state = Parting; held = no_points };
-    token = undone e.number (w.instance e.who).token (w.instance e.who).token.freeze;
-    sent = Gone e s.far s.got true ∷ [];
-    place = w.place;
-  })
+  pub parting_begun_duty : is_willing s.state ≡ true → s.flight ≡ None → Duty c w e (w.instance e.who).next_session (outcome (record s { state = Parting; held = no_points }) (undone e.number (w.instance e.who).token (w.instance e.who).token.freeze) (Gone e s.far s.got true ∷ []) w.place)
   parting_begun_duty willing landed =
       let token = undone e.number (w.instance e.who).token (w.instance e.who).token.freeze in
-      let out : Outcome = record { slot = record s { state = Parting; held = no_points }; token = token; sent = Gone e s.far s.got true ∷ []; place = w.place } in
+      let out : Outcome = outcome (record s { state = Parting; held = no_points }) token (Gone e s.far s.got true ∷ []) w.place in
       let engaged = implied is_willing is_engaged refl s.state willing in
       let un = is_undone e.number (w.instance e.who).token (w.instance e.who).token.freeze in
       let none : NoRenewal (Gone e s.far s.got true ∷ []) = each_of_one (λ g. is_renewal g ≡ false) (Gone e s.far s.got true) refl in
@@ -45,16 +40,14 @@ module _ {c : Settings} {w : World} {e : End} (a : Acting c w e) where
         quiets = λ q. absurd (both_ways _ q.deaf willing);
         touched = λ h. (good a).touched (touched_before s no_points s.flight (less_record s) h);
         recorded = λ p h. absurd (cc (h));
-        granted = (good a).granted;
-        answered = (good a).answered;
         claims = λ h. refl;
         in_state = (λ p h. cc (h), landed);
         guarding = lease_same a (record s { state = Parting; held = no_points }) (implied is_willing guards refl s.state willing) refl refl;
       })
       (each_of_one (Sent c w e s out) (Gone e s.far s.got true)
       (record { own = refl; closed = over refl (record { deaf = refl; empty = λ p h. cc (h); landed = landed }); took = inl (λ i. omega arith); used = (good a).far_used engaged }))
-      (token_shrunk a Parting s.until s.ripe no_points s.flight s.granted s.answered token (Gone e s.far s.got true ∷ []) (less_record s) un none)
-      (place_shrunk a Parting s.until s.ripe no_points s.flight s.granted s.answered token (Gone e s.far s.got true ∷ []) (less_record s) un none (λ h. willing))
+      (token_shrunk a Parting s.until s.ripe no_points s.flight token (Gone e s.far s.got true ∷ []) (less_record s) un none)
+      (place_shrunk a Parting s.until s.ripe no_points s.flight token (Gone e s.far s.got true ∷ []) (less_record s) un none (λ h. willing))
 
   -- a parted slot is closed to the other side, which is closed to it
   pub parted_link : stands s.state ≡ true → (got : ℕ) → SoundGone w s.far e got → KeptLink c w e s (parted s)
@@ -69,8 +62,6 @@ module _ {c : Settings} {w : World} {e : End} (a : Acting c w e) where
         quiets = λ q. record { deaf = refl; empty = λ p h. cc (h); landed = refl };
         touched = λ h. (good a).touched (touched_before s no_points None (less_empty s) h);
         recorded = λ p h. absurd (cc (h));
-        granted = (good a).granted;
-        answered = (good a).answered;
         claims = λ h. absurd (nothing_claimed h);
         in_state = (λ p h. cc (h), refl, gone.closed);
         guarding = by_closing gone.closed;
@@ -85,19 +76,14 @@ module _ {c : Settings} {w : World} {e : End} (a : Acting c w e) where
     used = (good a).far_used (implied stands is_engaged refl s.state st);
   }
 
-  pub gone_heard_duty : stands s.state ≡ true → (got : ℕ) (bound : Bool) → IsMember (Gone s.far e got bound) w.sent → Duty c w e (w.instance e.who).next_session (record {
-    slot = parted s;
-    token = undone e.number (w.instance e.who).token (w.instance e.who).token.freeze;
-    sent = answer_if bound (Gone e s.far s.got false);
-    place = w.place;
-  })
+  pub gone_heard_duty : stands s.state ≡ true → (got : ℕ) (bound : Bool) → IsMember (Gone s.far e got bound) w.sent → Duty c w e (w.instance e.who).next_session (outcome (parted s) (undone e.number (w.instance e.who).token (w.instance e.who).token.freeze) (answer_if bound (Gone e s.far s.got false)) w.place)
   gone_heard_duty st got bound m =
       let token = undone e.number (w.instance e.who).token (w.instance e.who).token.freeze in
-      let out : Outcome = record { slot = parted s; token = token; sent = answer_if bound (Gone e s.far s.got false); place = w.place } in
+      let out : Outcome = outcome (parted s) token (answer_if bound (Gone e s.far s.got false)) w.place in
       let un = is_undone e.number (w.instance e.who).token (w.instance e.who).token.freeze in
       let none : NoRenewal (answer_if bound (Gone e s.far s.got false)) = each_of_answer (λ g. is_renewal g ≡ false) bound (Gone e s.far s.got false) (λ h. refl) in
       kept_duty a out
       (parted_link st got (a.inv.frames (Gone s.far e got bound) m))
       (each_of_answer (Sent c w e s out) bound (Gone e s.far s.got false) (λ h. parted_answer st))
-      (token_shrunk a Parted s.until s.ripe no_points None s.granted s.answered token (answer_if bound (Gone e s.far s.got false)) (less_empty s) un none)
-      (place_shrunk a Parted s.until s.ripe no_points None s.granted s.answered token (answer_if bound (Gone e s.far s.got false)) (less_empty s) un none (λ h. absurd (cc (h))))
+      (token_shrunk a Parted s.until s.ripe no_points None token (answer_if bound (Gone e s.far s.got false)) (less_empty s) un none)
+      (place_shrunk a Parted s.until s.ripe no_points None token (answer_if bound (Gone e s.far s.got false)) (less_empty s) un none (λ h. absurd (cc (h))))

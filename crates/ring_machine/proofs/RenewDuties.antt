@@ -8,7 +8,7 @@ use Rattle.ring_machine.specs.Slots.{Slot, Flight, Bound, guards, is_used, is_en
 use Rattle.ring_machine.specs.Tokens.{Token, Freeze, frozen, announced}
 use Rattle.ring_machine.specs.Frames.{Frame, Renew, RenewAck}
 use Rattle.ring_machine.specs.World.{Settings, World, At, slot}
-use Rattle.ring_machine.specs.Effects.{unconfirmed}
+use Rattle.ring_machine.specs.Effects.{outcome, unconfirmed}
 use Rattle.ring_machine.specs.Claims.{Claim, by_record, by_renew, by_flight}
 use Rattle.ring_machine.specs.Leases.{Rests, Leased}
 use Rattle.ring_machine.specs.SoundFrames.{SoundAck}
@@ -60,7 +60,7 @@ module _ {c : Settings} {w : World} {e : End} (a : Acting c w e) where
 
     ack_token : TokenDuty w e s prolonged token []
     ack_token =
-        let still = token_shrunk a s.state s.until s.ripe s.held s.flight s.granted s.answered token [] (not_less s) (not_undone token) (λ g h. absurd h) in record {
+        let still = token_shrunk a s.state s.until s.ripe s.held s.flight token [] (not_less s) (not_undone token) (λ g h. absurd h) in record {
           acked = let n = ack.recorded in let k = (good a).acked in omega arith;
           version = still.version;
           got = still.got;
@@ -83,11 +83,11 @@ module _ {c : Settings} {w : World} {e : End} (a : Acting c w e) where
           newly = λ h. absurd (both_ways _ h (implied stands is_engaged refl s.state st));
         }
 
-    pub ack_heard_duty : Duty c w e (w.instance e.who).next_session (record { slot = prolonged; token = token; sent = []; place = w.place })
+    pub ack_heard_duty : Duty c w e (w.instance e.who).next_session (outcome prolonged token [] w.place)
     ack_heard_duty =
         let engaged = implied stands is_engaged refl s.state st in
-        let still = place_shrunk a s.state s.until s.ripe s.held s.flight s.granted s.answered token [] (not_less s) (not_undone token) (λ g h. absurd h) (λ h. h) in
-        kept_duty a (record { slot = prolonged; token = token; sent = []; place = w.place })
+        let still = place_shrunk a s.state s.until s.ripe s.held s.flight token [] (not_less s) (not_undone token) (λ g h. absurd h) (λ h. h) in
+        kept_duty a (outcome prolonged token [] w.place)
         (record {
           was_engaged = engaged;
           engaged = engaged;
@@ -98,8 +98,6 @@ module _ {c : Settings} {w : World} {e : End} (a : Acting c w e) where
           quiets = λ q. q;
           touched = λ h. ack.tied.mine;
           recorded = (good a).recorded;
-          granted = (good a).granted;
-          answered = (good a).answered;
           claims = (good a).claims;
           in_state = state_same a s.state refl;
           guarding = subst (λ b. Rattle.ring_machine.proofs.Kept.Guarding c w e s prolonged b) (sym guarded) lease;
@@ -179,7 +177,7 @@ module _ {c : Settings} {w : World} {e : End} (a : Acting c w e) where
 
     renew_place : PlaceDuty c w e s s token (renew ∷ []) w.place
     renew_place =
-        let still = place_shrunk a s.state s.until s.ripe s.held s.flight s.granted s.answered token [] (not_less s) (not_undone token) (λ g h. absurd h) (λ h. h) in record {
+        let still = place_shrunk a s.state s.until s.ripe s.held s.flight token [] (not_less s) (not_undone token) (λ g h. absurd h) (λ h. h) in record {
           owned = still.owned;
           exact = still.exact;
           keeps = still.keeps;
@@ -200,11 +198,11 @@ module _ {c : Settings} {w : World} {e : End} (a : Acting c w e) where
             (λ e1 e2 e3. inr (announced_owned p (ap (λ (f : Points). f p) (sym e3) ∙ r)))
             (λ m. inl (by_renew h stamp version got points m lt r))
 
-    pub renew_sent_duty : Duty c w e (w.instance e.who).next_session (record { slot = s; token = token; sent = renew ∷ []; place = w.place })
+    pub renew_sent_duty : Duty c w e (w.instance e.who).next_session (outcome s token (renew ∷ []) w.place)
     renew_sent_duty = record {
       fence = λ g. a.live.below e.number g;
       link = link_same a (ap is_used bound);
-      sends = each_of_one (Sent c w e s (record { slot = s; token = token; sent = renew ∷ []; place = w.place })) renew (record {
+      sends = each_of_one (Sent c w e s (outcome s token (renew ∷ []) w.place)) renew (record {
         own = refl;
         far = refl;
         sound = record {

@@ -9,6 +9,7 @@ use Rattle.ring_machine.specs.Guards.{Came, IsUnknown, other_session, abandoned,
 use Rattle.ring_machine.specs.Sessions.{Tied, BothTied, Closed, ClosedTo, elsewhere, over}
 use Rattle.ring_machine.specs.SoundFrames.{SoundOffer, SoundRenew, SoundTransfer, SoundGone}
 use Rattle.ring_machine.specs.Invariant.{Invariant}
+use Rattle.ring_machine.specs.Effects.{outcome}
 use Rattle.ring_machine.proofs.Whos.{end_cases}
 use Rattle.ring_machine.proofs.States.{implied}
 use Rattle.ring_machine.proofs.Duty.{Sent, Duty}
@@ -62,22 +63,22 @@ module _ {c : Settings} {w : World} {e : End} (a : Acting c w e) where
 
   -- one frame that is no renewal is sent
   sends_one : (f : Frame) → is_used s.state ≡ true → is_renewal f ≡ false →
-      Sent c w e s (record { slot = s; token = (w.instance e.who).token; sent = f ∷ []; place = w.place }) f →
-      Duty c w e (w.instance e.who).next_session (record { slot = s; token = (w.instance e.who).token; sent = f ∷ []; place = w.place })
+      Sent c w e s (outcome s ((w.instance e.who).token) (f ∷ []) w.place) f →
+      Duty c w e (w.instance e.who).next_session (outcome s ((w.instance e.who).token) (f ∷ []) w.place)
   sends_one f used is sound = sends_duty a (f ∷ []) used
       (each_of_one (λ g. is_renewal g ≡ false) f is)
-      (each_of_one (Sent c w e s (record { slot = s; token = (w.instance e.who).token; sent = f ∷ []; place = w.place })) f sound)
+      (each_of_one (Sent c w e s (outcome s ((w.instance e.who).token) (f ∷ []) w.place)) f sound)
 
-  pub hello_again : s.state ≡ Asking → Duty c w e (w.instance e.who).next_session (record { slot = s; token = (w.instance e.who).token; sent = Hello e s.far.who.actor s.len ∷ []; place = w.place })
+  pub hello_again : s.state ≡ Asking → Duty c w e (w.instance e.who).next_session (outcome s ((w.instance e.who).token) (Hello e s.far.who.actor s.len ∷ []) w.place)
   hello_again h = sends_one (Hello e s.far.who.actor s.len) (ap is_used h) refl (record { own = refl; asks_node = λ i. refl; asks_length = λ i. refl })
 
-  pub offer_again : s.state ≡ Offered → Duty c w e (w.instance e.who).next_session (record { slot = s; token = (w.instance e.who).token; sent = Offer e s.far s.len ∷ []; place = w.place })
+  pub offer_again : s.state ≡ Offered → Duty c w e (w.instance e.who).next_session (outcome s ((w.instance e.who).token) (Offer e s.far s.len ∷ []) w.place)
   offer_again h = sends_one (Offer e s.far s.len) (ap is_used h) refl (record { own = refl; engaged = ap is_engaged h; far = refl; length = refl })
 
-  pub take_again : s.state ≡ Bound → Duty c w e (w.instance e.who).next_session (record { slot = s; token = (w.instance e.who).token; sent = Take e s.far ∷ []; place = w.place })
+  pub take_again : s.state ≡ Bound → Duty c w e (w.instance e.who).next_session (outcome s ((w.instance e.who).token) (Take e s.far ∷ []) w.place)
   take_again h = sends_one (Take e s.far) (ap is_used h) refl (record { own = refl; engaged = ap is_engaged h; far = refl; back = (good a).bound h })
 
-  pub flight_again : s.state ≡ Bound → (l : Flight) → s.flight ≡ Some l → Duty c w e (w.instance e.who).next_session (record { slot = s; token = (w.instance e.who).token; sent = Transfer e s.far l.number l.part ∷ []; place = w.place })
+  pub flight_again : s.state ≡ Bound → (l : Flight) → s.flight ≡ Some l → Duty c w e (w.instance e.who).next_session (outcome s ((w.instance e.who).token) (Transfer e s.far l.number l.part ∷ []) w.place)
   flight_again h l is = sends_one (Transfer e s.far l.number l.part) (ap is_used h) refl (record {
     own = refl;
     far = refl;
@@ -91,7 +92,7 @@ module _ {c : Settings} {w : World} {e : End} (a : Acting c w e) where
     };
   })
 
-  pub gone_again : s.state ≡ Parting → Duty c w e (w.instance e.who).next_session (record { slot = s; token = (w.instance e.who).token; sent = Gone e s.far s.got true ∷ []; place = w.place })
+  pub gone_again : s.state ≡ Parting → Duty c w e (w.instance e.who).next_session (outcome s ((w.instance e.who).token) (Gone e s.far s.got true ∷ []) w.place)
   gone_again h =
       let parting = (good a).parting h in
       sends_one (Gone e s.far s.got true) (ap is_used h) refl (record {
@@ -101,13 +102,13 @@ module _ {c : Settings} {w : World} {e : End} (a : Acting c w e) where
         used = (good a).far_used (ap is_engaged h);
       })
 
-  pub accuse_again : is_tallying s.state ≡ true → Duty c w e (w.instance e.who).next_session (record { slot = s; token = (w.instance e.who).token; sent = Accuse e.who s.far.who ∷ []; place = w.place })
+  pub accuse_again : is_tallying s.state ≡ true → Duty c w e (w.instance e.who).next_session (outcome s ((w.instance e.who).token) (Accuse e.who s.far.who ∷ []) w.place)
   accuse_again h =
       let engaged = implied is_tallying is_engaged refl s.state h in
       sends_one (Accuse e.who s.far.who) (implied is_tallying is_used refl s.state h) refl ((good a).apart engaged)
 
   -- what is unknown here is denied
-  pub unknown_denied : (from : End) → Came w.sent from e → IsUnknown s from → Duty c w e (w.instance e.who).next_session (record { slot = s; token = (w.instance e.who).token; sent = Gone e from 0 false ∷ []; place = w.place })
+  pub unknown_denied : (from : End) → Came w.sent from e → IsUnknown s from → Duty c w e (w.instance e.who).next_session (outcome s ((w.instance e.who).token) (Gone e from 0 false ∷ []) w.place)
   unknown_denied from came unknown =
       let used = came_used a.inv from e came in
       sends_one (Gone e from 0 false) used.receiver refl (record { own = refl; closed = closed unknown; took = took unknown; used = used.sender })

@@ -1,5 +1,5 @@
 -- Deeds that give up claims, or none, and move no point: versions and counters stay, no Renew is sent.
-use Rattle.std.proofs.Common.{◌≡◌, ℕ, suc, ◌≤◌, Bool, true, false, cond, ◌==◌, List, ◌++◌, Option, Some, None, refl, sym, subst, inl, arith}
+use Rattle.std.proofs.Common.{◌≡◌, ◌+◌, ℕ, ◌≤◌, Bool, true, false, cond, ◌==◌, List, ◌++◌, Option, Some, None, refl, sym, subst, inl, arith}
 use Rattle.ring_machine.specs.Members.{IsMember}
 use Rattle.ring_machine.specs.Points.{Points, no_points}
 use Rattle.ring_machine.specs.Ends.{End}
@@ -10,12 +10,13 @@ use Rattle.ring_machine.specs.World.{Settings, World, slot}
 use Rattle.ring_machine.specs.Sessions.{Touched, TouchedBy, flew, heard, took, was_heard}
 use Rattle.ring_machine.specs.Claims.{Claim, ClaimBy, by_record, by_renew, by_flight}
 use Rattle.ring_machine.specs.SoundFlights.{SoundToken, Pending, FrozenTo}
+use Rattle.ring_machine.specs.Effects.{outcome}
 use Rattle.ring_machine.proofs.Duty.{LinkDuty, Sent, TokenDuty, PlaceDuty, Duty}
 use Rattle.ring_machine.proofs.Acting.{Acting, good, here, back, NoRenewal, no_renew, no_ack, frozen_more, claim_before, freeze_mine, freeze_theirs}
 
 -- the slot with these fields, and all other fields of s
-abbrev pub shrunk : Slot → State → (until ripe : ℕ) → Points → Option Flight → (granted answered : ℕ → Bool) → Slot
-shrunk s state until ripe held flight granted answered = record s { state = state; until = until; ripe = ripe; held = held; flight = flight; granted = granted; answered = answered }
+abbrev pub shrunk : Slot → State → (until ripe : ℕ) → Points → Option Flight → Slot
+shrunk s state until ripe held flight = record s { state = state; until = until; ripe = ripe; held = held; flight = flight }
 
 -- record and flight are those of s, or less
 pub record IsLess (s : Slot) (held : Points) (flight : Option Flight) : Type 0 where
@@ -30,6 +31,11 @@ less_empty s = record { held_before = λ p h. absurd (cc (h)); flight_before = �
 
 pub less_record : (s : Slot) → IsLess s no_points s.flight
 less_record s = record { held_before = λ p h. absurd (cc (h)); flight_before = λ l h. h }
+
+-- where no flight stood, none stands among less
+pub none_left : {before : Option Flight} (flight : Option Flight) → before ≡ None → ((l : Flight) → flight ≡ Some l → before ≡ Some l) → flight ≡ None
+none_left None h was = refl
+none_left (Some l) h was = absurd (let k = was l refl in cc)
 
 pub nothing_claimed : HasClaim no_points None → ⊥
 nothing_claimed (of_record p h) = cc (h)
@@ -57,7 +63,7 @@ pub is_undone : (number : ℕ) (token : Token) (freeze : Option Freeze) → IsUn
 is_undone number token None = not_undone token
 is_undone number token (Some z) = go (z.number == number)
   where
-    go : (b : Bool) → IsUndone token (cond b (record token { version = suc token.version; freeze = None }) token)
+    go : (b : Bool) → IsUndone token (cond b (record token { version = token.version + 1; freeze = None }) token)
     go true = record { ranges = λ p h. h; ranges_back = λ p h. h; version = omega arith; next_flight = refl; freeze = λ z h. absurd (cc (h)) }
     go false = not_undone token
 
@@ -80,10 +86,10 @@ module _ {c : Settings} {w : World} {e : End} (a : Acting c w e) where
     recorded = λ le p h. r.recorded le p (less.held_before p h);
   }
 
-  pub token_shrunk : (state : State) (until ripe : ℕ) (held : Points) (flight : Option Flight) (granted answered : ℕ → Bool) (token : Token) (sent : List Frame) →
+  pub token_shrunk : (state : State) (until ripe : ℕ) (held : Points) (flight : Option Flight) (token : Token) (sent : List Frame) →
       IsLess s held flight → IsUndone (w.instance e.who).token token → NoRenewal sent →
-      TokenDuty w e s (shrunk s state until ripe held flight granted answered) token sent
-  token_shrunk state until ripe held flight granted answered token sent less un none = record {
+      TokenDuty w e s (shrunk s state until ripe held flight) token sent
+  token_shrunk state until ripe held flight token sent less un none = record {
     acked = (good a).acked;
     version = (good a).version;
     got = (good a).got;
@@ -99,15 +105,11 @@ module _ {c : Settings} {w : World} {e : End} (a : Acting c w e) where
     theirs = λ en z is tie. theirs_less z (sent ++ w.sent) _ _ held flight less (frozen_more sent w.sent s.far e z _ _ _ _ _ (no_renew sent none s.far e) (no_ack sent none e s.far) (freeze_theirs a z is en tie));
     newly = λ h. let u = ((good a).plain h).0 in record { flight = none_left flight u.flight less.flight_before; held_version = u.held_version; got = u.got; acked = u.acked };
   }
-    where
-      none_left : (flight : Option Flight) → s.flight ≡ None → ((l : Flight) → flight ≡ Some l → s.flight ≡ Some l) → flight ≡ None
-      none_left None h was = refl
-      none_left (Some l) h was = absurd (let k = was l refl in cc)
 
-  pub place_shrunk : (state : State) (until ripe : ℕ) (held : Points) (flight : Option Flight) (granted answered : ℕ → Bool) (token : Token) (sent : List Frame) →
+  pub place_shrunk : (state : State) (until ripe : ℕ) (held : Points) (flight : Option Flight) (token : Token) (sent : List Frame) →
       IsLess s held flight → IsUndone (w.instance e.who).token token → NoRenewal sent → (is_willing state ≡ true → is_willing s.state ≡ true) →
-      PlaceDuty c w e s (shrunk s state until ripe held flight granted answered) token sent w.place
-  place_shrunk state until ripe held flight granted answered token sent less un none willing = record {
+      PlaceDuty c w e s (shrunk s state until ripe held flight) token sent w.place
+  place_shrunk state until ripe held flight token sent less un none willing = record {
     owned = λ p h. here a p (un.ranges p h);
     exact = λ p h. un.ranges_back p (back a p h);
     keeps = λ y p n l h. h;
@@ -116,7 +118,7 @@ module _ {c : Settings} {w : World} {e : End} (a : Acting c w e) where
     flies = λ g h number p i. inl i;
     flew = λ g h number p i. inl i;
     flight = λ l h. let r = a.inv.flights e s.far l refl (less.flight_before l h) in record { numbered = let n = un.next_flight in let m = r.numbered in omega arith; flying = r.flying; whole = r.whole };
-    mine = λ en p h. before p (claim_before sent w.sent e s.far (shrunk s state until ripe held flight granted answered) (slot w s.far).got p (no_renew sent none s.far e) h);
+    mine = λ en p h. before p (claim_before sent w.sent e s.far (shrunk s state until ripe held flight) (slot w s.far).got p (no_renew sent none s.far e) h);
     theirs = λ en p h. inl (claim_before sent w.sent s.far e (slot w s.far) s.got p (no_renew sent none e s.far) h);
     stays = λ g f p far now claim i. inl i;
   }
@@ -149,8 +151,6 @@ module _ {c : Settings} {w : World} {e : End} (a : Acting c w e) where
         agreed = k.agreed;
         plain = k.plain;
         recorded = k.recorded;
-        granted = k.granted;
-        answered = k.answered;
         leased = k.leased;
         heir = k.heir;
         heir_claims = k.heir_claims;
@@ -162,12 +162,12 @@ module _ {c : Settings} {w : World} {e : End} (a : Acting c w e) where
       }
 
   pub sends_duty : (sent : List Frame) → is_used s.state ≡ true → NoRenewal sent →
-      ((f : Frame) → IsMember f sent → Sent c w e s (record { slot = s; token = (w.instance e.who).token; sent = sent; place = w.place }) f) →
-      Duty c w e (w.instance e.who).next_session (record { slot = s; token = (w.instance e.who).token; sent = sent; place = w.place })
+      ((f : Frame) → IsMember f sent → Sent c w e s (outcome s ((w.instance e.who).token) sent w.place) f) →
+      Duty c w e (w.instance e.who).next_session (outcome s ((w.instance e.who).token) sent w.place)
   sends_duty sent used none sends = record {
     fence = λ g. a.live.below e.number g;
     link = link_same used;
     sends = sends;
-    token = token_shrunk s.state s.until s.ripe s.held s.flight s.granted s.answered (w.instance e.who).token sent (not_less s) (not_undone (w.instance e.who).token) none;
-    place = place_shrunk s.state s.until s.ripe s.held s.flight s.granted s.answered (w.instance e.who).token sent (not_less s) (not_undone (w.instance e.who).token) none (λ h. h);
+    token = token_shrunk s.state s.until s.ripe s.held s.flight (w.instance e.who).token sent (not_less s) (not_undone (w.instance e.who).token) none;
+    place = place_shrunk s.state s.until s.ripe s.held s.flight (w.instance e.who).token sent (not_less s) (not_undone (w.instance e.who).token) none (λ h. h);
   }

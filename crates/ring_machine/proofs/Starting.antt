@@ -1,12 +1,12 @@
 -- A node starts: its next instance owns nothing, but for the first of the first node, which owns the whole ring.
-use Rattle.std.proofs.Common.{◌≡◌, ℕ, suc, ◌<◌, ◌≤◌, true, ◌&&◌, Some, refl, sym, ap, subst, inl, ⊎_elim, arith}
+use Rattle.std.proofs.Common.{◌≡◌, ◌+◌, ℕ, ◌<◌, ◌≤◌, true, ◌&&◌, Some, refl, sym, ap, subst, inl, ⊎_elim, arith}
 use Rattle.std.proofs.lemmas.Bool.{and_parts, and_from}
 use Rattle.ring_points.specs.declared.who.Who.{Who}
 use Rattle.ring_points.specs.Whos.{same_who}
 use Rattle.ring_machine.specs.Members.{IsMember}
 use Rattle.ring_machine.specs.Points.{is_point}
 use Rattle.ring_machine.specs.Tokens.{Freeze}
-use Rattle.ring_machine.specs.Clocks.{Within}
+use Rattle.drift_clock.specs.Within.{Within}
 use Rattle.ring_machine.specs.World.{Settings, Instance, World, Unborn, Running, At, Live, Dead, first_of, unborn, born}
 use Rattle.ring_machine.specs.SoundFlights.{SoundToken}
 use Rattle.ring_machine.specs.Events.{next_instance, started}
@@ -37,11 +37,11 @@ module _ {c : Settings} {w : World} (inv : Invariant c w) (node reading : ℕ) w
   instance_cases P here old y = updated_cases (P y (w.instance y)) w.instance x y new (λ h. subst (λ z. P z (w.instance z) new) h (subst (λ i. P x i new) (sym (inv.blank x was_unborn)) here)) (λ h. old y)
 
   starts_rise : (m : ℕ) → w.starts m ≤ starts m
-  starts_rise m = replaced_cases (λ n. w.starts m ≤ n) w.starts node m (suc (w.starts node)) (λ h. let same = ap w.starts h in omega arith) (λ h. omega arith)
+  starts_rise m = replaced_cases (λ n. w.starts m ≤ n) w.starts node m (w.starts node + 1) (λ h. let same = ap w.starts h in omega arith) (λ h. omega arith)
 
   -- the new instance is counted
   counted_here : starts x.actor < x.instance → ⊥
-  counted_here = replaced_cases (λ n. n < suc (w.starts node) → ⊥) w.starts node node (suc (w.starts node)) (λ h lt. omega arith) (λ n. absurd (n refl))
+  counted_here = replaced_cases (λ n. n < w.starts node + 1 → ⊥) w.starts node node (w.starts node + 1) (λ h lt. omega arith) (λ n. absurd (n refl))
 
   begun : Unmoved c w w.time instances
   begun = record {
@@ -64,7 +64,7 @@ module _ {c : Settings} {w : World} (inv : Invariant c w) (node reading : ℕ) w
       let k = and_parts (same_who x (first_of c)) (is_point p) h in
       let first : x ≡ first_of c = same_who-true x (first_of c) k.0 in
       let its_node : node ≡ c.first = ap (λ (y : Who). y.actor) first in
-      let its_number : suc (w.starts node) ≡ 1 = ap (λ (y : Who). y.instance) first in
+      let its_number : w.starts node + 1 ≡ 1 = ap (λ (y : Who). y.instance) first in
       let same = ap w.starts its_node in
       subst (λ y. w.place p ≡ At y) (sym first) (inv.whole_ring p (omega arith) k.1)
 
@@ -81,8 +81,8 @@ module _ {c : Settings} {w : World} (inv : Invariant c w) (node reading : ℕ) w
     whole_ring = λ p h q. let rises = starts_rise c.first in inv.whole_ring p (omega arith) q;
     not_started = instance_cases (λ y i j. starts y.actor < y.instance → j.phase ≡ Unborn) (λ h. absurd (counted_here h)) (λ y h. let rises = starts_rise y.actor in inv.not_started y (omega arith));
     blank = instance_cases (λ y i j. j.phase ≡ Unborn → j ≡ unborn) (λ h. absurd (cc (h))) inv.blank;
-    clocks = instance_cases (λ y i j. (time read : ℕ) → j.phase ≡ Running → IsMember (time, read) j.pairs → Within c.bound time read w.time j.reading)
-        (λ time read h m. ⊎_elim (λ (e : (time, read) ≡ (w.time, reading)). subst (λ (z : ℕ × ℕ). Within c.bound z.0 z.1 w.time reading) (sym e) (Within-refl c.bound w.time reading)) (λ n. absurd n) m)
+    clocks = instance_cases (λ y i j. (time read : ℕ) → j.phase ≡ Running → IsMember (time, read) j.pairs → Within c.bound (time, read) (w.time, j.reading))
+        (λ time read h m. ⊎_elim (λ (e : (time, read) ≡ (w.time, reading)). subst (λ (z : ℕ × ℕ). Within c.bound z (w.time, reading)) (sym e) (Within-refl c.bound (w.time, reading))) (λ n. absurd n) m)
         inv.clocks;
     present = instance_cases (λ y i j. j.phase ≡ Running → IsMember (w.time, j.reading) j.pairs) (λ h. inl refl) inv.present;
     slots = slots_unmoved inv starts begun;

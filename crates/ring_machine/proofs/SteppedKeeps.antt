@@ -5,7 +5,7 @@ use Rattle.ring_machine.specs.Points.{is_point}
 use Rattle.ring_machine.specs.Ends.{End}
 use Rattle.ring_machine.specs.Slots.{guards}
 use Rattle.ring_machine.specs.Tokens.{Freeze}
-use Rattle.ring_machine.specs.Clocks.{Within}
+use Rattle.drift_clock.specs.Within.{Within}
 use Rattle.ring_machine.specs.World.{Settings, World, Unborn, Running, At, Live, first_of, unborn}
 use Rattle.ring_machine.specs.Effects.{Outcome, stepped}
 use Rattle.ring_machine.specs.SoundFlights.{SoundToken}
@@ -32,7 +32,7 @@ module _ {c : Settings} {w : World} {e : End} {next : ℕ} {out : Outcome} (d : 
         whole_ring = λ p h q. place.keeps_unborn (first_of c) p (d.inv.not_started (first_of c) (omega arith)) (d.inv.whole_ring p h q);
         not_started = instance_cases d (λ y i. w.starts y.actor < y.instance → i.phase ≡ Unborn) (d.inv.not_started e.who) (λ y n. d.inv.not_started y);
         blank = instance_cases d (λ y i. i.phase ≡ Unborn → i ≡ unborn) (λ h. absurd (born_here h)) (λ y n. d.inv.blank y);
-        clocks = instance_cases d (λ y i. (time reading : ℕ) → i.phase ≡ Running → IsMember (time, reading) i.pairs → Within c.bound time reading w.time i.reading) (d.inv.clocks e.who) (λ y n. d.inv.clocks y);
+        clocks = instance_cases d (λ y i. (time reading : ℕ) → i.phase ≡ Running → IsMember (time, reading) i.pairs → Within c.bound (time, reading) (w.time, i.reading)) (d.inv.clocks e.who) (λ y n. d.inv.clocks y);
         present = instance_cases d (λ y i. i.phase ≡ Running → IsMember (w.time, i.reading) i.pairs) (d.inv.present e.who) (λ y n. d.inv.present y);
         slots = slots_after d;
         frames = frames_after d;

@@ -11,7 +11,7 @@ use Rattle.ring_machine.specs.Leases.{Rests, Leased, SoundHeir}
 use Rattle.ring_machine.specs.SoundSlots.{SoundSlot, AsksFor}
 use Rattle.ring_machine.proofs.Whos.{end_cases}
 use Rattle.ring_machine.proofs.States.{implied}
-use Rattle.ring_machine.proofs.Later.{tied_later, closed_later, granted_by_later, answered_later, freed_later, rests_later, leased_later}
+use Rattle.ring_machine.proofs.Later.{tied_later, closed_later, granted_by_later, freed_later, rests_later, leased_later}
 use Rattle.ring_machine.proofs.Duty.{Deeded, SentAck}
 use Rattle.ring_machine.proofs.Stepped.{next_world, slot_cases, own_slot, other_slot, own_instance, sent_cases, later, counter_rises, old_tie, own_tie, far_differs}
 
@@ -56,11 +56,9 @@ module _ {c : Settings} {w : World} {e : End} {next : ℕ} {out : Outcome} (d : 
         agreed = λ h tie. let n = far_differs d t.far h refl in link.agreed h (old_tie d t.far e n tie) ∙ ap (λ (s : Slot). s.len) (sym (other_slot d t.far n));
         plain = link.plain;
         recorded = link.recorded;
-        granted = λ a h. (later d).sent _ (link.granted a h);
-        answered = λ a h. answered_later (later d) a e.who t.far.who (link.answered a h);
         leased = λ g. leased_later (later d) e.who w.time w.time t.until t.len (omega arith) (link.leased g);
         heir = λ h. heir_after e t.far t.len t.ripe (link.touched (claim_touched t link.recorded (link.heir_claims h)))
-            (λ stamp version b. let a : SentAck w e (slot w e) t e t.far stamp version = d.duty.sends (RenewAck e t.far stamp version) b in let wi = a.willing in cc (h, ap is_willing h, wi))
+            (λ stamp version b. let a : SentAck w e (slot w e) t e t.far stamp version = d.duty.sends (RenewAck e t.far stamp version) b in let wi = a.willing in cc (ap is_willing h, wi))
             (link.heir h);
         heir_claims = link.heir_claims;
         claims = link.claims;
@@ -104,8 +102,6 @@ module _ {c : Settings} {w : World} {e : End} {next : ℕ} {out : Outcome} (d : 
         agreed = agreed_after g n;
         plain = s.plain;
         recorded = s.recorded;
-        granted = λ a h. (later d).sent _ (s.granted a h);
-        answered = λ a h. answered_later (later d) a g.who (slot w g).far.who (s.answered a h);
         leased = λ u. leased_later (later d) g.who w.time w.time (slot w g).until (slot w g).len (omega arith) (s.leased u);
         heir = λ h. heir_after g (slot w g).far (slot w g).len (slot w g).ripe (s.touched (claim_touched (slot w g) s.recorded (s.heir_claims h)))
             (λ stamp version b. n (sym (d.duty.sends (RenewAck g (slot w g).far stamp version) b).own)) (s.heir h);

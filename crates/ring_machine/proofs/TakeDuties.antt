@@ -1,5 +1,5 @@
 -- A flight is taken, or returns.
-use Rattle.std.proofs.Common.{◌≡◌, ℕ, suc, ◌<◌, ◌≤◌, Bool, true, false, cond, ◌||◌, List, [], ◌++◌, Some, None, ◌⊎◌, refl, sym, ap, subst, inl, inr, ⊎_elim, arith}
+use Rattle.std.proofs.Common.{◌≡◌, ◌+◌, ℕ, ◌<◌, ◌≤◌, Bool, true, false, cond, ◌||◌, List, [], ◌++◌, Some, None, ◌⊎◌, refl, sym, ap, subst, inl, inr, ⊎_elim, arith}
 use Rattle.std.proofs.lemmas.Bool.{both_ways, or_cases, or_left, or_right, cases_lt}
 use Rattle.ring_points.specs.declared.who.Who.{Who}
 use Rattle.ring_points.specs.Whos.{same_who}
@@ -10,7 +10,7 @@ use Rattle.ring_machine.specs.Slots.{Slot, Flight, Bound, Parted, is_engaged, is
 use Rattle.ring_machine.specs.Tokens.{Token, Freeze, undone}
 use Rattle.ring_machine.specs.Frames.{Frame, Transfer, Gone, answer_if}
 use Rattle.ring_machine.specs.World.{Settings, World, Place, At, InFlight, Dead, slot}
-use Rattle.ring_machine.specs.Effects.{Outcome, moved, parted}
+use Rattle.ring_machine.specs.Effects.{Outcome, outcome, moved, parted}
 use Rattle.ring_machine.specs.Sessions.{Tied, BothTied, flew, Closed, elsewhere, over}
 use Rattle.ring_machine.specs.Claims.{Claim, by_record, by_renew, by_flight}
 use Rattle.ring_machine.specs.SoundFlights.{IsWhole, SoundToken, Pending, FrozenTo}
@@ -58,7 +58,7 @@ module _ {c : Settings} {w : World} {e : End} (a : Acting c w e) where
     taken = record (slot w e) { got = number }
 
     abbrev more : Token
-    more = record (w.instance e.who).token { ranges = union (w.instance e.who).token.ranges part; version = suc (w.instance e.who).token.version }
+    more = record (w.instance e.who).token { ranges = union (w.instance e.who).token.ranges part; version = (w.instance e.who).token.version + 1 }
 
     sound : SoundTransfer c w s.far e number part
     sound = a.inv.frames (Transfer s.far e number part) m
@@ -136,12 +136,12 @@ module _ {c : Settings} {w : World} {e : End} (a : Acting c w e) where
             (λ (le : l.number ≤ s.got). inl (by_flight l i le r))
             (cases_lt s.got l.number)
 
-    pub flight_taken_duty : Duty c w e (w.instance e.who).next_session (record { slot = taken; token = more; sent = []; place = arrived part })
-    flight_taken_duty = kept_duty a (record { slot = taken; token = more; sent = []; place = arrived part }) (bound_link a bound number s.flight) (λ g h. absurd h) take_token take_place
+    pub flight_taken_duty : Duty c w e (w.instance e.who).next_session (outcome taken more [] (arrived part))
+    flight_taken_duty = kept_duty a (outcome taken more [] (arrived part)) (bound_link a bound number s.flight) (λ g h. absurd h) take_token take_place
 
   module _ (st : stands s.state ≡ true) (flight : Flight) (got : ℕ) (answered : Bool) (m : IsMember (Gone s.far e got answered) w.sent) (is : s.flight ≡ Some flight) (above : got < flight.number) where
     abbrev regained : Token
-    regained = record (w.instance e.who).token { ranges = union (w.instance e.who).token.ranges flight.part; version = suc (w.instance e.who).token.version }
+    regained = record (w.instance e.who).token { ranges = union (w.instance e.who).token.ranges flight.part; version = (w.instance e.who).token.version + 1 }
 
     abbrev without : Token
     without = undone e.number regained (w.instance e.who).token.freeze
@@ -171,7 +171,7 @@ module _ {c : Settings} {w : World} {e : End} (a : Acting c w e) where
 
     return_token : TokenDuty w e s (parted s) without answer
     return_token =
-        let old = token_shrunk a Parted s.until s.ripe no_points None s.granted s.answered (undone e.number token token.freeze) answer (less_empty s) (is_undone e.number token token.freeze) none in
+        let old = token_shrunk a Parted s.until s.ripe no_points None (undone e.number token token.freeze) answer (less_empty s) (is_undone e.number token token.freeze) none in
         let un = is_undone e.number regained token.freeze in record {
           acked = old.acked;
           version = old.version;
@@ -218,7 +218,7 @@ module _ {c : Settings} {w : World} {e : End} (a : Acting c w e) where
         no_claim p (by_renew h stamp version theirs points k lt r) = cc (h)
         no_claim p (by_flight l h le r) = cc (h)
 
-    pub flight_returned_duty : Duty c w e (w.instance e.who).next_session (record { slot = parted s; token = without; sent = answer; place = arrived flight.part })
+    pub flight_returned_duty : Duty c w e (w.instance e.who).next_session (outcome (parted s) without answer (arrived flight.part))
     flight_returned_duty =
-        let out : Outcome = record { slot = parted s; token = without; sent = answer; place = arrived flight.part } in
+        let out : Outcome = outcome (parted s) without answer (arrived flight.part) in
         kept_duty a out (parted_link a st got gone) (each_of_answer (Sent c w e s out) answered (Gone e s.far s.got false) (λ h. parted_answer a st)) return_token return_place

@@ -1,5 +1,5 @@
 -- An heir takes over, once its wait is past: the accused instance is dead then.
-use Rattle.std.proofs.Common.{◌≡◌, ℕ, suc, ◌+◌, ◌<◌, ◌≤◌, true, false, ◌||◌, [], Option, Some, None, ◌⊎◌, refl, sym, ap, ◌∙◌, subst, inl, inr, ⊎_elim, leb, arith}
+use Rattle.std.proofs.Common.{◌≡◌, ℕ, ◌+◌, ◌<◌, ◌≤◌, true, false, ◌||◌, [], Option, Some, None, ◌⊎◌, refl, sym, ap, ◌∙◌, subst, inl, inr, ⊎_elim, leb, arith}
 use Rattle.std.proofs.lemmas.Bool.{both_ways, or_cases, or_left, or_right, leb-true, leb-false}
 use Rattle.ring_machine.specs.Points.{Points, no_points, union}
 use Rattle.ring_machine.specs.Ends.{End}
@@ -7,7 +7,7 @@ use Rattle.ring_machine.specs.Slots.{Slot, Flight, Heir, Ended, HasClaim, of_rec
 use Rattle.ring_machine.specs.Tokens.{Token}
 use Rattle.ring_machine.specs.World.{Settings, World, Unborn, Place, At, InFlight, Live, Dead, slot}
 use Rattle.ring_machine.specs.Arbitration.{GrantedBy, AnsweredBy}
-use Rattle.ring_machine.specs.Effects.{moved, ended}
+use Rattle.ring_machine.specs.Effects.{outcome, moved, enlarged, ended}
 use Rattle.ring_machine.specs.Sessions.{Tied, BothTied, Closed, elsewhere, over}
 use Rattle.ring_machine.specs.Claims.{Barred, other_heir, discharged, Backed, claimant_dead, barred, of_owner, Claim, by_record, by_renew, by_flight}
 use Rattle.ring_machine.specs.Leases.{Leased, SoundHeir}
@@ -32,9 +32,6 @@ module _ {c : Settings} {w : World} {e : End} (drift : c.bound.d ≤ 100) (a : A
 
   abbrev accused : End
   accused = (slot w e).far
-
-  abbrev taken : Points
-  taken = union (slot w e).held (part_of (slot w e).flight)
 
   sound : SoundHeir c w e s.far s.len s.ripe
   sound = (good a).heir heir
@@ -87,9 +84,9 @@ module _ {c : Settings} {w : World} {e : End} (drift : c.bound.d ≤ 100) (a : A
       by_backing (barred b) = absurd (not_barred b)
       by_backing (of_owner o) = o
 
-  -- what is taken over is the accused one's, or on its way to it
-  pub taken_from : (p : ℕ) → taken p ≡ true → (w.place p ≡ At s.far.who) ⊎ ((number : ℕ) × (w.place p ≡ InFlight e s.far number))
-  taken_from p h = ⊎_elim (λ r. inl (claimed p (by_record r))) (λ r. by_part s.flight refl r) (or_cases (s.held p) (part_of s.flight p) h)
+  -- the points of record and flight are the accused one's, or on their way to it
+  claim_from : (p : ℕ) → union s.held (part_of s.flight) p ≡ true → (w.place p ≡ At s.far.who) ⊎ ((number : ℕ) × (w.place p ≡ InFlight e s.far number))
+  claim_from p h = ⊎_elim (λ r. inl (claimed p (by_record r))) (λ r. by_part s.flight refl r) (or_cases (s.held p) (part_of s.flight p) h)
     where
       by_part : (l : Option Flight) → s.flight ≡ l → part_of l p ≡ true → (w.place p ≡ At s.far.who) ⊎ ((number : ℕ) × (w.place p ≡ InFlight e s.far number))
       by_part None i r = absurd (cc (r))
@@ -97,97 +94,100 @@ module _ {c : Settings} {w : World} {e : End} (drift : c.bound.d ≤ 100) (a : A
           (λ le. inl (claimed p (by_flight l i (leb-true l.number (slot w s.far).got le) r)))
           (λ lt. inr (l.number, (a.inv.flights e s.far l refl i).flying (leb-false l.number (slot w s.far).got lt) p r))
 
-  abbrev more : Token
-  more = record (w.instance e.who).token { ranges = union (w.instance e.who).token.ranges taken; version = suc (w.instance e.who).token.version }
+  -- a part of that is taken over
+  module _ (part : Points) (within : (p : ℕ) → part p ≡ true → union (slot w e).held (part_of (slot w e).flight) p ≡ true) where
+    pub taken_from : (p : ℕ) → part p ≡ true → (w.place p ≡ At s.far.who) ⊎ ((number : ℕ) × (w.place p ≡ InFlight e s.far number))
+    taken_from p h = claim_from p (within p h)
 
-  abbrev places : ℕ → Place
-  places = moved taken (At e.who) w.place
+    abbrev more : Token
+    more = enlarged (w.instance e.who).token part
 
-  at : (p : ℕ) (P : Place → Type 0) → (taken p ≡ true → P (At e.who)) → (taken p ≡ false → P (w.place p)) → P (places p)
-  at p = moved_cases taken (At e.who) w.place p
+    abbrev places : ℕ → Place
+    places = moved part (At e.who) w.place
 
-  over_link : KeptLink c w e s (ended s)
-  over_link = record {
-    was_engaged = ap is_engaged heir;
-    engaged = refl;
-    far = refl;
-    len = refl;
-    active = λ h. absurd (cc (h));
-    willing = λ h. absurd (cc (h));
-    quiets = λ q. record { deaf = refl; empty = λ p h. cc (h); landed = refl };
-    touched = λ h. tied;
-    recorded = λ p h. absurd (cc (h));
-    granted = (good a).granted;
-    answered = (good a).answered;
-    claims = λ h. absurd (nothing_claimed h);
-    in_state = tt;
-    guarding = (good a).freed (ap is_engaged heir) (ap guards heir);
-  }
+    at : (p : ℕ) (P : Place → Type 0) → (part p ≡ true → P (At e.who)) → (part p ≡ false → P (w.place p)) → P (places p)
+    at p = moved_cases part (At e.who) w.place p
 
-  over_token : TokenDuty w e s (ended s) more []
-  over_token =
-      let old = token_shrunk a Ended s.until s.ripe no_points None s.granted s.answered token [] (less_empty s) (not_undone token) (λ g h. absurd h) in record {
-        acked = old.acked;
-        version = old.version;
-        got = old.got;
-        held_version_rises = old.held_version_rises;
-        got_rises = old.got_rises;
-        got_still = old.got_still;
-        version_rises = omega arith;
-        next_flight_rises = omega arith;
-        flight = old.flight;
-        sound = λ z h. let r = a.inv.tokens e.who z h in record { positive = r.positive; version = let n = r.version in omega arith; part = λ p k. or_left (token.ranges p) (taken p) (r.part p k) };
-        freeze = λ z h. inl h;
-        mine = λ en z i k tie. freeze_mine a z i en tie;
-        theirs = old.theirs;
-        newly = old.newly;
-      }
+    over_link : KeptLink c w e s (ended s)
+    over_link = record {
+      was_engaged = ap is_engaged heir;
+      engaged = refl;
+      far = refl;
+      len = refl;
+      active = λ h. absurd (cc (h));
+      willing = λ h. absurd (cc (h));
+      quiets = λ q. record { deaf = refl; empty = λ p h. cc (h); landed = refl };
+      touched = λ h. tied;
+      recorded = λ p h. absurd (cc (h));
+      claims = λ h. absurd (nothing_claimed h);
+      in_state = tt;
+      guarding = (good a).freed (ap is_engaged heir) (ap guards heir);
+    }
 
-  no_claim : (f : End) (p : ℕ) → Claim w.sent e f (ended s) (slot w f).got p → ⊥
-  no_claim f p (by_record h) = cc (h)
-  no_claim f p (by_renew h stamp version theirs points k lt r) = cc (h)
-  no_claim f p (by_flight l h le r) = cc (h)
+    over_token : TokenDuty w e s (ended s) more []
+    over_token =
+        let old = token_shrunk a Ended s.until s.ripe no_points None token [] (less_empty s) (not_undone token) (λ g h. absurd h) in record {
+          acked = old.acked;
+          version = old.version;
+          got = old.got;
+          held_version_rises = old.held_version_rises;
+          got_rises = old.got_rises;
+          got_still = old.got_still;
+          version_rises = omega arith;
+          next_flight_rises = omega arith;
+          flight = old.flight;
+          sound = λ z h. let r = a.inv.tokens e.who z h in record { positive = r.positive; version = let n = r.version in omega arith; part = λ p k. or_left (token.ranges p) (part p) (r.part p k) };
+          freeze = λ z h. inl h;
+          mine = λ en z i k tie. freeze_mine a z i en tie;
+          theirs = old.theirs;
+          newly = old.newly;
+        }
 
-  active_by : (g f : End) (p : ℕ) → Claim w.sent g f (slot w g) (slot w f).got p → is_active (slot w g).state ≡ true
-  active_by g f p (by_record r) = (a.inv.slots g).claims (of_record p r)
-  active_by g f p (by_renew h stamp version theirs points m lt r) = implied is_willing is_active refl (slot w g).state h
-  active_by g f p (by_flight l h le r) = (a.inv.slots g).claims (of_flight l h)
+    no_claim : (f : End) (p : ℕ) → Claim w.sent e f (ended s) (slot w f).got p → ⊥
+    no_claim f p (by_record h) = cc (h)
+    no_claim f p (by_renew h stamp version theirs points k lt r) = cc (h)
+    no_claim f p (by_flight l h le r) = cc (h)
 
-  -- no other session of the heir claims anything of the accused instance
-  others_apart : (u v : End) (p : ℕ) → (slot w u).far ≡ v → (e ≡ u → Claim w.sent e v (ended s) (slot w v).got p) → Claim w.sent u v (slot w u) (slot w v).got p → v.who ≡ s.far.who → e.who ≡ u.who → ⊥
-  others_apart u v p far now claim same who =
-      let one : e ≡ u = a.inv.single e u who (ap is_active heir) (active_by u v p claim) (sym same ∙ ap (λ (f : End). f.who) (sym far)) in
-      no_claim v p (now one)
+    active_by : (g f : End) (p : ℕ) → Claim w.sent g f (slot w g) (slot w f).got p → is_active (slot w g).state ≡ true
+    active_by g f p (by_record r) = (a.inv.slots g).claims (of_record p r)
+    active_by g f p (by_renew h stamp version theirs points m lt r) = implied is_willing is_active refl (slot w g).state h
+    active_by g f p (by_flight l h le r) = (a.inv.slots g).claims (of_flight l h)
 
-  over_place : PlaceDuty c w e s (ended s) more [] places
-  over_place = record {
-    owned = λ p h. at p (λ o. o ≡ At e.who) (λ i. refl) (λ i. here a p (⊎_elim (λ r. r) (λ r. absurd (both_ways _ i r)) (or_cases (token.ranges p) (taken p) h)));
-    exact = λ p. at p (λ o. o ≡ At e.who → token.ranges p || taken p ≡ true) (λ i h. or_right (token.ranges p) (taken p) i) (λ i h. or_left (token.ranges p) (taken p) (back a p h));
-    keeps = λ y p n l i. at p (λ o. o ≡ At y) (λ h. absurd (⊎_elim
-        (λ (o : w.place p ≡ At s.far.who). let same : s.far.who ≡ y = cc in accused_dead.not_live (subst (λ y. Live c (w.instance y)) (sym same) l))
-        (λ (o : (number : ℕ) × (w.place p ≡ InFlight e s.far number)). let k = o.1 in cc) (taken_from p h))) (λ h. i);
-    keeps_unborn = λ y p unborn i. at p (λ o. o ≡ At y) (λ h. absurd (⊎_elim
-        (λ (o : w.place p ≡ At s.far.who). let same : s.far.who ≡ y = cc in accused_dead.born (ap (λ y. (w.instance y).phase) same ∙ unborn))
-        (λ (o : (number : ℕ) × (w.place p ≡ InFlight e s.far number)). let k = o.1 in cc) (taken_from p h))) (λ h. i);
-    gets_none = λ y p n. at p (λ o. o ≡ At y → w.place p ≡ At y) (λ i h. absurd (let same : e.who ≡ y = cc in same_who-false e.who y n same)) (λ i h. h);
-    flies = λ g h n p i. at p (λ o. (o ≡ InFlight g h n) ⊎ (BothTied w g e × (n ≤ s.got)) ⊎ ((g ≡ e) × (Dead c (w.instance s.far.who) ⊎ Closed w s.far e)))
-        (λ j. ⊎_elim
-        (λ (o : w.place p ≡ At s.far.who). absurd (cc))
-        (λ (o : (number : ℕ) × (w.place p ≡ InFlight e s.far number)). let k = o.1 in let same : g ≡ e = cc in inr (inr (same, inl accused_dead)))
-        (taken_from p j))
-        (λ j. inl i);
-    flew = λ g h n p. at p (λ o. o ≡ InFlight g h n → (w.place p ≡ InFlight g h n) ⊎ ((g ≡ e) × (token.next_flight ≤ n) × (n < token.next_flight))) (λ i j. absurd (cc (j))) (λ i j. inl j);
-    flight = λ l h. absurd (cc (h));
-    mine = λ en p h. absurd (no_claim s.far p h);
-    theirs = λ en p h. inl h;
-    stays = λ u v p far now claim i. at p (λ o. (o ≡ At v.who) ⊎ Barred c w.sent u.who v.who)
-        (λ j. ⊎_elim
-        (λ (o : w.place p ≡ At s.far.who). let same : s.far.who ≡ v.who = cc in
-        inr (other_heir e.who (same_who_from e.who u.who (λ who. others_apart u v p far now claim (sym same) who)) (subst (GrantedBy c w.sent e.who) same sound.grants)))
-        (λ (o : (number : ℕ) × (w.place p ≡ InFlight e s.far number)). let k = o.1 in absurd (cc))
-        (taken_from p j))
-        (λ j. inl i);
-  }
+    -- no other session of the heir claims anything of the accused instance
+    others_apart : (u v : End) (p : ℕ) → (slot w u).far ≡ v → (e ≡ u → Claim w.sent e v (ended s) (slot w v).got p) → Claim w.sent u v (slot w u) (slot w v).got p → v.who ≡ s.far.who → e.who ≡ u.who → ⊥
+    others_apart u v p far now claim same who =
+        let one : e ≡ u = a.inv.single e u who (ap is_active heir) (active_by u v p claim) (sym same ∙ ap (λ (f : End). f.who) (sym far)) in
+        no_claim v p (now one)
 
-  pub taken_over_duty : Duty c w e (w.instance e.who).next_session (record { slot = ended s; token = more; sent = []; place = places })
-  taken_over_duty = kept_duty a (record { slot = ended s; token = more; sent = []; place = places }) over_link (λ g h. absurd h) over_token over_place
+    over_place : PlaceDuty c w e s (ended s) more [] places
+    over_place = record {
+      owned = λ p h. at p (λ o. o ≡ At e.who) (λ i. refl) (λ i. here a p (⊎_elim (λ r. r) (λ r. absurd (both_ways _ i r)) (or_cases (token.ranges p) (part p) h)));
+      exact = λ p. at p (λ o. o ≡ At e.who → token.ranges p || part p ≡ true) (λ i h. or_right (token.ranges p) (part p) i) (λ i h. or_left (token.ranges p) (part p) (back a p h));
+      keeps = λ y p n l i. at p (λ o. o ≡ At y) (λ h. absurd (⊎_elim
+          (λ (o : w.place p ≡ At s.far.who). let same : s.far.who ≡ y = cc in accused_dead.not_live (subst (λ y. Live c (w.instance y)) (sym same) l))
+          (λ (o : (number : ℕ) × (w.place p ≡ InFlight e s.far number)). let k = o.1 in cc) (taken_from p h))) (λ h. i);
+      keeps_unborn = λ y p unborn i. at p (λ o. o ≡ At y) (λ h. absurd (⊎_elim
+          (λ (o : w.place p ≡ At s.far.who). let same : s.far.who ≡ y = cc in accused_dead.born (ap (λ y. (w.instance y).phase) same ∙ unborn))
+          (λ (o : (number : ℕ) × (w.place p ≡ InFlight e s.far number)). let k = o.1 in cc) (taken_from p h))) (λ h. i);
+      gets_none = λ y p n. at p (λ o. o ≡ At y → w.place p ≡ At y) (λ i h. absurd (let same : e.who ≡ y = cc in same_who-false e.who y n same)) (λ i h. h);
+      flies = λ g h n p i. at p (λ o. (o ≡ InFlight g h n) ⊎ (BothTied w g e × (n ≤ s.got)) ⊎ ((g ≡ e) × (Dead c (w.instance s.far.who) ⊎ Closed w s.far e)))
+          (λ j. ⊎_elim
+          (λ (o : w.place p ≡ At s.far.who). absurd (cc))
+          (λ (o : (number : ℕ) × (w.place p ≡ InFlight e s.far number)). let k = o.1 in let same : g ≡ e = cc in inr (inr (same, inl accused_dead)))
+          (taken_from p j))
+          (λ j. inl i);
+      flew = λ g h n p. at p (λ o. o ≡ InFlight g h n → (w.place p ≡ InFlight g h n) ⊎ ((g ≡ e) × (token.next_flight ≤ n) × (n < token.next_flight))) (λ i j. absurd (cc (j))) (λ i j. inl j);
+      flight = λ l h. absurd (cc (h));
+      mine = λ en p h. absurd (no_claim s.far p h);
+      theirs = λ en p h. inl h;
+      stays = λ u v p far now claim i. at p (λ o. (o ≡ At v.who) ⊎ Barred c w.sent u.who v.who)
+          (λ j. ⊎_elim
+          (λ (o : w.place p ≡ At s.far.who). let same : s.far.who ≡ v.who = cc in
+          inr (other_heir e.who (same_who_from e.who u.who (λ who. others_apart u v p far now claim (sym same) who)) (subst (GrantedBy c w.sent e.who) same sound.grants)))
+          (λ (o : (number : ℕ) × (w.place p ≡ InFlight e s.far number)). let k = o.1 in absurd (cc))
+          (taken_from p j))
+          (λ j. inl i);
+    }
+
+    pub taken_over_duty : Duty c w e (w.instance e.who).next_session (outcome (ended s) more [] places)
+    taken_over_duty = kept_duty a (outcome (ended s) more [] places) over_link (λ g h. absurd h) over_token over_place

@@ -4,17 +4,17 @@ use Rattle.ring_points.specs.declared.who.Who.{Who}
 use Rattle.ring_machine.specs.Members.{IsMember}
 use Rattle.ring_machine.specs.Points.{is_point}
 use Rattle.ring_machine.specs.Tokens.{Freeze}
-use Rattle.ring_machine.specs.Clocks.{Within, Continues}
+use Rattle.drift_clock.specs.Within.{Within, FitsAll}
 use Rattle.ring_machine.specs.World.{Settings, Instance, World, Unborn, Running, At, Live, Dead, first_of, unborn, has_clock}
 use Rattle.ring_machine.specs.SoundFlights.{SoundToken}
 use Rattle.ring_machine.specs.Events.{ticked, passed}
 use Rattle.ring_machine.specs.Invariant.{Invariant}
-use Rattle.ring_machine.proofs.Waits.{Continues-IsMember, Within-refl}
+use Rattle.ring_machine.proofs.Waits.{FitsAll-IsMember, Within-refl}
 use Rattle.ring_machine.proofs.Later.{Later}
 use Rattle.ring_machine.proofs.Unmoved.{Unmoved, unmoved_later, slots_unmoved, frames_unmoved, backed_unmoved, flights_unmoved, freezes_unmoved, single_unmoved}
 
 module _ {c : Settings} {w : World} (inv : Invariant c w) (advance : ℕ) (readings : Who → ℕ)
-    (fits : (x : Who) → (w.instance x).phase ≡ Running → Continues c.bound (w.instance x).pairs (w.time + advance) (readings x)) where
+    (fits : (x : Who) → (w.instance x).phase ≡ Running → FitsAll c.bound (w.instance x).pairs (w.time + advance, readings x)) where
   abbrev now : ℕ
   now = w.time + advance
 
@@ -31,12 +31,12 @@ module _ {c : Settings} {w : World} (inv : Invariant c w) (advance : ℕ) (readi
       go false h = old y h
 
   -- the present reading of a running clock, and the next one
-  next_reading : (y : Who) → (w.instance y).phase ≡ Running → Within c.bound w.time (w.instance y).reading now (readings y)
-  next_reading y r = Continues-IsMember c.bound (w.instance y).pairs now (readings y) w.time (w.instance y).reading (fits y r) (inv.present y r)
+  next_reading : (y : Who) → (w.instance y).phase ≡ Running → Within c.bound (w.time, (w.instance y).reading) (now, readings y)
+  next_reading y r = FitsAll-IsMember c.bound (w.instance y).pairs (now, readings y) (w.time, (w.instance y).reading) (fits y r) (inv.present y r)
 
   -- who is live at the next reading was live before
   was_live : (y : Who) → Live c (record (w.instance y) { reading = readings y; pairs = (w.time + advance, readings y) ∷ (w.instance y).pairs }) → Live c (w.instance y)
-  was_live y l = record { running = l.running; below = λ m g. let rises = (next_reading y l.running).reading in let b = l.below m g in omega arith }
+  was_live y l = record { running = l.running; below = λ m g. let rises = (next_reading y l.running).readings in let b = l.below m g in omega arith }
 
   time_passed : Unmoved c w now instances
   time_passed = record {
@@ -61,10 +61,10 @@ module _ {c : Settings} {w : World} (inv : Invariant c w) (advance : ℕ) (readi
     whole_ring = inv.whole_ring;
     not_started = clock_cases (λ y i. w.starts y.actor < y.instance → i.phase ≡ Unborn) (λ y h. inv.not_started y) (λ y h. inv.not_started y);
     blank = clock_cases (λ y i. i.phase ≡ Unborn → i ≡ unborn) (λ y h k. absurd (cc (h, ap has_clock k))) (λ y h. inv.blank y);
-    clocks = clock_cases (λ y i. (time reading : ℕ) → i.phase ≡ Running → IsMember (time, reading) i.pairs → Within c.bound time reading now i.reading)
+    clocks = clock_cases (λ y i. (time reading : ℕ) → i.phase ≡ Running → IsMember (time, reading) i.pairs → Within c.bound (time, reading) (now, i.reading))
         (λ y h time reading r m. ⊎_elim
-        (λ (e : (time, reading) ≡ (now, readings y)). subst (λ (z : ℕ × ℕ). Within c.bound z.0 z.1 now (readings y)) (sym e) (Within-refl c.bound now (readings y)))
-        (λ (o : IsMember (time, reading) (w.instance y).pairs). Continues-IsMember c.bound (w.instance y).pairs now (readings y) time reading (fits y r) o)
+        (λ (e : (time, reading) ≡ (now, readings y)). subst (λ (z : ℕ × ℕ). Within c.bound z (now, readings y)) (sym e) (Within-refl c.bound (now, readings y)))
+        (λ (o : IsMember (time, reading) (w.instance y).pairs). FitsAll-IsMember c.bound (w.instance y).pairs (now, readings y) (time, reading) (fits y r) o)
         m)
         (λ y h time reading r. absurd (cc (h, ap has_clock r)));
     present = clock_cases (λ y i. i.phase ≡ Running → IsMember (now, i.reading) i.pairs) (λ y h r. inl refl) (λ y h r. absurd (cc (h, ap has_clock r)));

@@ -87,8 +87,6 @@ module _ {c : Settings} {w : World} (inv : Invariant c w) {time : ℕ} (starts :
         agreed = λ h tie. s.agreed h (tied_before (slot w e).far e tie) ∙ ap (λ (f : Slot). f.len) (sym (u.slots (slot w e).far));
         plain = s.plain;
         recorded = s.recorded;
-        granted = s.granted;
-        answered = s.answered;
         leased = λ g. leased_later unmoved_later e.who w.time time (slot w e).until (slot w e).len u.time_passes (s.leased g);
         heir = λ h. heir_unmoved e (slot w e).far (slot w e).len (slot w e).ripe (s.heir h);
         heir_claims = s.heir_claims;

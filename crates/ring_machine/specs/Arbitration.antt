@@ -1,5 +1,5 @@
 -- What arbitrators answer, and what the answers of a majority mean.
-use Rattle.std.specs.Prelude.{◌≡◌, ℕ, zero, suc, ◌+◌, Bool, true, cond, ◌||◌, ◌==◌, nat_lt, List, ◌∷◌, Option, None, Some, ◌⊎◌}
+use Rattle.std.specs.Prelude.{◌≡◌, ℕ, zero, suc, ◌+◌, Bool, true, cond, nat_lt, List, ◌∷◌, Option, None, Some, ◌⊎◌}
 use Rattle.ring_points.specs.declared.who.Who.{Who}
 use Rattle.ring_points.specs.declared.who.Ruling.{Ruling}
 use Rattle.ring_points.specs.declared.who.Ruling.TheVariants.{Granted, Taken, Refused}
@@ -39,18 +39,6 @@ count_to f (suc n) = cond (f (suc n)) (suc (count_to f n)) (count_to f n)
 -- more than half of the arbitrators pass
 abbrev pub is_majority : Settings → (ℕ → Bool) → Bool
 is_majority c f = nat_lt c.arbiters (count_to f c.arbiters + count_to f c.arbiters)
-
--- the answer counts among those that granted
-abbrev pub with_granted : (ℕ → Bool) → ℕ → Ruling → ℕ → Bool
-with_granted f arbiter Granted a = f a || arbiter == a
-with_granted f arbiter Taken a = f a
-with_granted f arbiter Refused a = f a
-
--- the answer counts among those that granted or had another accuser
-abbrev pub with_answered : (ℕ → Bool) → ℕ → Ruling → ℕ → Bool
-with_answered f arbiter Granted a = f a || arbiter == a
-with_answered f arbiter Taken a = f a || arbiter == a
-with_answered f arbiter Refused a = f a
 
 -- a majority of arbitrators granted x's accusation of y
 pub record GrantedBy (c : Settings) (sent : List Frame) (x y : Who) : Type 0 where

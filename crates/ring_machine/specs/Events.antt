@@ -1,9 +1,10 @@
 -- What can happen to the world, and what is a valid history. Histories have the latest event first.
-use Rattle.std.specs.Prelude.{◌≡◌, ℕ, suc, ◌+◌, ◌<◌, ◌≤◌, Bool, true, false, List, [], ◌∷◌}
+use Rattle.std.specs.Prelude.{◌≡◌, ℕ, ◌+◌, ◌<◌, ◌≤◌, Bool, true, false, List, [], ◌∷◌}
 use Rattle.ring_points.specs.declared.who.Who.{Who}
+use Rattle.ring_points.specs.Whos.{node_instance}
 use Rattle.ring_machine.specs.Members.{IsMember}
 use Rattle.ring_machine.specs.Ends.{updated, replaced}
-use Rattle.ring_machine.specs.Clocks.{Continues}
+use Rattle.drift_clock.specs.Within.{FitsAll}
 use Rattle.ring_machine.specs.Frames.{Accuse}
 use Rattle.ring_machine.specs.World.{Settings, Instance, World, Phase, Running, Left, Stopped, Live, has_clock, born, empty_world}
 use Rattle.ring_machine.specs.Arbitration.{ruled}
@@ -22,11 +23,11 @@ pub data Event : Type 0 where
 
 -- the node's next instance
 abbrev pub next_instance : World → ℕ → Who
-next_instance w node = record { actor = node; instance = suc (w.starts node) }
+next_instance w node = node_instance node (w.starts node + 1)
 
 abbrev pub started : Settings → World → (node reading : ℕ) → World
 started c w node reading = record w {
-  starts = replaced w.starts node (suc (w.starts node));
+  starts = replaced w.starts node (w.starts node + 1);
   instance = updated w.instance (next_instance w node) (born c w.time (next_instance w node) reading);
 }
 
@@ -58,7 +59,8 @@ abbrev pub Can : Settings → World → Event → Type 0
 Can c w (Starts node reading) = Unit {0}
 Can c w (Stops x) = has_clock (w.instance x).phase ≡ true
 Can c w (Leaves x) = (w.instance x).phase ≡ Running
-Can c w (Ticks advance readings) = (x : Who) → (w.instance x).phase ≡ Running → Continues c.bound (w.instance x).pairs (w.time + advance) (readings x)
+Can c w (Ticks advance readings) =
+    (x : Who) → (w.instance x).phase ≡ Running → FitsAll c.bound (w.instance x).pairs (w.time + advance, readings x)
 Can c w (Answers arbiter accuser victim) = IsMember (Accuse accuser victim) w.sent
 Can c w (Does x deed) = Live c (w.instance x) × May c w x deed
 

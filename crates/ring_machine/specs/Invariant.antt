@@ -7,7 +7,7 @@ use Rattle.ring_machine.specs.Ends.{End}
 use Rattle.ring_machine.specs.Slots.{Flight, is_active}
 use Rattle.ring_machine.specs.Tokens.{Freeze}
 use Rattle.ring_machine.specs.Frames.{Frame}
-use Rattle.ring_machine.specs.Clocks.{Within}
+use Rattle.drift_clock.specs.Within.{Within}
 use Rattle.ring_machine.specs.World.{Settings, World, Unborn, Running, At, InFlight, Live, slot, first_of, unborn}
 use Rattle.ring_machine.specs.Sessions.{BothTied}
 use Rattle.ring_machine.specs.Claims.{Claim, Backed}
@@ -26,7 +26,7 @@ pub record Invariant (c : Settings) (w : World) : Type 0 where
   pub not_started : (x : Who) → w.starts x.actor < x.instance → (w.instance x).phase ≡ Unborn
   pub blank : (x : Who) → (w.instance x).phase ≡ Unborn → w.instance x ≡ unborn
   -- a running clock keeps its bound between each of its readings and the present one
-  pub clocks : (x : Who) (time reading : ℕ) → (w.instance x).phase ≡ Running → IsMember (time, reading) (w.instance x).pairs → Within c.bound time reading w.time (w.instance x).reading
+  pub clocks : (x : Who) (time reading : ℕ) → (w.instance x).phase ≡ Running → IsMember (time, reading) (w.instance x).pairs → Within c.bound (time, reading) (w.time, (w.instance x).reading)
   pub present : (x : Who) → (w.instance x).phase ≡ Running → IsMember (w.time, (w.instance x).reading) (w.instance x).pairs
   -- each slot and each frame is sound
   pub slots : (e : End) → SoundSlot c w e (slot w e)

@@ -1,9 +1,9 @@
 -- The law of the machine, over every valid history.
-use Rattle.std.specs.Prelude.{◌≡◌, ◌↔◌, ℕ, Bool, true, List, ◌∷◌, ◌++◌, ◌⊎◌}
+use Rattle.std.specs.Prelude.{◌≡◌, ◌↔◌, ℕ, true, List, ◌∷◌, ◌++◌, ◌⊎◌}
 use Rattle.ring_points.specs.declared.who.Who.{Who}
-use Rattle.ring_machine.specs.Points.{union}
+use Rattle.ring_machine.specs.Points.{Points}
 use Rattle.ring_machine.specs.Ends.{End, end_of}
-use Rattle.ring_machine.specs.Slots.{Slot, part_of}
+use Rattle.ring_machine.specs.Slots.{Slot}
 use Rattle.ring_machine.specs.World.{Settings, World, At, InFlight, Live, Holds, slot}
 use Rattle.ring_machine.specs.Arbitration.{GrantedBy, AnsweredBy}
 use Rattle.ring_machine.specs.Deeds.{InSlot, SlotDeed, PartGiven, FlightTaken, FlightReturned, TakenOver}
@@ -29,16 +29,17 @@ RingSafe = Always (λ c w. (x y : Who) (p : ℕ) → Holds c w x p → Holds c w
 
 -- an instance from which another took over holds nothing from then on
 abbrev pub TakenAfterLeave : Type 0
-TakenAfterLeave = (c : Settings) (later earlier : List Event) (heir : End) → IsSound c →
-    Valid c (later ++ Does heir.who (InSlot heir.number TakenOver) ∷ earlier) →
-    (p : ℕ) → Holds c (world_after c (later ++ Does heir.who (InSlot heir.number TakenOver) ∷ earlier)) (slot (world_after c earlier) heir).far.who p → ⊥
+TakenAfterLeave = (c : Settings) (later earlier : List Event) (heir : End) (part : Points) → IsSound c →
+    let takeover : Event = Does heir.who (InSlot heir.number (TakenOver part)) in
+    let victim = (slot (world_after c earlier) heir).far.who in
+    Valid c (later ++ takeover ∷ earlier) → (p : ℕ) → Holds c (world_after c (later ++ takeover ∷ earlier)) victim p → ⊥
 
 -- a live instance owns exactly the points that are at it
 abbrev pub OwnsItsPlaces : Type 0
 OwnsItsPlaces = Always (λ c w. (x : Who) (p : ℕ) → Live c (w.instance x) → ((w.instance x).token.ranges p ≡ true) ↔ (w.place p ≡ At x))
 
 -- the points of one flight, whole
-pub record IsFlight (w : World) (giver receiver : End) (number : ℕ) (part : ℕ → Bool) : Type 0 where
+pub record IsFlight (w : World) (giver receiver : End) (number : ℕ) (part : Points) : Type 0 where
   pub flying : (p : ℕ) → part p ≡ true → w.place p ≡ InFlight giver receiver number
   pub whole : IsWhole w.place giver number part
 
@@ -47,17 +48,20 @@ abbrev pub MovesInSlot : World → End → Slot → SlotDeed → Type 0 → Type
 MovesInSlot w e s (PartGiven freeze) stay = (p : ℕ) → freeze.part p ≡ true → w.place p ≡ At e.who
 MovesInSlot w e s (FlightTaken number part) stay = IsFlight w s.far e number part
 MovesInSlot w e s (FlightReturned flight got bound) stay = IsFlight w e s.far flight.number flight.part
-MovesInSlot w e s TakenOver stay = (p : ℕ) → union s.held (part_of s.flight) p ≡ true → (w.place p ≡ At s.far.who) ⊎ ((number : ℕ) × (w.place p ≡ InFlight e s.far number))
+MovesInSlot w e s (TakenOver part) stay =
+    (p : ℕ) → part p ≡ true → (w.place p ≡ At s.far.who) ⊎ ((number : ℕ) × (w.place p ≡ InFlight e s.far number))
 MovesInSlot w e s deed stay = stay
 
 -- four deeds move points, each from where they are: a part that is given from the giver, a flight that is taken or
 -- returned from its flight, and what is taken over from the accused instance or from the heir's flight to it
 abbrev pub Moves : Settings → World → Event → Type 0
-Moves c w (Does x (InSlot number deed)) = MovesInSlot w (end_of x number) (slot w (end_of x number)) deed ((after c w (Does x (InSlot number deed))).place ≡ w.place)
+Moves c w (Does x (InSlot number deed)) =
+    MovesInSlot w (end_of x number) (slot w (end_of x number)) deed ((after c w (Does x (InSlot number deed))).place ≡ w.place)
 Moves c w event = (after c w event).place ≡ w.place
 
 abbrev pub EachMovesFromItsPlace : Type 0
-EachMovesFromItsPlace = (c : Settings) (event : Event) (events : List Event) → IsSound c → Valid c (event ∷ events) → Moves c (world_after c events) event
+EachMovesFromItsPlace =
+    (c : Settings) (event : Event) (events : List Event) → IsSound c → Valid c (event ∷ events) → Moves c (world_after c events) event
 
 -- in the event x gives a flight, which gets this number
 abbrev pub GivesFlight : World → Event → Who → ℕ → Type 0

@@ -4,7 +4,7 @@ use Rattle.ring_machine.specs.Members.{IsMember}
 use Rattle.ring_machine.specs.Ends.{End}
 use Rattle.ring_machine.specs.Slots.{guards}
 use Rattle.ring_machine.specs.Frames.{RenewAck}
-use Rattle.ring_machine.specs.Clocks.{wait}
+use Rattle.drift_clock.specs.Wait.{wait}
 use Rattle.ring_machine.specs.World.{Settings, World, slot}
 use Rattle.ring_machine.specs.Arbitration.{GrantedBy}
 

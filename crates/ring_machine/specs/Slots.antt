@@ -36,7 +36,6 @@ pub data State : Type 0 where
 
 -- held is the record: what the other side announced in version held_version.
 -- got is the last flight taken, acked the last own version that the other side acknowledged.
--- Of the arbitrators, granted are those that granted the accusation, answered those that granted it or had another accuser.
 pub record Slot : Type 0 where
   pub far : End
   pub state : State
@@ -48,8 +47,6 @@ pub record Slot : Type 0 where
   pub held_version : ℕ
   pub got : ℕ
   pub flight : Option Flight
-  pub granted : ℕ → Bool
-  pub answered : ℕ → Bool
 
 -- a slot of this lease length that begins now
 abbrev pub fresh_slot : End → State → ℕ → ℕ → Slot
@@ -64,8 +61,6 @@ fresh_slot far state len now = record {
   held_version = 0;
   got = 0;
   flight = None;
-  granted = λ a. false;
-  answered = λ a. false;
 }
 
 abbrev pub unused_slot : Slot

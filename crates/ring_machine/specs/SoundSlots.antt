@@ -1,13 +1,10 @@
 -- The invariant on each slot.
 use Rattle.std.specs.Prelude.{◌≡◌, ℕ, ◌<◌, ◌≤◌, true, false, None}
-use Rattle.ring_points.specs.declared.who.Ruling.TheVariants.{Granted}
 use Rattle.ring_points.specs.Whos.{same_who}
-use Rattle.ring_machine.specs.Members.{IsMember}
 use Rattle.ring_machine.specs.Ends.{End}
 use Rattle.ring_machine.specs.Slots.{Slot, Asking, Bound, Parting, Heir, Parted, HasClaim, guards, is_used, is_engaged, is_active}
-use Rattle.ring_machine.specs.Frames.{Ruled}
 use Rattle.ring_machine.specs.World.{Settings, World, slot}
-use Rattle.ring_machine.specs.Arbitration.{Answered, AnsweredBy}
+use Rattle.ring_machine.specs.Arbitration.{AnsweredBy}
 use Rattle.ring_machine.specs.Sessions.{Tied, Touched, Untouched, IsEmpty, Closed}
 use Rattle.ring_machine.specs.Leases.{Leased, SoundHeir}
 
@@ -39,9 +36,6 @@ pub record SoundSlot (c : Settings) (w : World) (e : End) (s : Slot) : Type 0 wh
   pub plain : is_engaged s.state ≡ false → Untouched s × IsEmpty s.held
   -- a record comes from a Renew
   pub recorded : (p : ℕ) → s.held p ≡ true → 0 < s.held_version
-  -- a tally counts answers that were sent
-  pub granted : (a : ℕ) → s.granted a ≡ true → IsMember (Ruled a e.who s.far.who Granted) w.sent
-  pub answered : (a : ℕ) → s.answered a ≡ true → Answered w.sent a e.who s.far.who
   -- a lease rests on a stamp of the own clock
   pub leased : guards s.state ≡ true → Leased (w.instance e.who).pairs w.time s.until s.len
   -- an heir has something to take over, and its wait covers the other's lease

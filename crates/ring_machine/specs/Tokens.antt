@@ -1,5 +1,5 @@
 -- What an instance owns of the ring, and what it announces.
-use Rattle.std.specs.Prelude.{ℕ, suc, false, cond, ◌==◌, Option, None, Some}
+use Rattle.std.specs.Prelude.{ℕ, ◌+◌, false, cond, ◌==◌, Option, None, Some}
 use Rattle.ring_machine.specs.Points.{Points, minus}
 
 -- a part that is to be given in the session of this own number, since this version
@@ -27,4 +27,4 @@ announced token = minus token.ranges (frozen token.freeze)
 abbrev pub undone : ℕ → Token → Option Freeze → Token
 undone number token None = token
 undone number token (Some freeze) =
-    cond (freeze.number == number) (record token { version = suc token.version; freeze = None }) token
+    cond (freeze.number == number) (record token { version = token.version + 1; freeze = None }) token

@@ -2,7 +2,7 @@
 use Rattle.std.specs.Prelude.{◌≡◌, ℕ, ◌+◌, ◌<◌, Bool, true, false, cond, ◌&&◌, List, [], ◌∷◌, Option, None}
 use Rattle.drift_clock.specs.declared.bound.Bound.{Bound}
 use Rattle.ring_points.specs.declared.who.Who.{Who}
-use Rattle.ring_points.specs.Whos.{same_who}
+use Rattle.ring_points.specs.Whos.{same_who, node_instance}
 use Rattle.ring_machine.specs.Points.{is_point, no_points}
 use Rattle.ring_machine.specs.Ends.{End}
 use Rattle.ring_machine.specs.Slots.{Slot, unused_slot, guards}
@@ -70,7 +70,7 @@ pub record Holds (c : Settings) (w : World) (x : Who) (p : ℕ) : Type 0 where
 
 -- the first instance of the first node
 abbrev pub first_of : Settings → Who
-first_of c = record { actor = c.first; instance = 1 }
+first_of c = node_instance c.first 1
 
 -- before its start
 abbrev pub unborn : Instance
