@@ -24,14 +24,15 @@ pub fn hex_value(b: u8) -> Result<u8, BadLine>
 pub fn point_at(bytes: &[u8]) -> Result<(u64, &[u8]), BadLine>
     ensures { Gives (λ x. (x.0, x.1.now)) result (point_at bytes.now) }
 {
-    let mut n: u64 = 0;
-    for i in 0..POINT_DIGITS {
-        if i >= bytes.len() {
-            return Err(BadLine);
-        }
-        n = 16 * n + u64::from(hex_value(bytes[i])?);
+    if bytes.len() < POINT_DIGITS {
+        return Err(BadLine);
     }
-    Ok((n, &bytes[POINT_DIGITS..]))
+    let (digits, rest) = bytes.split_at(POINT_DIGITS);
+    let mut point: u64 = 0;
+    for digit in digits {
+        point = 16 * point + u64::from(hex_value(*digit)?);
+    }
+    Ok((point, rest))
 }
 
 /// A point that nothing follows.

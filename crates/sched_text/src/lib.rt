@@ -15,6 +15,8 @@ mod event;
 mod junk;
 mod number;
 mod report;
+#[cfg(test)]
+mod tests;
 mod text;
 mod tick;
 mod word;

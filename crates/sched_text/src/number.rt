@@ -12,12 +12,11 @@ fn more_digits(hi: u64, first: u64, bytes: &[u8]) -> Result<(u64, &[u8]), BadLin
     ensures { Gives (λ x. (x.0, x.1.now)) result (more_digits hi first bytes.now) }
 {
     let mut n = first;
-    for i in 0..bytes.len() {
-        let b = bytes[i];
+    for (i, b) in bytes.iter().enumerate() {
         if !b.is_ascii_digit() {
             return Ok((n, &bytes[i..]));
         }
-        let digit = u64::from(b - b'0');
+        let digit = u64::from(*b - b'0');
         if n > hi / 10 || digit > hi - 10 * n {
             return Err(BadLine);
         }

@@ -1,7 +1,8 @@
-use Rattle.std.proofs.Common.{◌≡◌, ◌≤◌, ◌<◌, ◌^◌, ◌-◌, drop, length}
+use Rattle.std.proofs.Common.{◌≡◌, ◌<◌, ◌^◌, ◌-◌, drop}
 use Rattle.sched_text.specs.Digits.{hex_at}
 use Rattle.sched_text.proofs.digit.point_at.Given as goal
 
 -- the digits so far, and then what is read of the rest
-abbrev pub invariant-loop-i : goal.invariant-loop-i
-invariant-loop-i l = (l.n < 16 ^ l.i) × (l.i ≤ length l.bytes) × (hex_at (16 - l.i) l.n (drop l.i l.bytes) ≡ hex_at 16 0 l.bytes)
+abbrev pub invariant-loop-digit : goal.invariant-loop-digit
+invariant-loop-digit l =
+    (l.point < 16 ^ l.digit-index) × (hex_at (16 - l.digit-index) l.point (drop l.digit-index l.bytes) ≡ hex_at 16 0 l.bytes)
