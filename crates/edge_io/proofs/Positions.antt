@@ -20,9 +20,9 @@ position-None p xs none = elim (cases_Bool (ltb (position_or_len p xs) (length x
 some_before : {X : Type 0} (p : X → Bool) (xs : List X) → list_any p xs ≡ true → position_or_len p xs < length xs
 some_before p [] found = absurd (false≢true found)
 some_before p (x ∷ xs) found = elim (cases_Bool (p x)) [
-    inl passes ↦ rw passes (omega arith)
+  | inl passes ↦ rw passes (omega arith)
   | inr fails ↦ (let later = rw fails at found in let there = some_before p xs later in rw fails (omega arith))
-  ]
+]
 
 -- an element passes
 pub position-is_some : {X : Type 0} (p : X → Bool) (xs : List X) → list_any p xs ≡ true → is_some (position p xs) ≡ true

@@ -13,13 +13,13 @@ use Rattle.lane_scan.specs.Masks.{IsIn, is_between, mask_of}
 -- what split_at at the lesser of 64 and the length leaves
 pub take_fit : (n : ℕ) (xs : List ℕ) → take (min (length xs) n) xs ≡ take n xs
 take_fit n xs = elim (cases_lt (length xs) n) [
-    inl short ↦ let few : min (length xs) n ≡ length xs = omega arith in rw few (take_all (length xs) xs (omega arith) ∙ sym (take_all n xs (omega arith)))
+  | inl short ↦ let few : min (length xs) n ≡ length xs = omega arith in rw few (take_all (length xs) xs (omega arith) ∙ sym (take_all n xs (omega arith)))
   | inr long ↦ let all : min (length xs) n ≡ n = omega arith in rw all refl
 ]
 
 pub drop_fit : (n : ℕ) (xs : List ℕ) → drop (min (length xs) n) xs ≡ drop n xs
 drop_fit n xs = elim (cases_lt (length xs) n) [
-    inl short ↦ let few : min (length xs) n ≡ length xs = omega arith in rw few (drop_all (length xs) xs (omega arith) ∙ sym (drop_all n xs (omega arith)))
+  | inl short ↦ let few : min (length xs) n ≡ length xs = omega arith in rw few (drop_all (length xs) xs (omega arith) ∙ sym (drop_all n xs (omega arith)))
   | inr long ↦ let all : min (length xs) n ≡ n = omega arith in rw all refl
 ]
 
@@ -30,7 +30,7 @@ bit_decides lo hi points from j small =
     let t = is_between lo hi in
     let p = get_or points (from + j) 0 in
     elim (cases_lt (from + j) (length points)) [
-        inl inside ↦
+      | inl inside ↦
           let there : j < length xs = omega (arith, length-take 64 (drop from points), length-drop from points) in
           let read : get_or (map t xs) j false ≡ t p = get_or-map t xs j 0 false there ∙ ap t (get_or-chunk from 64 points j 0 small) in
           let both = Decides-and (nat_le lo p) (nat_le p hi) (leb-true lo p, le-leb lo p) (leb-true p hi, le-leb p hi) in
@@ -53,11 +53,10 @@ word_bit lo hi points from j small =
     let d = bit_decides lo hi points from j small in
     (λ e. d.0 ((one_if b).0 (sym read ∙ e)), λ i. read ∙ (one_if b).1 (d.1 i))
 
-
 -- one word more
 pub masked_more : (lo hi : ℕ) (points words : List ℕ) (q word : ℕ) → q < length words → word ≡ mask_of lo hi (chunk (64 * q) 64 points) → ((i : ℕ) → i < 64 * q → (bit_at (get_or words (i / 64) 0) (i % 64) ≡ 1) ↔ IsIn lo hi points i) → (i : ℕ) → i < 64 * (q + 1) → (bit_at (get_or (set words q word) (i / 64) 0) (i % 64) ≡ 1) ↔ IsIn lo hi points i
 masked_more lo hi points words q word inside is below i small = elim (cases_lt i (64 * q)) [
-    inl old ↦ rw (get_or-set_other words q (i / 64) word 0 (λ e. absurd (omega arith))) (below i old)
+  | inl old ↦ rw (get_or-set_other words q (i / 64) word 0 (λ e. absurd (omega arith))) (below i old)
   | inr new ↦
       let here : i / 64 ≡ q = omega arith in
       let place : i ≡ 64 * q + i % 64 = omega arith in

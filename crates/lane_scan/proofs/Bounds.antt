@@ -67,7 +67,7 @@ pub least_of_stands : (xs : List ℕ) → 0 < length xs → ((k : ℕ) → get_o
 least_of_stands [] some fit = absurd (omega arith)
 least_of_stands (x ∷ []) some fit = let small : x < 2 ^ 64 = fit 0 in record { place = 0; inside = omega arith; is = omega arith }
 least_of_stands (x ∷ y ∷ ys) some fit = elim (cases_lt (least_of (y ∷ ys)) x) [
-    inl later ↦ stands_later x (y ∷ ys) (least_of (y ∷ ys)) (min x (least_of (y ∷ ys))) (least_of_stands (y ∷ ys) (omega arith) (λ k. fit (suc k))) (omega arith)
+  | inl later ↦ stands_later x (y ∷ ys) (least_of (y ∷ ys)) (min x (least_of (y ∷ ys))) (least_of_stands (y ∷ ys) (omega arith) (λ k. fit (suc k))) (omega arith)
   | inr here ↦ record { place = 0; inside = omega arith; is = omega arith }
 ]
 
@@ -75,6 +75,6 @@ pub greatest_of_stands : (xs : List ℕ) → 0 < length xs → StandsAt xs (grea
 greatest_of_stands [] some = absurd (omega arith)
 greatest_of_stands (x ∷ []) some = record { place = 0; inside = omega arith; is = omega arith }
 greatest_of_stands (x ∷ y ∷ ys) some = elim (cases_lt x (greatest_of (y ∷ ys))) [
-    inl later ↦ stands_later x (y ∷ ys) (greatest_of (y ∷ ys)) (max x (greatest_of (y ∷ ys))) (greatest_of_stands (y ∷ ys) (omega arith)) (omega arith)
+  | inl later ↦ stands_later x (y ∷ ys) (greatest_of (y ∷ ys)) (max x (greatest_of (y ∷ ys))) (greatest_of_stands (y ∷ ys) (omega arith)) (omega arith)
   | inr here ↦ record { place = 0; inside = omega arith; is = omega arith }
 ]

@@ -30,11 +30,11 @@ first_in_block points point at bits room is some before =
     record {
       inside = omega arith;
       here = eqb-true (get_or points (at + r) 0) point stops;
-      before = λ k small. elim (cases_lt k at) [ inl old ↦ before k old | inr new ↦ eqb-false (get_or points k 0) point (fails k new small) ]
+      before = λ k small. elim (cases_lt k at) [ inl old ↦ before k old | inr new ↦ eqb-false (get_or points k 0) point (fails k new small) ];
     }
 
 pub none_in_block : (points : List ℕ) (point at bits : ℕ) → at + 8 ≤ length points → bits ≡ hits_of point (chunk at 8 points) → bits ≡ 0 → ((k : ℕ) → k < at → get_or points k 0 ≢ point) → (k : ℕ) → k < at + 8 → get_or points k 0 ≢ point
 none_in_block points point at bits room is none before k small = elim (cases_lt k at) [
-    inl old ↦ before k old
+  | inl old ↦ before k old
   | inr new ↦ eqb-false (get_or points k 0) point (none_from_empty_mask (λ x. x == point) points at 8 0 room (sym is ∙ none) k new small)
 ]

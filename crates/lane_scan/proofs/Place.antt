@@ -34,7 +34,7 @@ pub nearest_at : (key : ℕ) (points : List ℕ) (point i : ℕ) → IsNearestPo
 nearest_at key points point i n f = record {
   inside = f.inside;
   none = λ k inside. rw f.here (n.none k inside);
-  first = λ k before. rw f.here (before_total (distance_of key point) point (distance_of key (get_or points k 0)) (get_or points k 0) (f.before k before) (n.none k (omega (arith, f.inside))))
+  first = λ k before. rw f.here (before_total (distance_of key point) point (distance_of key (get_or points k 0)) (get_or points k 0) (f.before k before) (n.none k (omega (arith, f.inside))));
 }
 
 pub nearest_found : (key : ℕ) (points : List ℕ) (point : ℕ) (place : Option ℕ) → IsNearestPoint key points point → FirstPlace point points place → place ≡ nearest_place key points

@@ -20,14 +20,14 @@ behind_the_next key a b p key_fits a_fits b_fits p_fits above below =
     let dp = distance_by_ahead p key p_fits key_fits in
     let ub = ahead_of-lt b key in
     elim (cases_lt (2 ^ 63) (ahead_of p key)) [
-        inr up ↦ elim (cases_lt (ahead_of a key) (ahead_of p key)) [
-            inl less ↦ further (omega arith)
-          | inr same ↦ let e : p ≡ a = same_ahead p a key p_fits a_fits key_fits (omega arith) in is_first e (ap (distance_of key) e)
-        ]
+      | inr up ↦ elim (cases_lt (ahead_of a key) (ahead_of p key)) [
+        | inl less ↦ further (omega arith)
+        | inr same ↦ let e : p ≡ a = same_ahead p a key p_fits a_fits key_fits (omega arith) in is_first e (ap (distance_of key) e)
+      ]
       | inl down ↦ elim (cases_lt (ahead_of p key) (ahead_of b key)) [
-            inl less ↦ further_too (omega arith)
-          | inr same ↦ let e : p ≡ b = same_ahead p b key p_fits b_fits key_fits (omega arith) in is_second e (ap (distance_of key) e)
-        ]
+        | inl less ↦ further_too (omega arith)
+        | inr same ↦ let e : p ≡ b = same_ahead p b key p_fits b_fits key_fits (omega arith) in is_second e (ap (distance_of key) e)
+      ]
     ]
 
 -- the next point upwards from the key, and the next downwards
@@ -48,7 +48,7 @@ ahead_again key n a b = omega arith
 
 above_fits : (key : ℕ) (points : List ℕ) (k : ℕ) → get_or (above key points) k 0 < 2 ^ 64
 above_fits key points k = elim (cases_lt k (length points)) [
-    inl inside ↦ let read = get_or-map (λ p. ahead_of p key) points k 0 0 inside in omega (arith, ahead_of-lt (get_or points k 0) key)
+  | inl inside ↦ let read = get_or-map (λ p. ahead_of p key) points k 0 0 inside in omega (arith, ahead_of-lt (get_or points k 0) key)
   | inr past ↦ let none = get_or_past (above key points) k 0 (omega (arith, length-map points (λ p. ahead_of p key))) in omega arith
 ]
 
@@ -71,7 +71,7 @@ next_of key points some key_fits fit =
           let read = get_or-map (λ p. ahead_of p key) points k 0 0 inside in
           let above = least_of-le-get_or xs k (omega arith) in
           let below = greatest_of-ge-get_or xs k (omega arith) in
-          behind_the_next key up down (get_or points k 0) key_fits (omega arith) (omega arith) (fit k) (omega arith) (omega arith)
+          behind_the_next key up down (get_or points k 0) key_fits (omega arith) (omega arith) (fit k) (omega arith) (omega arith);
     }
 
 pub nearest_second : (key : ℕ) (points : List ℕ) (upwards downwards : ℕ) → Next key points upwards downwards → is_nearer key downwards upwards ≡ true → IsNearestPoint key points downwards
@@ -79,7 +79,7 @@ nearest_second key points upwards downwards n test = record {
   place = n.downwards_in.place;
   inside = n.downwards_in.inside;
   here = n.downwards_in.is;
-  none = λ k inside. none_before_second (distance_of key upwards) upwards (distance_of key downwards) downwards (distance_of key (get_or points k 0)) (get_or points k 0) test (n.behind k inside)
+  none = λ k inside. none_before_second (distance_of key upwards) upwards (distance_of key downwards) downwards (distance_of key (get_or points k 0)) (get_or points k 0) test (n.behind k inside);
 }
 
 pub nearest_first : (key : ℕ) (points : List ℕ) (upwards downwards : ℕ) → Next key points upwards downwards → is_nearer key downwards upwards ≡ false → IsNearestPoint key points upwards
@@ -87,5 +87,5 @@ nearest_first key points upwards downwards n test = record {
   place = n.upwards_in.place;
   inside = n.upwards_in.inside;
   here = n.upwards_in.is;
-  none = λ k inside. none_before_first (distance_of key upwards) upwards (distance_of key downwards) downwards (distance_of key (get_or points k 0)) (get_or points k 0) test (n.behind k inside)
+  none = λ k inside. none_before_first (distance_of key upwards) upwards (distance_of key downwards) downwards (distance_of key (get_or points k 0)) (get_or points k 0) test (n.behind k inside);
 }

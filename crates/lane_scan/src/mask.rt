@@ -44,10 +44,8 @@ fn mask_word(points: &[u64], lo: u64, hi: u64) -> u64
 /// `out[i / 64]` for point number `i`. Every other bit of `out` becomes 0.
 pub fn mask_in(points: &[u64], lo: u64, hi: u64, out: &mut [u64])
     requires { length points.now ≤ 64 * length out.old }
-    ensures {
-        (i : ℕ) → i < 64 * length out.new →
-        (bit_at (slice_index out.new (i / 64)) (i % 64) ≡ 1) ↔ IsIn lo hi points.now i
-    }
+    ensures { (i : ℕ) → i < 64 * length out.new →
+        (bit_at (slice_index out.new (i / 64)) (i % 64) ≡ 1) ↔ IsIn lo hi points.now i }
 {
     let mut rest = points;
     for word in out.iter_mut() {

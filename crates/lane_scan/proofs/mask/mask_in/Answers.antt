@@ -14,5 +14,5 @@ loop-word-preserved c =
     let these = c.split_at.ensures.front ∙ ap (λ n. take n rest) c.min.ensures ∙ take_fit 64 rest ∙ ap (take 64) c.loop-word.invariant.rest in
     record {
       rest = later ∙ ap (λ n. drop n points) (omega arith);
-      bits = masked_more c.args.lo c.args.hi points c.loop-word.out q c.mask_word.result (omega arith) (c.mask_word.ensures ∙ ap (mask_of c.args.lo c.args.hi) these) c.loop-word.invariant.bits
+      bits = masked_more c.args.lo c.args.hi points c.loop-word.out q c.mask_word.result (omega arith) (c.mask_word.ensures ∙ ap (mask_of c.args.lo c.args.hi) these) c.loop-word.invariant.bits;
     }

@@ -8,5 +8,5 @@ returns-then-hits-ne0 c =
 pub loop-at-preserved : goal.loop-at-preserved
 loop-at-preserved c = record {
   inside = c.loop-at-test.true;
-  before = none_in_block c.args.points.now c.args.point c.loop-at.at c.hits-hits.result c.loop-at-test.true c.hits-hits.ensures c.if-hits-ne0.false c.loop-at.invariant.before
+  before = none_in_block c.args.points.now c.args.point c.loop-at.at c.hits-hits.result c.loop-at-test.true c.hits-hits.ensures c.if-hits-ne0.false c.loop-at.invariant.before;
 }

@@ -19,7 +19,7 @@ loop-at-preserved c =
     record {
       inside = c.loop-at-test.true;
       least = ap (λ ms. least_of (sel_l ms least lanes)) (tops_compared w64 nat_lt least lanes) ∙ least_block key points at least lanes c.loop-at.auto.least.0 long is c.loop-at.invariant.least;
-      greatest = ap (λ ms. greatest_of (sel_l ms lanes greatest)) (tops_compared w64 nat_lt greatest lanes) ∙ greatest_block key points at greatest lanes c.loop-at.auto.greatest.0 long is c.loop-at.invariant.greatest
+      greatest = ap (λ ms. greatest_of (sel_l ms lanes greatest)) (tops_compared w64 nat_lt greatest lanes) ∙ greatest_block key points at greatest lanes c.loop-at.auto.greatest.0 long is c.loop-at.invariant.greatest;
     }
 
 pub loop-at-2-preserved : goal.loop-at-2-preserved
@@ -30,5 +30,5 @@ loop-at-2-preserved c =
     record {
       inside = omega arith;
       least = c.min.ensures ∙ ap (λ m. min c.loop-at-2.span.least m) c.ahead-above.ensures ∙ ap (λ m. min m (ahead_of (get_or points at 0) key)) c.loop-at-2.invariant.least ∙ least_next key points at c.loop-at-2-test.true;
-      greatest = c.max.ensures ∙ ap (λ m. max c.loop-at-2.span.greatest m) c.ahead-above.ensures ∙ ap (λ m. max m (ahead_of (get_or points at 0) key)) c.loop-at-2.invariant.greatest ∙ greatest_next key points at c.loop-at-2-test.true
+      greatest = c.max.ensures ∙ ap (λ m. max c.loop-at-2.span.greatest m) c.ahead-above.ensures ∙ ap (λ m. max m (ahead_of (get_or points at 0) key)) c.loop-at-2.invariant.greatest ∙ greatest_next key points at c.loop-at-2-test.true;
     }

@@ -1,0 +1,18 @@
+//! The program: it makes the real devices, makes the top call and ends with its status.
+#![tactic(auto)]
+
+use fabric_edge::{StdinSource, StdoutSink};
+use fabric_top::fabric_main;
+use std::process::ExitCode;
+use std::{env, io};
+
+fn main(rt: HostRuntime) -> io::Result<ExitCode> {
+    let mut words = Vec::new(rt.alloc());
+    for word in env::args(&rt)?.skip(1) {
+        words.push(word)?;
+    }
+    let mut source = StdinSource::new(&rt);
+    let mut sink = StdoutSink::new(&rt);
+    let status = fabric_main(rt.alloc(), &words, &mut source, &mut sink);
+    Ok(ExitCode::from(status.code()))
+}

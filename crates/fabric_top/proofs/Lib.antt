@@ -1,0 +1,10 @@
+pub mod Safety
+pub mod Running
+pub mod Ticks
+pub mod Steps
+pub mod Follow
+pub mod Fits
+pub mod Cuts
+pub mod Unheld
+pub mod Along
+pub mod Written

@@ -1,0 +1,212 @@
+// The lines of a schedule, one after another, and what is written of them.
+ghost use Rattle.std.specs.Prelude.{◌≡◌, ◌<◌, ◌≤◌, ◌+◌, ◌++◌, OnOk, ◌^◌, ◌∷◌, [], ℕ, Some, None, IsTrue, IfOk, IfSome, length};
+ghost use Rattle.fabric_terms.specs.declared.config.FabricConfig.{FabricConfig as Configuration};
+ghost use Rattle.sched_text.specs.Lines.{lines_of};
+ghost use Rattle.fabric_top.specs.Worlds.{History, world_after, is_run, is_there, is_within, has_room};
+ghost use Rattle.fabric_top.specs.Stands.{FitsHere};
+ghost use Rattle.fabric_top.specs.Schedule.{is_ignored, most_lines, line_verdict, refusal_at, unless_there};
+ghost use Rattle.fabric_terms.specs.Sound.{IsSound};
+ghost use Rattle.fabric_top.specs.Output.{places_where, end_line, fault_line, IsAnswer};
+ghost use Rattle.fabric_top.specs.Codes.{status_of};
+ghost use Rattle.fabric_top.specs.Schedule.{judge, judge_from};
+ghost use Rattle.fabric_top.specs.Follows.{At, IsAlong, Follows, runs_first};
+
+use crate::fault::push_fault;
+use crate::lines::cut_line;
+use crate::places::{push_end, push_unheld};
+use crate::status::Refusal;
+use crate::world::{EventRefusal, World};
+use fabric_config::{ConfigError, read_config};
+use fabric_terms::{Event, FabricConfig, Head, OutOfMemory};
+use sched_text::{print_report, read_event};
+use std::alloc::Global;
+
+/// How many bytes a line may have.
+pub const MOST_LINE: usize = 4_096;
+
+/// How many bytes line 1 may have.
+pub const MOST_FIRST_LINE: usize = 65_536;
+
+/// How many lines a schedule may have.
+pub const MOST_LINES: u64 = 2_000_000;
+
+/// The first node's last number.
+const LAST_NODE: u16 = 999;
+
+/// Whether the line is empty, or a comment.
+fn is_ignored(line: &[u8]) -> bool
+    ensures { result ≡ is_ignored line.now }
+{
+    match line {
+        [] => true,
+        [first, ..] => *first == b'#',
+    }
+}
+
+/// Whether events of this kind are run.
+fn is_run(event: &Event) -> bool
+    ensures { result ≡ is_run event.now }
+{
+    match event {
+        Event::Start { reading, .. } => reading.is_some(),
+        Event::Stop { actor } => *actor <= LAST_NODE,
+        Event::Tick { .. } => true,
+        _ => false,
+    }
+}
+
+/// How an event at this line is refused, but for want of memory.
+fn refusal_of(refusal: EventRefusal, number: u64) -> Option<Refusal>
+    ensures { result ≡ refusal_at refusal number }
+{
+    match refusal {
+        EventRefusal::NoSuch => Some(Refusal::NoSuch(number)),
+        EventRefusal::DriftBroken => Some(Refusal::DriftBroken(number)),
+        EventRefusal::TooLarge => Some(Refusal::TooLarge(number)),
+        EventRefusal::OutOfMemory => None,
+    }
+}
+
+/// Takes an event, and writes what is told of it. Gives how it is refused, if it is.
+fn take_event(
+    world: &mut World,
+    alloc: Global,
+    number: u64,
+    event: &Event,
+    text: &mut Vec<u8>,
+) -> Result<Option<Refusal>, OutOfMemory>
+    requires along { IsAlong world.old text.old.items }
+    requires run { IsTrue (is_run event.now) }
+    requires fits { FitsHere event.now }
+    ensures { (c : Configuration) (h : History) → At world.old text.old.items c h → IfOk result (λ refused. Follows c h number (unless_there number event.now (is_there c (world_after c h) event.now) (is_within c (world_after c h) event.now) (has_room (world_after c h) (length h) event.now)) refused world.new text.new.items) }
+{
+    match world.apply(alloc, event) {
+        Ok(None) => Ok(None),
+        Ok(Some(acted)) => {
+            let head = Head {
+                line: number,
+                time: Some(world.time()),
+                who: acted.who,
+                reading: Some(acted.reading),
+            };
+            match print_report(&head, &acted.report, text) {
+                Ok(()) => Ok(None),
+                Err(_) => Err(OutOfMemory),
+            }
+        }
+        Err(refusal) => match refusal_of(refusal, number) {
+            Some(refusal) => Ok(Some(refusal)),
+            None => Err(OutOfMemory),
+        },
+    }
+}
+
+/// Takes a line, and writes what is told of it. Gives how it is refused, if it is.
+#[tactic(auto, unfolding(crate::specs::Schedule::line_verdict))]
+fn take_line(
+    world: &mut World,
+    alloc: Global,
+    number: u64,
+    line: &[u8],
+    text: &mut Vec<u8>,
+) -> Result<Option<Refusal>, OutOfMemory>
+    requires { IsAlong world.old text.old.items }
+    ensures { (c : Configuration) (h : History) → At world.old text.old.items c h → IfOk result (λ refused. Follows c h number (line_verdict c (world_after c h) (length h) number line.now) refused world.new text.new.items) }
+{
+    if line.len() > MOST_LINE || number > MOST_LINES {
+        return Ok(Some(Refusal::TooLarge(number)));
+    }
+    if is_ignored(line) {
+        return Ok(None);
+    }
+    match read_event(line) {
+        Err(_) => Ok(Some(Refusal::BadLine(number))),
+        Ok(event) => {
+            if !is_run(&event) {
+                return Ok(Some(Refusal::BadLine(number)));
+            }
+            take_event(world, alloc, number, &event, text)
+        }
+    }
+}
+
+/// What is written of a schedule, and how it is refused, if it is.
+#[derive(Drop)]
+pub struct Answer {
+    pub text: Vec<u8>,
+    pub refused: Option<Refusal>,
+}
+
+/// The place lines and the end of a report.
+fn push_last(text: &mut Vec<u8>, config: &FabricConfig, world: &World) -> Result<(), OutOfMemory>
+    requires { world.now.config ≡ config.now }
+    ensures { OnOk result (text.new.items ≡ text.old.items ++ (places_where config.now (runs_first world.now) ++ end_line world.now.events 0)) }
+{
+    if !world.runs_first() {
+        push_unheld(text, config)?;
+    }
+    push_end(text, world.events())
+}
+
+/// The schedule behind line 1.
+fn take_lines(alloc: Global, config: FabricConfig, bytes: &[u8]) -> Result<Answer, OutOfMemory>
+    requires { IsSound config }
+    ensures { IfOk result (λ a. IsAnswer (judge_from config [] 2 (lines_of bytes.now)) a.refused a.text.items) }
+{
+    let mut world = World::new(alloc, config);
+    let mut text = Vec::new(alloc);
+    let mut rest = bytes;
+    let mut number: u64 = 2;
+    while !rest.is_empty() {
+        let (line, after) = cut_line(rest);
+        match take_line(&mut world, alloc, number, line, &mut text) {
+            Ok(None) => {}
+            Ok(Some(refusal)) => return refused_after(alloc, text, refusal),
+            Err(_) => return Err(OutOfMemory),
+        }
+        rest = after;
+        number += 1;
+    }
+    push_last(&mut text, world.config(), &world)?;
+    Ok(Answer {
+        text,
+        refused: None,
+    })
+}
+
+/// The lines before a refusal, and the fault.
+fn refused_after(alloc: Global, lines: Vec<u8>, refusal: Refusal) -> Result<Answer, OutOfMemory>
+    ensures { IfOk result (λ a. (a.refused ≡ Some refusal) × (a.text.items ≡ lines.items ++ fault_line (status_of refusal))) }
+{
+    let mut text = lines;
+    match push_fault(alloc, &mut text, refusal.status()) {
+        Ok(()) => Ok(Answer {
+            text,
+            refused: Some(refusal),
+        }),
+        Err(_) => Err(OutOfMemory),
+    }
+}
+
+/// What a schedule is answered.
+#[tactic(auto, unfolding(crate::specs::Schedule::judge))]
+pub fn answer_to(alloc: Global, bytes: &[u8]) -> Result<Answer, OutOfMemory>
+    ensures { IfOk result (λ a. IsAnswer (judge bytes.now) a.refused a.text.items) }
+{
+    if bytes.is_empty() {
+        return refused_after(
+            alloc,
+            Vec::new(alloc),
+            Refusal::BadConfig(ConfigError::NotJson),
+        );
+    }
+    let (line, rest) = cut_line(bytes);
+    if line.len() > MOST_FIRST_LINE {
+        return refused_after(alloc, Vec::new(alloc), Refusal::TooLarge(1));
+    }
+    match read_config(alloc, line) {
+        Ok(config) => take_lines(alloc, config, rest),
+        Err(ConfigError::OutOfMemory) => Err(OutOfMemory),
+        Err(error) => refused_after(alloc, Vec::new(alloc), Refusal::BadConfig(error)),
+    }
+}
