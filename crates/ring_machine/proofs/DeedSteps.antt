@@ -38,7 +38,7 @@ module _ {c : Settings} {w : World} {e : End} (sound : IsSound c) (a : Acting c 
   slot_duty (RenewHeard stamp version got points) may = renew_heard_duty a may.0 stamp version got points may.1
   slot_duty (AckHeard stamp version) may = ack_heard_duty a may.0 stamp version may.1
   slot_duty (PartFrozen part) may = part_frozen_duty a may.0 may.1 part
-  slot_duty (PartGiven freeze) may = part_given_duty a may.0 freeze may.1 may.3
+  slot_duty (PartGiven freeze) may = part_given_duty a may.0 freeze may.1 may.2
   slot_duty (FlightAgain flight) may = flight_again a may.0 flight may.1
   slot_duty (FlightTaken number part) may = flight_taken_duty a may.0 number part may.1 may.2
   slot_duty (FlightReturned flight got bound) may = flight_returned_duty a may.0 flight got bound may.1 may.2 may.3

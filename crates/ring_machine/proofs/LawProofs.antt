@@ -67,7 +67,7 @@ module _ {c : Settings} {w : World} (sound : IsSound c) (inv : Invariant c w) (e
 
   pub moves_in_slot : (deed : SlotDeed) → MayInSlot c w e (w.instance e.who).reading (slot w e) (w.instance e.who).token deed →
       MovesInSlot w e (slot w e) deed ((after c w (Does e.who (InSlot e.number deed))).place ≡ w.place)
-  moves_in_slot (PartGiven freeze) may = given_here acting may.0 freeze may.1 may.3
+  moves_in_slot (PartGiven freeze) may = given_here acting may.0 freeze may.1 may.2
   moves_in_slot (FlightTaken number part) may = record { flying = taken_flown acting may.0 number part may.1 may.2; whole = taken_whole acting may.0 number part may.1 may.2 }
   moves_in_slot (FlightReturned flight got bound) may = record { flying = returned_flown acting may.0 flight got bound may.1 may.2 may.3; whole = returned_whole acting may.0 flight got bound may.1 may.2 may.3 }
   moves_in_slot (TakenOver part) may = taken_from sound.drift acting may.0 may.1 part may.2

@@ -5,7 +5,7 @@ use Rattle.ring_points.specs.Whos.{same_who}
 use Rattle.ring_machine.specs.Members.{IsMember}
 use Rattle.ring_machine.specs.Points.{union}
 use Rattle.ring_machine.specs.Ends.{End, end_of}
-use Rattle.ring_machine.specs.Slots.{Slot, Flight, Asking, Offered, Bound, Parting, Accused, Heir, Abandoned, Parted, HasClaim, part_of, guards, is_active, is_settled, is_willing, stands, is_tallying, is_decided}
+use Rattle.ring_machine.specs.Slots.{Slot, Asking, Offered, Bound, Parting, Accused, Heir, Abandoned, Parted, HasClaim, part_of, guards, is_active, is_settled, is_willing, stands, is_tallying, is_decided}
 use Rattle.ring_machine.specs.Tokens.{Token}
 use Rattle.ring_machine.specs.Frames.{Frame, Hello, Offer, Take, Renew, RenewAck, Transfer, Gone, ends_of}
 use Rattle.ring_machine.specs.World.{Settings, World, slot}
@@ -53,7 +53,7 @@ MayInSlot c w e now s token (AckHeard stamp version) =
 -- points are given and taken
 MayInSlot c w e now s token (PartFrozen part) = (s.state ≡ Bound) × (token.freeze ≡ None)
 MayInSlot c w e now s token (PartGiven freeze) =
-    (s.state ≡ Bound) × (token.freeze ≡ Some freeze) × (freeze.number ≡ e.number) × AllAcked freeze.version (w.instance e.who).slots
+    (s.state ≡ Bound) × (token.freeze ≡ Some freeze) × AllAcked freeze.version (w.instance e.who).slots
 MayInSlot c w e now s token (FlightAgain flight) = (s.state ≡ Bound) × (s.flight ≡ Some flight)
 MayInSlot c w e now s token (FlightTaken number part) =
     (s.state ≡ Bound) × IsMember (Transfer s.far e number part) w.sent × (s.got < number)
@@ -62,8 +62,7 @@ MayInSlot c w e now s token (FlightReturned flight got bound) =
 -- it ends
 MayInSlot c w e now s token PartingBegun = (is_willing s.state ≡ true) × (s.flight ≡ None)
 MayInSlot c w e now s token GoneAgain = s.state ≡ Parting
-MayInSlot c w e now s token (GoneHeard got bound) =
-    (stands s.state ≡ true) × IsMember (Gone s.far e got bound) w.sent × ((f : Flight) → s.flight ≡ Some f → f.number ≤ got)
+MayInSlot c w e now s token (GoneHeard got bound) = (stands s.state ≡ true) × IsMember (Gone s.far e got bound) w.sent
 MayInSlot c w e now s token (UnknownDenied from) = Came w.sent from e × IsUnknown s from
 -- the other side is accused, and an heir takes over
 MayInSlot c w e now s token PeerAccused = stands s.state ≡ true
