@@ -26,7 +26,9 @@ module _ {c : Settings} {w : World} {e : End} (a : Acting c w e) where
   abbrev token : Token
   token = (w.instance e.who).token
 
-  pub peer_accused_duty : stands s.state ≡ true → Duty c w e (w.instance e.who).next_session (outcome (record s { state = Accused }) (undone e.number token token.freeze) (Accuse e.who s.far.who ∷ []) w.place)
+  pub peer_accused_duty : stands s.state ≡ true →
+      Duty c w e (w.instance e.who).next_session
+      (outcome (record s { state = Accused }) (undone e.number token token.freeze) (Accuse e.who s.far.who ∷ []) w.place)
   peer_accused_duty st =
       let out : Outcome = outcome (record s { state = Accused }) (undone e.number token token.freeze) (Accuse e.who s.far.who ∷ []) w.place in
       let engaged = implied stands is_engaged refl s.state st in
@@ -52,11 +54,13 @@ module _ {c : Settings} {w : World} {e : End} (a : Acting c w e) where
       (place_shrunk a Accused s.until s.ripe s.held s.flight out.token (Accuse e.who s.far.who ∷ []) (not_less s) un none (λ h. absurd (cc (h))))
 
   -- the slot in another state after an accusation, with the content of before or less, without a word
-  decided_duty : (state : State) (ripe : ℕ) (held : Points) (flight : Option Flight) → is_engaged s.state ≡ true → is_active s.state ≡ true → IsLess s held flight →
+  decided_duty : (state : State) (ripe : ℕ) (held : Points) (flight : Option Flight) → is_engaged s.state ≡ true →
+      is_active s.state ≡ true → IsLess s held flight →
       is_engaged state ≡ true → is_willing state ≡ false → guards state ≡ false → (HasClaim held flight → is_active state ≡ true) →
       InState c w e (shrunk s state s.until ripe held flight) state → Freed c w e s.far →
       Duty c w e (w.instance e.who).next_session (outcome (shrunk s state s.until ripe held flight) token [] w.place)
-  decided_duty state ripe held flight was_engaged was_active less engaged deaf free claims in_state freed = kept_duty a (outcome (shrunk s state s.until ripe held flight) token [] w.place)
+  decided_duty state ripe held flight was_engaged was_active less engaged deaf free claims in_state freed =
+      kept_duty a (outcome (shrunk s state s.until ripe held flight) token [] w.place)
       (record {
         was_engaged = was_engaged;
         engaged = engaged;
@@ -75,13 +79,16 @@ module _ {c : Settings} {w : World} {e : End} (a : Acting c w e) where
       (token_shrunk a state s.until ripe held flight token [] less (not_undone token) (λ g h. absurd h))
       (place_shrunk a state s.until ripe held flight token [] less (not_undone token) (λ g h. absurd h) (λ h. absurd (both_ways _ deaf h)))
 
-  pub majority_answered_duty : is_tallying s.state ≡ true → AnsweredBy c w.sent e.who s.far.who → Duty c w e (w.instance e.who).next_session (outcome (record s { state = Discharged }) token [] w.place)
+  pub majority_answered_duty : is_tallying s.state ≡ true → AnsweredBy c w.sent e.who s.far.who →
+      Duty c w e (w.instance e.who).next_session (outcome (record s { state = Discharged }) token [] w.place)
   majority_answered_duty tallying answered =
-      decided_duty Discharged s.ripe s.held s.flight (implied is_tallying is_engaged refl s.state tallying) (implied is_tallying is_active refl s.state tallying) (not_less s) refl refl refl (λ h. refl) tt (by_answers answered)
+      decided_duty Discharged s.ripe s.held s.flight (implied is_tallying is_engaged refl s.state tallying)
+      (implied is_tallying is_active refl s.state tallying) (not_less s) refl refl refl (λ h. refl) tt (by_answers answered)
 
   -- what the other side's lease rests on now bounds it from now on, since its acknowledgements have ended
   pub majority_granted_duty : is_tallying s.state ≡ true → GrantedBy c w.sent e.who s.far.who → HasClaim s.held s.flight →
-      Duty c w e (w.instance e.who).next_session (outcome (record s { state = Heir; ripe = (w.instance e.who).reading + wait c.bound (s.len + c.answer) }) token [] w.place)
+      Duty c w e (w.instance e.who).next_session
+      (outcome (record s { state = Heir; ripe = (w.instance e.who).reading + wait c.bound (s.len + c.answer) }) token [] w.place)
   majority_granted_duty tallying granted claims =
       decided_duty Heir ((w.instance e.who).reading + wait c.bound (s.len + c.answer)) s.held s.flight
       (implied is_tallying is_engaged refl s.state tallying) (implied is_tallying is_active refl s.state tallying) (not_less s) refl refl refl (λ h. refl) (
@@ -99,14 +106,17 @@ module _ {c : Settings} {w : World} {e : End} (a : Acting c w e) where
       (by_answers (granted_answered e.who s.far.who granted))
 
   -- a session that is over after an accusation is dropped
-  pub session_dropped_duty : (is_decided s.state ≡ true) ⊎ ((s.state ≡ Accused) × AnsweredBy c w.sent e.who s.far.who) → Duty c w e (w.instance e.who).next_session (outcome (ended s) token [] w.place)
+  pub session_dropped_duty : (is_decided s.state ≡ true) ⊎ ((s.state ≡ Accused) × AnsweredBy c w.sent e.who s.far.who) →
+      Duty c w e (w.instance e.who).next_session (outcome (ended s) token [] w.place)
   session_dropped_duty (inl decided) =
       let engaged = implied is_decided is_engaged refl s.state decided in
-      decided_duty Ended s.ripe no_points None engaged (implied is_decided is_active refl s.state decided) (less_empty s) refl refl refl (λ h. absurd (nothing_claimed h)) tt ((good a).freed engaged (free s.state decided))
+      decided_duty Ended s.ripe no_points None engaged (implied is_decided is_active refl s.state decided) (less_empty s) refl refl refl
+      (λ h. absurd (nothing_claimed h)) tt ((good a).freed engaged (free s.state decided))
     where
       free : (st : State) → is_decided st ≡ true → guards st ≡ false
       free Discharged h = refl
       free Heir h = refl
       free st h = absurd (cc (h))
   session_dropped_duty (inr (accused, answered)) =
-      decided_duty Ended s.ripe no_points None (ap is_engaged accused) (ap is_active accused) (less_empty s) refl refl refl (λ h. absurd (nothing_claimed h)) tt (by_answers answered)
+      decided_duty Ended s.ripe no_points None (ap is_engaged accused) (ap is_active accused) (less_empty s) refl refl refl
+      (λ h. absurd (nothing_claimed h)) tt (by_answers answered)

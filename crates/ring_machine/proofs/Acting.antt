@@ -45,7 +45,8 @@ each_of_answer P false f h g m = absurd m
 abbrev pub NoRenewal : List Frame → Type 0
 NoRenewal sent = (g : Frame) → IsMember g sent → is_renewal g ≡ false
 
-pub no_renew : (sent : List Frame) → NoRenewal sent → (f e : End) (stamp version got : ℕ) (points : Points) → IsMember (Renew f e stamp version got points) sent → ⊥
+pub no_renew : (sent : List Frame) → NoRenewal sent → (f e : End) (stamp version got : ℕ) (points : Points) →
+    IsMember (Renew f e stamp version got points) sent → ⊥
 no_renew sent none f e stamp version got points m = cc (none _ m)
 
 pub no_ack : (sent : List Frame) → NoRenewal sent → (f e : End) (stamp version : ℕ) → IsMember (RenewAck f e stamp version) sent → ⊥
@@ -53,7 +54,8 @@ no_ack sent none f e stamp version m = cc (none _ m)
 
 -- a freeze is sound against frames that do not concern it
 pub frozen_more : (sent before : List Frame) (f e : End) (z : Freeze) (got acked : ℕ) (flight : Option Flight) (held_version : ℕ) (held : Points) →
-    ((stamp version theirs : ℕ) (points : Points) → IsMember (Renew f e stamp version theirs points) sent → ⊥) → ((stamp version : ℕ) → IsMember (RenewAck e f stamp version) sent → ⊥) →
+    ((stamp version theirs : ℕ) (points : Points) → IsMember (Renew f e stamp version theirs points) sent → ⊥) →
+    ((stamp version : ℕ) → IsMember (RenewAck e f stamp version) sent → ⊥) →
     FrozenTo before f e z got acked flight held_version held → FrozenTo (sent ++ before) f e z got acked flight held_version held
 frozen_more sent before f e z got acked flight held_version held renew ack r = record {
   renews = λ stamp version theirs points m. r.renews stamp version theirs points (old stamp version theirs points m);
@@ -63,11 +65,13 @@ frozen_more sent before f e z got acked flight held_version held renew ack r = r
   recorded = r.recorded;
 }
   where
-    old : (stamp version theirs : ℕ) (points : Points) → IsMember (Renew f e stamp version theirs points) (sent ++ before) → IsMember (Renew f e stamp version theirs points) before
+    old : (stamp version theirs : ℕ) (points : Points) → IsMember (Renew f e stamp version theirs points) (sent ++ before) →
+        IsMember (Renew f e stamp version theirs points) before
     old stamp version theirs points m = ⊎_elim (λ k. absurd (renew stamp version theirs points k)) (λ k. k) (IsMember-append_cases _ sent before m)
 
 -- a claim that no new Renew makes is one of before
-pub claim_before : (sent before : List Frame) (e f : End) (s : Slot) (got p : ℕ) → ((stamp version theirs : ℕ) (points : Points) → IsMember (Renew f e stamp version theirs points) sent → ⊥) →
+pub claim_before : (sent before : List Frame) (e f : End) (s : Slot) (got p : ℕ) →
+    ((stamp version theirs : ℕ) (points : Points) → IsMember (Renew f e stamp version theirs points) sent → ⊥) →
     Claim (sent ++ before) e f s got p → Claim before e f s got p
 claim_before sent before e f s got p none (by_record r) = by_record r
 claim_before sent before e f s got p none (by_renew h stamp version theirs points m lt r) =
@@ -89,7 +93,11 @@ module _ {c : Settings} {w : World} {e : End} (a : Acting c w e) where
 
   -- the lease of a slot that begins now
   pub from_now : (len : ℕ) → Leased (w.instance e.who).pairs w.time ((w.instance e.who).reading + len) len
-  from_now len = record { stamp = (w.instance e.who).reading; rests = record { taken = w.time; reading = a.inv.present e.who a.live.running; no_later = omega arith }; within = omega arith }
+  from_now len = record {
+    stamp = (w.instance e.who).reading;
+    rests = record { taken = w.time; reading = a.inv.present e.who a.live.running; no_later = omega arith };
+    within = omega arith;
+  }
 
   -- the far end of a session is another instance's
   pub far_differs : is_engaged s.state ≡ true → e ≡ s.far → ⊥

@@ -39,13 +39,15 @@ first_stays None (Some u) x z h = go (same_who u x) refl
     go false k = h
 
 -- who is granted is accused by nobody, and is the first accuser then
-when_granted : (accused first : Option Who) (x : Who) → ruling_of accused first x ≡ Granted → (accused ≡ None) × (first_after (ruling_of accused first x) first x ≡ Some x)
+when_granted : (accused first : Option Who) (x : Who) → ruling_of accused first x ≡ Granted →
+    (accused ≡ None) × (first_after (ruling_of accused first x) first x ≡ Some x)
 when_granted (Some u) first x h = absurd (cc)
 when_granted None None x h = (refl, refl)
 when_granted None (Some u) x h = (refl, ap (λ r. first_after r (Some u) x) h)
 
 -- who is told of another is accused by nobody
-when_taken : (accused first : Option Who) (x : Who) → ruling_of accused first x ≡ Taken → (accused ≡ None) × ((z : Who) × (first_after (ruling_of accused first x) first x ≡ Some z))
+when_taken : (accused first : Option Who) (x : Who) → ruling_of accused first x ≡ Taken →
+    (accused ≡ None) × ((z : Who) × (first_after (ruling_of accused first x) first x ≡ Some z))
 when_taken (Some u) first x h = absurd (cc)
 when_taken None None x h = absurd (cc)
 when_taken None (Some u) x h = (refl, (u, ap (λ r. first_after r (Some u) x) h))
@@ -81,24 +83,32 @@ module _ {c : Settings} {w : World} (inv : Invariant c w) (a : ℕ) (x y : Who) 
 
   -- each first accuser stays, at each arbitrator
   tables_stay : (b : ℕ) (z u : Who) → w.first_accuser b z ≡ Some u → answered.first_accuser b z ≡ Some u
-  tables_stay b z u h = replaced_cases (λ table. table z ≡ Some u) w.first_accuser a b (updated (w.first_accuser a) y (first_after ruling (w.first_accuser a y) x))
+  tables_stay b z u h =
+      replaced_cases (λ table. table z ≡ Some u) w.first_accuser a b
+      (updated (w.first_accuser a) y (first_after ruling (w.first_accuser a y) x))
       (λ ab. updated_cases (λ o. o ≡ Some u) (w.first_accuser a) y z (first_after ruling (w.first_accuser a y) x)
       (λ k. first_stays (w.first_accuser a x) (w.first_accuser a y) x u (ap (w.first_accuser a) k ∙ (ap (λ n. w.first_accuser n z) ab ∙ h)))
       (λ k. ap (λ n. w.first_accuser n z) ab ∙ h))
       (λ n. h)
 
   now_first : answered.first_accuser a y ≡ first_after ruling (w.first_accuser a y) x
-  now_first = replaced_cases (λ table. table y ≡ first_after ruling (w.first_accuser a y) x) w.first_accuser a a (updated (w.first_accuser a) y (first_after ruling (w.first_accuser a y) x))
-      (λ h. updated_cases (λ o. o ≡ first_after ruling (w.first_accuser a y) x) (w.first_accuser a) y y (first_after ruling (w.first_accuser a y) x) (λ k. refl) (λ k. absurd (same_who-false y y k refl)))
+  now_first =
+      replaced_cases (λ table. table y ≡ first_after ruling (w.first_accuser a y) x) w.first_accuser a a
+      (updated (w.first_accuser a) y (first_after ruling (w.first_accuser a y) x))
+      (λ h.
+      updated_cases (λ o. o ≡ first_after ruling (w.first_accuser a y) x) (w.first_accuser a) y y
+      (first_after ruling (w.first_accuser a y) x) (λ k. refl) (λ k. absurd (same_who-false y y k refl)))
       (λ n. absurd (n refl))
 
   -- the new answer crosses none of before: its accuser is accused by nobody there
   not_crossed : (b : ℕ) (u z s : Who) → w.first_accuser b z ≡ Some s → (Answered w.sent b z u → ⊥) → Answered answered.sent b z u → ⊥
   not_crossed b u z s kept none (inl m) = ⊎_elim
-      (λ (k : Ruled b z u Granted ≡ Ruled a x y ruling). let g : ruling ≡ Granted = cc in let free = (when_granted (w.first_accuser a x) (w.first_accuser a y) x g).0 in cc)
+      (λ (k : Ruled b z u Granted ≡ Ruled a x y ruling).
+      let g : ruling ≡ Granted = cc in let free = (when_granted (w.first_accuser a x) (w.first_accuser a y) x g).0 in cc)
       (λ k. none (inl k)) m
   not_crossed b u z s kept none (inr m) = ⊎_elim
-      (λ (k : Ruled b z u Taken ≡ Ruled a x y ruling). let g : ruling ≡ Taken = cc in let free = (when_taken (w.first_accuser a x) (w.first_accuser a y) x g).0 in cc)
+      (λ (k : Ruled b z u Taken ≡ Ruled a x y ruling).
+      let g : ruling ≡ Taken = cc in let free = (when_taken (w.first_accuser a x) (w.first_accuser a y) x g).0 in cc)
       (λ k. none (inr k)) m
 
   -- where x is accused by nobody, no answer to y about x stands
@@ -125,7 +135,9 @@ module _ {c : Settings} {w : World} (inv : Invariant c w) (a : ℕ) (x y : Who) 
 
   new_frame : (r : Ruling) → ruling ≡ r → SoundFrame c answered (Ruled a x y r)
   new_frame Granted h = let k = when_granted (w.first_accuser a x) (w.first_accuser a y) x h in record { kept = now_first ∙ k.1; no_cross = none_crosses k.0 }
-  new_frame Taken h = let k = when_taken (w.first_accuser a x) (w.first_accuser a y) x h in (k.1.0, record { kept = now_first ∙ k.1.1; no_cross = none_crosses k.0 })
+  new_frame Taken h =
+      let k = when_taken (w.first_accuser a x) (w.first_accuser a y) x h in
+      (k.1.0, record { kept = now_first ∙ k.1.1; no_cross = none_crosses k.0 })
   new_frame Refused h = tt
 
   -- a frame that is no answer was sent before
@@ -146,7 +158,8 @@ module _ {c : Settings} {w : World} (inv : Invariant c w) (a : ℕ) (x y : Who) 
 
   claim_before : (e f : End) (p : ℕ) → Claim answered.sent e f (slot w e) (slot w f).got p → Claim w.sent e f (slot w e) (slot w f).got p
   claim_before e f p (by_record r) = by_record r
-  claim_before e f p (by_renew h stamp version got points m lt r) = by_renew h stamp version got points (sent_before (Renew f e stamp version got points) refl m) lt r
+  claim_before e f p (by_renew h stamp version got points m lt r) =
+      by_renew h stamp version got points (sent_before (Renew f e stamp version got points) refl m) lt r
   claim_before e f p (by_flight l i le r) = by_flight l i le r
 
   slot_still : (e : End) → SoundSlot c answered e (slot w e)
@@ -191,7 +204,11 @@ module _ {c : Settings} {w : World} (inv : Invariant c w) (a : ℕ) (x y : Who) 
     counted = inv.counted;
     tokens = inv.tokens;
     freezes = λ f e z is tied.
-        let k = inv.freezes f e z is (record { mine = record { engaged = tied.mine.engaged; far = tied.mine.far }; theirs = record { engaged = tied.theirs.engaged; far = tied.theirs.far } }) in record {
+        let k = inv.freezes f e z is (record {
+          mine = record { engaged = tied.mine.engaged; far = tied.mine.far };
+          theirs = record { engaged = tied.theirs.engaged; far = tied.theirs.far };
+        }) in
+        record {
           renews = λ stamp version got points m. k.renews stamp version got points (sent_before (Renew f e stamp version got points) refl m);
           confirms = λ stamp version got points m. k.confirms stamp version got points (sent_before (Renew f e stamp version got points) refl m);
           acks = λ stamp version m. k.acks stamp version (sent_before (RenewAck e f stamp version) refl m);

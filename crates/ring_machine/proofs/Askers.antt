@@ -43,16 +43,19 @@ module _ {c : Settings} {w : World} (inv : Invariant c w) where
       offered : (g h : End) (len : ℕ) → SoundOffer w g h len → both g h ≡ both f e → AsksFor (slot w e) f.who.actor len
       offered g h len r i =
           let to : (slot w g).far ≡ e = r.tied.far ∙ to_is g h i in
-          let asker : AsksFor (slot w (slot w g).far) g.who.actor (slot w g).len = (inv.slots g).asker r.tied.engaged (subst (λ h. (slot w h).state ≡ Asking) (sym to) asks) in
+          let asker : AsksFor (slot w (slot w g).far) g.who.actor (slot w g).len =
+          (inv.slots g).asker r.tied.engaged (subst (λ h. (slot w h).state ≡ Asking) (sym to) asks) in
           let near : AsksFor (slot w e) g.who.actor (slot w g).len = subst (λ h. AsksFor (slot w h) g.who.actor (slot w g).len) to asker in
-          let far : AsksFor (slot w e) f.who.actor (slot w g).len = subst (λ (from : End). AsksFor (slot w e) from.who.actor (slot w g).len) (from_is g h i) near in
+          let far : AsksFor (slot w e) f.who.actor (slot w g).len =
+          subst (λ (from : End). AsksFor (slot w e) from.who.actor (slot w g).len) (from_is g h i) near in
           subst (λ k. AsksFor (slot w e) f.who.actor k) r.length far
 
       go : (frame : Frame) → IsMember frame w.sent → ends_of frame ≡ Some (f, e) → ToAsker w f e frame
       go (Hello g node len) m i = absurd (cc (i))
       go (Offer g h len) m i = let r : SoundOffer w g h len = inv.frames (Offer g h len) m in offered g h len r i
       go (Take g h) m i = let r : BothTied w g h = inv.frames (Take g h) m in absurd (never g h r i)
-      go (Renew g h stamp version got points) m i = let r : SoundRenew w g h stamp version got = inv.frames (Renew g h stamp version got points) m in absurd (never g h r.tied i)
+      go (Renew g h stamp version got points) m i =
+          let r : SoundRenew w g h stamp version got = inv.frames (Renew g h stamp version got points) m in absurd (never g h r.tied i)
       go (RenewAck g h stamp version) m i = absurd (cc (i))
       go (Transfer g h number part) m i = let r : SoundTransfer c w g h number part = inv.frames (Transfer g h number part) m in absurd (never g h r.tied i)
       go (Gone g h got bound) m i = tt

@@ -16,7 +16,8 @@ use Rattle.ring_machine.proofs.SteppedKeeps.{keeps, stays_live}
 use Rattle.ring_machine.proofs.Acting.{Acting}
 use Rattle.ring_machine.proofs.SendDuties.{hello_again, offer_again, take_again, flight_again, gone_again, accuse_again, unknown_denied}
 use Rattle.ring_machine.proofs.HandshakeDuties.{hello_begun_duty, offer_begun_duty, offer_taken_duty, hello_dropped_duty, hello_denied_duty, take_heard_duty}
-use Rattle.ring_machine.proofs.RenewDuties.{ack_heard_duty, renew_sent_duty}
+use Rattle.ring_machine.proofs.AckDuties.{ack_heard_duty}
+use Rattle.ring_machine.proofs.RenewDuties.{renew_sent_duty}
 use Rattle.ring_machine.proofs.HearDuties.{renew_heard_duty}
 use Rattle.ring_machine.proofs.PartDuties.{parting_begun_duty, gone_heard_duty}
 use Rattle.ring_machine.proofs.AccuseDuties.{peer_accused_duty, majority_answered_duty, majority_granted_duty, session_dropped_duty}
@@ -74,23 +75,39 @@ duty_done {w = w} {e = e} d = record {
   inv = keeps d;
   live = stays_live d;
   later = later d;
-  rest = record { time = refl; starts = refl; first_accuser = refl; reading = ap (λ (i : Instance). i.reading) (own_instance d); others = λ y n. other_instance d y n };
+  rest = record {
+    time = refl;
+    starts = refl;
+    first_accuser = refl;
+    reading = ap (λ (i : Instance). i.reading) (own_instance d);
+    others = λ y n. other_instance d y n;
+  };
 }
 
-pub deed_done : {c : Settings} {w : World} → IsSound c → Invariant c w → (x : Who) → Live c (w.instance x) → (deed : Deed) → May c w x deed → DeedsDone c w x (done c w x deed)
+pub deed_done : {c : Settings} {w : World} → IsSound c → Invariant c w → (x : Who) → Live c (w.instance x) → (deed : Deed) →
+    May c w x deed → DeedsDone c w x (done c w x deed)
 deed_done {w = w} sound inv x live (HelloBegun node len) may =
     let e = end_of x (w.instance x).next_session in
     duty_done {e = e} (record { inv = inv; live = live; duty = hello_begun_duty (record { inv = inv; live = live }) refl node len })
 deed_done {w = w} sound inv x live (OfferBegun from proposed len) may =
     let e = end_of x (w.instance x).next_session in
-    duty_done {e = e} (record { inv = inv; live = live; duty = offer_begun_duty (record { inv = inv; live = live }) sound.answer refl from proposed len may.0 may.1 may.2 may.3 })
+    duty_done {e = e} (record {
+      inv = inv;
+      live = live;
+      duty = offer_begun_duty (record { inv = inv; live = live }) sound.answer refl from proposed len may.0 may.1 may.2 may.3;
+    })
 deed_done {w = w} sound inv x live (InSlot number deed) may =
     let e = end_of x number in
     duty_done {e = e} (record { inv = inv; live = live; duty = slot_duty sound (record { inv = inv; live = live }) deed may })
 
 -- no deed
 pub none_done : {c : Settings} {w : World} → Invariant c w → (x : Who) → Live c (w.instance x) → DeedsDone c w x w
-none_done {c = c} {w = w} inv x live = record { inv = inv; live = live; later = later_refl c w; rest = record { time = refl; starts = refl; first_accuser = refl; reading = refl; others = λ y n. refl } }
+none_done {c = c} {w = w} inv x live = record {
+  inv = inv;
+  live = live;
+  later = later_refl c w;
+  rest = record { time = refl; starts = refl; first_accuser = refl; reading = refl; others = λ y n. refl };
+}
 
 -- more deeds
 pub then_done : {c : Settings} {w v u : World} {x : Who} → DeedsDone c w x v → DeedsDone c v x u → DeedsDone c w x u

@@ -32,7 +32,8 @@ pub record LinkDuty (c : Settings) (w : World) (e : End) (s t : Slot) (next : �
   pub len : is_settled s.state ≡ true → t.len ≡ s.len
   pub quiets : is_settled s.state ≡ true → Quiet s.state s.held s.flight → Quiet t.state t.held t.flight
   pub willing : is_settled s.state ≡ true → is_willing t.state ≡ true → is_willing s.state ≡ true
-  pub single : is_active t.state ≡ true → (is_active s.state ≡ true) ⊎ ((g : End) → g.who ≡ e.who → is_active (slot w g).state ≡ true → (slot w g).far.who ≡ t.far.who → ⊥)
+  pub single : is_active t.state ≡ true →
+      (is_active s.state ≡ true) ⊎ ((g : End) → g.who ≡ e.who → is_active (slot w g).state ≡ true → (slot w g).far.who ≡ t.far.who → ⊥)
   pub far_used : is_engaged t.state ≡ true → is_used (slot w t.far).state ≡ true
   pub apart : is_engaged t.state ≡ true → same_who e.who t.far.who ≡ false
   pub touched : Touched t → Tied w t.far e
@@ -93,7 +94,8 @@ pub record SentTransfer (c : Settings) (w : World) (e : End) (s : Slot) (out : O
   pub own : from ≡ e
   pub far : to ≡ s.far
   pub tied : BothTied w e to
-  pub transferable : Transferable c (w.instance to.who) out.token.next_flight (is_willing (slot w to).state) out.place out.slot.flight (slot w to).got e to number part
+  pub transferable : Transferable c (w.instance to.who) out.token.next_flight (is_willing (slot w to).state) out.place out.slot.flight
+      (slot w to).got e to number part
 
 -- the frame is one that e may send with this outcome, s being its slot before
 abbrev pub Sent : Settings → World → End → Slot → Outcome → Frame → Type 0
@@ -120,7 +122,8 @@ pub record TokenDuty (w : World) (e : End) (s t : Slot) (token : Token) (sent : 
   pub flight : (l : Flight) → t.flight ≡ Some l → (s.flight ≡ Some l) ⊎ ((w.instance e.who).token.next_flight ≤ l.number)
   pub sound : (z : Freeze) → token.freeze ≡ Some z → SoundToken token z
   -- a freeze stood before, or is new while nothing else happens
-  pub freeze : (z : Freeze) → token.freeze ≡ Some z → ((w.instance e.who).token.freeze ≡ Some z) ⊎ (((w.instance e.who).token.version < z.version) × (sent ≡ []) × (t ≡ s))
+  pub freeze : (z : Freeze) → token.freeze ≡ Some z →
+      ((w.instance e.who).token.freeze ≡ Some z) ⊎ (((w.instance e.who).token.version < z.version) × (sent ≡ []) × (t ≡ s))
   -- the freezes at both sides of the session
   pub mine : is_engaged s.state ≡ true → (z : Freeze) → (w.instance e.who).token.freeze ≡ Some z → token.freeze ≡ Some z → Tied w s.far e →
       FrozenTo (sent ++ w.sent) e s.far z t.got t.acked (slot w s.far).flight (slot w s.far).held_version (slot w s.far).held
@@ -145,9 +148,11 @@ pub record PlaceDuty (c : Settings) (w : World) (e : End) (s t : Slot) (token : 
   pub flight : (l : Flight) → t.flight ≡ Some l → SoundFlight token.next_flight place (slot w t.far).got e t.far l
   -- no claim is new, but for points that are e's
   pub mine : is_engaged s.state ≡ true → (p : ℕ) → Claim (sent ++ w.sent) e s.far t (slot w s.far).got p → Claim w.sent e s.far s (slot w s.far).got p
-  pub theirs : is_engaged s.state ≡ true → (p : ℕ) → Claim (sent ++ w.sent) s.far e (slot w s.far) t.got p → Claim w.sent s.far e (slot w s.far) s.got p ⊎ (place p ≡ At e.who)
+  pub theirs : is_engaged s.state ≡ true → (p : ℕ) → Claim (sent ++ w.sent) s.far e (slot w s.far) t.got p →
+      Claim w.sent s.far e (slot w s.far) s.got p ⊎ (place p ≡ At e.who)
   -- a point that is claimed stays with its owner, or the claimant can never take over
-  pub stays : (g f : End) (p : ℕ) → (slot w g).far ≡ f → (e ≡ g → Claim (sent ++ w.sent) e f t (slot w f).got p) → Claim w.sent g f (slot w g) (slot w f).got p →
+  pub stays : (g f : End) (p : ℕ) → (slot w g).far ≡ f → (e ≡ g → Claim (sent ++ w.sent) e f t (slot w f).got p) →
+      Claim w.sent g f (slot w g) (slot w f).got p →
       w.place p ≡ At f.who → (place p ≡ At f.who) ⊎ Barred c w.sent g.who f.who
 
 -- all that a deed owes

@@ -86,7 +86,8 @@ module _ {c : Settings} {w : World} {e : End} (a : Acting c w e) (unsettled : is
   }
 
   -- a slot that asks, or asks no more
-  pub lone_link : (t : Slot) (next : ℕ) → e.number < next → (w.instance e.who).next_session ≤ next → IsBare t → is_used t.state ≡ true → is_engaged t.state ≡ false →
+  pub lone_link : (t : Slot) (next : ℕ) → e.number < next → (w.instance e.who).next_session ≤ next → IsBare t → is_used t.state ≡ true →
+      is_engaged t.state ≡ false →
       (is_used s.state ≡ true → t.state ≡ Asking → AskedBefore s t) → LinkDuty c w e s t next
   lone_link t next numbered counter bare used lone asks = record {
     numbered = numbered;
@@ -118,7 +119,8 @@ module _ {c : Settings} {w : World} {e : End} (a : Acting c w e) (unsettled : is
     since = λ moment h. absurd (not_engaged h);
   }
 
-  pub lone_duty : (t : Slot) (next : ℕ) (sent : List Frame) → e.number < next → (w.instance e.who).next_session ≤ next → IsBare t → is_used t.state ≡ true → is_engaged t.state ≡ false →
+  pub lone_duty : (t : Slot) (next : ℕ) (sent : List Frame) → e.number < next → (w.instance e.who).next_session ≤ next → IsBare t →
+      is_used t.state ≡ true → is_engaged t.state ≡ false →
       (is_used s.state ≡ true → t.state ≡ Asking → AskedBefore s t) → NoRenewal sent →
       ((f : Frame) → IsMember f sent → Sent c w e s (outcome t ((w.instance e.who).token) sent w.place) f) →
       Duty c w e next (outcome t ((w.instance e.who).token) sent w.place)
@@ -131,7 +133,8 @@ module _ {c : Settings} {w : World} {e : End} (a : Acting c w e) (unsettled : is
   }
 
   -- a slot that begins a session
-  begun_link : (t : Slot) (f : End) (next : ℕ) → e.number < next → (w.instance e.who).next_session ≤ next → IsBare t → Begins c w e t f → LinkDuty c w e s t next
+  begun_link : (t : Slot) (f : End) (next : ℕ) → e.number < next → (w.instance e.who).next_session ≤ next → IsBare t → Begins c w e t f →
+      LinkDuty c w e s t next
   begun_link t f next numbered counter bare b = record {
     numbered = numbered;
     counter = counter;
@@ -172,7 +175,8 @@ module _ {c : Settings} {w : World} {e : End} (a : Acting c w e) (unsettled : is
       lease : Leased (w.instance e.who).pairs w.time t.until t.len
       lease = subst (λ until. Leased (w.instance e.who).pairs w.time until t.len) (sym b.until) (from_now a t.len)
 
-  pub begun_duty : 0 < c.answer → (t : Slot) (f : End) (next : ℕ) (sent : List Frame) → e.number < next → (w.instance e.who).next_session ≤ next → IsBare t → Begins c w e t f → NoRenewal sent →
+  pub begun_duty : 0 < c.answer → (t : Slot) (f : End) (next : ℕ) (sent : List Frame) → e.number < next →
+      (w.instance e.who).next_session ≤ next → IsBare t → Begins c w e t f → NoRenewal sent →
       ((f : Frame) → IsMember f sent → Sent c w e s (outcome t ((w.instance e.who).token) sent w.place) f) →
       Duty c w e next (outcome t ((w.instance e.who).token) sent w.place)
   begun_duty pos t f next sent numbered counter bare b none sends = record {

@@ -24,7 +24,8 @@ use Rattle.ring_machine.proofs.Kept.{kept_duty, bound_link}
 use Rattle.ring_machine.proofs.Shrunk.{not_less, not_undone, token_shrunk, place_shrunk, link_same}
 
 -- where a point is after some moved, by cases
-pub moved_cases : (points : Points) (to : Place) (place : ℕ → Place) (p : ℕ) (P : Place → Type 0) → (points p ≡ true → P to) → (points p ≡ false → P (place p)) → P (moved points to place p)
+pub moved_cases : (points : Points) (to : Place) (place : ℕ → Place) (p : ℕ) (P : Place → Type 0) → (points p ≡ true → P to) →
+    (points p ≡ false → P (place p)) → P (moved points to place p)
 moved_cases points to place p P on off = go (points p) refl
   where
     go : (b : Bool) → points p ≡ b → P (cond b to (place p))
@@ -32,11 +33,13 @@ moved_cases points to place p P on off = go (points p) refl
     go false h = off h
 
 -- who claims a point of y that is frozen there, in a session whose slots acknowledged the freeze, can never take over
-module _ {c : Settings} {w : World} (inv : Invariant c w) (u v : End) (p : ℕ) (z : Freeze) (freeze : (w.instance v.who).token.freeze ≡ Some z) (acked : AllAcked z.version (w.instance v.who).slots)
+module _ {c : Settings} {w : World} (inv : Invariant c w) (u v : End) (p : ℕ) (z : Freeze)
+    (freeze : (w.instance v.who).token.freeze ≡ Some z) (acked : AllAcked z.version (w.instance v.who).slots)
     (frozen : z.part p ≡ true) (far : (slot w u).far ≡ v) (claim : Claim w.sent u v (slot w u) (slot w v).got p) where
   tied_by : Claim w.sent u v (slot w u) (slot w v).got p → Tied w v u
   tied_by (by_record r) = subst (λ v. Tied w v u) far ((inv.slots u).touched (heard ((inv.slots u).recorded p r)))
-  tied_by (by_renew h stamp version got points m lt r) = let sound : SoundRenew w v u stamp version got = inv.frames (Renew v u stamp version got points) m in sound.tied.mine
+  tied_by (by_renew h stamp version got points m lt r) =
+      let sound : SoundRenew w v u stamp version got = inv.frames (Renew v u stamp version got points) m in sound.tied.mine
   tied_by (by_flight l i le r) = subst (λ v. Tied w v u) far ((inv.slots u).touched (flew l i))
 
   engaged_by : Claim w.sent u v (slot w u) (slot w v).got p → is_engaged (slot w u).state ≡ true
@@ -59,11 +62,18 @@ module _ {c : Settings} {w : World} (inv : Invariant c w) (u v : End) (p : ℕ) 
 
       known : (slot w v).acked ≤ (slot w u).held_version
       known = subst (λ u. (slot w v).acked ≤ (slot w u).held_version) tied.mine.far (inv.slots v).acked
-  while_guarding g (by_renew h stamp version got points m lt r) = (inv.freezes v u z freeze tied).renews stamp version got points m (omega (arith, acked v.number g, known)) p r frozen
+  while_guarding g (by_renew h stamp version got points m lt r) =
+      (inv.freezes v u z freeze tied).renews stamp version got points m (omega (arith, acked v.number g, known)) p r frozen
     where
       known : (slot w v).acked ≤ (slot w u).held_version
       known = subst (λ u. (slot w v).acked ≤ (slot w u).held_version) tied.mine.far (inv.slots v).acked
-  while_guarding g (by_flight l i le r) = (inv.freezes v u z freeze tied).settled (acked v.number g) l (record { stands = i; taken = le; point = p; flown = r; frozen = frozen })
+  while_guarding g (by_flight l i le r) = (inv.freezes v u z freeze tied).settled (acked v.number g) l (record {
+    stands = i;
+    taken = le;
+    point = p;
+    flown = r;
+    frozen = frozen;
+  })
 
   -- who is closed claims nothing
   not_closed : Closed w u v → Claim w.sent u v (slot w u) (slot w v).got p → ⊥
@@ -88,7 +98,11 @@ module _ {c : Settings} {w : World} {e : End} (a : Acting c w e) (bound : (slot 
   abbrev token : Token
   token = (w.instance e.who).token
 
-  pub part_frozen_duty : token.freeze ≡ None → (part : Points) → Duty c w e (w.instance e.who).next_session (outcome s (record token { version = token.version + 1; freeze = Some (record { part = meet token.ranges part; number = e.number; version = token.version + 1 }) }) [] w.place)
+  pub part_frozen_duty : token.freeze ≡ None → (part : Points) →
+      Duty c w e (w.instance e.who).next_session
+      (outcome s
+      (record token { version = token.version + 1; freeze = Some (record { part = meet token.ranges part; number = e.number; version = token.version + 1 }) })
+      [] w.place)
   part_frozen_duty none part =
       let new : Freeze = record { part = meet token.ranges part; number = e.number; version = token.version + 1 } in
       let frozen : Token = record token { version = token.version + 1; freeze = Some new } in
@@ -108,7 +122,12 @@ module _ {c : Settings} {w : World} {e : End} (a : Acting c w e) (bound : (slot 
           version_rises = omega arith;
           next_flight_rises = omega arith;
           flight = still.flight;
-          sound = λ z h. let same : new ≡ z = cc in subst (SoundToken frozen) same (record { positive = omega arith; version = omega arith; part = λ p h. (and_parts (token.ranges p) (part p) h).0 });
+          sound = λ z h.
+              let same : new ≡ z = cc in subst (SoundToken frozen) same (record {
+                positive = omega arith;
+                version = omega arith;
+                part = λ p h. (and_parts (token.ranges p) (part p) h).0;
+              });
           freeze = λ z h. let same : new ≡ z = cc in inr (subst (λ (z : Freeze). token.version < z.version) same (omega arith), refl, refl);
           mine = λ en z h i. absurd (cc (h, none));
           theirs = still.theirs;
@@ -140,7 +159,11 @@ module _ {c : Settings} {w : World} {e : End} (a : Acting c w e) (bound : (slot 
     given = record (slot w e) { flight = Some flight }
 
     abbrev rest : Token
-    rest = record (w.instance e.who).token { ranges = minus (w.instance e.who).token.ranges z.part; freeze = None; next_flight = (w.instance e.who).token.next_flight + 1 }
+    rest = record (w.instance e.who).token {
+      ranges = minus (w.instance e.who).token.ranges z.part;
+      freeze = None;
+      next_flight = (w.instance e.who).token.next_flight + 1;
+    }
 
     abbrev places : ℕ → Place
     places = moved z.part (InFlight e (slot w e).far (w.instance e.who).token.next_flight) w.place
@@ -178,13 +201,17 @@ module _ {c : Settings} {w : World} {e : End} (a : Acting c w e) (bound : (slot 
       sound = λ y h. absurd (cc (h));
       freeze = λ y h. absurd (cc (h));
       mine = λ en y h i. absurd (cc (i));
-      theirs = λ en y h tie. let old = frozen_more (transfer ∷ []) w.sent s.far e y _ _ _ _ _ (no_renew (transfer ∷ []) none s.far e) (no_ack (transfer ∷ []) none e s.far) (freeze_theirs a y h en tie) in record {
-        renews = old.renews;
-        recorded = old.recorded;
-        confirms = λ stamp version got points m le l i. absurd (not_pending y l i);
-        acks = λ stamp version m le l i. not_pending y l i;
-        settled = λ le l i. not_pending y l i;
-      };
+      theirs = λ en y h tie.
+          let old =
+          frozen_more (transfer ∷ []) w.sent s.far e y _ _ _ _ _ (no_renew (transfer ∷ []) none s.far e)
+          (no_ack (transfer ∷ []) none e s.far) (freeze_theirs a y h en tie) in
+          record {
+            renews = old.renews;
+            recorded = old.recorded;
+            confirms = λ stamp version got points m le l i. absurd (not_pending y l i);
+            acks = λ stamp version m le l i. not_pending y l i;
+            settled = λ le l i. not_pending y l i;
+          };
       newly = λ h. absurd (cc (h));
     }
 
@@ -195,12 +222,23 @@ module _ {c : Settings} {w : World} {e : End} (a : Acting c w e) (bound : (slot 
     give_place : PlaceDuty c w e s given rest (transfer ∷ []) places
     give_place = record {
       owned = λ p h. let r = and_parts (token.ranges p) (not (z.part p)) h in at p (λ o. o ≡ At e.who) (λ i. absurd (cc (i, r.1))) (λ i. here a p r.0);
-      exact = λ p. at p (λ o. o ≡ At e.who → token.ranges p && not (z.part p) ≡ true) (λ i h. absurd (cc (h))) (λ i h. and_from (token.ranges p) (not (z.part p)) (back a p h) (ap not i));
-      keeps = λ y p n l i. at p (λ o. o ≡ At y) (λ h. absurd (let mine = given_here p h in let same : e.who ≡ y = cc in same_who-false e.who y n same)) (λ h. i);
-      keeps_unborn = λ y p unborn i. at p (λ o. o ≡ At y) (λ h. absurd (let mine = given_here p h in let same : e.who ≡ y = cc in let r = a.live.running in cc (ap (λ y. (w.instance y).phase) same, r, unborn))) (λ h. i);
+      exact = λ p.
+          at p (λ o. o ≡ At e.who → token.ranges p && not (z.part p) ≡ true) (λ i h. absurd (cc (h)))
+          (λ i h. and_from (token.ranges p) (not (z.part p)) (back a p h) (ap not i));
+      keeps = λ y p n l i.
+          at p (λ o. o ≡ At y) (λ h. absurd (let mine = given_here p h in let same : e.who ≡ y = cc in same_who-false e.who y n same))
+          (λ h. i);
+      keeps_unborn = λ y p unborn i.
+          at p (λ o. o ≡ At y)
+          (λ h.
+          absurd
+          (let mine = given_here p h in let same : e.who ≡ y = cc in let r = a.live.running in cc (ap (λ y. (w.instance y).phase) same, r, unborn)))
+          (λ h. i);
       gets_none = λ y p n. at p (λ o. o ≡ At y → w.place p ≡ At y) (λ i h. absurd (cc (h))) (λ i h. h);
       flies = λ g h number p i. inl (at p (λ o. o ≡ InFlight g h number) (λ j. absurd (let mine = given_here p j in cc)) (λ j. i));
-      flew = λ g h number p. at p (λ o. o ≡ InFlight g h number → (w.place p ≡ InFlight g h number) ⊎ ((g ≡ e) × (token.next_flight ≤ number) × (number < token.next_flight + 1)))
+      flew = λ g h number p.
+          at p
+          (λ o. o ≡ InFlight g h number → (w.place p ≡ InFlight g h number) ⊎ ((g ≡ e) × (token.next_flight ≤ number) × (number < token.next_flight + 1)))
           (λ i j. let same : g ≡ e = cc in let n : number ≡ token.next_flight = cc in inr (same, omega arith, omega arith)) (λ i j. inl j);
       flight = λ l h. subst (SoundFlight (token.next_flight + 1) places (slot w s.far).got e s.far) (is_new h) (record {
         numbered = omega arith;
@@ -236,7 +274,9 @@ module _ {c : Settings} {w : World} {e : End} (a : Acting c w e) (bound : (slot 
           tied = record { mine = record { engaged = ap is_engaged bound; far = refl }; theirs = (good a).bound bound };
           transferable = record {
             numbered = omega arith;
-            flying = λ p lives wi lt h. moved_cases z.part (InFlight e s.far token.next_flight) w.place p (λ o. o ≡ InFlight e s.far token.next_flight) (λ i. refl) (λ i. absurd (both_ways _ i h));
+            flying = λ p lives wi lt h.
+                moved_cases z.part (InFlight e s.far token.next_flight) w.place p (λ o. o ≡ InFlight e s.far token.next_flight)
+                (λ i. refl) (λ i. absurd (both_ways _ i h));
             whole = whole;
             same = λ l i n p h. subst (λ (l : Flight). l.part p ≡ true) (sym (is_new i)) h;
             last = λ l i. subst (λ (l : Flight). token.next_flight ≤ l.number) (is_new i) (omega arith);

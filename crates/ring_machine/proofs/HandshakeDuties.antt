@@ -49,17 +49,27 @@ module _ {c : Settings} {w : World} {e : End} (a : Acting c w e) where
       lone_duty a (ap is_settled unused) (fresh_slot (any_of node) Asking len now) (e.number + 1) (Hello e node len ∷ []) (omega arith) (omega arith)
       (bare_fresh (any_of node) Asking len now) refl refl (λ h. absurd (cc (h)))
       (each_of_one (λ g. is_renewal g ≡ false) (Hello e node len) refl)
-      (each_of_one (Sent c w e s (hello_begun e now token w.place node len)) (Hello e node len) (record { own = refl; asks_node = λ h. refl; asks_length = λ h. refl }))
+      (each_of_one (Sent c w e s (hello_begun e now token w.place node len)) (Hello e node len) (record {
+        own = refl;
+        asks_node = λ h. refl;
+        asks_length = λ h. refl;
+      }))
 
   -- no longer a lease is offered than was asked for
-  pub offer_begun_duty : 0 < c.answer → e.number ≡ (w.instance e.who).next_session → (from : End) (proposed len : ℕ) → IsMember (Hello from e.who.actor proposed) w.sent → len ≤ proposed →
+  pub offer_begun_duty : 0 < c.answer → e.number ≡ (w.instance e.who).next_session → (from : End) (proposed len : ℕ) →
+      IsMember (Hello from e.who.actor proposed) w.sent → len ≤ proposed →
       same_who e.who from.who ≡ false → IsAlone from.who (w.instance e.who).slots → Duty c w e (e.number + 1) (offer_begun e now token w.place from len)
   offer_begun_duty pos is from proposed len m shorter apart alone =
       begun_duty a (ap is_settled unused) pos (fresh_slot from Offered len now) from (e.number + 1) (Offer e from len ∷ []) (omega arith) (omega arith)
       (bare_fresh from Offered len now)
       (record { far = refl; state = inl refl; until = refl; used = hello.used; apart = apart; alone = alone; asker = asker; agreed = agreed })
       (each_of_one (λ g. is_renewal g ≡ false) (Offer e from len) refl)
-      (each_of_one (Sent c w e s (offer_begun e now token w.place from len)) (Offer e from len) (record { own = refl; engaged = refl; far = refl; length = refl }))
+      (each_of_one (Sent c w e s (offer_begun e now token w.place from len)) (Offer e from len) (record {
+        own = refl;
+        engaged = refl;
+        far = refl;
+        length = refl;
+      }))
     where
       unused : s.state ≡ Unused
       unused = next_unused is
@@ -72,22 +82,37 @@ module _ {c : Settings} {w : World} {e : End} (a : Acting c w e) where
 
       -- nobody had a session with a slot that is new
       agreed : Tied w from e → len ≡ (slot w from).len
-      agreed t = absurd (let used : is_used s.state ≡ true = subst (λ f. is_used (slot w f).state ≡ true) t.far ((a.inv.slots from).far_used t.engaged) in cc (used, ap is_used unused))
+      agreed t =
+          absurd
+          (let used : is_used s.state ≡ true = subst (λ f. is_used (slot w f).state ≡ true) t.far ((a.inv.slots from).far_used t.engaged) in
+          cc (used, ap is_used unused))
 
   -- the asker takes the offer, at the length that is offered
-  pub offer_taken_duty : 0 < c.answer → s.state ≡ Asking → (from : End) (len : ℕ) → IsMember (Offer from e len) w.sent → IsAlone from.who (w.instance e.who).slots →
+  pub offer_taken_duty : 0 < c.answer → s.state ≡ Asking → (from : End) (len : ℕ) → IsMember (Offer from e len) w.sent →
+      IsAlone from.who (w.instance e.who).slots →
       Duty c w e (w.instance e.who).next_session (outcome (begun s from (min s.len len) now) token (Take e from ∷ []) w.place)
   offer_taken_duty pos asking from len m alone =
-      begun_duty a (ap is_settled asking) pos t from (w.instance e.who).next_session (Take e from ∷ []) ((good a).numbered (ap is_used asking)) (omega arith) bare
+      begun_duty a (ap is_settled asking) pos t from (w.instance e.who).next_session (Take e from ∷ [])
+      ((good a).numbered (ap is_used asking)) (omega arith) bare
       (record { far = refl; state = inr (refl, offer.tied); until = refl; used = used; apart = apart; alone = alone; asker = asker; agreed = λ t. agreed })
       (each_of_one (λ g. is_renewal g ≡ false) (Take e from) refl)
-      (each_of_one (Sent c w e s (outcome t token (Take e from ∷ []) w.place)) (Take e from) (record { own = refl; engaged = refl; far = refl; back = offer.tied }))
+      (each_of_one (Sent c w e s (outcome t token (Take e from ∷ []) w.place)) (Take e from) (record {
+        own = refl;
+        engaged = refl;
+        far = refl;
+        back = offer.tied;
+      }))
     where
       t : Slot
       t = begun s from (min s.len len) now
 
       bare : IsBare (begun s from (min s.len len) now)
-      bare = let k = (good a).plain (ap is_engaged asking) in record { untouched = record { flight = k.0.flight; held_version = k.0.held_version; got = k.0.got; acked = k.0.acked }; empty = k.1 }
+      bare =
+          let k = (good a).plain (ap is_engaged asking) in
+          record {
+            untouched = record { flight = k.0.flight; held_version = k.0.held_version; got = k.0.got; acked = k.0.acked };
+            empty = k.1;
+          }
 
       offer : SoundOffer w from e len
       offer = a.inv.frames (Offer from e len) m
@@ -96,24 +121,33 @@ module _ {c : Settings} {w : World} {e : End} (a : Acting c w e) where
       used = implied is_engaged is_used refl (slot w from).state offer.tied.engaged
 
       apart : same_who e.who from.who ≡ false
-      apart = same_who_from e.who from.who (λ h. same_who-false from.who e.who (subst (λ (f : End). same_who from.who f.who ≡ false) offer.tied.far ((a.inv.slots from).apart offer.tied.engaged)) (sym h))
+      apart =
+          same_who_from e.who from.who
+          (λ h.
+          same_who-false from.who e.who
+          (subst (λ (f : End). same_who from.who f.who ≡ false) offer.tied.far ((a.inv.slots from).apart offer.tied.engaged))
+          (sym h))
 
       asker : (slot w from).state ≡ Asking → AsksFor (slot w from) e.who.actor (min s.len len)
       asker h = absurd (let en = offer.tied.engaged in cc (en, ap is_engaged h))
 
       -- the slot asked for no shorter a length
       asked : AsksFor s from.who.actor (slot w from).len
-      asked = subst (λ f. (slot w f).state ≡ Asking → AsksFor (slot w f) from.who.actor (slot w from).len) offer.tied.far ((a.inv.slots from).asker offer.tied.engaged) asking
+      asked =
+          subst (λ f. (slot w f).state ≡ Asking → AsksFor (slot w f) from.who.actor (slot w from).len) offer.tied.far
+          ((a.inv.slots from).asker offer.tied.engaged) asking
 
       agreed : min s.len len ≡ (slot w from).len
       agreed = let n = asked.no_shorter in let k = offer.length in omega arith
 
   -- the Hello is given up
-  given_up_duty : s.state ≡ Asking → (sent : List Frame) → NoRenewal sent → ((f : Frame) → IsMember f sent → Sent c w e s (outcome (record s { state = Abandoned }) token sent w.place) f) →
+  given_up_duty : s.state ≡ Asking → (sent : List Frame) → NoRenewal sent →
+      ((f : Frame) → IsMember f sent → Sent c w e s (outcome (record s { state = Abandoned }) token sent w.place) f) →
       Duty c w e (w.instance e.who).next_session (outcome (record s { state = Abandoned }) token sent w.place)
   given_up_duty asking sent none sends =
       let k = (good a).plain (ap is_engaged asking) in
-      lone_duty a (ap is_settled asking) (record s { state = Abandoned }) (w.instance e.who).next_session sent ((good a).numbered (ap is_used asking)) (omega arith)
+      lone_duty a (ap is_settled asking) (record s { state = Abandoned }) (w.instance e.who).next_session sent
+      ((good a).numbered (ap is_used asking)) (omega arith)
       (record { untouched = record { flight = k.0.flight; held_version = k.0.held_version; got = k.0.got; acked = k.0.acked }; empty = k.1 })
       refl refl (λ h i. absurd (cc (i))) none sends
 
@@ -133,7 +167,8 @@ module _ {c : Settings} {w : World} {e : End} (a : Acting c w e) where
       }))
 
   -- the offer is taken: both sides are bound
-  pub take_heard_duty : s.state ≡ Offered → IsMember (Take s.far e) w.sent → Duty c w e (w.instance e.who).next_session (outcome (record s { state = Bound }) token [] w.place)
+  pub take_heard_duty : s.state ≡ Offered → IsMember (Take s.far e) w.sent →
+      Duty c w e (w.instance e.who).next_session (outcome (record s { state = Bound }) token [] w.place)
   take_heard_duty offered m =
       let tied : BothTied w s.far e = a.inv.frames (Take s.far e) m in
       kept_duty a (outcome (record s { state = Bound }) token [] w.place)

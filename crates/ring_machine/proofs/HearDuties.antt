@@ -1,6 +1,6 @@
 -- A Renew is heard: what it announces is recorded if it is newer, and a flight that it confirms stands no more.
-use Rattle.std.proofs.Common.{◌≡◌, ℕ, ◌<◌, ◌≤◌, Bool, true, false, ltb, [], ◌∷◌, Some, ◌⊎◌, refl, inl, inr, ⊎_elim, arith}
-use Rattle.std.proofs.lemmas.Bool.{both_ways, ltb-true, ltb-false}
+use Rattle.std.proofs.Common.{◌≡◌, ℕ, ◌<◌, ◌≤◌, Bool, true, false, cond, ltb, leb, [], ◌∷◌, Option, None, Some, ◌⊎◌, refl, subst, inl, inr, ⊎_elim, arith}
+use Rattle.std.proofs.lemmas.Bool.{both_ways, ltb-true, ltb-false, leb-false}
 use Rattle.ring_machine.specs.Members.{IsMember}
 use Rattle.ring_machine.specs.Points.{Points}
 use Rattle.ring_machine.specs.Ends.{End}
@@ -16,7 +16,15 @@ use Rattle.ring_machine.proofs.States.{implied}
 use Rattle.ring_machine.proofs.Duty.{Sent, TokenDuty, PlaceDuty, Duty}
 use Rattle.ring_machine.proofs.Acting.{Acting, good, here, back, each_of_one, frozen_more, claim_before, far_differs, freeze_mine, freeze_theirs}
 use Rattle.ring_machine.proofs.Kept.{KeptLink, kept_duty, lease_same}
-use Rattle.ring_machine.proofs.RenewDuties.{unconfirmed_before}
+
+-- an unconfirmed flight stood before, and is above the other's last one
+pub unconfirmed_before : (got : ℕ) (flight : Option Flight) (l : Flight) → unconfirmed got flight ≡ Some l → (flight ≡ Some l) × (got < l.number)
+unconfirmed_before got None l e = absurd (cc (e))
+unconfirmed_before got (Some f) l e = go (leb f.number got) refl e
+  where
+    go : (b : Bool) → leb f.number got ≡ b → cond b None (Some f) ≡ Some l → (Some f ≡ Some l) × (got < l.number)
+    go true k i = absurd (cc (i))
+    go false k i = let same : f ≡ l = cc in (i, subst (λ (z : Flight). got < z.number) same (leb-false f.number got k))
 
 -- what s records after a Renew of this version with these points: what it did, or what is newer, and no frozen point
 record Recorded (w : World) (s : Slot) (version : ℕ) (points held : Points) (recorded : ℕ) : Type 0 where
@@ -51,7 +59,13 @@ module _ {c : Settings} {w : World} {e : End} (a : Acting c w e) where
 
       -- a pending flight that is unconfirmed was pending before
       pending_before : (z : Freeze) (taken : ℕ) (l : Flight) → Pending z t.flight taken l → Pending z s.flight taken l
-      pending_before z taken l h = record { stands = (unconfirmed_before got s.flight l h.stands).0; taken = h.taken; point = h.point; flown = h.flown; frozen = h.frozen }
+      pending_before z taken l h = record {
+        stands = (unconfirmed_before got s.flight l h.stands).0;
+        taken = h.taken;
+        point = h.point;
+        flown = h.flown;
+        frozen = h.frozen;
+      }
 
       heard_link : KeptLink c w e s t
       heard_link =
@@ -116,8 +130,11 @@ module _ {c : Settings} {w : World} {e : End} (a : Acting c w e) where
       }
         where
           mine : (p : ℕ) → Claim (ack ∷ w.sent) e s.far t (slot w s.far).got p → Claim w.sent e s.far s (slot w s.far).got p
-          mine p (by_record h) = ⊎_elim (λ (i : s.held p ≡ true). by_record i) (λ (i : (points p ≡ true) × (s.held_version < version)). by_renew willing stamp version got points m i.1 i.0) (r.from p h)
-          mine p (by_renew h st v theirs pts k lt i) = by_renew willing st v theirs pts (⊎_elim (λ j. absurd (cc)) (λ j. j) k) (let le = r.rises in omega arith) i
+          mine p (by_record h) =
+              ⊎_elim (λ (i : s.held p ≡ true). by_record i)
+              (λ (i : (points p ≡ true) × (s.held_version < version)). by_renew willing stamp version got points m i.1 i.0) (r.from p h)
+          mine p (by_renew h st v theirs pts k lt i) =
+              by_renew willing st v theirs pts (⊎_elim (λ j. absurd (cc)) (λ j. j) k) (let le = r.rises in omega arith) i
           mine p (by_flight l h le i) = by_flight l (unconfirmed_before got s.flight l h).0 le i
 
       recorded_duty : Duty c w e (w.instance e.who).next_session (outcome t token (ack ∷ []) w.place)
@@ -132,7 +149,8 @@ module _ {c : Settings} {w : World} {e : End} (a : Acting c w e) where
           }))
           heard_token heard_place
 
-    heard_by : (b : Bool) → ltb s.held_version version ≡ b → Duty c w e (w.instance e.who).next_session (outcome (renewed s version got points b) token (ack ∷ []) w.place)
+    heard_by : (b : Bool) → ltb s.held_version version ≡ b →
+        Duty c w e (w.instance e.who).next_session (outcome (renewed s version got points b) token (ack ∷ []) w.place)
     heard_by true i =
         let lt = ltb-true s.held_version version i in
         recorded_duty points version (record {
@@ -141,7 +159,9 @@ module _ {c : Settings} {w : World} {e : End} (a : Acting c w e) where
           announced = sound.announced;
           positive = λ p h. omega arith;
           from = λ p h. inr (h, lt);
-          allowed = λ z is le p h. (freeze_theirs a z is (implied is_willing is_engaged refl s.state willing) sound.tied.mine).renews stamp version got points m le p h;
+          allowed = λ z is le p h.
+              (freeze_theirs a z is (implied is_willing is_engaged refl s.state willing) sound.tied.mine).renews stamp version got
+              points m le p h;
         })
     heard_by false i =
         let le = ltb-false s.held_version version i in
@@ -154,5 +174,6 @@ module _ {c : Settings} {w : World} {e : End} (a : Acting c w e) where
           allowed = λ z is le p h. (freeze_theirs a z is (implied is_willing is_engaged refl s.state willing) sound.tied.mine).recorded le p h;
         })
 
-    pub renew_heard_duty : Duty c w e (w.instance e.who).next_session (outcome (renewed s version got points (ltb s.held_version version)) token (ack ∷ []) w.place)
+    pub renew_heard_duty : Duty c w e (w.instance e.who).next_session
+        (outcome (renewed s version got points (ltb s.held_version version)) token (ack ∷ []) w.place)
     renew_heard_duty = heard_by (ltb s.held_version version) refl

@@ -36,7 +36,9 @@ module _ (c : Settings) where
   empty_sound = record {
     owned = λ x p l. absurd (none_live x l);
     exact = λ x p l. absurd (none_live x l);
-    unborn_place = λ x p h. first_place p (λ o. o ≡ At x → (x ≡ first_of c) × (is_point p ≡ true)) (λ i j. let same : first_of c ≡ x = cc in (sym same, i)) (λ i j. absurd (cc (j)));
+    unborn_place = λ x p h.
+        first_place p (λ o. o ≡ At x → (x ≡ first_of c) × (is_point p ≡ true)) (λ i j. let same : first_of c ≡ x = cc in (sym same, i))
+        (λ i j. absurd (cc (j)));
     whole_ring = λ p h q. first_place p (λ o. o ≡ At (first_of c)) (λ i. refl) (λ i. absurd (cc (q, i)));
     not_started = λ x h. refl;
     blank = λ x h. refl;
@@ -86,11 +88,17 @@ pub record EventDone (c : Settings) (w v : World) : Type 0 where
 
 pub event_done : {c : Settings} {w : World} → IsSound c → Invariant c w → (event : Event) → Can c w event → EventDone c w (after c w event)
 event_done sound inv (Starts node reading) can = record { inv = started_keeps inv node reading; later = started_later inv node reading }
-event_done {w = w} sound inv (Stops x) can = record { inv = left_keeps inv x Stopped born (λ h. cc (h)) (λ h. cc (h)); later = left_later inv x Stopped born (λ h. cc (h)) (λ h. cc (h)) }
+event_done {w = w} sound inv (Stops x) can = record {
+  inv = left_keeps inv x Stopped born (λ h. cc (h)) (λ h. cc (h));
+  later = left_later inv x Stopped born (λ h. cc (h)) (λ h. cc (h));
+}
   where
     born : (w.instance x).phase ≡ Unborn → ⊥
     born h = cc (can, ap has_clock h)
-event_done {w = w} sound inv (Leaves x) can = record { inv = left_keeps inv x Left born (λ h. cc (h)) (λ h. cc (h)); later = left_later inv x Left born (λ h. cc (h)) (λ h. cc (h)) }
+event_done {w = w} sound inv (Leaves x) can = record {
+  inv = left_keeps inv x Left born (λ h. cc (h)) (λ h. cc (h));
+  later = left_later inv x Left born (λ h. cc (h)) (λ h. cc (h));
+}
   where
     born : (w.instance x).phase ≡ Unborn → ⊥
     born h = cc (can, h)

@@ -72,7 +72,9 @@ module _ {c : Settings} {w : World} {e : End} (a : Acting c w e) where
     apart = λ h. subst (λ (f : End). same_who e.who f.who ≡ false) (sym k.far) ((good a).apart k.was_engaged);
     touched = k.touched;
     bound = λ h. subst (InState c w e t) h k.in_state;
-    asker = λ h. subst (λ f. (slot w f).state ≡ Asking → AsksFor (slot w f) e.who.actor t.len) (sym k.far) (λ i. subst (AsksFor (slot w s.far) e.who.actor) (sym k.len) ((good a).asker k.was_engaged i));
+    asker = λ h.
+        subst (λ f. (slot w f).state ≡ Asking → AsksFor (slot w f) e.who.actor t.len) (sym k.far)
+        (λ i. subst (AsksFor (slot w s.far) e.who.actor) (sym k.len) ((good a).asker k.was_engaged i));
     agreed = λ h. subst (λ f. Tied w f e → t.len ≡ (slot w f).len) (sym k.far) (λ tie. k.len ∙ (good a).agreed k.was_engaged tie);
     plain = λ h. absurd (both_ways _ h k.engaged);
     recorded = k.recorded;
@@ -89,7 +91,8 @@ module _ {c : Settings} {w : World} {e : End} (a : Acting c w e) where
       lease : guards t.state ≡ true → LeaseKept c w e s t
       lease h = subst (Guarding c w e s t) h k.guarding
 
-  pub kept_duty : (out : Outcome) → KeptLink c w e s out.slot → ((f : Frame) → IsMember f out.sent → Sent c w e s out f) → TokenDuty w e s out.slot out.token out.sent →
+  pub kept_duty : (out : Outcome) → KeptLink c w e s out.slot → ((f : Frame) → IsMember f out.sent → Sent c w e s out f) →
+      TokenDuty w e s out.slot out.token out.sent →
       PlaceDuty c w e s out.slot out.token out.sent out.place → Duty c w e (w.instance e.who).next_session out
   kept_duty out k sends token place = record {
     fence = λ h. let l : LeaseKept c w e s out.slot = subst (Guarding c w e s out.slot) h k.guarding in l.fence;
@@ -136,5 +139,7 @@ module _ {c : Settings} {w : World} {e : End} (a : Acting c w e) where
     recorded = (good a).recorded;
     claims = λ h. ap is_active bound;
     in_state = subst (InState c w e (record s { got = got; flight = flight })) (sym bound) ((good a).bound bound);
-    guarding = subst (λ st. Guarding c w e s (record s { got = got; flight = flight }) (guards st)) (sym bound) (lease_same (record s { got = got; flight = flight }) (ap guards bound) refl refl);
+    guarding =
+        subst (λ st. Guarding c w e s (record s { got = got; flight = flight }) (guards st)) (sym bound)
+        (lease_same (record s { got = got; flight = flight }) (ap guards bound) refl refl);
   }

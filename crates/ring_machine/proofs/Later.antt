@@ -39,7 +39,8 @@ pub record Later (c : Settings) (w v : World) : Type 0 where
   pub len : (e : End) → is_settled (slot w e).state ≡ true → (slot v e).len ≡ (slot w e).len
   -- a settled slot does not become willing, a quiet one stays quiet, and one that is not willing takes no flight
   pub willing : (e : End) → is_settled (slot w e).state ≡ true → is_willing (slot v e).state ≡ true → is_willing (slot w e).state ≡ true
-  pub quiets : (e : End) → is_settled (slot w e).state ≡ true → Quiet (slot w e).state (slot w e).held (slot w e).flight → Quiet (slot v e).state (slot v e).held (slot v e).flight
+  pub quiets : (e : End) → is_settled (slot w e).state ≡ true → Quiet (slot w e).state (slot w e).held (slot w e).flight →
+      Quiet (slot v e).state (slot v e).held (slot v e).flight
   pub still : (e : End) → is_settled (slot w e).state ≡ true → is_willing (slot w e).state ≡ false → (slot v e).got ≡ (slot w e).got
   pub held_versions : (e : End) → (slot w e).held_version ≤ (slot v e).held_version
   pub gots : (e : End) → (slot w e).got ≤ (slot v e).got
@@ -81,7 +82,10 @@ later_trans {w = w} {v = v} a b = record {
   len = λ e h. b.len e (a.settles e h) ∙ a.len e h;
   willing = λ e h i. a.willing e h (b.willing e (a.settles e h) i);
   quiets = λ e h q. b.quiets e (a.settles e h) (a.quiets e h q);
-  still = λ e h n. b.still e (a.settles e h) (false_from_ne_true (is_willing (slot v e).state) (λ i. both_ways (is_willing (slot w e).state) n (a.willing e h i))) ∙ a.still e h n;
+  still = λ e h n.
+      b.still e (a.settles e h)
+      (false_from_ne_true (is_willing (slot v e).state) (λ i. both_ways (is_willing (slot w e).state) n (a.willing e h i))) ∙ a.still e
+      h n;
   held_versions = λ e. let m = a.held_versions e in let n = b.held_versions e in omega arith;
   gots = λ e. let m = a.gots e in let n = b.gots e in omega arith;
 }
@@ -124,7 +128,8 @@ module _ {c : Settings} {w v : World} (l : Later c w v) where
   pub rests_later : (x : Who) (moment later stamp : ℕ) → moment ≤ later → Rests (w.instance x).pairs moment stamp → Rests (v.instance x).pairs later stamp
   rests_later x moment later stamp le r = record { taken = r.taken; reading = l.pairs x (r.taken, stamp) r.reading; no_later = omega arith }
 
-  pub leased_later : (x : Who) (moment later until len : ℕ) → moment ≤ later → Leased (w.instance x).pairs moment until len → Leased (v.instance x).pairs later until len
+  pub leased_later : (x : Who) (moment later until len : ℕ) → moment ≤ later → Leased (w.instance x).pairs moment until len →
+      Leased (v.instance x).pairs later until len
   leased_later x moment later until len le r = record { stamp = r.stamp; rests = rests_later x moment later r.stamp le r.rests; within = r.within }
 
   pub hello_later : (e : End) (node len : ℕ) → SoundHello w e node len → SoundHello v e node len

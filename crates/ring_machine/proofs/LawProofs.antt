@@ -37,7 +37,8 @@ pub ring_safe_lem : RingSafe
 ring_safe_lem c events sound valid = one_holder (history_sound c sound events valid)
 
 -- what lasts from each world to a later one lasts over a history
-lasts : (c : Settings) (P : World → Type 0) → ((w v : World) → Later c w v → P w → P v) → IsSound c → (later before : List Event) → Valid c (later ++ before) → P (world_after c before) → P (world_after c (later ++ before))
+lasts : (c : Settings) (P : World → Type 0) → ((w v : World) → Later c w v → P w → P v) → IsSound c → (later before : List Event) →
+    Valid c (later ++ before) → P (world_after c before) → P (world_after c (later ++ before))
 lasts c P keeps sound [] before valid h = h
 lasts c P keeps sound (event ∷ later) before valid h =
     keeps (world_after c (later ++ before)) (world_after c (event ∷ (later ++ before)))
@@ -68,8 +69,14 @@ module _ {c : Settings} {w : World} (sound : IsSound c) (inv : Invariant c w) (e
   pub moves_in_slot : (deed : SlotDeed) → MayInSlot c w e (w.instance e.who).reading (slot w e) (w.instance e.who).token deed →
       MovesInSlot w e (slot w e) deed ((after c w (Does e.who (InSlot e.number deed))).place ≡ w.place)
   moves_in_slot (PartGiven freeze) may = given_here acting may.0 freeze may.1 may.2
-  moves_in_slot (FlightTaken number part) may = record { flying = taken_flown acting may.0 number part may.1 may.2; whole = taken_whole acting may.0 number part may.1 may.2 }
-  moves_in_slot (FlightReturned flight got bound) may = record { flying = returned_flown acting may.0 flight got bound may.1 may.2 may.3; whole = returned_whole acting may.0 flight got bound may.1 may.2 may.3 }
+  moves_in_slot (FlightTaken number part) may = record {
+    flying = taken_flown acting may.0 number part may.1 may.2;
+    whole = taken_whole acting may.0 number part may.1 may.2;
+  }
+  moves_in_slot (FlightReturned flight got bound) may = record {
+    flying = returned_flown acting may.0 flight got bound may.1 may.2 may.3;
+    whole = returned_whole acting may.0 flight got bound may.1 may.2 may.3;
+  }
   moves_in_slot (TakenOver part) may = taken_from sound.drift acting may.0 may.1 part may.2
   moves_in_slot deed may = refl
 
@@ -89,7 +96,8 @@ each_moves_lem c event events sound valid = go event valid.0
     go event can = refl
 
 -- the counter is above a flight that was given
-given_below : (c : Settings) (w : World) (event : Event) (x : Who) (number : ℕ) → GivesFlight w event x number → number < ((after c w event).instance x).token.next_flight
+given_below : (c : Settings) (w : World) (event : Event) (x : Who) (number : ℕ) → GivesFlight w event x number →
+    number < ((after c w event).instance x).token.next_flight
 given_below c w (Does y (InSlot m (PartGiven freeze))) x number given =
     updated_cases (λ i. number < i.token.next_flight) w.instance y x _
     (λ h. let n = given.1 in let same = ap (λ (z : Who). (w.instance z).token.next_flight) h in omega arith)

@@ -13,7 +13,8 @@ use Rattle.ring_machine.proofs.Whos.{updated_cases}
 use Rattle.ring_machine.proofs.Later.{Later}
 use Rattle.ring_machine.proofs.Unmoved.{Unmoved, unmoved_later, slots_unmoved, frames_unmoved, backed_unmoved, flights_unmoved, freezes_unmoved, single_unmoved}
 
-module _ {c : Settings} {w : World} (inv : Invariant c w) (x : Who) (phase : Phase) (born : (w.instance x).phase ≡ Unborn → ⊥) (not_unborn : phase ≡ Unborn → ⊥) (not_running : phase ≡ Running → ⊥) where
+module _ {c : Settings} {w : World} (inv : Invariant c w) (x : Who) (phase : Phase) (born : (w.instance x).phase ≡ Unborn → ⊥)
+    (not_unborn : phase ≡ Unborn → ⊥) (not_running : phase ≡ Running → ⊥) where
   abbrev out : Instance
   out = record (w.instance x) { phase = phase }
 
@@ -46,11 +47,16 @@ module _ {c : Settings} {w : World} (inv : Invariant c w) (x : Who) (phase : Pha
   left_keeps = record {
     owned = instance_cases (λ y i. (p : ℕ) → Live c i → i.token.ranges p ≡ true → w.place p ≡ At y) (λ p l. absurd (gone l)) inv.owned;
     exact = instance_cases (λ y i. (p : ℕ) → Live c i → w.place p ≡ At y → i.token.ranges p ≡ true) (λ p l. absurd (gone l)) inv.exact;
-    unborn_place = instance_cases (λ y i. (p : ℕ) → i.phase ≡ Unborn → w.place p ≡ At y → (y ≡ first_of c) × (is_point p ≡ true)) (λ p h. absurd (not_unborn h)) inv.unborn_place;
+    unborn_place =
+        instance_cases (λ y i. (p : ℕ) → i.phase ≡ Unborn → w.place p ≡ At y → (y ≡ first_of c) × (is_point p ≡ true))
+        (λ p h. absurd (not_unborn h)) inv.unborn_place;
     whole_ring = inv.whole_ring;
     not_started = instance_cases (λ y i. w.starts y.actor < y.instance → i.phase ≡ Unborn) (λ h. absurd (born (inv.not_started x h))) inv.not_started;
     blank = instance_cases (λ y i. i.phase ≡ Unborn → i ≡ unborn) (λ h. absurd (not_unborn h)) inv.blank;
-    clocks = instance_cases (λ y i. (time reading : ℕ) → i.phase ≡ Running → IsMember (time, reading) i.pairs → Within c.bound (time, reading) (w.time, i.reading)) (λ time reading h. absurd (not_running h)) inv.clocks;
+    clocks =
+        instance_cases
+        (λ y i. (time reading : ℕ) → i.phase ≡ Running → IsMember (time, reading) i.pairs → Within c.bound (time, reading) (w.time, i.reading))
+        (λ time reading h. absurd (not_running h)) inv.clocks;
     present = instance_cases (λ y i. i.phase ≡ Running → IsMember (w.time, i.reading) i.pairs) (λ h. absurd (not_running h)) inv.present;
     slots = slots_unmoved inv w.starts left;
     frames = frames_unmoved inv w.starts left;

@@ -22,6 +22,7 @@ pub mod HandshakeDuties
 pub mod AccuseDuties
 pub mod PartDuties
 pub mod RenewDuties
+pub mod AckDuties
 pub mod HearDuties
 pub mod GiveDuties
 pub mod TakeDuties

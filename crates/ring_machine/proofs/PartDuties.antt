@@ -22,7 +22,10 @@ module _ {c : Settings} {w : World} {e : End} (a : Acting c w e) where
   abbrev s : Slot
   s = slot w e
 
-  pub parting_begun_duty : is_willing s.state ≡ true → s.flight ≡ None → Duty c w e (w.instance e.who).next_session (outcome (record s { state = Parting; held = no_points }) (undone e.number (w.instance e.who).token (w.instance e.who).token.freeze) (Gone e s.far s.got true ∷ []) w.place)
+  pub parting_begun_duty : is_willing s.state ≡ true → s.flight ≡ None →
+      Duty c w e (w.instance e.who).next_session
+      (outcome (record s { state = Parting; held = no_points })
+      (undone e.number (w.instance e.who).token (w.instance e.who).token.freeze) (Gone e s.far s.got true ∷ []) w.place)
   parting_begun_duty willing landed =
       let token = undone e.number (w.instance e.who).token (w.instance e.who).token.freeze in
       let out : Outcome = outcome (record s { state = Parting; held = no_points }) token (Gone e s.far s.got true ∷ []) w.place in
@@ -76,12 +79,15 @@ module _ {c : Settings} {w : World} {e : End} (a : Acting c w e) where
     used = (good a).far_used (implied stands is_engaged refl s.state st);
   }
 
-  pub gone_heard_duty : stands s.state ≡ true → (got : ℕ) (bound : Bool) → IsMember (Gone s.far e got bound) w.sent → Duty c w e (w.instance e.who).next_session (outcome (parted s) (undone e.number (w.instance e.who).token (w.instance e.who).token.freeze) (answer_if bound (Gone e s.far s.got false)) w.place)
+  pub gone_heard_duty : stands s.state ≡ true → (got : ℕ) (bound : Bool) → IsMember (Gone s.far e got bound) w.sent →
+      Duty c w e (w.instance e.who).next_session
+      (outcome (parted s) (undone e.number (w.instance e.who).token (w.instance e.who).token.freeze) (answer_if bound (Gone e s.far s.got false)) w.place)
   gone_heard_duty st got bound m =
       let token = undone e.number (w.instance e.who).token (w.instance e.who).token.freeze in
       let out : Outcome = outcome (parted s) token (answer_if bound (Gone e s.far s.got false)) w.place in
       let un = is_undone e.number (w.instance e.who).token (w.instance e.who).token.freeze in
-      let none : NoRenewal (answer_if bound (Gone e s.far s.got false)) = each_of_answer (λ g. is_renewal g ≡ false) bound (Gone e s.far s.got false) (λ h. refl) in
+      let none : NoRenewal (answer_if bound (Gone e s.far s.got false)) =
+      each_of_answer (λ g. is_renewal g ≡ false) bound (Gone e s.far s.got false) (λ h. refl) in
       kept_duty a out
       (parted_link st got (a.inv.frames (Gone s.far e got bound) m))
       (each_of_answer (Sent c w e s out) bound (Gone e s.far s.got false) (λ h. parted_answer st))

@@ -1,31 +1,18 @@
--- Deeds that renew: announce, record what is announced, and count an acknowledgement.
-use Rattle.std.proofs.Common.{◌≡◌, ℕ, ◌+◌, ◌<◌, ◌≤◌, max, Bool, true, false, cond, not, leb, [], ◌∷◌, Option, Some, None, ◌⊎◌, refl, sym, ap, ◌∙◌, subst, inl, inr, ⊎_elim, arith}
-use Rattle.std.proofs.lemmas.Bool.{both_ways, and_parts, leb-false, cases_lt}
+-- A Renew is sent: it announces what is owned and not frozen.
+use Rattle.std.proofs.Common.{◌≡◌, ℕ, true, not, [], ◌∷◌, Option, Some, ◌⊎◌, refl, sym, ap, ◌∙◌, inl, inr, ⊎_elim, arith}
+use Rattle.std.proofs.lemmas.Bool.{and_parts}
 use Rattle.ring_machine.specs.Members.{IsMember}
 use Rattle.ring_machine.specs.Points.{Points}
 use Rattle.ring_machine.specs.Ends.{End}
-use Rattle.ring_machine.specs.Slots.{Slot, Flight, Bound, guards, is_used, is_engaged, stands}
+use Rattle.ring_machine.specs.Slots.{Slot, Bound, is_used, is_engaged}
 use Rattle.ring_machine.specs.Tokens.{Token, Freeze, frozen, announced}
 use Rattle.ring_machine.specs.Frames.{Frame, Renew, RenewAck}
 use Rattle.ring_machine.specs.World.{Settings, World, At, slot}
-use Rattle.ring_machine.specs.Effects.{outcome, unconfirmed}
+use Rattle.ring_machine.specs.Effects.{outcome}
 use Rattle.ring_machine.specs.Claims.{Claim, by_record, by_renew, by_flight}
-use Rattle.ring_machine.specs.Leases.{Rests, Leased}
-use Rattle.ring_machine.specs.SoundFrames.{SoundAck}
-use Rattle.ring_machine.proofs.States.{implied}
 use Rattle.ring_machine.proofs.Duty.{Sent, TokenDuty, PlaceDuty, Duty}
 use Rattle.ring_machine.proofs.Acting.{Acting, good, here, each_of_one, frozen_more, claim_before, far_differs, freeze_mine, freeze_theirs}
-use Rattle.ring_machine.proofs.Kept.{KeptLink, LeaseKept, kept_duty, lease_same, state_same}
-use Rattle.ring_machine.proofs.Shrunk.{not_less, not_undone, token_shrunk, place_shrunk, link_same}
-
--- an unconfirmed flight stood before, and is above the other's last one
-pub unconfirmed_before : (got : ℕ) (flight : Option Flight) (l : Flight) → unconfirmed got flight ≡ Some l → (flight ≡ Some l) × (got < l.number)
-unconfirmed_before got None l e = absurd (cc (e))
-unconfirmed_before got (Some f) l e = go (leb f.number got) refl e
-  where
-    go : (b : Bool) → leb f.number got ≡ b → cond b None (Some f) ≡ Some l → (Some f ≡ Some l) × (got < l.number)
-    go true k i = absurd (cc (i))
-    go false k i = let same : f ≡ l = cc in (i, subst (λ (z : Flight). got < z.number) same (leb-false f.number got k))
+use Rattle.ring_machine.proofs.Shrunk.{not_less, not_undone, place_shrunk, link_same}
 
 module _ {c : Settings} {w : World} {e : End} (a : Acting c w e) where
   abbrev s : Slot
@@ -33,90 +20,6 @@ module _ {c : Settings} {w : World} {e : End} (a : Acting c w e) where
 
   abbrev token : Token
   token = (w.instance e.who).token
-
-  -- an acknowledgement prolongs the lease
-  module _ (st : stands s.state ≡ true) (stamp version : ℕ) (m : IsMember (RenewAck s.far e stamp version) w.sent) where
-    abbrev prolonged : Slot
-    prolonged = record (slot w e) { until = max (slot w e).until (stamp + (slot w e).len); acked = max (slot w e).acked version }
-
-    guarded : guards s.state ≡ true
-    guarded = implied stands guards refl s.state st
-
-    ack : SoundAck w s.far e stamp version
-    ack = a.inv.frames (RenewAck s.far e stamp version) m
-
-    longer : (moment : ℕ) → Leased (w.instance e.who).pairs moment s.until s.len → Rests (w.instance e.who).pairs moment stamp → Leased (w.instance e.who).pairs moment prolonged.until s.len
-    longer moment l rests = ⊎_elim
-        (λ (lt : l.stamp < stamp). record { stamp = stamp; rests = rests; within = omega (arith, l.within) })
-        (λ (le : stamp ≤ l.stamp). record { stamp = l.stamp; rests = l.rests; within = omega (arith, l.within) })
-        (cases_lt l.stamp stamp)
-
-    lease : LeaseKept c w e s prolonged
-    lease = record {
-      leased = longer w.time ((good a).leased guarded) ack.rests;
-      since = λ moment was acks. longer moment (was guarded) (acks stamp version m);
-      fence = let f = a.live.below e.number guarded in omega arith;
-    }
-
-    ack_token : TokenDuty w e s prolonged token []
-    ack_token =
-        let still = token_shrunk a s.state s.until s.ripe s.held s.flight token [] (not_less s) (not_undone token) (λ g h. absurd h) in record {
-          acked = let n = ack.recorded in let k = (good a).acked in omega arith;
-          version = still.version;
-          got = still.got;
-          held_version_rises = still.held_version_rises;
-          got_rises = still.got_rises;
-          got_still = still.got_still;
-          version_rises = still.version_rises;
-          next_flight_rises = still.next_flight_rises;
-          flight = still.flight;
-          sound = still.sound;
-          freeze = λ z h. inl h;
-          mine = λ en z is k tie. let f = freeze_mine a z is en tie in record {
-            renews = f.renews;
-            confirms = f.confirms;
-            acks = f.acks;
-            recorded = f.recorded;
-            settled = λ le l pending. ⊎_elim (λ (lt : s.acked < version). f.acks stamp version m (omega arith) l pending) (λ (le2 : version ≤ s.acked). f.settled (omega arith) l pending) (cases_lt s.acked version);
-          };
-          theirs = still.theirs;
-          newly = λ h. absurd (both_ways _ h (implied stands is_engaged refl s.state st));
-        }
-
-    pub ack_heard_duty : Duty c w e (w.instance e.who).next_session (outcome prolonged token [] w.place)
-    ack_heard_duty =
-        let engaged = implied stands is_engaged refl s.state st in
-        let still = place_shrunk a s.state s.until s.ripe s.held s.flight token [] (not_less s) (not_undone token) (λ g h. absurd h) (λ h. h) in
-        kept_duty a (outcome prolonged token [] w.place)
-        (record {
-          was_engaged = engaged;
-          engaged = engaged;
-          far = refl;
-          len = refl;
-          active = λ h. h;
-          willing = λ h. h;
-          quiets = λ q. q;
-          touched = λ h. ack.tied.mine;
-          recorded = (good a).recorded;
-          claims = (good a).claims;
-          in_state = state_same a s.state refl;
-          guarding = subst (λ b. Rattle.ring_machine.proofs.Kept.Guarding c w e s prolonged b) (sym guarded) lease;
-        })
-        (λ g h. absurd h)
-        ack_token
-        (record {
-          owned = still.owned;
-          exact = still.exact;
-          keeps = still.keeps;
-          keeps_unborn = still.keeps_unborn;
-          gets_none = still.gets_none;
-          flies = still.flies;
-          flew = still.flew;
-          flight = still.flight;
-          mine = still.mine;
-          theirs = still.theirs;
-          stays = still.stays;
-        })
 
   -- what is announced is owned, and is not frozen
   announced_owned : (p : ℕ) → announced token p ≡ true → w.place p ≡ At e.who
@@ -141,7 +44,10 @@ module _ {c : Settings} {w : World} {e : End} (a : Acting c w e) where
         old m
 
     not_to_me : (stamp version got : ℕ) (points : Points) → IsMember (Renew s.far e stamp version got points) (renew ∷ []) → ⊥
-    not_to_me stamp version got points m = ⊎_elim (λ (i : Renew s.far e stamp version got points ≡ renew). let same : e ≡ s.far = cc in far_differs a (ap is_engaged bound) same) (λ i. i) m
+    not_to_me stamp version got points m =
+        ⊎_elim
+        (λ (i : Renew s.far e stamp version got points ≡ renew). let same : e ≡ s.far = cc in far_differs a (ap is_engaged bound) same)
+        (λ i. i) m
 
     no_ack_sent : (f g : End) (stamp version : ℕ) → IsMember (RenewAck f g stamp version) (renew ∷ []) → ⊥
     no_ack_sent f g stamp version (inl i) = cc

@@ -48,8 +48,11 @@ module _ {c : Settings} {w : World} (inv : Invariant c w) where
       go : (frame : Frame) → IsMember frame w.sent → ends_of frame ≡ Some (f, e) → AreUsed w f e
       go (Offer g h len) m i = let r : SoundOffer w g h len = inv.frames (Offer g h len) m in same g h (tied_used g h r.tied) i
       go (Take g h) m i = let r : BothTied w g h = inv.frames (Take g h) m in same g h (tied_used g h r.mine) i
-      go (Renew g h stamp version got points) m i = let r : SoundRenew w g h stamp version got = inv.frames (Renew g h stamp version got points) m in same g h (tied_used g h r.tied.mine) i
-      go (Transfer g h number part) m i = let r : SoundTransfer c w g h number part = inv.frames (Transfer g h number part) m in same g h (tied_used g h r.tied.mine) i
+      go (Renew g h stamp version got points) m i =
+          let r : SoundRenew w g h stamp version got = inv.frames (Renew g h stamp version got points) m in
+          same g h (tied_used g h r.tied.mine) i
+      go (Transfer g h number part) m i =
+          let r : SoundTransfer c w g h number part = inv.frames (Transfer g h number part) m in same g h (tied_used g h r.tied.mine) i
       go (Gone g h got bound) m i = let r : SoundGone w g h got = inv.frames (Gone g h got bound) m in same g h (gone_used g h got r) i
       go frame m i = absurd (cc (i))
 
@@ -69,7 +72,8 @@ module _ {c : Settings} {w : World} {e : End} (a : Acting c w e) where
       (each_of_one (λ g. is_renewal g ≡ false) f is)
       (each_of_one (Sent c w e s (outcome s ((w.instance e.who).token) (f ∷ []) w.place)) f sound)
 
-  pub hello_again : s.state ≡ Asking → Duty c w e (w.instance e.who).next_session (outcome s ((w.instance e.who).token) (Hello e s.far.who.actor s.len ∷ []) w.place)
+  pub hello_again : s.state ≡ Asking →
+      Duty c w e (w.instance e.who).next_session (outcome s ((w.instance e.who).token) (Hello e s.far.who.actor s.len ∷ []) w.place)
   hello_again h = sends_one (Hello e s.far.who.actor s.len) (ap is_used h) refl (record { own = refl; asks_node = λ i. refl; asks_length = λ i. refl })
 
   pub offer_again : s.state ≡ Offered → Duty c w e (w.instance e.who).next_session (outcome s ((w.instance e.who).token) (Offer e s.far s.len ∷ []) w.place)
@@ -78,7 +82,8 @@ module _ {c : Settings} {w : World} {e : End} (a : Acting c w e) where
   pub take_again : s.state ≡ Bound → Duty c w e (w.instance e.who).next_session (outcome s ((w.instance e.who).token) (Take e s.far ∷ []) w.place)
   take_again h = sends_one (Take e s.far) (ap is_used h) refl (record { own = refl; engaged = ap is_engaged h; far = refl; back = (good a).bound h })
 
-  pub flight_again : s.state ≡ Bound → (l : Flight) → s.flight ≡ Some l → Duty c w e (w.instance e.who).next_session (outcome s ((w.instance e.who).token) (Transfer e s.far l.number l.part ∷ []) w.place)
+  pub flight_again : s.state ≡ Bound → (l : Flight) → s.flight ≡ Some l →
+      Duty c w e (w.instance e.who).next_session (outcome s ((w.instance e.who).token) (Transfer e s.far l.number l.part ∷ []) w.place)
   flight_again h l is = sends_one (Transfer e s.far l.number l.part) (ap is_used h) refl (record {
     own = refl;
     far = refl;
@@ -102,20 +107,26 @@ module _ {c : Settings} {w : World} {e : End} (a : Acting c w e) where
         used = (good a).far_used (ap is_engaged h);
       })
 
-  pub accuse_again : is_tallying s.state ≡ true → Duty c w e (w.instance e.who).next_session (outcome s ((w.instance e.who).token) (Accuse e.who s.far.who ∷ []) w.place)
+  pub accuse_again : is_tallying s.state ≡ true →
+      Duty c w e (w.instance e.who).next_session (outcome s ((w.instance e.who).token) (Accuse e.who s.far.who ∷ []) w.place)
   accuse_again h =
       let engaged = implied is_tallying is_engaged refl s.state h in
       sends_one (Accuse e.who s.far.who) (implied is_tallying is_used refl s.state h) refl ((good a).apart engaged)
 
   -- what is unknown here is denied
-  pub unknown_denied : (from : End) → Came w.sent from e → IsUnknown s from → Duty c w e (w.instance e.who).next_session (outcome s ((w.instance e.who).token) (Gone e from 0 false ∷ []) w.place)
+  pub unknown_denied : (from : End) → Came w.sent from e → IsUnknown s from →
+      Duty c w e (w.instance e.who).next_session (outcome s ((w.instance e.who).token) (Gone e from 0 false ∷ []) w.place)
   unknown_denied from came unknown =
       let used = came_used a.inv from e came in
       sends_one (Gone e from 0 false) used.receiver refl (record { own = refl; closed = closed unknown; took = took unknown; used = used.sender })
     where
       closed : IsUnknown s from → ClosedTo from s.far s.state s.held s.flight
       closed (other_session settled n) = elsewhere settled n
-      closed (abandoned h) = let k = (good a).plain (ap is_engaged h) in over (ap is_settled h) (record { deaf = ap is_willing h; empty = k.1; landed = k.0.flight })
+      closed (abandoned h) = let k = (good a).plain (ap is_engaged h) in over (ap is_settled h) (record {
+        deaf = ap is_willing h;
+        empty = k.1;
+        landed = k.0.flight;
+      })
       closed (parted h) = let k = (good a).parted h in over (ap is_settled h) (record { deaf = ap is_willing h; empty = k.0; landed = k.1 })
 
       took : IsUnknown s from → (s.far ≡ from → s.got ≤ 0) ⊎ Closed w from e

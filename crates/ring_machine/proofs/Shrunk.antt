@@ -72,7 +72,8 @@ module _ {c : Settings} {w : World} {e : End} (a : Acting c w e) where
   s = slot w e
 
   -- a pending flight of less content was pending before
-  pending_before : {z : Freeze} {held : Points} {flight : Option Flight} {got : ℕ} {l : Flight} → IsLess s held flight → Pending z flight got l → Pending z s.flight got l
+  pending_before : {z : Freeze} {held : Points} {flight : Option Flight} {got : ℕ} {l : Flight} → IsLess s held flight →
+      Pending z flight got l → Pending z s.flight got l
   pending_before {l = l} less h = record { stands = less.flight_before l h.stands; taken = h.taken; point = h.point; flown = h.flown; frozen = h.frozen }
 
   -- a freeze of the other side is sound against less content
@@ -102,8 +103,12 @@ module _ {c : Settings} {w : World} {e : End} (a : Acting c w e) where
     sound = λ z h. let r = un.freeze z h in subst (λ (k : Token). SoundToken k z) (sym r.0) (a.inv.tokens e.who z r.1);
     freeze = λ z h. inl (un.freeze z h).1;
     mine = λ en z is still tie. frozen_more sent w.sent e s.far z _ _ _ _ _ (no_renew sent none e s.far) (no_ack sent none s.far e) (freeze_mine a z is en tie);
-    theirs = λ en z is tie. theirs_less z (sent ++ w.sent) _ _ held flight less (frozen_more sent w.sent s.far e z _ _ _ _ _ (no_renew sent none s.far e) (no_ack sent none e s.far) (freeze_theirs a z is en tie));
-    newly = λ h. let u = ((good a).plain h).0 in record { flight = none_left flight u.flight less.flight_before; held_version = u.held_version; got = u.got; acked = u.acked };
+    theirs = λ en z is tie.
+        theirs_less z (sent ++ w.sent) _ _ held flight less
+        (frozen_more sent w.sent s.far e z _ _ _ _ _ (no_renew sent none s.far e) (no_ack sent none e s.far) (freeze_theirs a z is en tie));
+    newly = λ h.
+        let u = ((good a).plain h).0 in
+        record { flight = none_left flight u.flight less.flight_before; held_version = u.held_version; got = u.got; acked = u.acked };
   }
 
   pub place_shrunk : (state : State) (until ripe : ℕ) (held : Points) (flight : Option Flight) (token : Token) (sent : List Frame) →
@@ -117,7 +122,9 @@ module _ {c : Settings} {w : World} {e : End} (a : Acting c w e) where
     gets_none = λ y p n h. h;
     flies = λ g h number p i. inl i;
     flew = λ g h number p i. inl i;
-    flight = λ l h. let r = a.inv.flights e s.far l refl (less.flight_before l h) in record { numbered = let n = un.next_flight in let m = r.numbered in omega arith; flying = r.flying; whole = r.whole };
+    flight = λ l h.
+        let r = a.inv.flights e s.far l refl (less.flight_before l h) in
+        record { numbered = let n = un.next_flight in let m = r.numbered in omega arith; flying = r.flying; whole = r.whole };
     mine = λ en p h. before p (claim_before sent w.sent e s.far (shrunk s state until ripe held flight) (slot w s.far).got p (no_renew sent none s.far e) h);
     theirs = λ en p h. inl (claim_before sent w.sent s.far e (slot w s.far) s.got p (no_renew sent none e s.far) h);
     stays = λ g f p far now claim i. inl i;

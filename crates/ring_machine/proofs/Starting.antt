@@ -33,8 +33,11 @@ module _ {c : Settings} {w : World} (inv : Invariant c w) (node reading : ℕ) w
   was_unborn = inv.not_started x (omega arith)
 
   -- what holds of an instance; the new one was unborn
-  instance_cases : (P : Who → Instance → Instance → Type 0) → P x unborn new → ((y : Who) → P y (w.instance y) (w.instance y)) → (y : Who) → P y (w.instance y) (instances y)
-  instance_cases P here old y = updated_cases (P y (w.instance y)) w.instance x y new (λ h. subst (λ z. P z (w.instance z) new) h (subst (λ i. P x i new) (sym (inv.blank x was_unborn)) here)) (λ h. old y)
+  instance_cases : (P : Who → Instance → Instance → Type 0) → P x unborn new → ((y : Who) → P y (w.instance y) (w.instance y)) →
+      (y : Who) → P y (w.instance y) (instances y)
+  instance_cases P here old y =
+      updated_cases (P y (w.instance y)) w.instance x y new
+      (λ h. subst (λ z. P z (w.instance z) new) h (subst (λ i. P x i new) (sym (inv.blank x was_unborn)) here)) (λ h. old y)
 
   starts_rise : (m : ℕ) → w.starts m ≤ starts m
   starts_rise m = replaced_cases (λ n. w.starts m ≤ n) w.starts node m (w.starts node + 1) (λ h. let same = ap w.starts h in omega arith) (λ h. omega arith)
@@ -77,12 +80,19 @@ module _ {c : Settings} {w : World} (inv : Invariant c w) (node reading : ℕ) w
   started_keeps = record {
     owned = instance_cases (λ y i j. (p : ℕ) → Live c j → j.token.ranges p ≡ true → w.place p ≡ At y) (λ p l h. first_owns p h) inv.owned;
     exact = instance_cases (λ y i j. (p : ℕ) → Live c j → w.place p ≡ At y → j.token.ranges p ≡ true) (λ p l h. owns_first p h) inv.exact;
-    unborn_place = instance_cases (λ y i j. (p : ℕ) → j.phase ≡ Unborn → w.place p ≡ At y → (y ≡ first_of c) × (is_point p ≡ true)) (λ p h. absurd (cc (h))) inv.unborn_place;
+    unborn_place =
+        instance_cases (λ y i j. (p : ℕ) → j.phase ≡ Unborn → w.place p ≡ At y → (y ≡ first_of c) × (is_point p ≡ true))
+        (λ p h. absurd (cc (h))) inv.unborn_place;
     whole_ring = λ p h q. let rises = starts_rise c.first in inv.whole_ring p (omega arith) q;
-    not_started = instance_cases (λ y i j. starts y.actor < y.instance → j.phase ≡ Unborn) (λ h. absurd (counted_here h)) (λ y h. let rises = starts_rise y.actor in inv.not_started y (omega arith));
+    not_started =
+        instance_cases (λ y i j. starts y.actor < y.instance → j.phase ≡ Unborn) (λ h. absurd (counted_here h))
+        (λ y h. let rises = starts_rise y.actor in inv.not_started y (omega arith));
     blank = instance_cases (λ y i j. j.phase ≡ Unborn → j ≡ unborn) (λ h. absurd (cc (h))) inv.blank;
     clocks = instance_cases (λ y i j. (time read : ℕ) → j.phase ≡ Running → IsMember (time, read) j.pairs → Within c.bound (time, read) (w.time, j.reading))
-        (λ time read h m. ⊎_elim (λ (e : (time, read) ≡ (w.time, reading)). subst (λ (z : ℕ × ℕ). Within c.bound z (w.time, reading)) (sym e) (Within-refl c.bound (w.time, reading))) (λ n. absurd n) m)
+        (λ time read h m.
+        ⊎_elim
+        (λ (e : (time, read) ≡ (w.time, reading)). subst (λ (z : ℕ × ℕ). Within c.bound z (w.time, reading)) (sym e) (Within-refl c.bound (w.time, reading)))
+        (λ n. absurd n) m)
         inv.clocks;
     present = instance_cases (λ y i j. j.phase ≡ Running → IsMember (w.time, j.reading) j.pairs) (λ h. inl refl) inv.present;
     slots = slots_unmoved inv starts begun;

@@ -37,7 +37,18 @@ at_state f all s = go s (and_parts (f Unused) (used_states f) all)
         let h7 = and_parts (f Heir) _ h6.1 in
         let h8 = and_parts (f Abandoned) _ h7.1 in
         let h9 = and_parts (f Parted) _ h8.1 in
-        record { asking = h1.0; offered = h2.0; bound = h3.0; parting = h4.0; accused = h5.0; discharged = h6.0; heir = h7.0; abandoned = h8.0; parted = h9.0; ended = h9.1 }
+        record {
+          asking = h1.0;
+          offered = h2.0;
+          bound = h3.0;
+          parting = h4.0;
+          accused = h5.0;
+          discharged = h6.0;
+          heir = h7.0;
+          abandoned = h8.0;
+          parted = h9.0;
+          ended = h9.1;
+        }
 
     go : (s : State) → (f Unused ≡ true) × (used_states f ≡ true) → f s ≡ true
     go Unused h = h.0
@@ -68,7 +79,8 @@ excluded f g all s h k = let n : not (g s) ≡ true = implied f (λ s. not (g s)
 pub touch_cases : (s : Slot) → Touched s ⊎ Untouched s
 touch_cases s = go s.flight s.held_version s.got s.acked refl refl refl refl
   where
-    go : (flight : Option Flight) (held_version got acked : ℕ) → s.flight ≡ flight → s.held_version ≡ held_version → s.got ≡ got → s.acked ≡ acked → Touched s ⊎ Untouched s
+    go : (flight : Option Flight) (held_version got acked : ℕ) → s.flight ≡ flight → s.held_version ≡ held_version → s.got ≡ got →
+        s.acked ≡ acked → Touched s ⊎ Untouched s
     go (Some l) v g a x1 x2 x3 x4 = inl (flew l x1)
     go None (suc v) g a x1 x2 x3 x4 = inl (heard (omega arith))
     go None zero (suc g) a x1 x2 x3 x4 = inl (took (omega arith))

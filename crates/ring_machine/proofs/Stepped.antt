@@ -36,7 +36,8 @@ module _ {c : Settings} {w : World} {e : End} {next : ℕ} {out : Outcome} (d : 
   other_slot g = slot_cases (λ g s. (e ≡ g → ⊥) → s ≡ slot w g) (λ n. absurd (n refl)) (λ g n m. refl) g
 
   -- what holds of an instance
-  pub instance_cases : (P : Who → Instance → Type 0) → P e.who acted → ((y : Who) → same_who e.who y ≡ false → P y (w.instance y)) → (y : Who) → P y (next_world.instance y)
+  pub instance_cases : (P : Who → Instance → Type 0) → P e.who acted → ((y : Who) → same_who e.who y ≡ false → P y (w.instance y)) →
+      (y : Who) → P y (next_world.instance y)
   instance_cases P mine others y = updated_cases (P y) w.instance e.who y acted (λ h. subst (λ u. P u acted) h mine) (others y)
 
   pub own_instance : next_world.instance e.who ≡ acted
@@ -59,14 +60,23 @@ module _ {c : Settings} {w : World} {e : End} {next : ℕ} {out : Outcome} (d : 
         versions = instance_cases (λ y i. (w.instance y).token.version ≤ i.token.version) token.version_rises (λ y n. omega arith);
         next_flights = instance_cases (λ y i. (w.instance y).token.next_flight ≤ i.token.next_flight) token.next_flight_rises (λ y n. omega arith);
         uses = slot_cases (λ g s. is_used (slot w g).state ≡ true → is_used s.state ≡ true) (λ h. link.used) (λ g n h. h);
-        asks = slot_cases (λ g s. is_used (slot w g).state ≡ true → s.state ≡ Asking → AskedBefore (slot w g) s) link.asks (λ g n h a. record { asking = a; far = refl; len = refl });
+        asks =
+            slot_cases (λ g s. is_used (slot w g).state ≡ true → s.state ≡ Asking → AskedBefore (slot w g) s) link.asks
+            (λ g n h a. record { asking = a; far = refl; len = refl });
         engages = slot_cases (λ g s. is_engaged (slot w g).state ≡ true → is_engaged s.state ≡ true) link.engages (λ g n h. h);
         settles = slot_cases (λ g s. is_settled (slot w g).state ≡ true → is_settled s.state ≡ true) link.settles (λ g n h. h);
         far = slot_cases (λ g s. is_settled (slot w g).state ≡ true → s.far ≡ (slot w g).far) link.far (λ g n h. refl);
         len = slot_cases (λ g s. is_settled (slot w g).state ≡ true → s.len ≡ (slot w g).len) link.len (λ g n h. refl);
-        quiets = slot_cases (λ g s. is_settled (slot w g).state ≡ true → Quiet (slot w g).state (slot w g).held (slot w g).flight → Quiet s.state s.held s.flight) link.quiets (λ g n h q. q);
-        willing = slot_cases (λ g s. is_settled (slot w g).state ≡ true → is_willing s.state ≡ true → is_willing (slot w g).state ≡ true) link.willing (λ g n h a. a);
-        still = slot_cases (λ g s. is_settled (slot w g).state ≡ true → is_willing (slot w g).state ≡ false → s.got ≡ (slot w g).got) token.got_still (λ g n a b. refl);
+        quiets =
+            slot_cases
+            (λ g s. is_settled (slot w g).state ≡ true → Quiet (slot w g).state (slot w g).held (slot w g).flight → Quiet s.state s.held s.flight)
+            link.quiets (λ g n h q. q);
+        willing =
+            slot_cases (λ g s. is_settled (slot w g).state ≡ true → is_willing s.state ≡ true → is_willing (slot w g).state ≡ true)
+            link.willing (λ g n h a. a);
+        still =
+            slot_cases (λ g s. is_settled (slot w g).state ≡ true → is_willing (slot w g).state ≡ false → s.got ≡ (slot w g).got)
+            token.got_still (λ g n a b. refl);
         held_versions = slot_cases (λ g s. (slot w g).held_version ≤ s.held_version) token.held_version_rises (λ g n. omega arith);
         gots = slot_cases (λ g s. (slot w g).got ≤ s.got) token.got_rises (λ g n. omega arith);
       }
@@ -76,7 +86,9 @@ module _ {c : Settings} {w : World} {e : End} {next : ℕ} {out : Outcome} (d : 
 
   -- a tie of before is of now, and the other way round where e is not concerned
   pub old_tie : (g h : End) → (e ≡ g → ⊥) → Tied next_world g h → Tied w g h
-  old_tie g h n t = let s = other_slot g n in record { engaged = subst (λ (s : Slot). is_engaged s.state ≡ true) s t.engaged; far = ap (λ (s : Slot). s.far) (sym s) ∙ t.far }
+  old_tie g h n t =
+      let s = other_slot g n in
+      record { engaged = subst (λ (s : Slot). is_engaged s.state ≡ true) s t.engaged; far = ap (λ (s : Slot). s.far) (sym s) ∙ t.far }
 
   pub own_tie : (h : End) → Tied next_world e h → (is_engaged out.slot.state ≡ true) × (out.slot.far ≡ h)
   own_tie h t = (subst (λ (s : Slot). is_engaged s.state ≡ true) own_slot t.engaged, ap (λ (s : Slot). s.far) (sym own_slot) ∙ t.far)

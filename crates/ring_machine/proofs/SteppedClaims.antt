@@ -22,15 +22,21 @@ module _ {c : Settings} {w : World} {e : End} {next : ℕ} {out : Outcome} (d : 
   t = out.slot
 
   -- nothing of e's session came or went while e had none
-  pub no_renew_to : is_engaged (slot w e).state ≡ false → (g : End) (stamp version got : ℕ) (points : Points) → IsMember (Renew g e stamp version got points) (next_world d).sent → ⊥
+  pub no_renew_to : is_engaged (slot w e).state ≡ false → (g : End) (stamp version got : ℕ) (points : Points) →
+      IsMember (Renew g e stamp version got points) (next_world d).sent → ⊥
   no_renew_to a g stamp version got points m = ⊎_elim
-      (λ new. let r : SentRenew w e (slot w e) g e stamp version got = d.duty.sends (Renew g e stamp version got points) new in both_ways _ a r.sound.tied.mine.engaged)
+      (λ new.
+      let r : SentRenew w e (slot w e) g e stamp version got = d.duty.sends (Renew g e stamp version got points) new in
+      both_ways _ a r.sound.tied.mine.engaged)
       (λ old. let r : SoundRenew w g e stamp version got = d.inv.frames (Renew g e stamp version got points) old in both_ways _ a r.tied.theirs.engaged)
       (sent_cases d _ m)
 
-  pub no_renew_from : is_engaged (slot w e).state ≡ false → (g : End) (stamp version got : ℕ) (points : Points) → IsMember (Renew e g stamp version got points) (next_world d).sent → ⊥
+  pub no_renew_from : is_engaged (slot w e).state ≡ false → (g : End) (stamp version got : ℕ) (points : Points) →
+      IsMember (Renew e g stamp version got points) (next_world d).sent → ⊥
   no_renew_from a g stamp version got points m = ⊎_elim
-      (λ new. let r : SentRenew w e (slot w e) e g stamp version got = d.duty.sends (Renew e g stamp version got points) new in both_ways _ a r.sound.tied.mine.engaged)
+      (λ new.
+      let r : SentRenew w e (slot w e) e g stamp version got = d.duty.sends (Renew e g stamp version got points) new in
+      both_ways _ a r.sound.tied.mine.engaged)
       (λ old. let r : SoundRenew w e g stamp version got = d.inv.frames (Renew e g stamp version got points) old in both_ways _ a r.tied.mine.engaged)
       (sent_cases d _ m)
 
@@ -54,13 +60,18 @@ module _ {c : Settings} {w : World} {e : End} {next : ℕ} {out : Outcome} (d : 
       (touch_cases (slot w g))
 
   -- a claim of before is backed still
-  old_claim : (g h : End) (p : ℕ) → (slot w g).far ≡ h → (e ≡ g → Claim (out.sent ++ w.sent) e h t (slot w h).got p) → Claim w.sent g h (slot w g) (slot w h).got p → Backed c (next_world d) g.who h.who p
+  old_claim : (g h : End) (p : ℕ) → (slot w g).far ≡ h → (e ≡ g → Claim (out.sent ++ w.sent) e h t (slot w h).got p) →
+      Claim w.sent g h (slot w g) (slot w h).got p → Backed c (next_world d) g.who h.who p
   old_claim g h p far now claim = backed_later (later d) g.who h.who p (d.duty.place.stays g h p far now claim) (d.inv.backed g h p far claim)
 
   -- a claim that no new Renew makes is one of before
-  claim_before : (g h : End) (s : Slot) (got p : ℕ) → ((stamp version theirs : ℕ) (points : Points) → IsMember (Renew h g stamp version theirs points) out.sent → ⊥) → Claim (next_world d).sent g h s got p → Claim w.sent g h s got p
+  claim_before : (g h : End) (s : Slot) (got p : ℕ) →
+      ((stamp version theirs : ℕ) (points : Points) → IsMember (Renew h g stamp version theirs points) out.sent → ⊥) →
+      Claim (next_world d).sent g h s got p → Claim w.sent g h s got p
   claim_before g h s got p none (by_record r) = by_record r
-  claim_before g h s got p none (by_renew a stamp version theirs points m lt r) = by_renew a stamp version theirs points (⊎_elim (λ new. absurd (none stamp version theirs points new)) (λ old. old) (sent_cases d _ m)) lt r
+  claim_before g h s got p none (by_renew a stamp version theirs points m lt r) =
+      by_renew a stamp version theirs points
+      (⊎_elim (λ new. absurd (none stamp version theirs points new)) (λ old. old) (sent_cases d _ m)) lt r
   claim_before g h s got p none (by_flight l is le r) = by_flight l is le r
 
   -- e has no claim where it had no session
@@ -82,7 +93,8 @@ module _ {c : Settings} {w : World} {e : End} {next : ℕ} {out : Outcome} (d : 
 
   -- a claim on a point of e's, of a slot that e's deed does not concern
   stranger : (g : End) (p : ℕ) → (e ≡ g → ⊥) → (slot w g).far ≡ e → Claim (next_world d).sent g e (slot w g) t.got p →
-      ((stamp version theirs : ℕ) (points : Points) → IsMember (Renew e g stamp version theirs points) out.sent → ⊥) → (Tied w e g → ⊥) → Backed c (next_world d) g.who e.who p
+      ((stamp version theirs : ℕ) (points : Points) → IsMember (Renew e g stamp version theirs points) out.sent → ⊥) →
+      (Tied w e g → ⊥) → Backed c (next_world d) g.who e.who p
   stranger g p n far claim none no_tie = old_claim g e p far (λ j. absurd (n j)) (go (claim_before g e (slot w g) t.got p none claim))
     where
       go : Claim w.sent g e (slot w g) t.got p → Claim w.sent g e (slot w g) (slot w e).got p
@@ -94,16 +106,23 @@ module _ {c : Settings} {w : World} {e : End} {next : ℕ} {out : Outcome} (d : 
   far_claims g p n far claim = test (is_engaged (slot w e).state)
       (λ a. ⊎_elim
       (λ (i : (slot w e).far ≡ g).
-      let now : Claim (out.sent ++ w.sent) (slot w e).far e (slot w (slot w e).far) t.got p = subst (λ g. Claim (next_world d).sent g e (slot w g) t.got p) (sym i) claim in
+      let now : Claim (out.sent ++ w.sent) (slot w e).far e (slot w (slot w e).far) t.got p =
+      subst (λ g. Claim (next_world d).sent g e (slot w g) t.got p) (sym i) claim in
       ⊎_elim
       (λ old. old_claim g e p far (λ j. absurd (n j)) (subst (λ g. Claim w.sent g e (slot w g) (slot w e).got p) i old))
       (λ new. of_owner new)
       (d.duty.place.theirs a p now))
-      (λ (i : (slot w e).far ≡ g → ⊥). stranger g p n far claim (λ stamp version theirs points m. i (sym (d.duty.sends (Renew e g stamp version theirs points) m).far)) (λ tie. i tie.far))
+      (λ (i : (slot w e).far ≡ g → ⊥).
+      stranger g p n far claim
+      (λ stamp version theirs points m. i (sym (d.duty.sends (Renew e g stamp version theirs points) m).far)) (λ tie. i tie.far))
       (end_cases (slot w e).far g))
-      (λ a. stranger g p n far claim (λ stamp version theirs points m. both_ways _ a (d.duty.sends (Renew e g stamp version theirs points) m).sound.tied.mine.engaged) (λ tie. both_ways _ a tie.engaged))
+      (λ a.
+      stranger g p n far claim
+      (λ stamp version theirs points m. both_ways _ a (d.duty.sends (Renew e g stamp version theirs points) m).sound.tied.mine.engaged)
+      (λ tie. both_ways _ a tie.engaged))
 
-  pub backed_after : (g h : End) (p : ℕ) → (slot (next_world d) g).far ≡ h → Claim (next_world d).sent g h (slot (next_world d) g) (slot (next_world d) h).got p → Backed c (next_world d) g.who h.who p
+  pub backed_after : (g h : End) (p : ℕ) → (slot (next_world d) g).far ≡ h →
+      Claim (next_world d).sent g h (slot (next_world d) g) (slot (next_world d) h).got p → Backed c (next_world d) g.who h.who p
   backed_after g h p = slot_cases d (λ g s. s.far ≡ h → Claim (next_world d).sent g h s (slot (next_world d) h).got p → Backed c (next_world d) g.who h.who p)
       (own_claims h p)
       (λ g n. slot_cases d (λ h s. (slot w g).far ≡ h → Claim (next_world d).sent g h (slot w g) s.got p → Backed c (next_world d) g.who h.who p)

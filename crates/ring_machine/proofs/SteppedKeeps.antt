@@ -26,13 +26,22 @@ module _ {c : Settings} {w : World} {e : End} {next : ℕ} {out : Outcome} (d : 
   pub keeps : Invariant c (stepped w e next out)
   keeps =
       let place = d.duty.place in record {
-        owned = λ y p. instance_cases d (λ y i. Live c i → i.token.ranges p ≡ true → out.place p ≡ At y) (λ l h. place.owned p h) (λ y n l h. place.keeps y p n l (d.inv.owned y p l h)) y;
-        exact = λ y p. instance_cases d (λ y i. Live c i → out.place p ≡ At y → i.token.ranges p ≡ true) (λ l h. place.exact p h) (λ y n l h. d.inv.exact y p l (place.gets_none y p n h)) y;
-        unborn_place = λ y p. instance_cases d (λ y i. i.phase ≡ Unborn → out.place p ≡ At y → (y ≡ first_of c) × (is_point p ≡ true)) (λ h. absurd (born_here h)) (λ y n h i. d.inv.unborn_place y p h (place.gets_none y p n i)) y;
+        owned = λ y p.
+            instance_cases d (λ y i. Live c i → i.token.ranges p ≡ true → out.place p ≡ At y) (λ l h. place.owned p h)
+            (λ y n l h. place.keeps y p n l (d.inv.owned y p l h)) y;
+        exact = λ y p.
+            instance_cases d (λ y i. Live c i → out.place p ≡ At y → i.token.ranges p ≡ true) (λ l h. place.exact p h)
+            (λ y n l h. d.inv.exact y p l (place.gets_none y p n h)) y;
+        unborn_place = λ y p.
+            instance_cases d (λ y i. i.phase ≡ Unborn → out.place p ≡ At y → (y ≡ first_of c) × (is_point p ≡ true))
+            (λ h. absurd (born_here h)) (λ y n h i. d.inv.unborn_place y p h (place.gets_none y p n i)) y;
         whole_ring = λ p h q. place.keeps_unborn (first_of c) p (d.inv.not_started (first_of c) (omega arith)) (d.inv.whole_ring p h q);
         not_started = instance_cases d (λ y i. w.starts y.actor < y.instance → i.phase ≡ Unborn) (d.inv.not_started e.who) (λ y n. d.inv.not_started y);
         blank = instance_cases d (λ y i. i.phase ≡ Unborn → i ≡ unborn) (λ h. absurd (born_here h)) (λ y n. d.inv.blank y);
-        clocks = instance_cases d (λ y i. (time reading : ℕ) → i.phase ≡ Running → IsMember (time, reading) i.pairs → Within c.bound (time, reading) (w.time, i.reading)) (d.inv.clocks e.who) (λ y n. d.inv.clocks y);
+        clocks =
+            instance_cases d
+            (λ y i. (time reading : ℕ) → i.phase ≡ Running → IsMember (time, reading) i.pairs → Within c.bound (time, reading) (w.time, i.reading))
+            (d.inv.clocks e.who) (λ y n. d.inv.clocks y);
         present = instance_cases d (λ y i. i.phase ≡ Running → IsMember (w.time, i.reading) i.pairs) (d.inv.present e.who) (λ y n. d.inv.present y);
         slots = slots_after d;
         frames = frames_after d;
@@ -40,7 +49,9 @@ module _ {c : Settings} {w : World} {e : End} {next : ℕ} {out : Outcome} (d : 
         backed = backed_after d;
         flights = flights_after d;
         flown = flown_after d;
-        counted = instance_cases d (λ y i. 0 < i.token.next_flight) (let a = d.inv.counted e.who in let b = d.duty.token.next_flight_rises in omega arith) (λ y n. d.inv.counted y);
+        counted =
+            instance_cases d (λ y i. 0 < i.token.next_flight)
+            (let a = d.inv.counted e.who in let b = d.duty.token.next_flight_rises in omega arith) (λ y n. d.inv.counted y);
         tokens = instance_cases d (λ y i. (z : Freeze) → i.token.freeze ≡ Some z → SoundToken i.token z) d.duty.token.sound (λ y n. d.inv.tokens y);
         freezes = freezes_after d;
       }
@@ -48,5 +59,7 @@ module _ {c : Settings} {w : World} {e : End} {next : ℕ} {out : Outcome} (d : 
   pub stays_live : Live c ((stepped w e next out).instance e.who)
   stays_live = subst (Live c) (sym (own_instance d)) (record {
     running = d.live.running;
-    below = λ m. replaced_cases (λ s. guards s.state ≡ true → (w.instance e.who).reading < s.until + c.answer) (w.instance e.who).slots e.number m out.slot (λ h. d.duty.fence) (λ h. d.live.below m);
+    below = λ m.
+        replaced_cases (λ s. guards s.state ≡ true → (w.instance e.who).reading < s.until + c.answer) (w.instance e.who).slots e.number
+        m out.slot (λ h. d.duty.fence) (λ h. d.live.below m);
   })

@@ -25,7 +25,8 @@ module _ {c : Settings} {w : World} {e : End} {next : ℕ} {out : Outcome} (d : 
   t = out.slot
 
   -- h's lease and its acknowledgements by g still rest on stamps no later than the moment
-  heir_after : (g h : End) (len ripe : ℕ) → Tied w h g → ((stamp version : ℕ) → IsMember (RenewAck g h stamp version) out.sent → ⊥) → SoundHeir c w g h len ripe → SoundHeir c (next_world d) g h len ripe
+  heir_after : (g h : End) (len ripe : ℕ) → Tied w h g → ((stamp version : ℕ) → IsMember (RenewAck g h stamp version) out.sent → ⊥) →
+      SoundHeir c w g h len ripe → SoundHeir c (next_world d) g h len ripe
   heir_after g h len ripe tie deaf r = record {
     grants = granted_by_later (later d) g.who h.who r.grants;
     since = r.since;
@@ -36,7 +37,10 @@ module _ {c : Settings} {w : World} {e : End} {next : ℕ} {out : Outcome} (d : 
         ((stamp version : ℕ) → IsMember (RenewAck g h stamp version) w.sent → Rests (w.instance h.who).pairs r.since stamp) →
         guards s.state ≡ true → Leased ((next_world d).instance h.who).pairs r.since s.until s.len)
         (λ tie was acks u. leased_later (later d) e.who r.since r.since t.until t.len (omega arith) (d.duty.link.since r.since tie.engaged was
-        (subst (λ (g : End). (stamp version : ℕ) → IsMember (RenewAck g e stamp version) w.sent → Rests (w.instance e.who).pairs r.since stamp) (sym tie.far) acks) u))
+        (subst
+        (λ (g : End). (stamp version : ℕ) → IsMember (RenewAck g e stamp version) w.sent → Rests (w.instance e.who).pairs r.since stamp)
+        (sym tie.far) acks)
+        u))
         (λ h n tie was acks u. leased_later (later d) h.who r.since r.since (slot w h).until (slot w h).len (omega arith) (was u))
         h tie r.lease r.acks;
     acks = λ stamp version a. rests_later (later d) h.who r.since r.since stamp (omega arith)
@@ -52,13 +56,17 @@ module _ {c : Settings} {w : World} {e : End} {next : ℕ} {out : Outcome} (d : 
         apart = link.apart;
         touched = λ h. tied_later (later d) t.far e (link.touched h);
         bound = λ h. tied_later (later d) t.far e (link.bound h);
-        asker = λ h. subst (λ (s : Slot). s.state ≡ Asking → AsksFor s e.who.actor t.len) (sym (other_slot d t.far (far_differs d t.far h refl))) (link.asker h);
+        asker = λ h.
+            subst (λ (s : Slot). s.state ≡ Asking → AsksFor s e.who.actor t.len) (sym (other_slot d t.far (far_differs d t.far h refl)))
+            (link.asker h);
         agreed = λ h tie. let n = far_differs d t.far h refl in link.agreed h (old_tie d t.far e n tie) ∙ ap (λ (s : Slot). s.len) (sym (other_slot d t.far n));
         plain = link.plain;
         recorded = link.recorded;
         leased = λ g. leased_later (later d) e.who w.time w.time t.until t.len (omega arith) (link.leased g);
         heir = λ h. heir_after e t.far t.len t.ripe (link.touched (claim_touched t link.recorded (link.heir_claims h)))
-            (λ stamp version b. let a : SentAck w e (slot w e) t e t.far stamp version = d.duty.sends (RenewAck e t.far stamp version) b in let wi = a.willing in cc (ap is_willing h, wi))
+            (λ stamp version b.
+            let a : SentAck w e (slot w e) t e t.far stamp version = d.duty.sends (RenewAck e t.far stamp version) b in
+            let wi = a.willing in cc (ap is_willing h, wi))
             (link.heir h);
         heir_claims = link.heir_claims;
         claims = link.claims;
@@ -71,7 +79,8 @@ module _ {c : Settings} {w : World} {e : End} {next : ℕ} {out : Outcome} (d : 
       }
 
   -- what another slot's far end asks, it asked before
-  asker_after : (g : End) → is_engaged (slot w g).state ≡ true → (slot (next_world d) (slot w g).far).state ≡ Asking → AsksFor (slot (next_world d) (slot w g).far) g.who.actor (slot w g).len
+  asker_after : (g : End) → is_engaged (slot w g).state ≡ true → (slot (next_world d) (slot w g).far).state ≡ Asking →
+      AsksFor (slot (next_world d) (slot w g).far) g.who.actor (slot w g).len
   asker_after g en a =
       let s = d.inv.slots g in
       let b = (later d).asks (slot w g).far (s.far_used en) a in
@@ -79,7 +88,8 @@ module _ {c : Settings} {w : World} {e : End} {next : ℕ} {out : Outcome} (d : 
       record { node_is = ap (λ (h : End). h.who.actor) b.far ∙ k.node_is; no_shorter = let i = b.len in let j = k.no_shorter in omega arith }
 
   -- another slot that is tied with its far end has its length
-  agreed_after : (g : End) → (e ≡ g → ⊥) → is_engaged (slot w g).state ≡ true → Tied (next_world d) (slot w g).far g → (slot w g).len ≡ (slot (next_world d) (slot w g).far).len
+  agreed_after : (g : End) → (e ≡ g → ⊥) → is_engaged (slot w g).state ≡ true → Tied (next_world d) (slot w g).far g →
+      (slot w g).len ≡ (slot (next_world d) (slot w g).far).len
   agreed_after g n en tie = ⊎_elim
       (λ (i : e ≡ (slot w g).far).
       let back : Tied (next_world d) e g = subst (λ h. Tied (next_world d) h g) (sym i) tie in
@@ -87,7 +97,8 @@ module _ {c : Settings} {w : World} {e : End} {next : ℕ} {out : Outcome} (d : 
       let forth : Tied w t.far e = subst (λ h. Tied w h e) (sym own.1) (record { engaged = en; far = sym i }) in
       let same : t.len ≡ (slot w t.far).len = d.duty.link.agreed own.0 forth in
       ap (λ h. (slot w h).len) (sym own.1) ∙ (sym same ∙ (ap (λ (s : Slot). s.len) (sym (own_slot d)) ∙ ap (λ h. (slot (next_world d) h).len) i)))
-      (λ (i : e ≡ (slot w g).far → ⊥). (d.inv.slots g).agreed en (old_tie d (slot w g).far g i tie) ∙ ap (λ (s : Slot). s.len) (sym (other_slot d (slot w g).far i)))
+      (λ (i : e ≡ (slot w g).far → ⊥).
+      (d.inv.slots g).agreed en (old_tie d (slot w g).far g i tie) ∙ ap (λ (s : Slot). s.len) (sym (other_slot d (slot w g).far i)))
       (end_cases e (slot w g).far)
 
   other_slot_sound : (g : End) → (e ≡ g → ⊥) → SoundSlot c (next_world d) g (slot w g)
@@ -121,12 +132,17 @@ module _ {c : Settings} {w : World} {e : End} {next : ℕ} {out : Outcome} (d : 
   -- e's slot is the only open one of its instance with the other's
   single_own : (h : End) → (e ≡ h → ⊥) → e.who ≡ h.who → is_active t.state ≡ true → is_active (slot w h).state ≡ true → t.far.who ≡ (slot w h).far.who → ⊥
   single_own h n who a b far = ⊎_elim
-      (λ (was : is_active (slot w e).state ≡ true). n (d.inv.single e h who was b (ap (λ (g : End). g.who) (sym (d.duty.link.far (implied is_active is_settled refl (slot w e).state was))) ∙ far)))
+      (λ (was : is_active (slot w e).state ≡ true).
+      n
+      (d.inv.single e h who was b (ap (λ (g : End). g.who) (sym (d.duty.link.far (implied is_active is_settled refl (slot w e).state was))) ∙ far)))
       (λ alone. alone h (sym who) b (sym far))
       (d.duty.link.single a)
 
-  pub single_after : (g h : End) → g.who ≡ h.who → is_active (slot (next_world d) g).state ≡ true → is_active (slot (next_world d) h).state ≡ true → (slot (next_world d) g).far.who ≡ (slot (next_world d) h).far.who → g ≡ h
-  single_after g h = slot_cases d (λ g s. g.who ≡ h.who → is_active s.state ≡ true → is_active (slot (next_world d) h).state ≡ true → s.far.who ≡ (slot (next_world d) h).far.who → g ≡ h)
+  pub single_after : (g h : End) → g.who ≡ h.who → is_active (slot (next_world d) g).state ≡ true →
+      is_active (slot (next_world d) h).state ≡ true → (slot (next_world d) g).far.who ≡ (slot (next_world d) h).far.who → g ≡ h
+  single_after g h =
+      slot_cases d
+      (λ g s. g.who ≡ h.who → is_active s.state ≡ true → is_active (slot (next_world d) h).state ≡ true → s.far.who ≡ (slot (next_world d) h).far.who → g ≡ h)
       (slot_cases d (λ h s. e.who ≡ h.who → is_active t.state ≡ true → is_active s.state ≡ true → t.far.who ≡ s.far.who → e ≡ h)
       (λ i a b far. refl)
       (λ h n i a b far. absurd (single_own h n i a b far))

@@ -41,10 +41,15 @@ module _ {c : Settings} {w : World} {e : End} (a : Acting c w e) where
     gets_none : (y : Who) (p : ℕ) → same_who e.who y ≡ false → place p ≡ At y → w.place p ≡ At y
     flew : (g h : End) (number p : ℕ) → place p ≡ InFlight g h number → w.place p ≡ InFlight g h number
 
-  arrives : (part : Points) (giver receiver : End) (number : ℕ) → ((p : ℕ) → part p ≡ true → w.place p ≡ InFlight giver receiver number) → Arrives (union token.ranges part) (arrived part)
+  arrives : (part : Points) (giver receiver : End) (number : ℕ) → ((p : ℕ) → part p ≡ true → w.place p ≡ InFlight giver receiver number) →
+      Arrives (union token.ranges part) (arrived part)
   arrives part giver receiver number flown = record {
-    owned = λ p h. at p (λ o. o ≡ At e.who) (λ i. refl) (λ i. here a p (⊎_elim (λ r. r) (λ r. absurd (both_ways _ i r)) (or_cases (token.ranges p) (part p) h)));
-    exact = λ p. at p (λ o. o ≡ At e.who → token.ranges p || part p ≡ true) (λ i h. or_right (token.ranges p) (part p) i) (λ i h. or_left (token.ranges p) (part p) (back a p h));
+    owned = λ p h.
+        at p (λ o. o ≡ At e.who) (λ i. refl)
+        (λ i. here a p (⊎_elim (λ r. r) (λ r. absurd (both_ways _ i r)) (or_cases (token.ranges p) (part p) h)));
+    exact = λ p.
+        at p (λ o. o ≡ At e.who → token.ranges p || part p ≡ true) (λ i h. or_right (token.ranges p) (part p) i)
+        (λ i h. or_left (token.ranges p) (part p) (back a p h));
     keeps = λ y p i. at p (λ o. o ≡ At y) (λ h. absurd (let f = flown p h in cc)) (λ h. i);
     gets_none = λ y p n. at p (λ o. o ≡ At y → w.place p ≡ At y) (λ i h. absurd (let same : e.who ≡ y = cc in same_who-false e.who y n same)) (λ i h. h);
     flew = λ g h n p. at p (λ o. o ≡ InFlight g h n → w.place p ≡ InFlight g h n) (λ i j. absurd (cc (j))) (λ i j. j);
@@ -92,7 +97,13 @@ module _ {c : Settings} {w : World} {e : End} (a : Acting c w e) where
       version_rises = omega arith;
       next_flight_rises = omega arith;
       flight = λ l h. inl h;
-      sound = λ z h. let r = a.inv.tokens e.who z h in record { positive = r.positive; version = let n = r.version in omega arith; part = λ p i. or_left (token.ranges p) (part p) (r.part p i) };
+      sound = λ z h.
+          let r = a.inv.tokens e.who z h in
+          record {
+            positive = r.positive;
+            version = let n = r.version in omega arith;
+            part = λ p i. or_left (token.ranges p) (part p) (r.part p i);
+          };
       freeze = λ z h. inl h;
       mine = λ en z is k tie. let old = freeze_mine a z is en tie in record {
         renews = old.renews;
@@ -113,14 +124,20 @@ module _ {c : Settings} {w : World} {e : End} (a : Acting c w e) where
           keeps = λ y p n l i. r.keeps y p i;
           keeps_unborn = λ y p n i. r.keeps y p i;
           gets_none = r.gets_none;
-          flies = λ g h n p i. moved_cases part (At e.who) w.place p (λ o. (o ≡ InFlight g h n) ⊎ (BothTied w g e × (n ≤ number)) ⊎ ((g ≡ e) × (Dead c (w.instance s.far.who) ⊎ Closed w s.far e)))
-              (λ j. let f = taken_flown p j in let e1 : g ≡ s.far = cc in let e2 : n ≡ number = cc in inr (inl (subst (λ g. BothTied w g e) (sym e1) sound.tied, omega arith)))
+          flies = λ g h n p i.
+              moved_cases part (At e.who) w.place p
+              (λ o. (o ≡ InFlight g h n) ⊎ (BothTied w g e × (n ≤ number)) ⊎ ((g ≡ e) × (Dead c (w.instance s.far.who) ⊎ Closed w s.far e)))
+              (λ j.
+              let f = taken_flown p j in
+              let e1 : g ≡ s.far = cc in
+              let e2 : n ≡ number = cc in inr (inl (subst (λ g. BothTied w g e) (sym e1) sound.tied, omega arith)))
               (λ j. inl i);
           flew = λ g h n p i. inl (r.flew g h n p i);
           flight = λ l h. let f = a.inv.flights e s.far l refl h in record {
             numbered = f.numbered;
             flying = λ lt p i. moved_cases part (At e.who) w.place p (λ o. o ≡ InFlight e s.far l.number)
-                (λ j. absurd (let k = taken_flown p j in let n = f.flying lt p i in let same : e ≡ s.far = cc in far_differs a (ap is_engaged bound) same)) (λ j. f.flying lt p i);
+                (λ j. absurd (let k = taken_flown p j in let n = f.flying lt p i in let same : e ≡ s.far = cc in far_differs a (ap is_engaged bound) same))
+                (λ j. f.flying lt p i);
             whole = λ g h p who i. f.whole g h p who (r.flew g h l.number p i);
           };
           mine = λ en p h. h;
@@ -132,14 +149,17 @@ module _ {c : Settings} {w : World} {e : End} (a : Acting c w e) where
         theirs p (by_record r) = inl (by_record r)
         theirs p (by_renew h stamp version got points k lt r) = inl (by_renew h stamp version got points k lt r)
         theirs p (by_flight l i le r) = ⊎_elim
-            (λ (lt : s.got < l.number). let last = sound.transferable.last l i in inr (ap (λ b. cond b (At e.who) (w.place p)) (sound.transferable.same l i (omega arith) p r)))
+            (λ (lt : s.got < l.number).
+            let last = sound.transferable.last l i in
+            inr (ap (λ b. cond b (At e.who) (w.place p)) (sound.transferable.same l i (omega arith) p r)))
             (λ (le : l.number ≤ s.got). inl (by_flight l i le r))
             (cases_lt s.got l.number)
 
     pub flight_taken_duty : Duty c w e (w.instance e.who).next_session (outcome taken more [] (arrived part))
     flight_taken_duty = kept_duty a (outcome taken more [] (arrived part)) (bound_link a bound number s.flight) (λ g h. absurd h) take_token take_place
 
-  module _ (st : stands s.state ≡ true) (flight : Flight) (got : ℕ) (answered : Bool) (m : IsMember (Gone s.far e got answered) w.sent) (is : s.flight ≡ Some flight) (above : got < flight.number) where
+  module _ (st : stands s.state ≡ true) (flight : Flight) (got : ℕ) (answered : Bool) (m : IsMember (Gone s.far e got answered) w.sent)
+      (is : s.flight ≡ Some flight) (above : got < flight.number) where
     abbrev regained : Token
     regained = record (w.instance e.who).token { ranges = union (w.instance e.who).token.ranges flight.part; version = (w.instance e.who).token.version + 1 }
 
@@ -161,7 +181,9 @@ module _ {c : Settings} {w : World} {e : End} (a : Acting c w e) where
         not_closed (over i q) = let n = q.landed in cc
 
         not_taken : (slot w s.far).got ≤ got
-        not_taken = ⊎_elim (λ (k : (slot w s.far).far ≡ e → (slot w s.far).got ≤ got). k ((good a).touched (flew flight is)).far) (λ (k : Closed w e s.far). absurd (not_closed k)) gone.took
+        not_taken =
+            ⊎_elim (λ (k : (slot w s.far).far ≡ e → (slot w s.far).got ≤ got). k ((good a).touched (flew flight is)).far)
+            (λ (k : Closed w e s.far). absurd (not_closed k)) gone.took
 
     pub returned_whole : IsWhole w.place e flight.number flight.part
     returned_whole = (a.inv.flights e s.far flight refl is).whole
@@ -171,7 +193,9 @@ module _ {c : Settings} {w : World} {e : End} (a : Acting c w e) where
 
     return_token : TokenDuty w e s (parted s) without answer
     return_token =
-        let old = token_shrunk a Parted s.until s.ripe no_points None (undone e.number token token.freeze) answer (less_empty s) (is_undone e.number token token.freeze) none in
+        let old =
+        token_shrunk a Parted s.until s.ripe no_points None (undone e.number token token.freeze) answer (less_empty s)
+        (is_undone e.number token token.freeze) none in
         let un = is_undone e.number regained token.freeze in record {
           acked = old.acked;
           version = old.version;
@@ -183,7 +207,11 @@ module _ {c : Settings} {w : World} {e : End} (a : Acting c w e) where
           next_flight_rises = let n = un.next_flight in omega arith;
           flight = old.flight;
           sound = λ z h. let r = un.freeze z h in let k = a.inv.tokens e.who z r.1 in
-              subst (λ (t : Token). SoundToken t z) (sym r.0) (record { positive = k.positive; version = let n = k.version in omega arith; part = λ p i. or_left (token.ranges p) (flight.part p) (k.part p i) });
+              subst (λ (t : Token). SoundToken t z) (sym r.0) (record {
+                positive = k.positive;
+                version = let n = k.version in omega arith;
+                part = λ p i. or_left (token.ranges p) (flight.part p) (k.part p i);
+              });
           freeze = λ z h. inl (un.freeze z h).1;
           mine = λ en z i k tie. still_mine z i (un.freeze z k).1 en tie;
           theirs = old.theirs;
@@ -192,7 +220,9 @@ module _ {c : Settings} {w : World} {e : End} (a : Acting c w e) where
       where
         still_mine : (z : Freeze) → token.freeze ≡ Some z → token.freeze ≡ Some z → is_engaged s.state ≡ true → Tied w s.far e →
             FrozenTo (answer ++ w.sent) e s.far z s.got s.acked (slot w s.far).flight (slot w s.far).held_version (slot w s.far).held
-        still_mine z i k en tie = frozen_more answer w.sent e s.far z _ _ _ _ _ (no_renew answer none e s.far) (no_ack answer none s.far e) (freeze_mine a z i en tie)
+        still_mine z i k en tie =
+            frozen_more answer w.sent e s.far z _ _ _ _ _ (no_renew answer none e s.far) (no_ack answer none s.far e)
+            (freeze_mine a z i en tie)
 
     return_place : PlaceDuty c w e s (parted s) without answer (arrived flight.part)
     return_place =
@@ -203,7 +233,9 @@ module _ {c : Settings} {w : World} {e : End} (a : Acting c w e) where
           keeps = λ y p n l i. r.keeps y p i;
           keeps_unborn = λ y p n i. r.keeps y p i;
           gets_none = r.gets_none;
-          flies = λ g h n p i. moved_cases flight.part (At e.who) w.place p (λ o. (o ≡ InFlight g h n) ⊎ (BothTied w g e × (n ≤ s.got)) ⊎ ((g ≡ e) × (Dead c (w.instance s.far.who) ⊎ Closed w s.far e)))
+          flies = λ g h n p i.
+              moved_cases flight.part (At e.who) w.place p
+              (λ o. (o ≡ InFlight g h n) ⊎ (BothTied w g e × (n ≤ s.got)) ⊎ ((g ≡ e) × (Dead c (w.instance s.far.who) ⊎ Closed w s.far e)))
               (λ j. let f = returned_flown p j in let same : g ≡ e = cc in inr (inr (same, inr gone.closed)))
               (λ j. inl i);
           flew = λ g h n p i. inl (r.flew g h n p i);
@@ -221,4 +253,5 @@ module _ {c : Settings} {w : World} {e : End} (a : Acting c w e) where
     pub flight_returned_duty : Duty c w e (w.instance e.who).next_session (outcome (parted s) without answer (arrived flight.part))
     flight_returned_duty =
         let out : Outcome = outcome (parted s) without answer (arrived flight.part) in
-        kept_duty a out (parted_link a st got gone) (each_of_answer (Sent c w e s out) answered (Gone e s.far s.got false) (λ h. parted_answer a st)) return_token return_place
+        kept_duty a out (parted_link a st got gone)
+        (each_of_answer (Sent c w e s out) answered (Gone e s.far s.got false) (λ h. parted_answer a st)) return_token return_place

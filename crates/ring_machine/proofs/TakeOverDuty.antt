@@ -23,7 +23,8 @@ use Rattle.ring_machine.proofs.Shrunk.{less_empty, nothing_claimed, not_undone, 
 use Rattle.ring_machine.proofs.SteppedSlots.{claim_touched}
 use Rattle.ring_machine.proofs.GiveDuties.{moved_cases}
 
-module _ {c : Settings} {w : World} {e : End} (drift : c.bound.d ≤ 100) (a : Acting c w e) (heir : (slot w e).state ≡ Heir) (ripe : (slot w e).ripe ≤ (w.instance e.who).reading) where
+module _ {c : Settings} {w : World} {e : End} (drift : c.bound.d ≤ 100) (a : Acting c w e) (heir : (slot w e).state ≡ Heir)
+    (ripe : (slot w e).ripe ≤ (w.instance e.who).reading) where
   abbrev s : Slot
   s = slot w e
 
@@ -45,14 +46,19 @@ module _ {c : Settings} {w : World} {e : End} (drift : c.bound.d ≤ 100) (a : A
   -- the wait is over, so a lease that guards is past
   lease_past : guards (slot w s.far).state ≡ true → Dead c (w.instance s.far.who)
   lease_past g = record {
-    born = λ h. absurd (let unused = ap (λ (i : Rattle.ring_machine.specs.World.Instance). guards (i.slots s.far.number).state) (a.inv.blank s.far.who h) in cc (g, unused));
+    born = λ h.
+        absurd
+        (let unused = ap (λ (i : Rattle.ring_machine.specs.World.Instance). guards (i.slots s.far.number).state) (a.inv.blank s.far.who h) in cc (g, unused));
     not_live = λ l.
         let lease : Leased (w.instance s.far.who).pairs sound.since (slot w s.far).until (slot w s.far).len = sound.lease g in
         let below = l.below s.far.number g in
         let agreed = (good a).agreed (ap is_engaged heir) tied in
         let waits = sound.waits in
-        let covered = wait_covers c.bound (s.len + c.answer) sound.since sound.begun w.time (w.instance e.who).reading lease.rests.taken lease.stamp (w.instance s.far.who).reading drift
-        (a.inv.clocks e.who sound.since sound.begun a.live.running sound.reading) (a.inv.clocks s.far.who lease.rests.taken lease.stamp l.running lease.rests.reading) lease.rests.no_later (omega (arith, waits)) in
+        let covered = wait_covers c.bound (s.len + c.answer) sound.since sound.begun w.time (w.instance e.who).reading
+        lease.rests.taken lease.stamp (w.instance s.far.who).reading drift
+        (a.inv.clocks e.who sound.since sound.begun a.live.running sound.reading)
+        (a.inv.clocks s.far.who lease.rests.taken lease.stamp l.running lease.rests.reading)
+        lease.rests.no_later (omega (arith, waits)) in
         let within = lease.within in
         omega arith;
   }
@@ -68,7 +74,9 @@ module _ {c : Settings} {w : World} {e : End} (drift : c.bound.d ≤ 100) (a : A
   accused_dead = test (guards (slot w s.far).state) lease_past (λ h. absurd (freed ((a.inv.slots s.far).freed tied.engaged h)))
     where
       freed : Freed c w s.far (slot w s.far).far → ⊥
-      freed (by_answers k) = no_crossing a.inv e.who s.far.who (granted_answered e.who s.far.who sound.grants) (subst (λ (f : End). AnsweredBy c w.sent s.far.who f.who) tied.far k)
+      freed (by_answers k) =
+          no_crossing a.inv e.who s.far.who (granted_answered e.who s.far.who sound.grants)
+          (subst (λ (f : End). AnsweredBy c w.sent s.far.who f.who) tied.far k)
       freed (by_closing k) = not_closed (subst (λ f. Closed w f s.far) tied.far k) ((good a).heir_claims heir)
 
   -- a claim is on a point of the accused one's
@@ -136,7 +144,13 @@ module _ {c : Settings} {w : World} {e : End} (drift : c.bound.d ≤ 100) (a : A
           version_rises = omega arith;
           next_flight_rises = omega arith;
           flight = old.flight;
-          sound = λ z h. let r = a.inv.tokens e.who z h in record { positive = r.positive; version = let n = r.version in omega arith; part = λ p k. or_left (token.ranges p) (part p) (r.part p k) };
+          sound = λ z h.
+              let r = a.inv.tokens e.who z h in
+              record {
+                positive = r.positive;
+                version = let n = r.version in omega arith;
+                part = λ p k. or_left (token.ranges p) (part p) (r.part p k);
+              };
           freeze = λ z h. inl h;
           mine = λ en z i k tie. freeze_mine a z i en tie;
           theirs = old.theirs;
@@ -154,15 +168,20 @@ module _ {c : Settings} {w : World} {e : End} (drift : c.bound.d ≤ 100) (a : A
     active_by g f p (by_flight l h le r) = (a.inv.slots g).claims (of_flight l h)
 
     -- no other session of the heir claims anything of the accused instance
-    others_apart : (u v : End) (p : ℕ) → (slot w u).far ≡ v → (e ≡ u → Claim w.sent e v (ended s) (slot w v).got p) → Claim w.sent u v (slot w u) (slot w v).got p → v.who ≡ s.far.who → e.who ≡ u.who → ⊥
+    others_apart : (u v : End) (p : ℕ) → (slot w u).far ≡ v → (e ≡ u → Claim w.sent e v (ended s) (slot w v).got p) →
+        Claim w.sent u v (slot w u) (slot w v).got p → v.who ≡ s.far.who → e.who ≡ u.who → ⊥
     others_apart u v p far now claim same who =
         let one : e ≡ u = a.inv.single e u who (ap is_active heir) (active_by u v p claim) (sym same ∙ ap (λ (f : End). f.who) (sym far)) in
         no_claim v p (now one)
 
     over_place : PlaceDuty c w e s (ended s) more [] places
     over_place = record {
-      owned = λ p h. at p (λ o. o ≡ At e.who) (λ i. refl) (λ i. here a p (⊎_elim (λ r. r) (λ r. absurd (both_ways _ i r)) (or_cases (token.ranges p) (part p) h)));
-      exact = λ p. at p (λ o. o ≡ At e.who → token.ranges p || part p ≡ true) (λ i h. or_right (token.ranges p) (part p) i) (λ i h. or_left (token.ranges p) (part p) (back a p h));
+      owned = λ p h.
+          at p (λ o. o ≡ At e.who) (λ i. refl)
+          (λ i. here a p (⊎_elim (λ r. r) (λ r. absurd (both_ways _ i r)) (or_cases (token.ranges p) (part p) h)));
+      exact = λ p.
+          at p (λ o. o ≡ At e.who → token.ranges p || part p ≡ true) (λ i h. or_right (token.ranges p) (part p) i)
+          (λ i h. or_left (token.ranges p) (part p) (back a p h));
       keeps = λ y p n l i. at p (λ o. o ≡ At y) (λ h. absurd (⊎_elim
           (λ (o : w.place p ≡ At s.far.who). let same : s.far.who ≡ y = cc in accused_dead.not_live (subst (λ y. Live c (w.instance y)) (sym same) l))
           (λ (o : (number : ℕ) × (w.place p ≡ InFlight e s.far number)). let k = o.1 in cc) (taken_from p h))) (λ h. i);
@@ -176,7 +195,9 @@ module _ {c : Settings} {w : World} {e : End} (drift : c.bound.d ≤ 100) (a : A
           (λ (o : (number : ℕ) × (w.place p ≡ InFlight e s.far number)). let k = o.1 in let same : g ≡ e = cc in inr (inr (same, inl accused_dead)))
           (taken_from p j))
           (λ j. inl i);
-      flew = λ g h n p. at p (λ o. o ≡ InFlight g h n → (w.place p ≡ InFlight g h n) ⊎ ((g ≡ e) × (token.next_flight ≤ n) × (n < token.next_flight))) (λ i j. absurd (cc (j))) (λ i j. inl j);
+      flew = λ g h n p.
+          at p (λ o. o ≡ InFlight g h n → (w.place p ≡ InFlight g h n) ⊎ ((g ≡ e) × (token.next_flight ≤ n) × (n < token.next_flight)))
+          (λ i j. absurd (cc (j))) (λ i j. inl j);
       flight = λ l h. absurd (cc (h));
       mine = λ en p h. absurd (no_claim s.far p h);
       theirs = λ en p h. inl h;

@@ -22,7 +22,8 @@ module _ {c : Settings} {w : World} (inv : Invariant c w) (advance : ℕ) (readi
   instances = (passed w advance readings).instance
 
   -- what holds of an instance, by whether its clock ticks
-  clock_cases : (P : Who → Instance → Type 0) → ((y : Who) → has_clock (w.instance y).phase ≡ true → P y (record (w.instance y) { reading = readings y; pairs = (w.time + advance, readings y) ∷ (w.instance y).pairs })) →
+  clock_cases : (P : Who → Instance → Type 0) →
+      ((y : Who) → has_clock (w.instance y).phase ≡ true → P y (ticked (w.instance y) (w.time + advance) (readings y) true)) →
       ((y : Who) → has_clock (w.instance y).phase ≡ false → P y (w.instance y)) → (y : Who) → P y (instances y)
   clock_cases P new old y = go (has_clock (w.instance y).phase) refl
     where
@@ -35,7 +36,9 @@ module _ {c : Settings} {w : World} (inv : Invariant c w) (advance : ℕ) (readi
   next_reading y r = FitsAll-IsMember c.bound (w.instance y).pairs (now, readings y) (w.time, (w.instance y).reading) (fits y r) (inv.present y r)
 
   -- who is live at the next reading was live before
-  was_live : (y : Who) → Live c (record (w.instance y) { reading = readings y; pairs = (w.time + advance, readings y) ∷ (w.instance y).pairs }) → Live c (w.instance y)
+  was_live : (y : Who) →
+      Live c (record (w.instance y) { reading = readings y; pairs = (w.time + advance, readings y) ∷ (w.instance y).pairs }) →
+      Live c (w.instance y)
   was_live y l = record { running = l.running; below = λ m g. let rises = (next_reading y l.running).readings in let b = l.below m g in omega arith }
 
   time_passed : Unmoved c w now instances
@@ -57,10 +60,12 @@ module _ {c : Settings} {w : World} (inv : Invariant c w) (advance : ℕ) (readi
   passed_keeps = record {
     owned = clock_cases (λ y i. (p : ℕ) → Live c i → i.token.ranges p ≡ true → w.place p ≡ At y) (λ y h p l. inv.owned y p (was_live y l)) (λ y h. inv.owned y);
     exact = clock_cases (λ y i. (p : ℕ) → Live c i → w.place p ≡ At y → i.token.ranges p ≡ true) (λ y h p l. inv.exact y p (was_live y l)) (λ y h. inv.exact y);
-    unborn_place = clock_cases (λ y i. (p : ℕ) → i.phase ≡ Unborn → w.place p ≡ At y → (y ≡ first_of c) × (is_point p ≡ true)) (λ y h. inv.unborn_place y) (λ y h. inv.unborn_place y);
+    unborn_place =
+        clock_cases (λ y i. (p : ℕ) → i.phase ≡ Unborn → w.place p ≡ At y → (y ≡ first_of c) × (is_point p ≡ true))
+        (λ y h. inv.unborn_place y) (λ y h. inv.unborn_place y);
     whole_ring = inv.whole_ring;
     not_started = clock_cases (λ y i. w.starts y.actor < y.instance → i.phase ≡ Unborn) (λ y h. inv.not_started y) (λ y h. inv.not_started y);
-    blank = clock_cases (λ y i. i.phase ≡ Unborn → i ≡ unborn) (λ y h k. absurd (cc (h, ap has_clock k))) (λ y h. inv.blank y);
+    blank = clock_cases (λ y i. i.phase ≡ Unborn → i ≡ unborn) (λ y h k. absurd (cc (h, k))) (λ y h. inv.blank y);
     clocks = clock_cases (λ y i. (time reading : ℕ) → i.phase ≡ Running → IsMember (time, reading) i.pairs → Within c.bound (time, reading) (now, i.reading))
         (λ y h time reading r m. ⊎_elim
         (λ (e : (time, reading) ≡ (now, readings y)). subst (λ (z : ℕ × ℕ). Within c.bound z (now, readings y)) (sym e) (Within-refl c.bound (now, readings y)))

@@ -48,12 +48,17 @@ module _ {c : Settings} {w : World} (inv : Invariant c w) {time : ℕ} (starts :
     versions = u.versions;
     next_flights = u.next_flights;
     uses = λ e. keep (λ s. is_used (slot w e).state ≡ true → is_used s.state ≡ true) e (λ h. h);
-    asks = λ e. keep (λ s. is_used (slot w e).state ≡ true → s.state ≡ Asking → AskedBefore (slot w e) s) e (λ h i. record { asking = i; far = refl; len = refl });
+    asks = λ e.
+        keep (λ s. is_used (slot w e).state ≡ true → s.state ≡ Asking → AskedBefore (slot w e) s) e
+        (λ h i. record { asking = i; far = refl; len = refl });
     engages = λ e. keep (λ s. is_engaged (slot w e).state ≡ true → is_engaged s.state ≡ true) e (λ h. h);
     settles = λ e. keep (λ s. is_settled (slot w e).state ≡ true → is_settled s.state ≡ true) e (λ h. h);
     far = λ e. keep (λ s. is_settled (slot w e).state ≡ true → s.far ≡ (slot w e).far) e (λ h. refl);
     len = λ e. keep (λ s. is_settled (slot w e).state ≡ true → s.len ≡ (slot w e).len) e (λ h. refl);
-    quiets = λ e. keep (λ s. is_settled (slot w e).state ≡ true → Quiet (slot w e).state (slot w e).held (slot w e).flight → Quiet s.state s.held s.flight) e (λ h q. q);
+    quiets = λ e.
+        keep
+        (λ s. is_settled (slot w e).state ≡ true → Quiet (slot w e).state (slot w e).held (slot w e).flight → Quiet s.state s.held s.flight)
+        e (λ h q. q);
     willing = λ e. keep (λ s. is_settled (slot w e).state ≡ true → is_willing s.state ≡ true → is_willing (slot w e).state ≡ true) e (λ h i. i);
     still = λ e. keep (λ s. is_settled (slot w e).state ≡ true → is_willing (slot w e).state ≡ false → s.got ≡ (slot w e).got) e (λ h i. refl);
     held_versions = λ e. keep (λ s. (slot w e).held_version ≤ s.held_version) e (omega arith);
@@ -61,7 +66,10 @@ module _ {c : Settings} {w : World} (inv : Invariant c w) {time : ℕ} (starts :
   }
 
   tied_before : (e f : End) → Tied unmoved e f → Tied w e f
-  tied_before e f t = record { engaged = subst (λ (s : Slot). is_engaged s.state ≡ true) (u.slots e) t.engaged; far = ap (λ (s : Slot). s.far) (sym (u.slots e)) ∙ t.far }
+  tied_before e f t = record {
+    engaged = subst (λ (s : Slot). is_engaged s.state ≡ true) (u.slots e) t.engaged;
+    far = ap (λ (s : Slot). s.far) (sym (u.slots e)) ∙ t.far;
+  }
 
   heir_unmoved : (e f : End) (len ripe : ℕ) → SoundHeir c w e f len ripe → SoundHeir c unmoved e f len ripe
   heir_unmoved e f len ripe r = record {
@@ -70,7 +78,9 @@ module _ {c : Settings} {w : World} (inv : Invariant c w) {time : ℕ} (starts :
     begun = r.begun;
     reading = u.pairs e.who (r.since, r.begun) r.reading;
     waits = r.waits;
-    lease = keep (λ s. guards s.state ≡ true → Leased (instance f.who).pairs r.since s.until s.len) f (λ g. leased_later unmoved_later f.who r.since r.since (slot w f).until (slot w f).len (omega arith) (r.lease g));
+    lease =
+        keep (λ s. guards s.state ≡ true → Leased (instance f.who).pairs r.since s.until s.len) f
+        (λ g. leased_later unmoved_later f.who r.since r.since (slot w f).until (slot w f).len (omega arith) (r.lease g));
     acks = λ stamp version m. rests_later unmoved_later f.who r.since r.since stamp (omega arith) (r.acks stamp version m);
   }
 
@@ -111,7 +121,9 @@ module _ {c : Settings} {w : World} (inv : Invariant c w) {time : ℕ} (starts :
       go (Transfer e f number part) h = record {
         tied = both_tied_later unmoved_later e f h.tied;
         transferable = let t = h.transferable in
-            keep_both (λ s r. Transferable c (instance f.who) (instance e.who).token.next_flight (is_willing r.state) w.place s.flight r.got e f number part) e f (record {
+            keep_both
+            (λ s r. Transferable c (instance f.who) (instance e.who).token.next_flight (is_willing r.state) w.place s.flight r.got e f number part)
+            e f (record {
               numbered = let n = t.numbered in let m = u.next_flights e.who in omega arith;
               flying = λ p lives wi lt i. t.flying p (λ dead. lives (u.dies f.who dead)) wi lt i;
               whole = t.whole;
@@ -125,17 +137,22 @@ module _ {c : Settings} {w : World} (inv : Invariant c w) {time : ℕ} (starts :
       go (Ruled a x y Taken) h = (h.0, record { kept = h.1.kept; no_cross = h.1.no_cross })
       go (Ruled a x y Refused) h = h
 
-  pub backed_unmoved : (e f : End) (p : ℕ) → (slot unmoved e).far ≡ f → Claim w.sent e f (slot unmoved e) (slot unmoved f).got p → Backed c unmoved e.who f.who p
+  pub backed_unmoved : (e f : End) (p : ℕ) → (slot unmoved e).far ≡ f → Claim w.sent e f (slot unmoved e) (slot unmoved f).got p →
+      Backed c unmoved e.who f.who p
   backed_unmoved e f p = keep_both (λ s t. s.far ≡ f → Claim w.sent e f s t.got p → Backed c unmoved e.who f.who p) e f
       (λ far claim. backed_later unmoved_later e.who f.who p (λ o. inl o) (inv.backed e f p far claim))
 
-  pub flights_unmoved : (e f : End) (l : Flight) → (slot unmoved e).far ≡ f → (slot unmoved e).flight ≡ Some l → SoundFlight (instance e.who).token.next_flight w.place (slot unmoved f).got e f l
+  pub flights_unmoved : (e f : End) (l : Flight) → (slot unmoved e).far ≡ f → (slot unmoved e).flight ≡ Some l →
+      SoundFlight (instance e.who).token.next_flight w.place (slot unmoved f).got e f l
   flights_unmoved e f l = keep_both (λ s t. s.far ≡ f → s.flight ≡ Some l → SoundFlight (instance e.who).token.next_flight w.place t.got e f l) e f
-      (λ far is. let r = inv.flights e f l far is in record { numbered = let n = r.numbered in let m = u.next_flights e.who in omega arith; flying = r.flying; whole = r.whole })
+      (λ far is.
+      let r = inv.flights e f l far is in
+      record { numbered = let n = r.numbered in let m = u.next_flights e.who in omega arith; flying = r.flying; whole = r.whole })
 
   pub freezes_unmoved : (f e : End) (z : Freeze) → (instance f.who).token.freeze ≡ Some z → BothTied unmoved f e → SoundFreeze unmoved f e z
   freezes_unmoved f e z is tied = keep_both (λ s t. FrozenTo w.sent f e z s.got s.acked t.flight t.held_version t.held) f e
       (inv.freezes f e z (u.freezes f.who z is) (record { mine = tied_before f e tied.mine; theirs = tied_before e f tied.theirs }))
 
-  pub single_unmoved : (e f : End) → e.who ≡ f.who → is_active (slot unmoved e).state ≡ true → is_active (slot unmoved f).state ≡ true → (slot unmoved e).far.who ≡ (slot unmoved f).far.who → e ≡ f
+  pub single_unmoved : (e f : End) → e.who ≡ f.who → is_active (slot unmoved e).state ≡ true → is_active (slot unmoved f).state ≡ true →
+      (slot unmoved e).far.who ≡ (slot unmoved f).far.who → e ≡ f
   single_unmoved e f who = keep_both (λ s t. is_active s.state ≡ true → is_active t.state ≡ true → s.far.who ≡ t.far.who → e ≡ f) e f (inv.single e f who)

@@ -25,7 +25,8 @@ pub same_who_from : (a b : Who) → a ≢ b → same_who a b ≡ false
 same_who_from a b n = test (same_who a b) (λ e. absurd (n (same_who-true a b e))) (λ e. e)
 
 -- what holds of an updated function, by cases
-pub updated_cases : {A : Type 0} (P : A → Type 0) (f : Who → A) (x y : Who) (value : A) → (x ≡ y → P value) → (same_who x y ≡ false → P (f y)) → P (updated f x value y)
+pub updated_cases : {A : Type 0} (P : A → Type 0) (f : Who → A) (x y : Who) (value : A) → (x ≡ y → P value) →
+    (same_who x y ≡ false → P (f y)) → P (updated f x value y)
 updated_cases P f x y value on off = go (same_who x y) refl
   where
     go : (b : Bool) → same_who x y ≡ b → P (cond b value (f y))

@@ -26,17 +26,20 @@ pub record Invariant (c : Settings) (w : World) : Type 0 where
   pub not_started : (x : Who) → w.starts x.actor < x.instance → (w.instance x).phase ≡ Unborn
   pub blank : (x : Who) → (w.instance x).phase ≡ Unborn → w.instance x ≡ unborn
   -- a running clock keeps its bound between each of its readings and the present one
-  pub clocks : (x : Who) (time reading : ℕ) → (w.instance x).phase ≡ Running → IsMember (time, reading) (w.instance x).pairs → Within c.bound (time, reading) (w.time, (w.instance x).reading)
+  pub clocks : (x : Who) (time reading : ℕ) → (w.instance x).phase ≡ Running → IsMember (time, reading) (w.instance x).pairs →
+      Within c.bound (time, reading) (w.time, (w.instance x).reading)
   pub present : (x : Who) → (w.instance x).phase ≡ Running → IsMember (w.time, (w.instance x).reading) (w.instance x).pairs
   -- each slot and each frame is sound
   pub slots : (e : End) → SoundSlot c w e (slot w e)
   pub frames : (f : Frame) → IsMember f w.sent → SoundFrame c w f
   -- an instance has one open session at most with another
-  pub single : (e f : End) → e.who ≡ f.who → is_active (slot w e).state ≡ true → is_active (slot w f).state ≡ true → (slot w e).far.who ≡ (slot w f).far.who → e ≡ f
+  pub single : (e f : End) → e.who ≡ f.who → is_active (slot w e).state ≡ true → is_active (slot w f).state ≡ true →
+      (slot w e).far.who ≡ (slot w f).far.who → e ≡ f
   -- each claim is backed
   pub backed : (e f : End) (p : ℕ) → (slot w e).far ≡ f → Claim w.sent e f (slot w e) (slot w f).got p → Backed c w e.who f.who p
   -- flights, their numbers, and freezes
-  pub flights : (e f : End) (l : Flight) → (slot w e).far ≡ f → (slot w e).flight ≡ Some l → SoundFlight (w.instance e.who).token.next_flight w.place (slot w f).got e f l
+  pub flights : (e f : End) (l : Flight) → (slot w e).far ≡ f → (slot w e).flight ≡ Some l →
+      SoundFlight (w.instance e.who).token.next_flight w.place (slot w f).got e f l
   pub flown : (e f : End) (number p : ℕ) → w.place p ≡ InFlight e f number → number < (w.instance e.who).token.next_flight
   pub counted : (x : Who) → 0 < (w.instance x).token.next_flight
   pub tokens : (x : Who) (z : Freeze) → (w.instance x).token.freeze ≡ Some z → SoundToken (w.instance x).token z

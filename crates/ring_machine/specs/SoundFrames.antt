@@ -38,7 +38,8 @@ pub record SoundAck (w : World) (e f : End) (stamp version : ℕ) : Type 0 where
   pub recorded : version ≤ (slot w e).held_version
 
 -- a flight of e for f that can be taken. takes and got are those of f's slot, place and flight those of now
-pub record Transferable (c : Settings) (taker : Instance) (next_flight : ℕ) (takes : Bool) (place : ℕ → Place) (flight : Option Flight) (got : ℕ) (e f : End) (number : ℕ) (part : Points) : Type 0 where
+pub record Transferable (c : Settings) (taker : Instance) (next_flight : ℕ) (takes : Bool) (place : ℕ → Place) (flight : Option Flight)
+    (got : ℕ) (e f : End) (number : ℕ) (part : Points) : Type 0 where
   pub numbered : number < next_flight
   -- its points are on their way until the taker takes it
   pub flying : (p : ℕ) → (Dead c taker → ⊥) → takes ≡ true → got < number → part p ≡ true → place p ≡ InFlight e f number
@@ -49,7 +50,9 @@ pub record Transferable (c : Settings) (taker : Instance) (next_flight : ℕ) (t
 
 pub record SoundTransfer (c : Settings) (w : World) (e f : End) (number : ℕ) (part : Points) : Type 0 where
   pub tied : BothTied w e f
-  pub transferable : Transferable c (w.instance f.who) (w.instance e.who).token.next_flight (is_willing (slot w f).state) w.place (slot w e).flight (slot w f).got e f number part
+  pub transferable :
+      Transferable c (w.instance f.who) (w.instance e.who).token.next_flight (is_willing (slot w f).state) w.place (slot w e).flight
+      (slot w f).got e f number part
 
 -- the sender of a Gone claims nothing any more, and its got covers all that it took, or the receiver claims nothing
 pub record SoundGone (w : World) (e f : End) (got : ℕ) : Type 0 where
