@@ -1,12 +1,12 @@
 -- The bits of a word say which of 64 points are in a range.
-use Rattle.std.proofs.Common.{◌≡◌, ℕ, ◌+◌, ◌-◌, ◌*◌, ◌/◌, ◌%◌, ◌<◌, ◌≤◌, ◌↔◌, ◌⊎◌, inl, inr, Bool, true, false, cond, List, length, take, drop, min, map, refl, sym, subst, ap, ◌∙◌, arith, get_or, set, nat_le, leb-true, le-leb}
-use lib.Lanes.{mask_l, chunk}
+use Rattle.std.proofs.Common.{◌≡◌, ℕ, ◌+◌, ◌*◌, ◌/◌, ◌%◌, ◌<◌, ◌≤◌, ◌↔◌, inl, inr, Bool, true, false, cond, List, length, take, drop, min, map, refl, sym, subst, ap, ◌∙◌, arith, get_or, set, nat_le, leb-true, le-leb}
+use lib.Lanes.{chunk}
 use Rattle.std.specs.Bool.{Decides}
 use Rattle.std.specs.Int.{bit_at}
 use Rattle.std.proofs.lemmas.Bool.{cases_lt}
 use Rattle.std.proofs.lemmas.Bool.Decides.{Decides-and, Decides-like, Decides-at}
-use Rattle.std.proofs.lemmas.Grind.{common_steps, get_or-set_at}
-use Rattle.std.proofs.lemmas.List.{get_or-map, get_or_past, get_or-set_other, length-map, length-take, length-drop, take_all, drop_all, drop-drop}
+use Rattle.std.proofs.lemmas.Grind.{get_or-set_at}
+use Rattle.std.proofs.lemmas.List.{get_or-map, get_or_past, get_or-set_other, length-map, length-take, length-drop, take_all, drop_all}
 use Rattle.std.proofs.lemmas.Simd.{bit_mask_l, get_or-chunk}
 use Rattle.lane_scan.specs.Masks.{IsIn, is_between, mask_of}
 

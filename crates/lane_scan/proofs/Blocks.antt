@@ -1,7 +1,7 @@
 -- Lanes and blocks of lanes: masks of two comparisons, and masks of one list after another.
-use Rattle.std.proofs.Common.{◌≡◌, ℕ, suc, ◌+◌, ◌-◌, ◌*◌, ◌%◌, ◌^◌, ◌<◌, ◌≤◌, Bool, true, false, cond, ◌&&◌, List, [], ◌∷◌, ◌++◌, length, take, drop, map, refl, sym, lit<, ap, get_or, drop-cons, ◌∙◌, arith, nat_le, bit_and, bit_or, replicate}
+use Rattle.std.proofs.Common.{◌≡◌, ℕ, ◌+◌, ◌-◌, ◌*◌, ◌%◌, ◌^◌, ◌<◌, ◌≤◌, Bool, true, false, cond, ◌&&◌, List, [], ◌∷◌, ◌++◌, length, take, map, refl, sym, lit<, ap, get_or, drop-cons, ◌∙◌, arith, nat_le, bit_and, bit_or, replicate}
 use lib.Lanes.{zip2, mask_l, top, chunk}
-use Rattle.std.proofs.Math.Nat.{pow-suc, pow-succ', mul_assoc, mul_comm, pow-le-pow_right, mul-le-mul_right, mod-eq_of_lt}
+use Rattle.std.proofs.Math.Nat.{pow-suc, mul_assoc, pow-le-pow_right, mul-le-mul_right, mod-eq_of_lt}
 use Rattle.std.proofs.lemmas.Nat.{or_shifted, or_comm, pow-add}
 use Rattle.std.proofs.lemmas.Simd.{zip2_of_maps, zip2_splat, zip2_splat_left, mask_l-lt, length-chunk}
 use Rattle.std.proofs.lemmas.List.{map-append, length-map}

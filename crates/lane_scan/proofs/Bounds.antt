@@ -1,10 +1,11 @@
 -- The least and the greatest of lists of lanes.
-use Rattle.std.proofs.Common.{◌≡◌, ℕ, zero, suc, inl, inr, ◌⊎◌, ◌+◌, ◌-◌, ◌*◌, ◌^◌, ◌<◌, ◌≤◌, Bool, true, false, cond, min, max, List, [], ◌∷◌, ◌++◌, length, take, drop, map, refl, sym, ap, ◌∙◌, arith, nat_lt, get_or, add-one}
+use Rattle.std.proofs.Common.{◌≡◌, ℕ, zero, suc, inl, inr, ◌+◌, ◌-◌, ◌%◌, ◌^◌, ◌<◌, ◌≤◌, Bool, true, false, min, max, List, [], ◌∷◌, ◌++◌, length, take, refl, sym, ap, ◌∙◌, arith, nat_lt, get_or, add-one}
 use Rattle.std.proofs.Math.Seq.{take-suc}
 use lib.Lanes.{zip2, sel_l}
 use Rattle.std.proofs.lemmas.Bool.Decides.{nat_tests}
 use Rattle.std.proofs.lemmas.Bool.{cases_lt}
-use Rattle.lane_scan.specs.Spans.{least_of, greatest_of}
+use Rattle.std.proofs.lemmas.List.{length-map}
+use Rattle.lane_scan.specs.Spans.{least_of, greatest_of, turned}
 
 pub least_of_le : (xs : List ℕ) → least_of xs ≤ 2 ^ 64 - 1
 least_of_le [] = omega arith
@@ -18,21 +19,40 @@ pub greatest_of-append : (xs ys : List ℕ) → greatest_of (xs ++ ys) ≡ max (
 greatest_of-append [] ys = omega arith
 greatest_of-append (x ∷ xs) ys = let h = greatest_of-append xs ys in omega arith
 
--- the lesser lanes of two
-pub least_of-min : (xs ys : List ℕ) → length xs ≡ length ys → least_of (sel_l (zip2 nat_lt xs ys) xs ys) ≡ min (least_of xs) (least_of ys)
-least_of-min [] [] h = refl
-least_of-min [] (y ∷ ys) h = absurd (omega arith)
-least_of-min (x ∷ xs) [] h = absurd (omega arith)
-least_of-min (x ∷ xs) (y ∷ ys) h =
-    let later = least_of-min xs ys (omega arith) in grind (arith, nat_tests)
+turned-sel_l : (ms : List Bool) (xs ys : List ℕ) → turned (sel_l ms xs ys) ≡ sel_l ms (turned xs) (turned ys)
+turned-sel_l [] xs ys = refl
+turned-sel_l (m ∷ ms) [] ys = refl
+turned-sel_l (m ∷ ms) (x ∷ xs) [] = refl
+turned-sel_l (true ∷ ms) (x ∷ xs) (y ∷ ys) = ap (λ zs. (x + 2 ^ 63) % 2 ^ 64 ∷ zs) (turned-sel_l ms xs ys)
+turned-sel_l (false ∷ ms) (x ∷ xs) (y ∷ ys) = ap (λ zs. (y + 2 ^ 63) % 2 ^ 64 ∷ zs) (turned-sel_l ms xs ys)
 
--- the greater lanes of two
-pub greatest_of-max : (xs ys : List ℕ) → length xs ≡ length ys → greatest_of (sel_l (zip2 nat_lt xs ys) ys xs) ≡ max (greatest_of xs) (greatest_of ys)
-greatest_of-max [] [] h = refl
-greatest_of-max [] (y ∷ ys) h = absurd (omega arith)
-greatest_of-max (x ∷ xs) [] h = absurd (omega arith)
-greatest_of-max (x ∷ xs) (y ∷ ys) h =
-    let later = greatest_of-max xs ys (omega arith) in grind (arith, nat_tests)
+least_of-lesser : (xs ys : List ℕ) → length xs ≡ length ys → least_of (sel_l (zip2 nat_lt xs ys) xs ys) ≡ min (least_of xs) (least_of ys)
+least_of-lesser [] [] h = refl
+least_of-lesser [] (y ∷ ys) h = absurd (omega arith)
+least_of-lesser (x ∷ xs) [] h = absurd (omega arith)
+least_of-lesser (x ∷ xs) (y ∷ ys) h =
+    let later = least_of-lesser xs ys (omega arith) in grind (arith, nat_tests)
+
+greatest_of-greater : (xs ys : List ℕ) → length xs ≡ length ys → greatest_of (sel_l (zip2 nat_lt xs ys) ys xs) ≡ max (greatest_of xs) (greatest_of ys)
+greatest_of-greater [] [] h = refl
+greatest_of-greater [] (y ∷ ys) h = absurd (omega arith)
+greatest_of-greater (x ∷ xs) [] h = absurd (omega arith)
+greatest_of-greater (x ∷ xs) (y ∷ ys) h =
+    let later = greatest_of-greater xs ys (omega arith) in grind (arith, nat_tests)
+
+pub length-turned : (xs : List ℕ) → length (turned xs) ≡ length xs
+length-turned xs = length-map xs (λ x. (x + 2 ^ 63) % 2 ^ 64)
+
+-- what a selection by the comparison of turned lanes gives
+pub least_selected : (xs ys : List ℕ) → length xs ≡ 8 → length ys ≡ 8 → least_of (turned (sel_l (zip2 nat_lt (turned xs) (turned ys)) xs ys)) ≡ min (least_of (turned xs)) (least_of (turned ys))
+least_selected xs ys a b =
+    ap least_of (turned-sel_l (zip2 nat_lt (turned xs) (turned ys)) xs ys)
+    ∙ least_of-lesser (turned xs) (turned ys) (length-turned xs ∙ a ∙ sym (length-turned ys ∙ b))
+
+pub greatest_selected : (xs ys : List ℕ) → length xs ≡ 8 → length ys ≡ 8 → greatest_of (turned (sel_l (zip2 nat_lt (turned xs) (turned ys)) ys xs)) ≡ max (greatest_of (turned xs)) (greatest_of (turned ys))
+greatest_selected xs ys a b =
+    ap greatest_of (turned-sel_l (zip2 nat_lt (turned xs) (turned ys)) ys xs)
+    ∙ greatest_of-greater (turned xs) (turned ys) (length-turned xs ∙ a ∙ sym (length-turned ys ∙ b))
 
 pub least_of-more : (xs : List ℕ) (i : ℕ) → i < length xs → least_of (take (i + 1) xs) ≡ min (least_of (take i xs)) (get_or xs i 0)
 least_of-more xs i h =

@@ -1,5 +1,5 @@
 -- The order of points by their distance from a key, then by the lower point.
-use Rattle.std.proofs.Common.{◌≡◌, ◌≢◌, ℕ, ◌+◌, ◌-◌, ◌*◌, ◌%◌, ◌^◌, ◌<◌, ◌≤◌, ◌==◌, ◌⊎◌, inl, inr, min, Bool, true, false, ◌&&◌, ◌||◌, nat_lt, arith, refl}
+use Rattle.std.proofs.Common.{◌≡◌, ◌≢◌, ℕ, ◌+◌, ◌-◌, ◌%◌, ◌^◌, ◌<◌, ◌==◌, min, Bool, true, false, ◌&&◌, ◌||◌, nat_lt, arith}
 use Rattle.std.proofs.lemmas.Bool.Decides.{nat_tests}
 use Rattle.ring_points.specs.Distances.{ahead_of, distance_of}
 
@@ -38,3 +38,12 @@ none_before_first da a db b dp p t (further_too l) = grind (arith, nat_tests)
 
 pub before_total : (dx x dy y : ℕ) → y ≢ x → before dy y dx x ≡ false → before dx x dy y ≡ true
 before_total dx x dy y apart t = grind (arith, nat_tests)
+
+pub before_none_itself : (dx x : ℕ) → before dx x dx x ≡ false
+before_none_itself dx x = grind (arith, nat_tests)
+
+pub before_one_way : (dx x dy y : ℕ) → before dx x dy y ≡ true → before dy y dx x ≡ false
+before_one_way dx x dy y t = grind (arith, nat_tests)
+
+pub before_no_further : (dx x dy y dz z : ℕ) → before dx x dy y ≡ false → before dy y dz z ≡ false → before dx x dz z ≡ false
+before_no_further dx x dy y dz z t u = grind (arith, nat_tests)

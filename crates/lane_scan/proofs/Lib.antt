@@ -1,7 +1,7 @@
 pub mod Blocks
 pub mod Bits
 pub mod Bounds
-pub mod Span
+pub mod Growing
 pub mod First
 pub mod Distance
 pub mod Ring

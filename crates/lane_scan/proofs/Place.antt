@@ -1,8 +1,8 @@
 -- The place of the nearest point is what the definition by recursion finds.
-use Rattle.std.proofs.Common.{◌≡◌, ◌≢◌, ℕ, zero, suc, ◌<◌, ◌≤◌, Bool, true, false, List, [], ◌∷◌, length, Option, Some, None, refl, sym, ap, ◌∙◌, arith, get_or, if◌then◌else◌}
+use Rattle.std.proofs.Common.{◌≡◌, ℕ, zero, suc, ◌<◌, Bool, true, false, List, [], ◌∷◌, length, Option, Some, None, MatchOption, refl, sym, subst, arith, get_or, if◌then◌else◌}
 use Rattle.ring_points.specs.Distances.{distance_of, is_nearer}
-use Rattle.lane_scan.specs.Nearest.{nearest_place, nearer_place, IsNearest, IsNearestPoint, IsFirst, FirstPlace}
-use Rattle.lane_scan.proofs.Distance.{before_total}
+use Rattle.lane_scan.specs.Nearest.{nearest_place, nearer_place, IsNearest, IsNearestPoint, IsFirst, FirstPlace, FindsTheNearest}
+use Rattle.lane_scan.proofs.Distance.{before_total, before_none_itself, before_one_way, before_no_further}
 
 inside_if : (b : Bool) (j i n : ℕ) → j < n → (if b then Some (suc j) else Some 0) ≡ Some i → i < suc n
 inside_if true j i n h e = let same : suc j ≡ i = cc in omega arith
@@ -40,3 +40,45 @@ nearest_at key points point i n f = record {
 pub nearest_found : (key : ℕ) (points : List ℕ) (point : ℕ) (place : Option ℕ) → IsNearestPoint key points point → FirstPlace point points place → place ≡ nearest_place key points
 nearest_found key points point None n f = absurd (f n.place n.inside n.here)
 nearest_found key points point (Some i) n f = sym (place_is key points i (nearest_at key points point i n f))
+
+-- ---- the other way round: the recursion finds the nearest
+
+none_itself : (key p : ℕ) → is_nearer key p p ≡ false
+none_itself key p = before_none_itself (distance_of key p) p
+
+one_only : (key p k : ℕ) → k < 1 → is_nearer key (get_or (p ∷ []) k 0) p ≡ false
+one_only key p zero h = none_itself key p
+one_only key p (suc k) h = absurd (omega arith)
+
+-- the tail's nearest is nearer than the head
+tail_first : (key p : ℕ) (ps : List ℕ) (i : ℕ) → IsNearest key ps i → is_nearer key (get_or ps i 0) p ≡ true → IsNearest key (p ∷ ps) (suc i)
+tail_first key p ps i n test = record { inside = omega (arith, n.inside); none = none; first = first }
+  where
+    none : (k : ℕ) → k < suc (length ps) → is_nearer key (get_or (p ∷ ps) k 0) (get_or ps i 0) ≡ false
+    none zero h = before_one_way (distance_of key (get_or ps i 0)) (get_or ps i 0) (distance_of key p) p test
+    none (suc k) h = n.none k (omega arith)
+
+    first : (k : ℕ) → k < suc i → is_nearer key (get_or ps i 0) (get_or (p ∷ ps) k 0) ≡ true
+    first zero h = test
+    first (suc k) h = n.first k (omega arith)
+
+head_first : (key p : ℕ) (ps : List ℕ) (i : ℕ) → IsNearest key ps i → is_nearer key (get_or ps i 0) p ≡ false → IsNearest key (p ∷ ps) 0
+head_first key p ps i n test = record { inside = omega arith; none = none; first = λ k h. absurd (omega arith) }
+  where
+    none : (k : ℕ) → k < suc (length ps) → is_nearer key (get_or (p ∷ ps) k 0) p ≡ false
+    none zero h = none_itself key p
+    none (suc k) h = before_no_further (distance_of key (get_or ps k 0)) (get_or ps k 0) (distance_of key (get_or ps i 0)) (get_or ps i 0) (distance_of key p) p (n.none k (omega arith)) test
+
+chosen : (key p : ℕ) (ps : List ℕ) (i : ℕ) → IsNearest key ps i → (b : Bool) → is_nearer key (get_or ps i 0) p ≡ b → MatchOption (if b then Some (suc i) else Some 0) (p ∷ ps ≡ []) (IsNearest key (p ∷ ps))
+chosen key p ps i n true test = tail_first key p ps i n test
+chosen key p ps i n false test = head_first key p ps i n test
+
+found_by : (key p : ℕ) (ps : List ℕ) (place : Option ℕ) → MatchOption place (ps ≡ []) (IsNearest key ps) → MatchOption (nearer_place key p ps place) (p ∷ ps ≡ []) (IsNearest key (p ∷ ps))
+found_by key p ps None empty =
+    let P : List ℕ → Type 0 = λ qs. IsNearest key (p ∷ qs) 0 in
+    subst P (sym empty) (record { inside = omega arith; none = one_only key p; first = λ k h. absurd (omega arith) })
+found_by key p ps (Some i) n = chosen key p ps i n (is_nearer key (get_or ps i 0) p) refl
+
+pub finds_the_nearest : FindsTheNearest
+finds_the_nearest key [] = refl
+finds_the_nearest key (p ∷ ps) = found_by key p ps (nearest_place key ps) (finds_the_nearest key ps)

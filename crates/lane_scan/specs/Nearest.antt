@@ -1,5 +1,5 @@
 -- Which point of a list is nearest to a key.
-use Rattle.std.specs.Prelude.{◌≡◌, ◌≢◌, ℕ, suc, ◌<◌, Bool, true, false, List, [], ◌∷◌, length, slice_index, Option, None, Some, MatchOption, map, ◌==◌, if◌then◌else◌}
+use Rattle.std.specs.Prelude.{◌≡◌, ◌≢◌, ℕ, suc, ◌<◌, true, false, List, [], ◌∷◌, length, slice_index, Option, None, Some, MatchOption, map, ◌==◌, if◌then◌else◌}
 use Rattle.std.specs.Simd.Lanes.{mask_l}
 use Rattle.ring_points.specs.Distances.{is_nearer}
 
@@ -18,6 +18,10 @@ pub record IsNearest (key : ℕ) (points : List ℕ) (i : ℕ) : Type 0 where
   pub inside : i < length points
   pub none : (k : ℕ) → k < length points → is_nearer key (slice_index points k) (slice_index points i) ≡ false
   pub first : (k : ℕ) → k < i → is_nearer key (slice_index points i) (slice_index points k) ≡ true
+
+-- the place that the recursion finds is that of the nearest point
+abbrev pub FindsTheNearest : Type 0
+FindsTheNearest = (key : ℕ) (points : List ℕ) → MatchOption (nearest_place key points) (points ≡ []) (IsNearest key points)
 
 -- the point stands at this place and at none before it
 pub record IsFirst (point : ℕ) (points : List ℕ) (i : ℕ) : Type 0 where

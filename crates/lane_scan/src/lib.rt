@@ -6,8 +6,13 @@
 //! search answers as its plain definition does, for a slice of any length.
 #![tactic(auto)]
 
+mod laws;
 mod mask;
 mod near;
+mod span;
+#[cfg(test)]
+mod tests;
 
+pub use laws::no_other_is_nearer;
 pub use mask::mask_in;
 pub use near::nearest;

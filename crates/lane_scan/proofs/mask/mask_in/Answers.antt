@@ -1,5 +1,5 @@
 -- A word is that of the next 64 points.
-use Rattle.std.proofs.Common.{arith, ◌<◌, length, ◌∙◌, sym, ap, ◌*◌, ◌+◌, drop, take}
+use Rattle.std.proofs.Common.{arith, ◌∙◌, ap, ◌*◌, drop, take}
 use Rattle.std.proofs.lemmas.List.{drop-drop}
 use Rattle.lane_scan.specs.Masks.{mask_of}
 use Rattle.lane_scan.proofs.Bits.{take_fit, drop_fit, masked_more}

@@ -1,4 +1,4 @@
-use Rattle.std.proofs.Common.{◌≡◌, ◌↔◌, ℕ, ◌+◌, ◌*◌, ◌/◌, ◌%◌, ◌<◌, ◌≤◌, length, drop, slice_index}
+use Rattle.std.proofs.Common.{◌≡◌, ◌↔◌, ℕ, ◌*◌, ◌/◌, ◌%◌, ◌<◌, drop, slice_index}
 use Rattle.std.specs.Int.{bit_at}
 use Rattle.lane_scan.specs.Masks.{IsIn}
 use Rattle.lane_scan.proofs.mask.mask_in.Given as goal

@@ -1,4 +1,4 @@
-use Rattle.std.proofs.Common.{arith, ◌<◌, length, ◌∙◌, sym}
+use Rattle.std.proofs.Common.{arith, ◌∙◌, sym}
 use Rattle.lane_scan.proofs.Blocks.{mask_of_block, mask_of_one, mask_of_none}
 use Rattle.lane_scan.proofs.mask.mask_word.Goals as goal
 use Rattle.lane_scan.proofs.mask.mask_word.Goals.{then-between, else-between}

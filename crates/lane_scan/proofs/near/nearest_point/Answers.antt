@@ -1,4 +1,4 @@
-use Rattle.std.proofs.Common.{◌≡◌, ℕ, ◌<◌, ◌+◌, ◌%◌, ◌^◌, sym, ◌∙◌, arith, get_or}
+use Rattle.std.proofs.Common.{◌+◌, ◌%◌, ◌^◌, sym, ◌∙◌, arith}
 use Rattle.lane_scan.proofs.Ring.{Next, next_of, nearest_first, nearest_second}
 use Rattle.lane_scan.proofs.near.nearest_point.Goals as goal
 

@@ -1,6 +1,0 @@
-use Rattle.std.proofs.Common.{◌≡◌, take}
-use Rattle.lane_scan.specs.Spans.{greatest_of}
-use Rattle.lane_scan.proofs.near.greatest_lane.Given as goal
-
-abbrev pub invariant-loop-lane : goal.invariant-loop-lane
-invariant-loop-lane l = l.greatest ≡ greatest_of (take l.lane-index l.lane-items)

@@ -1,0 +1,14 @@
+use Rattle.std.proofs.Common.{◌∙◌, sym, ap, max, take, get_or, arith}
+use Rattle.lane_scan.specs.Spans.{greatest_of, turned}
+use Rattle.lane_scan.proofs.Bounds.{greatest_of-more, length-turned}
+use Rattle.lane_scan.proofs.span.greatest_lane.Goals as goal
+
+pub loop-lane-preserved : goal.loop-lane-preserved
+loop-lane-preserved c =
+    let lanes = turned c.args.lanes in
+    let i = c.loop-lane.lane-index in
+    let long = length-turned c.args.lanes in
+    c.max-greatest.ensures
+    ∙ ap (λ m. max m (get_or c.turn.result i 0)) c.loop-lane.invariant
+    ∙ ap (λ xs. max (greatest_of (take i lanes)) (get_or xs i 0)) c.turn.ensures
+    ∙ sym (greatest_of-more lanes i (omega arith))
