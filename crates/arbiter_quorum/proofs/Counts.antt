@@ -26,7 +26,7 @@ any_kept q answers votes e =
 pub verdict_is : (t : VoteTally) (seen votes : List Vote) → seen ≡ votes → t.answers ≡ pairs votes → (r : Option Vote) → r ≡ find (λ (vote : Vote). has_majority t vote.kept) seen → verdict_by (option_map (λ (vote : Vote). vote.kept) r) (one_may_win t) ≡ vote_verdict_of t
 verdict_is t seen votes same e r found =
     let decided : decided_of t ≡ option_map (λ (vote : Vote). vote.kept) r =
-        found_kept (has_majority t) t.answers votes e ∙ ap (option_map (λ (vote : Vote). vote.kept)) (sym (found ∙ ap (find (λ (vote : Vote). has_majority t vote.kept)) same)) in
+    found_kept (has_majority t) t.answers votes e ∙ ap (option_map (λ (vote : Vote). vote.kept)) (sym (found ∙ ap (find (λ (vote : Vote). has_majority t vote.kept)) same)) in
     ap (λ (d : Option Config). verdict_by d (one_may_win t)) (sym decided)
 
 or_right : (a b : Bool) → false ≡ a → b ≡ (a || b)
@@ -35,7 +35,7 @@ or_right a b e = cc
 pub one_may_win_is : (t : VoteTally) (seen votes : List Vote) (n k : ℕ) (r : Bool) → seen ≡ votes → t.answers ≡ pairs votes → n ≡ t.arbitrators → k ≡ unanswered t → false ≡ is_majority n k → r ≡ list_any (λ (vote : Vote). may_win t vote.kept) seen → r ≡ one_may_win t
 one_may_win_is t seen votes n k r same e n-is k-is none found =
     let some : r ≡ list_any (λ answer. may_win t answer.1) t.answers =
-        found ∙ ap (list_any (λ (vote : Vote). may_win t vote.kept)) same ∙ sym (any_kept (may_win t) t.answers votes e) in
+    found ∙ ap (list_any (λ (vote : Vote). may_win t vote.kept)) same ∙ sym (any_kept (may_win t) t.answers votes e) in
     let no : false ≡ is_majority t.arbitrators (unanswered t) =
-        none ∙ ap (λ (m : ℕ). is_majority m k) n-is ∙ ap (is_majority t.arbitrators) k-is in
+    none ∙ ap (λ (m : ℕ). is_majority m k) n-is ∙ ap (is_majority t.arbitrators) k-is in
     some ∙ or_right (is_majority t.arbitrators (unanswered t)) (list_any (λ answer. may_win t answer.1) t.answers) no

@@ -84,13 +84,13 @@ shared_next m p q xs ys (inr same) (inr other) few = inr (omega arith)
 shared_up : {A : Type 0} (n m : ℕ) (p q : A → Bool) (xs ys : List (ℕ × A)) → IsTrue (are_counted n xs) → IsTrue (are_counted n ys) → IsShared p xs q ys ⊎ (count_up m p xs + count_up m q ys ≤ m)
 shared_up n zero p q xs ys h k = let a = count_up-none n p xs h in let b = count_up-none n q ys k in inr (omega arith)
 shared_up n (suc m) p q xs ys h k = elim (shared_up n m p q xs ys h k) [
-    inl found ↦ inl found
+  | inl found ↦ inl found
   | inr few ↦ shared_next m p q xs ys (count_up-next n m p xs h) (count_up-next n m q ys k) few
 ]
 
 pub two_majorities : {A : Type 0} (n : ℕ) (xs ys : List (ℕ × A)) (p q : A → Bool) → IsTrue (are_counted n xs) → IsTrue (are_counted n ys) → IsTrue (is_majority n (count_given p xs)) → IsTrue (is_majority n (count_given q ys)) → IsShared p xs q ys
 two_majorities n xs ys p q h k i j = elim (shared_up n n p q xs ys h k) [
-    inl found ↦ found
+  | inl found ↦ found
   | inr few ↦ absurd (too_many (count_up-all n p xs h) (count_up-all n q ys k) few)
 ] where
   too_many : count_up n p xs ≡ count_given p xs → count_up n q ys ≡ count_given q ys → count_up n p xs + count_up n q ys ≤ n → ⊥
@@ -105,7 +105,7 @@ pub few_counted : {A : Type 0} (n : ℕ) (answers : List (ℕ × A)) → IsTrue 
 few_counted {A} n answers h =
     let none : List (ℕ × A) = [] in
     elim (shared_up n n (λ _. true) (λ _. true) answers none h refl) [
-        inl found ↦ absurd (cc found.2)
+      | inl found ↦ absurd (cc found.2)
       | inr few ↦ omega (arith, few, count_up-all n (λ _. true) answers h, count_given-all answers)
     ]
 

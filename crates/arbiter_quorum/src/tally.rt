@@ -60,7 +60,10 @@ impl Tally {
     pub fn answered(&self, arbitrator: u8) -> bool
         ensures { result ≡ has_answered arbitrator self.now.answers }
     {
-        self.answers.as_slice().iter().any(|answer| answer.0 == arbitrator)
+        self.answers
+            .as_slice()
+            .iter()
+            .any(|answer| answer.0 == arbitrator)
     }
 
     /// Whether those that granted and those that have not answered are a majority.
@@ -75,19 +78,31 @@ impl Tally {
         ensures count { result ≡ count_of is_granted self.now }
         ensures few { result ≤ length self.now.answers }
     {
-        self.answers.as_slice().iter().filter(|answer| answer.1 == Ruling::Granted).count()
+        self.answers
+            .as_slice()
+            .iter()
+            .filter(|answer| answer.1 == Ruling::Granted)
+            .count()
     }
 
     fn refused(&self) -> usize
         ensures { result ≡ count_of is_refused self.now }
     {
-        self.answers.as_slice().iter().filter(|answer| answer.1 == Ruling::Refused).count()
+        self.answers
+            .as_slice()
+            .iter()
+            .filter(|answer| answer.1 == Ruling::Refused)
+            .count()
     }
 
     fn not_refused(&self) -> usize
         ensures { result ≡ count_of (λ r. not (is_refused r)) self.now }
     {
-        self.answers.as_slice().iter().filter(|answer| answer.1 != Ruling::Refused).count()
+        self.answers
+            .as_slice()
+            .iter()
+            .filter(|answer| answer.1 != Ruling::Refused)
+            .count()
     }
 
     fn verdict(&self) -> Verdict

@@ -37,8 +37,16 @@ fn three_accusers_of_one_node_have_no_heir(rt: HostRuntime) {
         assert!(rt; !tally.answered(1));
         assert_eq!(rt; tally.note(1, rulings[0]), Verdict::Open, "of {accuser}");
         assert!(rt; tally.answered(1));
-        assert_eq!(rt; tally.note(2, rulings[1]), Verdict::Discharged, "of {accuser}");
-        assert_eq!(rt; tally.note(3, rulings[2]), Verdict::Discharged, "of {accuser}");
+        assert_eq!(rt;
+            tally.note(2, rulings[1]),
+            Verdict::Discharged,
+            "of {accuser}"
+        );
+        assert_eq!(rt;
+            tally.note(3, rulings[2]),
+            Verdict::Discharged,
+            "of {accuser}"
+        );
         assert!(rt; !tally.may_be_heir());
     }
 }

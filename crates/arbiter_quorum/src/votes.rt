@@ -113,7 +113,11 @@ impl VoteTally {
         ensures count { result ≡ kept_count self.now kept.now }
         ensures few { result ≤ length self.now.answers }
     {
-        self.answers.as_slice().iter().filter(|vote| same_config(kept, &vote.kept)).count()
+        self.answers
+            .as_slice()
+            .iter()
+            .filter(|vote| same_config(kept, &vote.kept))
+            .count()
     }
 
     fn unanswered(&self) -> usize
