@@ -1,0 +1,4 @@
+pub mod Majorities
+pub mod Mapped
+pub mod Counts
+pub mod Decisions

@@ -1,0 +1,15 @@
+use Rattle.std.proofs.Common.{◌≡◌, ◌∷◌, [], false, arith}
+use Rattle.std.proofs.lemmas.List.{length-map, map-append}
+use Rattle.arbiter_quorum.specs.Kept.{pair, pairs}
+use Rattle.arbiter_quorum.specs.Tallies.{has_answered}
+use Rattle.arbiter_quorum.proofs.Majorities.{are_counted-push, room_for_one}
+use Rattle.arbiter_quorum.proofs.votes.VoteTally.note.Goals as goal
+
+pub push-requires : goal.push-requires
+push-requires c = omega (arith, c.self.invariant.few, length-map c.self.inside.answers.items pair, room_for_one c.self.inside.arbitrators c.args.arbitrator c.args.kept.now (pairs c.self.inside.answers.items) c.requires.from (grind arith) (grind arith) c.self.invariant.counted)
+
+pub invariant_of-self : goal.invariant_of-self
+invariant_of-self c = record {
+  few = c.self.invariant.few;
+  counted = rw (c.push.ensures.items, map-append, c.copy.ensures) (are_counted-push c.self.inside.arbitrators c.args.arbitrator c.args.kept.now (pairs c.self.inside.answers.items) c.requires.from (grind arith) (grind arith) c.self.invariant.counted);
+}
