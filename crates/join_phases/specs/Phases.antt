@@ -5,13 +5,13 @@ use Rattle.join_phases.specs.declared.phases.Phase.{Phase}
 use Rattle.join_phases.specs.declared.phases.Phase.TheVariants as phase
 
 abbrev pub seeking : Phase
-seeking = phase.Seeking (record {})
+seeking = phase.Seeking (record { 0 = tt })
 
 abbrev pub linked : Phase
-linked = phase.Linked (record {})
+linked = phase.Linked (record { 0 = tt })
 
 abbrev pub routing : Phase
-routing = phase.Routing (record {})
+routing = phase.Routing (record { 0 = tt })
 
 abbrev pub left : Why → Phase
 left why = phase.Left (record { why = why })

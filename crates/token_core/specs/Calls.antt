@@ -16,6 +16,11 @@ abbrev pub unless : {A : Type 0} → Bool → TokenRefusal → Result A TokenRef
 unless true refusal next = Err refusal
 unless false refusal next = next
 
+-- what a call comes to: the token that it leaves, or its refusal
+abbrev pub outcome : {A : Type 0} → Result A TokenRefusal → Token → Result Token TokenRefusal
+outcome (Ok x) t = Ok t
+outcome (Err refusal) t = Err refusal
+
 -- no version is left
 abbrev pub is_last_version : Token → Bool
 is_last_version t = nat_le last_number t.version
@@ -41,6 +46,11 @@ give_call t least = give_frozen t least t.freeze
 
 abbrev pub take_call : Token → List Interval → Result Token TokenRefusal
 take_call t part = unless (not (can_gain t part)) TooMany (unless (is_last_version t) Counters (Ok (gained t part)))
+
+-- the points of a flight, if there is one
+abbrev pub flight_points : Option (List Interval) → List Interval
+flight_points None = []
+flight_points (Some points) = points
 
 abbrev pub inherit_call : Token → List Interval → List Interval → Result Token TokenRefusal
 inherit_call t held flight =

@@ -1,14 +1,9 @@
 -- The token as a value, and what changes it.
-use Rattle.std.specs.Prelude.{ℕ, ◌+◌, Bool, ◌&&◌, List, [], Option, Some, None, nat_le}
+use Rattle.std.specs.Prelude.{ℕ, ◌+◌, Bool, false, ◌&&◌, List, [], Option, Some, None, nat_le}
 use Rattle.ring_points.specs.declared.interval.Interval.{Interval}
 use Rattle.ring_points.specs.Ranges.{fits}
 use Rattle.ring_points.specs.Sets.{union_of, minus_of, meet_of}
-
--- a part that is frozen for a slot, since this version
-pub record Freeze : Type 0 where
-  pub part : List Interval
-  pub slot : ℕ
-  pub version : ℕ
+pub use Rattle.token_core.specs.declared.freeze.Freeze.{Freeze}
 
 -- what a node owns, what of it is frozen, the version of what it announces, and the number of its next flight
 pub record Token : Type 0 where
@@ -55,7 +50,7 @@ abbrev pub given : Token → Freeze → Token
 given t z = record t { ranges = minus_of t.ranges z.part; freeze = None; next_flight = t.next_flight + 1 }
 
 abbrev pub is_ready : Option Freeze → ℕ → Bool
-is_ready None least = nat_le 1 0
+is_ready None least = false
 is_ready (Some z) least = nat_le z.version least
 
 -- of a record and a flight, what is not owned yet

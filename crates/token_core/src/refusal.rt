@@ -1,3 +1,7 @@
+ghost use Rattle.std.specs.Prelude.{◌≡◌};
+
+use ring_points::TooMany;
+
 /// Why a call on a token is refused. A refused call changes nothing.
 #[derive(Clone, Copy, Debug, PartialEq, Eq)]
 pub enum TokenRefusal {
@@ -13,4 +17,14 @@ pub enum TokenRefusal {
     NoFreeze,
     /// A version or flight number above 4,294,967,295 would be needed.
     Counters,
+}
+
+impl From<TooMany> for TokenRefusal {
+    ghost use Rattle.token_core.specs.declared.refusal.TokenRefusal.{TokenRefusal};
+
+    ghost from_gives = { λ _ refusal. refusal ≡ TokenRefusal.TooMany };
+
+    fn from(_: TooMany) -> TokenRefusal {
+        TokenRefusal::TooMany
+    }
 }

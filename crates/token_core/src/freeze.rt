@@ -1,0 +1,9 @@
+use ring_points::RangeSet;
+
+/// A part of the ranges that is frozen for a slot, since this version.
+#[derive(Drop)]
+pub struct Freeze {
+    pub part: RangeSet,
+    pub slot: usize,
+    pub version: u32,
+}
