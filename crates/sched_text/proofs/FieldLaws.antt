@@ -197,6 +197,14 @@ apart {A} reader word bytes x read never = cases (after_word word bytes) refl
     cases None is = refl
     cases (Some rest) is = absurd (none_found x (sym (never rest) ∙ (ap reader (sym (word_found word bytes rest is)) ∙ read)))
 
+regrouped : (a b c d : List ℕ) → a ++ (b ++ (c ++ d)) ≡ (a ++ (b ++ c)) ++ d
+regrouped a b c d = simp append_assoc
+
+-- a text that is taken apart three times
+chained : (whole a behind_a b behind_b c rest : List ℕ) → whole ≡ a ++ behind_a → behind_a ≡ b ++ behind_b → behind_b ≡ c ++ rest → whole ≡ (a ++ (b ++ c)) ++ rest
+chained whole a behind_a b behind_b c rest first second third =
+    first ∙ (ap (λ t. a ++ t) (second ∙ ap (λ t. b ++ t) third) ∙ regrouped a b c rest)
+
 -- two fields and the word between them
 pub pair_is : {A B : Type 0} {first : List ℕ → Field A} {second : List ℕ → Field B} {FitsA : A → Type 0} {textA : A → List ℕ} {EndsA : List ℕ → Type 0} {FitsB : B → Type 0} {textB : B → List ℕ} {EndsB : List ℕ → Type 0}
     → IsField first FitsA textA EndsA → (word : List ℕ) → IsField second FitsB textB EndsB → ((rest : List ℕ) → EndsA (word ++ rest))
@@ -210,9 +218,9 @@ pair_is {A} {B} {first} {second} {FitsA} {textA} {EndsA} {FitsB} {textB} lawA wo
       let y = lawB.found w.0 b.0 b.1 in
       let P : (A × B) × List ℕ → Type 0 = λ q. (FitsA q.0.0 × FitsB q.0.1) × (bytes ≡ (textA q.0.0 ++ (word ++ textB q.0.1)) ++ q.1) in
       let made : (A × B) × List ℕ = ((a.0.0, b.0.0), b.0.1) in
-      subst P (some_same made p b.2) (
+      subst P {x = made} (some_same made p b.2) (
         (x.0, y.0),
-        x.1 ∙ (ap (λ t. textA a.0.0 ++ t) (word_found word a.0.1 w.0 w.1 ∙ ap (λ t. word ++ t) y.1) ∙ regrouped (textA a.0.0) word (textB b.0.0) b.0.1),
+        chained bytes (textA a.0.0) a.0.1 word w.0 (textB b.0.0) b.0.1 x.1 (word_found word a.0.1 w.0 w.1) y.1,
       );
   again = λ p rest h end.
       ap (pair_at first word second) (sym (regrouped (textA p.0) word (textB p.1) rest))
@@ -220,6 +228,3 @@ pair_is {A} {B} {first} {second} {FitsA} {textA} {EndsA} {FitsB} {textB} lawA wo
       ∙ (ap (λ (o : Option (List ℕ)). o >>= λ more. second more >>= λ y. Some ((p.0, y.0), y.1)) (word_again word (textB p.1 ++ rest))
       ∙ ap (λ (o : Field B). o >>= λ y. Some ((p.0, y.0), y.1)) (lawB.again p.1 rest h.1 end)));
 }
-  where
-    regrouped : (a b c d : List ℕ) → a ++ (b ++ (c ++ d)) ≡ (a ++ (b ++ c)) ++ d
-    regrouped a b c d = simp append_assoc

@@ -1,4 +1,4 @@
-ghost use Rattle.std.specs.Prelude.{◌≡◌, [], ◌∷◌, ◌++◌, codes, decimal, OnOk, OnErr};
+ghost use Rattle.std.specs.Prelude.{◌≡◌, [], ◌∷◌, ◌++◌, codes, decimal, take, OnOk, OnErr};
 ghost use Rattle.sched_text.specs.Texts.{Keeps, spaced, who_text, ranges_text, number_text, point_text, epoch_text};
 ghost use Rattle.sched_text.specs.Reports.{why_text, verb_text, reason_text, report_text, head_text, report_line, sent_line};
 
@@ -261,6 +261,22 @@ fn push_sent_line(into: &mut Vec<u8>, head: &Head, sent: (u32, u32)) -> Result<(
     push_bytes(into, b"\n")
 }
 
+// Where a line was refused, what was printed of it is cut off again.
+fn cut_back(
+    into: &mut Vec<u8>,
+    before: usize,
+    printed: Result<(), OutOfMemory>,
+) -> Result<(), OutOfMemory>
+    ensures same { result ≡ printed }
+    ensures ok { OnOk result (into.new.items ≡ into.old.items) }
+    ensures err { OnErr result (into.new.items ≡ take before into.old.items) }
+{
+    if printed.is_err() {
+        into.truncate(before);
+    }
+    printed
+}
+
 /// Appends a report's line. Where memory is short it appends nothing.
 pub fn print_report(head: &Head, report: &Report, into: &mut Vec<u8>) -> Result<(), OutOfMemory>
     ensures ok { OnOk result (into.new.items ≡ into.old.items ++ report_line head.now report.now) }
@@ -268,10 +284,7 @@ pub fn print_report(head: &Head, report: &Report, into: &mut Vec<u8>) -> Result<
 {
     let before = into.len();
     let printed = push_report_line(into, head, report);
-    if printed.is_err() {
-        into.truncate(before);
-    }
-    printed
+    cut_back(into, before, printed)
 }
 
 /// Appends the line that says which frames a step sent: the numbers of the first and the last. Where
@@ -282,8 +295,5 @@ pub fn print_sent(head: &Head, sent: (u32, u32), into: &mut Vec<u8>) -> Result<(
 {
     let before = into.len();
     let printed = push_sent_line(into, head, sent);
-    if printed.is_err() {
-        into.truncate(before);
-    }
-    printed
+    cut_back(into, before, printed)
 }

@@ -340,137 +340,40 @@ fn commands_to_partitions(rt: HostRuntime) -> Result<(), Fail> {
     Ok(())
 }
 
+/// What is no line, between bars.
+const BAD_LINES: &str = "\
+| |# start 1 0|start|start |start 1|start 1 |start 1  0|start  1 0| start 1 0|start 1 0 |\
+start 1 0\n|start 1 00|start 01 0|start +1 0|start 1 -1|start 0 0|start 1000 0|\
+start 1 1000000000000001|start 1 99999999999999999999|start a0|start a10|start a|start a1 0|\
+start A1|Start 1 0|start 1 0x1|stop|stop 0|stop 1000|stop a0|stop 1 |fire 0|fire a1|\
+fire 1000|fire 1 2|give|give |give -1|give 01|give 1000000000000001|give 1 2|tick|tick |\
+tick 1 |tick 1 1|tick 1 1:|tick 1 :2|tick 1 1:2 |tick 1 1:2  2:3|tick 1 1:2,2:3|tick 1 0:1|\
+tick 1 a1:1|tick 1 1:01|tick 1000000000000001|junk 1|junk 1 |junk 1 0|junk 1 000|junk 1 0G|\
+junk 1 AF|junk 1 00 |junk 0 00|end|do|do 1|do 1 |do 0 link 2|do 1000 link 2|do 1  link 2|\
+do a1 link 2";
+
 #[test]
 fn bad_lines(rt: HostRuntime) {
-    for line in [
-        "",
-        " ",
-        "# start 1 0",
-        "start",
-        "start ",
-        "start 1",
-        "start 1 ",
-        "start 1  0",
-        "start  1 0",
-        " start 1 0",
-        "start 1 0 ",
-        "start 1 0\n",
-        "start 1 00",
-        "start 01 0",
-        "start +1 0",
-        "start 1 -1",
-        "start 0 0",
-        "start 1000 0",
-        "start 1 1000000000000001",
-        "start 1 99999999999999999999",
-        "start a0",
-        "start a10",
-        "start a",
-        "start a1 0",
-        "start A1",
-        "Start 1 0",
-        "start 1 0x1",
-        "stop",
-        "stop 0",
-        "stop 1000",
-        "stop a0",
-        "stop 1 ",
-        "fire 0",
-        "fire a1",
-        "fire 1000",
-        "fire 1 2",
-        "give",
-        "give ",
-        "give -1",
-        "give 01",
-        "give 1000000000000001",
-        "give 1 2",
-        "tick",
-        "tick ",
-        "tick 1 ",
-        "tick 1 1",
-        "tick 1 1:",
-        "tick 1 :2",
-        "tick 1 1:2 ",
-        "tick 1 1:2  2:3",
-        "tick 1 1:2,2:3",
-        "tick 1 0:1",
-        "tick 1 a1:1",
-        "tick 1 1:01",
-        "tick 1000000000000001",
-        "junk 1",
-        "junk 1 ",
-        "junk 1 0",
-        "junk 1 000",
-        "junk 1 0G",
-        "junk 1 AF",
-        "junk 1 00 ",
-        "junk 0 00",
-        "end",
-        "do",
-        "do 1",
-        "do 1 ",
-        "do 0 link 2",
-        "do 1000 link 2",
-        "do 1  link 2",
-        "do a1 link 2",
-    ] {
+    for line in BAD_LINES.split('|') {
         assert!(rt; read_event(line.as_bytes()).is_err(), "{line}");
     }
 }
 
+/// What is no command, between bars.
+const BAD_COMMANDS: &str = "\
+|fly 2|link|link 0|link 1000|link 2 |link 2 for|link 2 for 9|link 2 for 1000000001|\
+link 2 for 1000 |link 2 with 1000|Link 2|part 0|part a1|give 2|give 2 some|give 2 near all|\
+give 2  near|give 0 all|join 1000|join|find|find 0|find 000000000000000|\
+find 00000000000000000|find 000000000000000G|find 000000000000000A|create 65536 1|\
+create 1 0|create 1 8|create 1|create 01 1|swap 1 0|swap 1 1000|heal 1 9|lose 1 0|lose -1 1|\
+write 1|write 1 |write 65536 x|write 1 \t|write 1 \u{7f}|write 1 \u{e9}|\
+units 0000000000000000|units 0000000000000001-0000000000000000|\
+units 0000000000000000,0000000000000001|units 0000000000000000-0000000000000001 |\
+units -0000000000000001";
+
 #[test]
 fn bad_commands(rt: HostRuntime) {
-    for words in [
-        "",
-        "fly 2",
-        "link",
-        "link 0",
-        "link 1000",
-        "link 2 ",
-        "link 2 for",
-        "link 2 for 9",
-        "link 2 for 1000000001",
-        "link 2 for 1000 ",
-        "link 2 with 1000",
-        "Link 2",
-        "part 0",
-        "part a1",
-        "give 2",
-        "give 2 some",
-        "give 2 near all",
-        "give 2  near",
-        "give 0 all",
-        "join 1000",
-        "join",
-        "find",
-        "find 0",
-        "find 000000000000000",
-        "find 00000000000000000",
-        "find 000000000000000G",
-        "find 000000000000000A",
-        "create 65536 1",
-        "create 1 0",
-        "create 1 8",
-        "create 1",
-        "create 01 1",
-        "swap 1 0",
-        "swap 1 1000",
-        "heal 1 9",
-        "lose 1 0",
-        "lose -1 1",
-        "write 1",
-        "write 1 ",
-        "write 65536 x",
-        "write 1 \t",
-        "write 1 \u{7f}",
-        "write 1 \u{e9}",
-        "units 0000000000000000",
-        "units 0000000000000001-0000000000000000",
-        "units 0000000000000000,0000000000000001",
-        "units 0000000000000000-0000000000000001 ",
-        "units -0000000000000001",
-    ] {
+    for words in BAD_COMMANDS.split('|') {
         assert!(rt; read_command(words.as_bytes()).is_err(), "{words}");
     }
 }
