@@ -11,7 +11,7 @@ use Rattle.std.proofs.lemmas.List.Sums.{sum_by-cons, sum_by-remove}
 use Rattle.replica_place.specs.declared.load.NodeLoad.{NodeLoad}
 use Rattle.replica_place.specs.Placement.{comes_before, least_nodes, inserted, in_order, chosen}
 use Rattle.replica_place.specs.Choices.{cost, HasDomain, PlacementIsAChoice, PlacementIsInOrder, NoChoiceCostsLess}
-use Rattle.replica_place.proofs.SortedLists.{Rises, AllPairs-head, AllPairs-tail}
+use Rattle.fabric_lemmas.proofs.SortedLists.{Rises, AllPairs-head, AllPairs-tail}
 use Rattle.replica_place.proofs.Order.{inserted_moves, in_order_moves, in_order_rises}
 use Rattle.replica_place.proofs.InOrder.{length-in_order}
 use Rattle.replica_place.proofs.DomainsUp.{length-least_nodes}

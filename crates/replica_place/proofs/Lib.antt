@@ -1,6 +1,5 @@
 pub mod Domains
 pub mod DomainsUp
-pub mod SortedLists
 pub mod Order
 pub mod InOrder
 pub mod Placed
