@@ -1,5 +1,5 @@
 -- Searches of a list whose elements are mapped.
-use Rattle.std.proofs.Common.{◌≡◌, ◌||◌, Bool, true, false, List, [], ◌∷◌, Option, Some, None, map, refl, ap}
+use Rattle.std.proofs.Common.{◌≡◌, Bool, true, false, List, [], ◌∷◌, map, refl}
 use Rattle.std.specs.List.{list_any, find}
 use Rattle.std.specs.Prelude.{option_map}
 

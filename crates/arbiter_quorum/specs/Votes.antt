@@ -1,5 +1,5 @@
 -- The configurations that arbitrators kept of one epoch, and what they amount to.
-use Rattle.std.specs.Prelude.{ℕ, ◌+◌, ◌-◌, Bool, true, false, ◌&&◌, ◌||◌, List, [], length, ◌==◌, Option, Some, None, find, map, option_map, nat_eq}
+use Rattle.std.specs.Prelude.{ℕ, ◌+◌, ◌-◌, Bool, true, false, ◌&&◌, ◌||◌, List, [], length, ◌==◌, Option, Some, None, find, option_map, nat_eq}
 use Rattle.std.specs.List.{list_any}
 use lib.Pointwise.{pointwise}
 use Rattle.ring_points.specs.declared.unit.Epoch.{Epoch}

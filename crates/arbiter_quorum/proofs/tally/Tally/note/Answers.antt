@@ -1,5 +1,4 @@
-use Rattle.std.proofs.Common.{◌≡◌, false, arith, ◌∙◌, sym}
-use Rattle.arbiter_quorum.specs.Tallies.{has_answered}
+use Rattle.std.proofs.Common.{arith}
 use Rattle.arbiter_quorum.proofs.Majorities.{are_counted-push, room_for_one}
 use Rattle.arbiter_quorum.proofs.tally.Tally.note.Goals as goal
 

@@ -1,4 +1,4 @@
-use Rattle.std.proofs.Common.{◌≡◌, ◌∙◌, ◌==◌, sym, ap, ℕ}
+use Rattle.std.proofs.Common.{◌∙◌, ◌==◌, sym, ap, ℕ}
 use Rattle.std.specs.List.{list_any}
 use Rattle.ring_points.specs.declared.unit.Config.{Config}
 use Rattle.arbiter_quorum.specs.Kept.{pair}

@@ -1,7 +1,6 @@
-use Rattle.std.proofs.Common.{◌≡◌, ◌∷◌, [], false, arith}
+use Rattle.std.proofs.Common.{arith}
 use Rattle.std.proofs.lemmas.List.{length-map, map-append}
 use Rattle.arbiter_quorum.specs.Kept.{pair, pairs}
-use Rattle.arbiter_quorum.specs.Tallies.{has_answered}
 use Rattle.arbiter_quorum.proofs.Majorities.{are_counted-push, room_for_one}
 use Rattle.arbiter_quorum.proofs.votes.VoteTally.note.Goals as goal
 

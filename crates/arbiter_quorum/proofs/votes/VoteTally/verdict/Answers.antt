@@ -1,4 +1,4 @@
-use Rattle.std.proofs.Common.{◌≡◌, ◌∙◌, sym, ap, Some, None}
+use Rattle.std.proofs.Common.{◌∙◌, sym, ap, Some, None}
 use Rattle.ring_points.specs.declared.unit.Config.{Config}
 use Rattle.arbiter_quorum.specs.Votes.{VoteTally, verdict_by}
 use Rattle.arbiter_quorum.specs.declared.verdict.VoteVerdict.TheVariants.{Decided}
