@@ -3,7 +3,11 @@ use Rattle.std.specs.Prelude.{ℕ, ◌+◌, Bool, false, ◌&&◌, List, [], Opt
 use Rattle.ring_points.specs.declared.interval.Interval.{Interval}
 use Rattle.ring_points.specs.Ranges.{fits}
 use Rattle.ring_points.specs.Sets.{union_of, minus_of, meet_of}
-pub use Rattle.token_core.specs.declared.freeze.Freeze.{Freeze}
+use Rattle.token_core.specs.declared.freeze.Freeze as kept
+
+-- a part that is frozen for a slot, since this version
+abbrev pub Freeze : Type 0
+Freeze = kept.Freeze
 
 -- what a node owns, what of it is frozen, the version of what it announces, and the number of its next flight
 pub record Token : Type 0 where

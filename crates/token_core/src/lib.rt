@@ -15,6 +15,7 @@ mod refusal;
 mod tests;
 mod token;
 
+pub use freeze::Freeze;
 pub use laws::{
     a_freeze_has_the_owned_points, a_gain_has_both, a_gift_leaves_the_rest,
     an_inheritance_is_what_was_not_owned, frozen_points_are_not_announced,
