@@ -1,1 +1,2 @@
 pub mod RecordFile
+pub mod Told

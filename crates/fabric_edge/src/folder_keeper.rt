@@ -1,7 +1,10 @@
+ghost use Rattle.std.specs.Prelude.{◌≡◌};
+
 use crate::failures::Failures;
 use crate::folder::Folder;
 use edge_io::{EdgeRefusal, Keeper};
 use std::alloc::Global;
+use std::marker::Model;
 use std::rt::Files;
 
 /// Records in files: those of an actor in `kept/<actor>`, under the current folder, which is made where it
@@ -13,8 +16,19 @@ pub struct FolderKeeper<'a, R: Files> {
     failures: Failures,
 }
 
+impl<'a, R: Files> Model for FolderKeeper<'a, R> {
+    ghost use Rattle.std.specs.Prelude.{ℕ};
+
+    ghost Value = { ℕ };
+
+    ghost view = { λ a. a.failures };
+}
+
 impl<'a, R: Files> FolderKeeper<'a, R> {
-    pub fn new(rt: &'a R, alloc: Global) -> Self {
+    /// No file is open, and none has failed. Contracts see how often one failed.
+    pub fn new(rt: &'a R, alloc: Global) -> Self
+        ensures { result ≡ 0 }
+    {
         FolderKeeper {
             folder: Folder::new(rt, alloc),
             failures: Failures::none(),
@@ -27,7 +41,7 @@ impl<R: Files> Keeper for FolderKeeper<'_, R> {
 
     ghost kept = { λ k actor. None };
 
-    ghost faults = { λ k. k.failures };
+    ghost faults = { λ k. k };
 
     ghost plan = { λ k. None };
 

@@ -8,6 +8,8 @@
 #![tactic(auto)]
 
 mod failures;
+#[cfg(test)]
+mod fakes;
 mod folder;
 mod folder_keeper;
 mod mono_clock;

@@ -1,10 +1,13 @@
+ghost use Rattle.std.specs.Prelude.{◌≡◌};
+
 use edge_io::Clock;
+use std::marker::Model;
 use std::rt;
 use std::time::Instant;
 
 /// The machine's clock that never goes back, in milliseconds since this value was made. Where the machine
 /// cannot read it, the last reading comes again. Where it could not as this value was made, the time is
-/// counted from the first reading.
+/// counted from the first reading. Contracts see the last reading.
 #[derive(Drop)]
 pub struct MonoClock<'a, R: rt::Clock> {
     rt: &'a R,
@@ -12,8 +15,19 @@ pub struct MonoClock<'a, R: rt::Clock> {
     last: Option<u64>,
 }
 
+impl<'a, R: rt::Clock> Model for MonoClock<'a, R> {
+    ghost use Rattle.std.specs.Prelude.{ℕ, Option};
+
+    ghost Value = { Option ℕ };
+
+    ghost view = { λ a. a.last };
+}
+
 impl<'a, R: rt::Clock> MonoClock<'a, R> {
-    pub fn new(rt: &'a R) -> Self {
+    /// It has given no reading yet.
+    pub fn new(rt: &'a R) -> Self
+        ensures { result ≡ None }
+    {
         MonoClock {
             rt,
             made: Instant::now(rt).ok(),
@@ -33,7 +47,7 @@ impl<R: rt::Clock> Clock for MonoClock<'_, R> {
 
     ghost readings = { λ c. None };
 
-    ghost last = { λ c. c.last };
+    ghost last = { λ c. c };
 
     ghost falls = { λ c. 0 };
 

@@ -1,4 +1,4 @@
-ghost use Rattle.std.specs.Prelude.{◌≡◌, ◌==◌, ◌≤◌, length, map, position, IfOk, IfSome};
+ghost use Rattle.std.specs.Prelude.{◌≡◌, ◌==◌, ◌≤◌, [], length, map, position, IfOk, IfSome};
 ghost use Rattle.edge_io.specs.Arrivals.{IsListening};
 
 use crate::failures::Failures;
@@ -6,11 +6,13 @@ use edge_io::{EdgeRefusal, Endpoint, Failed, Links, SocketAddress};
 use std::alloc::{AllocError, Global};
 use std::io;
 use std::io::ErrorKind;
+use std::marker::Model;
 use std::net::{Net, UdpSocket};
 use std::time::Duration;
 
-/// The longest that a receive waits for a datagram, in milliseconds.
-const LONGEST_WAIT: u64 = 10;
+/// How long a receive waits for a datagram, in milliseconds. A machine rounds it up to its own grain, and
+/// the wait is to be 10 ms at most.
+const WAIT: u64 = 4;
 
 /// An endpoint, and the socket that is bound to it.
 #[derive(Drop)]
@@ -33,8 +35,20 @@ pub struct UdpLinks<'a, R: Net> {
     failures: Failures,
 }
 
+impl<'a, R: Net> Model for UdpLinks<'a, R> {
+    ghost use Rattle.std.specs.Prelude.{map};
+    ghost use Rattle.fabric_edge.specs.Told.{ToldByLinks};
+
+    ghost Value = { ToldByLinks };
+
+    ghost view = { λ a. record { opened = map (λ o. o.endpoint) a.sockets.items; faults = a.failures } };
+}
+
 impl<'a, R: Net> UdpLinks<'a, R> {
-    pub fn new(rt: &'a R, alloc: Global) -> Self {
+    /// No endpoint is open.
+    pub fn new(rt: &'a R, alloc: Global) -> Self
+        ensures { result ≡ record { opened = []; faults = 0 } }
+    {
         UdpLinks {
             rt,
             alloc,
@@ -48,7 +62,7 @@ impl<'a, R: Net> UdpLinks<'a, R> {
 /// A socket that is bound to the address. It does not wait.
 fn bind<R: Net>(rt: &R, at: &str) -> io::Result<UdpSocket> {
     let socket = UdpSocket::bind(rt, at)?;
-    socket.set_read_timeout(Some(Duration::from_millis(LONGEST_WAIT)))?;
+    socket.set_read_timeout(Some(Duration::from_millis(WAIT)))?;
     socket.set_nonblocking(true)?;
     Ok(socket)
 }
@@ -103,15 +117,15 @@ fn open_at(alloc: Global, actor: u16, at: &str, socket: UdpSocket) -> Result<Ope
 }
 
 impl<R: Net> Links for UdpLinks<'_, R> {
-    ghost use Rattle.std.specs.Prelude.{None, map};
+    ghost use Rattle.std.specs.Prelude.{None};
 
-    ghost opened = { λ l. map (λ o. o.endpoint) l.sockets.items };
+    ghost opened = { λ l. l.opened };
 
     ghost arrivals = { λ l actor. None };
 
     ghost sent = { λ l. None };
 
-    ghost faults = { λ l. l.failures };
+    ghost faults = { λ l. l.faults };
 
     ghost plan = { λ l. None };
 
