@@ -4,14 +4,9 @@ use Rattle.std.specs.List.{list_any}
 use Rattle.ring_points.specs.declared.who.Who.{Who}
 use Rattle.ring_points.specs.Whos.{same_who}
 use Rattle.ring_points.specs.Distances.{is_nearer, ahead_of}
+use Rattle.ring_route.specs.declared.known.Known.{Known}
 use Rattle.ring_route.specs.declared.hop.Hop.{Hop}
 use Rattle.ring_route.specs.declared.hop.Hop.TheVariants.{Here, To, Nowhere}
-
--- a known node: its latest instance, its point, and the reading at which it was last heard
-pub record Known : Type 0 where
-  pub who : Who
-  pub point : ℕ
-  pub heard : ℕ
 
 -- what a node knows: the points of the configured nodes, and whom it heard, in the order of first hearing
 pub record Routes : Type 0 where
