@@ -15,11 +15,11 @@ near_is r count accused own others up down first both own-is others-is up-is dow
     let home : ℕ = point_of r.me.actor r.points in
     let free : List Known = filter (may_hop None accused) r.known in
     let up-all : up ≡ sorted_by (far_of Upwards home) free =
-        up-is ∙ ap (sorted_by (far_of Upwards own)) others-is ∙ ap (λ (o : ℕ). sorted_by (far_of Upwards o) free) own-is in
+    up-is ∙ ap (sorted_by (far_of Upwards own)) others-is ∙ ap (λ (o : ℕ). sorted_by (far_of Upwards o) free) own-is in
     let down-all : down ≡ sorted_by (far_of Downwards home) free =
-        down-is ∙ ap (sorted_by (far_of Downwards own)) others-is ∙ ap (λ (o : ℕ). sorted_by (far_of Downwards o) free) own-is in
+    down-is ∙ ap (sorted_by (far_of Downwards own)) others-is ∙ ap (λ (o : ℕ). sorted_by (far_of Downwards o) free) own-is in
     let all : both ≡ map actor (take count (sorted_by (far_of Upwards home) free)) ++ map actor (take count (sorted_by (far_of Downwards home) free)) =
-        both-is
-        ∙ ap (λ (ns : List ℕ). ns ++ map actor (take count down)) (first-is ∙ ap (λ (ks : List Known). map actor (take count ks)) up-all)
-        ∙ ap (λ (ks : List Known). map actor (take count (sorted_by (far_of Upwards home) free)) ++ map actor (take count ks)) down-all in
+    both-is
+    ∙ ap (λ (ns : List ℕ). ns ++ map actor (take count down)) (first-is ∙ ap (λ (ks : List Known). map actor (take count ks)) up-all)
+    ∙ ap (λ (ks : List Known). map actor (take count (sorted_by (far_of Upwards home) free)) ++ map actor (take count ks)) down-all in
     ap without_repeats (all ∙ sym (map-append actor (take count (sorted_by (far_of Upwards home) free)) (take count (sorted_by (far_of Downwards home) free))))

@@ -123,7 +123,11 @@ impl RouteTable {
     pub fn up(&self, node: u16, since: u64) -> Option<Who>
         ensures { result ≡ up_of self.now node since }
     {
-        let k = self.known.as_slice().iter().find(|k| k.who.actor == node && since <= k.heard)?;
+        let k = self
+            .known
+            .as_slice()
+            .iter()
+            .find(|k| k.who.actor == node && since <= k.heard)?;
         Some(k.who)
     }
 

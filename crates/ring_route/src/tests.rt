@@ -1,16 +1,25 @@
+ghost use Rattle.std.specs.Prelude.{◌≡◌};
+ghost use Rattle.ring_points.specs.Whos.{node_instance};
+
 use crate::{Hop, RouteTable, chains_end};
 use ring_points::{Point, Who};
 
 const HIGH: u64 = 1 << 63;
 
-fn node(actor: u16) -> Who {
+fn node(actor: u16) -> Who
+    ensures { result ≡ node_instance actor 1 }
+{
     Who { actor, instance: 1 }
 }
 
 #[test]
 fn a_search_goes_to_the_nearer_of_two_nodes(rt: HostRuntime) {
     let mut table = RouteTable::new(node(1), &[(1, Point(0)), (2, Point(HIGH))]);
-    assert_eq!(rt; table.next(Point(HIGH), false, None, &[]), Hop::Nowhere, "nobody is known");
+    assert_eq!(rt;
+        table.next(Point(HIGH), false, None, &[]),
+        Hop::Nowhere,
+        "nobody is known"
+    );
     table.heard(node(2), 100);
     for (key, holds, skip, want) in [
         (0x7000_0000_0000_0000, false, None, Hop::To(node(2))),
@@ -20,7 +29,11 @@ fn a_search_goes_to_the_nearer_of_two_nodes(rt: HostRuntime) {
     ] {
         assert_eq!(rt; table.next(Point(key), holds, skip, &[]), want, "for {key}");
     }
-    assert_eq!(rt; table.next(Point(HIGH), false, None, &[node(2)]), Hop::Nowhere, "accused");
+    assert_eq!(rt;
+        table.next(Point(HIGH), false, None, &[node(2)]),
+        Hop::Nowhere,
+        "accused"
+    );
     chains_end();
 }
 
@@ -40,7 +53,12 @@ fn the_latest_instance_counts(rt: HostRuntime) {
 
 #[test]
 fn near_nodes_stand_on_both_sides(rt: HostRuntime) {
-    let points = [(1, Point(10)), (2, Point(20)), (3, Point(30)), (4, Point(5))];
+    let points = [
+        (1, Point(10)),
+        (2, Point(20)),
+        (3, Point(30)),
+        (4, Point(5)),
+    ];
     let mut table = RouteTable::new(node(1), &points);
     table.heard(node(3), 0);
     table.heard(node(2), 0);
