@@ -23,7 +23,7 @@ transfer_in number part i l state.Bound = arrived_if i l number part (nat_lt l.g
 transfer_in number part i l state.Parting = gone_said l
 transfer_in number part i l _ = stays (Some l)
 
-abbrev pub transfer_seen : ℕ → List Interval → SlotRow
+abbrev pub transfer_seen : ℕ → List Interval → ℕ → SlotRow
 transfer_seen number part i None = stays None
 transfer_seen number part i (Some l) = transfer_in number part i l l.state
 
@@ -45,23 +45,33 @@ last_words l bound = answers bound l.peer (body.Gone l.mine l.yours l.got false)
 abbrev pub closed : ℕ → Link → Bool → Turn
 closed i l bound = turn None (last_words l bound) (Undo i ∷ [])
 
-abbrev pub settled : ℕ → Link → Flight → Bool → Bool → Turn
-settled i l f bound true = closed i l bound
-settled i l f bound false = turn (Some l) [] (Return i f ∷ [])
+abbrev pub lost_if : Flight → Bool → Option Flight
+lost_if f true = None
+lost_if f false = Some f
 
-abbrev pub gone_heard : ℕ → Link → ℕ → Bool → Option Flight → Turn
-gone_heard i l got bound None = closed i l bound
-gone_heard i l got bound (Some f) = settled i l f bound (nat_le f.number got)
+-- the flight to the peer that it did not get
+abbrev pub lost_flight : ℕ → Option Flight → Option Flight
+lost_flight got None = None
+lost_flight got (Some f) = lost_if f (nat_le f.number got)
 
-abbrev pub gone_in : ℕ → Bool → ℕ → Link → LinkState → Turn
-gone_in got bound i l state.Offered = gone_heard i l got bound l.flight
-gone_in got bound i l state.Bound = gone_heard i l got bound l.flight
-gone_in got bound i l state.Parting = gone_heard i l got bound l.flight
-gone_in got bound i l _ = stays (Some l)
+abbrev pub gone_heard : ℕ → Link → Bool → Option Flight → Turn
+gone_heard i l bound None = closed i l bound
+gone_heard i l bound (Some f) = turn (Some l) [] (Return i f ∷ [])
 
-abbrev pub gone_seen : ℕ → Bool → SlotRow
+-- a slot that stands
+abbrev pub stands : LinkState → Bool
+stands state.Offered = true
+stands state.Bound = true
+stands state.Parting = true
+stands _ = false
+
+abbrev pub gone_if : ℕ → Bool → ℕ → Link → Bool → Turn
+gone_if got bound i l true = gone_heard i l bound (lost_flight got l.flight)
+gone_if got bound i l false = stays (Some l)
+
+abbrev pub gone_seen : ℕ → Bool → ℕ → SlotRow
 gone_seen got bound i None = stays None
-gone_seen got bound i (Some l) = gone_in got bound i l l.state
+gone_seen got bound i (Some l) = gone_if got bound i l (stands l.state)
 
 -- in no session: a slot that greets by this number ends, and the sender gets its answer if it wants one
 

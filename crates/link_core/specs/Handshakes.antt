@@ -74,11 +74,11 @@ offer_again theirs l state.Offered = offer_same l (l.yours == theirs)
 offer_again theirs l _ = stays (Some l)
 
 abbrev pub hello_repeated : ℕ → SlotRow
-hello_repeated theirs i None = stays None
-hello_repeated theirs i (Some l) = offer_again theirs l l.state
+hello_repeated theirs None = stays None
+hello_repeated theirs (Some l) = offer_again theirs l l.state
 
 abbrev pub hello_of_instance : Links → Link → Option ℕ → Did
-hello_of_instance k l (Some i) = in_place i (hello_repeated l.yours i (slot_at i k.slots)) k
+hello_of_instance k l (Some i) = in_place i (hello_repeated l.yours (slot_at i k.slots)) k
 hello_of_instance k l None = hello_of_node k l (slot_where (of_node is_hello l.peer.actor) k.slots)
 
 -- a Hello by this frame version, for this length
@@ -89,8 +89,8 @@ hello_received now from theirs wire len k =
 -- An Offer is taken by the slot that greeted, once more by the slot that took it, and by nobody else.
 
 abbrev pub offer_taken : ℕ → Who → ℕ → ℕ → SlotRow
-offer_taken now from theirs len i None = stays None
-offer_taken now from theirs len i (Some l) =
+offer_taken now from theirs len None = stays None
+offer_taken now from theirs len (Some l) =
     turn (Some (bound_link now l from theirs len)) ((from, body.Take l.mine theirs) ∷ []) (BoundNow ∷ [])
 
 abbrev pub take_again : Link → LinkState → Turn
@@ -99,13 +99,13 @@ take_again l state.Parting = gone_said l
 take_again l _ = stays (Some l)
 
 abbrev pub offer_repeated : SlotRow
-offer_repeated i None = stays None
-offer_repeated i (Some l) = take_again l l.state
+offer_repeated None = stays None
+offer_repeated (Some l) = take_again l l.state
 
 abbrev pub offer_seen : ℕ → Who → ℕ → ℕ → ℕ → Links → Option ℕ → Did
-offer_seen now from theirs own len k (Some i) = in_place i (offer_taken now from theirs len i (slot_at i k.slots)) k
+offer_seen now from theirs own len k (Some i) = in_place i (offer_taken now from theirs len (slot_at i k.slots)) k
 offer_seen now from theirs own len k None =
-    in_found offer_repeated (unknown from theirs own k) k (slot_where (of_session from own theirs) k.slots)
+    in_found (λ i. offer_repeated) (unknown from theirs own k) k (slot_where (of_session from own theirs) k.slots)
 
 -- an Offer with this length
 abbrev pub offer_received : ℕ → Who → ℕ → ℕ → ℕ → Links → Did
@@ -123,9 +123,9 @@ take_in now a l state.Parting = gone_said l
 take_in now a l _ = stays (Some l)
 
 abbrev pub take_seen : ℕ → Announce → SlotRow
-take_seen now a i None = stays None
-take_seen now a i (Some l) = take_in now a l l.state
+take_seen now a None = stays None
+take_seen now a (Some l) = take_in now a l l.state
 
 abbrev pub take_received : ℕ → Announce → Who → ℕ → ℕ → Links → Did
 take_received now a from theirs own k =
-    in_found (take_seen now a) (unknown from theirs own k) k (slot_where (of_session from own theirs) k.slots)
+    in_found (λ i. take_seen now a) (unknown from theirs own k) k (slot_where (of_session from own theirs) k.slots)

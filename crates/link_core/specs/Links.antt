@@ -84,11 +84,12 @@ is_spent k = nat_lt last_number k.next_session
 abbrev pub in_place : ℕ → Turn → Links → Did
 in_place i t k = did (with_slot i t.slot k) t.sent t.notes
 
--- what a row makes of the slot in this place, by the slot
+-- what a row makes of a slot
 abbrev pub SlotRow : Type 0
-SlotRow = ℕ → Option Link → Turn
+SlotRow = Option Link → Turn
 
-abbrev pub in_found : SlotRow → Did → Links → Option ℕ → Did
+-- in the place that was found, by a row that knows the place
+abbrev pub in_found : (ℕ → SlotRow) → Did → Links → Option ℕ → Did
 in_found row none k None = none
 in_found row none k (Some i) = in_place i (row i (slot_at i k.slots)) k
 

@@ -26,7 +26,7 @@ renew_in stamp version got want ranges i l state.Bound = renew_heard i (renewed 
 renew_in stamp version got want ranges i l state.Parting = gone_said l
 renew_in stamp version got want ranges i l _ = stays (Some l)
 
-abbrev pub renew_seen : ℕ → ℕ → ℕ → Bool → List Interval → SlotRow
+abbrev pub renew_seen : ℕ → ℕ → ℕ → Bool → List Interval → ℕ → SlotRow
 renew_seen stamp version got want ranges i None = stays None
 renew_seen stamp version got want ranges i (Some l) = renew_in stamp version got want ranges i l l.state
 
@@ -42,9 +42,9 @@ ack_in stamp version l state.Parting = stays (Some (acknowledged l stamp version
 ack_in stamp version l _ = stays (Some l)
 
 abbrev pub ack_seen : ℕ → ℕ → SlotRow
-ack_seen stamp version i None = stays None
-ack_seen stamp version i (Some l) = ack_in stamp version l l.state
+ack_seen stamp version None = stays None
+ack_seen stamp version (Some l) = ack_in stamp version l l.state
 
 abbrev pub ack_received : Who → ℕ → ℕ → ℕ → ℕ → Links → Did
 ack_received from theirs own stamp version k =
-    in_found (ack_seen stamp version) (same k) k (slot_where (of_session from own theirs) k.slots)
+    in_found (λ i. ack_seen stamp version) (same k) k (slot_where (of_session from own theirs) k.slots)

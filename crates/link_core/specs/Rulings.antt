@@ -48,16 +48,21 @@ judged l ripe was verdict.Open = stays (Some l)
 abbrev pub ruling_noted : ℕ → Link → LinkState → Turn
 ruling_noted ripe l was = judged l ripe was (verdict_of l.tally)
 
-abbrev pub ruling_in : ℕ → ℕ → Ruling → Link → LinkState → Turn
-ruling_in ripe arbiter ruling l state.Accused = ruling_noted ripe (record l { tally = noted l.tally arbiter ruling }) state.Accused
-ruling_in ripe arbiter ruling l state.Discharged = ruling_noted ripe (record l { tally = noted l.tally arbiter ruling }) state.Discharged
-ruling_in ripe arbiter ruling l _ = stays (Some l)
+-- it waits for the arbitrators
+abbrev pub awaits : LinkState → Bool
+awaits state.Accused = true
+awaits state.Discharged = true
+awaits _ = false
+
+abbrev pub ruling_if : ℕ → ℕ → Ruling → Link → Bool → Turn
+ruling_if ripe arbiter ruling l true = ruling_noted ripe (record l { tally = noted l.tally arbiter ruling }) l.state
+ruling_if ripe arbiter ruling l false = stays (Some l)
 
 abbrev pub ruling_seen : ℕ → Bound → ℕ → ℕ → Ruling → SlotRow
-ruling_seen now bound answer arbiter ruling i None = stays None
-ruling_seen now bound answer arbiter ruling i (Some l) = ruling_in (ripe_at now bound answer l) arbiter ruling l l.state
+ruling_seen now bound answer arbiter ruling None = stays None
+ruling_seen now bound answer arbiter ruling (Some l) = ruling_if (ripe_at now bound answer l) arbiter ruling l (awaits l.state)
 
 -- a ruling of this arbitrator about the victim
 abbrev pub ruling_received : ℕ → Who → Who → Ruling → Links → Did
 ruling_received now from victim ruling k =
-    in_found (ruling_seen now k.bound k.answer (from.actor - arbiter_actor 0) ruling) (same k) k (slot_where (of_instance victim) k.slots)
+    in_found (λ i. ruling_seen now k.bound k.answer (from.actor - arbiter_actor 0) ruling) (same k) k (slot_where (of_instance victim) k.slots)

@@ -1,6 +1,7 @@
 -- What holds of every node's links: their times are bounded, and so are those that are made of them.
 use Rattle.std.specs.Prelude.{◌≡◌, ℕ, ◌≤◌, length, Option, Some, None, All}
 use Rattle.ring_rules.specs.declared.link.Link.{Link}
+use Rattle.ring_rules.specs.Rings.{slot_count}
 use Rattle.link_core.specs.Links.{Links}
 
 -- leases, lengths and answer times, in ticks
@@ -28,3 +29,4 @@ pub record AreSound (k : Links) : Type 0 where
   pub grain : k.bound.grain ≤ 1000000
   pub arbitrators : k.arbitrators ≤ 9
   pub slots : All (IsSoundSlot k.arbitrators) k.slots
+  pub count : length k.slots ≡ slot_count

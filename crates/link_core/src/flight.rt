@@ -1,6 +1,6 @@
 ghost use Rattle.std.specs.Prelude.{◌≡◌, ◌<◌, ◌++◌, [], Some, length};
 ghost use Rattle.link_core.specs.Calls.{flight_sent, flight_taken, slot_closed};
-ghost use Rattle.link_core.specs.Flights.{gone_heard, gone_seen, last_words, transfer_seen};
+ghost use Rattle.link_core.specs.Flights.{gone_seen, last_words, lost_flight, stands, transfer_seen};
 ghost use Rattle.link_core.specs.Links.{turn, turn_after};
 
 use crate::notes::{LinkNote, LinkNotes};
@@ -55,7 +55,9 @@ fn last_words(link: &Link, bound: bool, out: &mut Outbox)
 }
 
 /// The flight to the peer that it did not get.
-fn lost_flight(link: &Link, got: u32) -> Option<Flight> {
+fn lost_flight(link: &Link, got: u32) -> Option<Flight>
+    ensures { result ≡ lost_flight got link.now.flight }
+{
     match &link.flight {
         Some(flight) if got < flight.number => Some(flight.copy()),
         _ => None,
@@ -63,7 +65,9 @@ fn lost_flight(link: &Link, got: u32) -> Option<Flight> {
 }
 
 /// A slot that stands.
-fn stands(state: LinkState) -> bool {
+fn stands(state: LinkState) -> bool
+    ensures { result ≡ stands state }
+{
     matches!(
         state,
         LinkState::Offered | LinkState::Bound | LinkState::Parting

@@ -14,7 +14,7 @@ use ring_wire::Outbox;
 /// A Hello of an instance that has a link: one that was accepted before gets its Offer again.
 pub(crate) fn hello_repeated(slot: &Option<Link>, theirs: u32, out: &mut Outbox)
     requires { length out.old < 192 }
-    ensures { (i : ℕ) → turn slot.now out.new [] ≡ turn_after out.old (hello_repeated theirs i slot.now) }
+    ensures { turn slot.now out.new [] ≡ turn_after out.old (hello_repeated theirs slot.now) }
 {
     if let Some(link) = slot
         && matches!(link.state, LinkState::Offered)
@@ -35,7 +35,7 @@ pub(crate) fn offer_taken(
 ) -> LinkNotes
     requires room { length out.old < 192 }
     requires times { IfSome slot.old (λ l. now + l.len < 2 ^ 64) }
-    ensures { (i : ℕ) → turn slot.new out.new result ≡ turn_after out.old (offer_taken now from theirs len i slot.old) }
+    ensures { turn slot.new out.new result ≡ turn_after out.old (offer_taken now from theirs len slot.old) }
 {
     let Some(link) = slot else {
         return LinkNotes::none();
@@ -58,7 +58,7 @@ pub(crate) fn offer_taken(
 /// An Offer in this session: one that was taken before gets its Take again.
 pub(crate) fn offer_repeated(slot: &Option<Link>, out: &mut Outbox)
     requires { length out.old < 192 }
-    ensures { (i : ℕ) → turn slot.now out.new [] ≡ turn_after out.old (offer_repeated i slot.now) }
+    ensures { turn slot.now out.new [] ≡ turn_after out.old (offer_repeated slot.now) }
 {
     let Some(link) = slot else {
         return;
@@ -84,7 +84,7 @@ pub(crate) fn take_seen(
     out: &mut Outbox,
 ) -> LinkNotes
     requires { length out.old < 192 }
-    ensures { (i : ℕ) → turn slot.new out.new result ≡ turn_after out.old (take_seen now announce.now i slot.old) }
+    ensures { turn slot.new out.new result ≡ turn_after out.old (take_seen now announce.now slot.old) }
 {
     let Some(link) = slot else {
         return LinkNotes::none();

@@ -104,7 +104,7 @@ pub(crate) fn renew_seen(
 /// A RenewAck in this session.
 pub(crate) fn ack_seen(slot: &mut Option<Link>, stamp: u64, version: u32)
     requires { IfSome slot.old (λ l. stamp + l.len < 2 ^ 64) }
-    ensures { (i : ℕ) → turn slot.new [] [] ≡ ack_seen stamp version i slot.old }
+    ensures { turn slot.new [] [] ≡ ack_seen stamp version slot.old }
 {
     let Some(link) = slot else {
         return;

@@ -1,8 +1,8 @@
 ghost use Rattle.std.specs.Prelude.{◌≡◌, ℕ, ◌+◌, ◌<◌, ◌≤◌, [], ◌∷◌, Some, IfSome, length, not, ◌||◌};
-ghost use Rattle.arbiter_quorum.specs.Tallies.{may_be_heir, verdict_of};
+ghost use Rattle.arbiter_quorum.specs.Tallies.{may_be_heir, noted, verdict_of};
 ghost use Rattle.ring_rules.specs.Links.{is_bare};
 ghost use Rattle.link_core.specs.Links.{turn};
-ghost use Rattle.link_core.specs.Rulings.{discharge_told, judged, made_heir, kept_discharged, ruling_seen, ripe_at};
+ghost use Rattle.link_core.specs.Rulings.{awaits, discharge_told, judged, made_heir, kept_discharged, ruling_seen, ripe_at};
 
 use crate::notes::{LinkNote, LinkNotes};
 use arbiter_quorum::Verdict;
@@ -83,11 +83,28 @@ fn ripe_at(now: u64, bound: Bound, answer: u64, link: &Link) -> u64
     now + wait_of(bound, link.len + answer)
 }
 
+/// Counts a ruling of this arbitrator, and says what the rulings amount to now.
+fn note(link: &mut Link, arbitrator: u8, ruling: Ruling) -> Verdict
+    requires first { 1 ≤ arbitrator }
+    requires last { arbitrator ≤ link.old.tally.arbitrators }
+    ensures noted { link.new ≡ record link.old { tally = noted link.old.tally arbitrator ruling } }
+    ensures verdict { result ≡ verdict_of link.new.tally }
+{
+    link.tally.note(arbitrator, ruling)
+}
+
 /// The arbitrators' terms at a node: the time for an answer, and the bound of clocks.
 #[derive(Clone, Copy)]
 pub(crate) struct Terms {
     pub answer: u64,
     pub bound: Bound,
+}
+
+/// It waits for the arbitrators.
+fn awaits(state: LinkState) -> bool
+    ensures { result ≡ awaits state }
+{
+    matches!(state, LinkState::Accused | LinkState::Discharged)
 }
 
 /// A ruling of this arbitrator about the peer.
@@ -104,15 +121,15 @@ pub(crate) fn ruling_seen(
     requires length { IfSome slot.old (λ l. l.len + terms.answer ≤ 2_000_000_000) }
     requires first { 1 ≤ arbitrator }
     requires last { IfSome slot.old (λ l. arbitrator ≤ l.tally.arbitrators) }
-    ensures { (i : ℕ) → turn slot.new [] result ≡ ruling_seen now terms.bound terms.answer arbitrator ruling i slot.old }
+    ensures { turn slot.new [] result ≡ ruling_seen now terms.bound terms.answer arbitrator ruling slot.old }
 {
     let Some(link) = slot else {
         return LinkNotes::none();
     };
-    if !matches!(link.state, LinkState::Accused | LinkState::Discharged) {
+    if !awaits(link.state) {
         return LinkNotes::none();
     }
     let ripe = ripe_at(now, terms.bound, terms.answer, link);
-    let verdict = link.tally.note(arbitrator, ruling);
+    let verdict = note(link, arbitrator, ruling);
     judged(slot, ripe, verdict)
 }
