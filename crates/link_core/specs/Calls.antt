@@ -10,7 +10,7 @@ use Rattle.ring_rules.specs.Slots.{slot_at, slot_where, may_part, of_node}
 use Rattle.ring_rules.specs.Links.{has_flight, parting_link, transfer_body}
 use Rattle.link_core.specs.declared.refusal.LinkRefusal.{LinkRefusal}
 use Rattle.link_core.specs.declared.refusal.LinkRefusal.TheVariants.{NotLinked, Busy}
-use Rattle.link_core.specs.Links.{Links, Turn, Did, did, turn, same, stays, in_place, gone_said}
+use Rattle.link_core.specs.Links.{Links, Turn, Did, did, did_after, turn, turn_after, same, stays, in_place, gone_said}
 use Rattle.link_core.specs.Handshakes.{greet, greeting_for}
 use Rattle.link_core.specs.Flights.{last_words}
 
@@ -34,22 +34,41 @@ abbrev pub outcome : Result (Unit {0}) LinkRefusal → Links → List (Who × Bo
 outcome (Ok done) k sent = Ok (did k sent [])
 outcome (Err refusal) k sent = Err refusal
 
+-- a call after the frames that were sent before
+abbrev pub call_after : List (Who × Body) → Result Did LinkRefusal → Result Did LinkRefusal
+call_after before (Ok d) = Ok (did_after before d)
+call_after before (Err refusal) = Err refusal
+
 abbrev pub hello_call : ℕ → ℕ → Option ℕ → Links → Result Did LinkRefusal
 hello_call now node length k = greet k (greeting_for k now node length)
 
+-- what a call on a slot comes to, and what it comes to after the frames that were sent before
+
+abbrev pub turn_outcome : Result (Unit {0}) LinkRefusal → Option Link → List (Who × Body) → Result Turn LinkRefusal
+turn_outcome (Ok done) slot sent = Ok (turn slot sent [])
+turn_outcome (Err refusal) slot sent = Err refusal
+
+abbrev pub turn_call_after : List (Who × Body) → Result Turn LinkRefusal → Result Turn LinkRefusal
+turn_call_after before (Ok t) = Ok (turn_after before t)
+turn_call_after before (Err refusal) = Err refusal
+
 -- A slot gives up its record and says so to the peer, unless a flight of it stands.
 
-abbrev pub part_unless : ℕ → Link → Links → Bool → Result Did LinkRefusal
-part_unless i l k true = Err Busy
-part_unless i l k false = Ok (in_place i (gone_said (parting_link l)) k)
+abbrev pub part_unless : Link → Bool → Result Turn LinkRefusal
+part_unless l true = Err Busy
+part_unless l false = Ok (gone_said (parting_link l))
 
-abbrev pub part_at : ℕ → Option Link → Links → Result Did LinkRefusal
-part_at i None k = Ok (same k)
-part_at i (Some l) k = part_unless i l k (has_flight l)
+abbrev pub slot_parted : Option Link → Result Turn LinkRefusal
+slot_parted None = Ok (stays None)
+slot_parted (Some l) = part_unless l (has_flight l)
+
+abbrev pub part_at : ℕ → Links → Result Turn LinkRefusal → Result Did LinkRefusal
+part_at i k (Ok t) = Ok (in_place i t k)
+part_at i k (Err refusal) = Err refusal
 
 abbrev pub part_seen : Links → Option ℕ → Result Did LinkRefusal
 part_seen k None = Err NotLinked
-part_seen k (Some i) = part_at i (slot_at i k.slots) k
+part_seen k (Some i) = part_at i k (slot_parted (slot_at i k.slots))
 
 abbrev pub part_call : ℕ → Links → Result Did LinkRefusal
 part_call node k = part_seen k (slot_where (of_node may_part node) k.slots)

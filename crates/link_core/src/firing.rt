@@ -13,6 +13,7 @@ use ring_wire::Outbox;
 
 /// What a firing at one slot goes by: the reading, what the node announces, the time for an answer, and how many
 /// arbitrators there are.
+#[derive(Drop)]
 pub(crate) struct Firing<'a> {
     pub reading: u64,
     pub announce: &'a Announce,

@@ -16,6 +16,7 @@ mod flight;
 mod handshake;
 mod links;
 mod notes;
+mod part;
 mod refusal;
 mod renewal;
 mod ruling;

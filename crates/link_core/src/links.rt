@@ -1,28 +1,18 @@
-ghost use Rattle.std.specs.Prelude.{◌≡◌, ℕ, ◌+◌, ◌^◌, ◌<◌, ◌≤◌, [], ◌∷◌, ◌++◌, Some, None, IfSome, IsTrue, OnErr, length, min, nat_le};
-ghost use Rattle.ring_points.specs.Whos.{same_who};
+ghost use Rattle.std.specs.Prelude.{◌≡◌, ◌<◌, ◌≤◌, [], None, length};
 ghost use Rattle.ring_rules.specs.Slots.{fence_of};
-ghost use Rattle.link_core.specs.Calls.{call_in, flight_sent, flight_taken, hello_call, no_links, outcome, part_call, slot_closed};
-ghost use Rattle.link_core.specs.Firing.{slot_fired};
-ghost use Rattle.link_core.specs.Frames.{frame_row, may_come};
-ghost use Rattle.link_core.specs.Links.{did, did_after};
+ghost use Rattle.link_core.specs.Calls.{call_in, flight_sent, flight_taken, no_links, slot_closed};
+ghost use Rattle.link_core.specs.Links.{did, did_after, with_slot};
 
-use crate::announce::Announce;
+mod fires;
+mod greets;
+mod hears;
+
 use crate::fence::fence_with;
-use crate::find;
-use crate::firing::{self, Firing};
 use crate::flight;
-use crate::handshake;
-use crate::notes::{LinkNote, LinkNotes};
-use crate::refusal::LinkRefusal;
-use crate::renewal::{self, Renewal};
-use crate::ruling::{self, Terms};
-use crate::say;
-use arbiter_quorum::Tally;
 use arrayvec::ArrayVec;
 use drift_clock::Bound;
-use fabric_terms::{Body, Message, Why};
-use ring_points::{Flight, RangeSet, Ruling, Who};
-use ring_rules::{Link, LinkState};
+use ring_points::{Flight, Who};
+use ring_rules::Link;
 use ring_wire::Outbox;
 use std::marker::Model;
 
@@ -132,5 +122,33 @@ impl Links16 {
     {
         let place = &mut self.slots[slot];
         flight::took(place, number);
+    }
+
+    /// A flight stands in the slot, and goes to its peer.
+    pub fn put_flight(&mut self, slot: usize, flight: &Flight, out: &mut Outbox)
+        requires slot { slot < 16 }
+        requires room { length out.old < 192 }
+        ensures { did self.new out.new [] ≡ did_after out.old (call_in slot (flight_sent flight.now) self.old) }
+    {
+        let place = &mut self.slots[slot];
+        flight::put_flight(place, flight, out);
+    }
+
+    /// The slot ends, and its peer gets its answer if it wants one.
+    pub fn close(&mut self, slot: usize, bound: bool, out: &mut Outbox)
+        requires slot { slot < 16 }
+        requires room { length out.old < 192 }
+        ensures { did self.new out.new [] ≡ did_after out.old (call_in slot (slot_closed bound) self.old) }
+    {
+        let place = &mut self.slots[slot];
+        flight::close(place, bound, out);
+    }
+
+    /// The slot is free.
+    pub fn drop_slot(&mut self, slot: usize)
+        requires { slot < 16 }
+        ensures { self.new ≡ with_slot slot None self.old }
+    {
+        self.slots[slot] = None;
     }
 }

@@ -12,6 +12,7 @@ use ring_rules::{Link, LinkState};
 use ring_wire::Outbox;
 
 /// What a Renew says beside the numbers of its session.
+#[derive(Drop)]
 pub(crate) struct Renewal<'a> {
     pub stamp: u64,
     pub version: u32,
