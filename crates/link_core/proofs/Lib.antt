@@ -1,2 +1,4 @@
 pub mod Asked
 pub mod Ruled
+pub mod Freed
+pub mod Silent

@@ -69,13 +69,13 @@ abbrev pub offer_same : Link → Bool → Turn
 offer_same l true = turn (Some l) ((l.peer, offer_body l) ∷ []) []
 offer_same l false = stays (Some l)
 
-abbrev pub offer_again : ℕ → Link → LinkState → Turn
-offer_again theirs l state.Offered = offer_same l (l.yours == theirs)
-offer_again theirs l _ = stays (Some l)
+abbrev pub offer_repeated_to : ℕ → Link → LinkState → Turn
+offer_repeated_to theirs l state.Offered = offer_same l (l.yours == theirs)
+offer_repeated_to theirs l _ = stays (Some l)
 
 abbrev pub hello_repeated : ℕ → SlotRow
 hello_repeated theirs None = stays None
-hello_repeated theirs (Some l) = offer_again theirs l l.state
+hello_repeated theirs (Some l) = offer_repeated_to theirs l l.state
 
 abbrev pub hello_of_instance : Links → Link → Option ℕ → Did
 hello_of_instance k l (Some i) = in_place i (hello_repeated l.yours (slot_at i k.slots)) k
@@ -102,10 +102,13 @@ abbrev pub offer_repeated : SlotRow
 offer_repeated None = stays None
 offer_repeated (Some l) = take_again l l.state
 
+abbrev pub offer_again : Who → ℕ → ℕ → Links → Did
+offer_again from theirs own k =
+    in_found (λ i. offer_repeated) (unknown from theirs own k) k (slot_where (of_session from own theirs) k.slots)
+
 abbrev pub offer_seen : ℕ → Who → ℕ → ℕ → ℕ → Links → Option ℕ → Did
 offer_seen now from theirs own len k (Some i) = in_place i (offer_taken now from theirs len (slot_at i k.slots)) k
-offer_seen now from theirs own len k None =
-    in_found (λ i. offer_repeated) (unknown from theirs own k) k (slot_where (of_session from own theirs) k.slots)
+offer_seen now from theirs own len k None = offer_again from theirs own k
 
 -- an Offer with this length
 abbrev pub offer_received : ℕ → Who → ℕ → ℕ → ℕ → Links → Did

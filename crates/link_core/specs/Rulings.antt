@@ -63,6 +63,10 @@ ruling_seen now bound answer arbiter ruling None = stays None
 ruling_seen now bound answer arbiter ruling (Some l) = ruling_if (ripe_at now bound answer l) arbiter ruling l (awaits l.state)
 
 -- a ruling of this arbitrator about the victim
+
+abbrev pub ruling_by : ℕ → ℕ → Who → Ruling → Links → Did
+ruling_by now arbiter victim ruling k =
+    in_found (λ i. ruling_seen now k.bound k.answer arbiter ruling) (same k) k (slot_where (of_instance victim) k.slots)
+
 abbrev pub ruling_received : ℕ → Who → Who → Ruling → Links → Did
-ruling_received now from victim ruling k =
-    in_found (λ i. ruling_seen now k.bound k.answer (from.actor - arbiter_actor 0) ruling) (same k) k (slot_where (of_instance victim) k.slots)
+ruling_received now from victim ruling k = ruling_by now (from.actor - arbiter_actor 0) victim ruling k

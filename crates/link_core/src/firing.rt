@@ -11,6 +11,9 @@ use ring_points::Who;
 use ring_rules::{Link, LinkState};
 use ring_wire::Outbox;
 
+/// Arbitrator a is the actor of this number plus a.
+pub(crate) const ARBITERS: u16 = 32768;
+
 /// What a firing at one slot goes by: the reading, what the node announces, the time for an answer, and how many
 /// arbitrators there are.
 #[derive(Drop)]
@@ -40,7 +43,7 @@ fn ask(link: &Link, arbitrator: u8, out: &mut Outbox)
 {
     if !link.tally.answered(arbitrator) {
         let to = Who {
-            actor: 32768 + u16::from(arbitrator),
+            actor: ARBITERS + u16::from(arbitrator),
             instance: 0,
         };
         out.send(to, Body::Accuse { victim: link.peer });

@@ -13,13 +13,13 @@ use ring_wire::Outbox;
 /// A Transfer in this session.
 pub(crate) fn transfer_seen(
     i: usize,
-    slot: &Option<Link>,
+    slot: &mut Option<Link>,
     number: u32,
     part: &RangeSet,
     out: &mut Outbox,
 ) -> LinkNotes
     requires { length out.old < 192 }
-    ensures { turn slot.now out.new result ≡ turn_after out.old (transfer_seen number part.now i slot.now) }
+    ensures { turn slot.new out.new result ≡ turn_after out.old (transfer_seen number part.now i slot.old) }
 {
     let Some(link) = slot else {
         return LinkNotes::none();

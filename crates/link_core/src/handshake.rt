@@ -12,9 +12,9 @@ use ring_rules::{Link, LinkState};
 use ring_wire::Outbox;
 
 /// A Hello of an instance that has a link: one that was accepted before gets its Offer again.
-pub(crate) fn hello_repeated(slot: &Option<Link>, theirs: u32, out: &mut Outbox)
+pub(crate) fn hello_repeated(slot: &mut Option<Link>, theirs: u32, out: &mut Outbox)
     requires { length out.old < 192 }
-    ensures { turn slot.now out.new [] ≡ turn_after out.old (hello_repeated theirs slot.now) }
+    ensures { turn slot.new out.new [] ≡ turn_after out.old (hello_repeated theirs slot.old) }
 {
     if let Some(link) = slot
         && matches!(link.state, LinkState::Offered)
@@ -56,9 +56,9 @@ pub(crate) fn offer_taken(
 }
 
 /// An Offer in this session: one that was taken before gets its Take again.
-pub(crate) fn offer_repeated(slot: &Option<Link>, out: &mut Outbox)
+pub(crate) fn offer_repeated(slot: &mut Option<Link>, out: &mut Outbox)
     requires { length out.old < 192 }
-    ensures { turn slot.now out.new [] ≡ turn_after out.old (offer_repeated slot.now) }
+    ensures { turn slot.new out.new [] ≡ turn_after out.old (offer_repeated slot.old) }
 {
     let Some(link) = slot else {
         return;

@@ -6,6 +6,7 @@ ghost use Rattle.link_core.specs.Links.{did, did_after, with_slot};
 mod fires;
 mod greets;
 mod hears;
+mod takes;
 
 use crate::fence::fence_with;
 use crate::flight;

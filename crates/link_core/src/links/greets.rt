@@ -22,6 +22,19 @@ pub(crate) struct Beginning {
     pub len: u64,
 }
 
+impl Beginning {
+    /// An offer, in answer to a Hello by this frame version, for this length.
+    pub(crate) fn offered(wire: u8, len: u64) -> Beginning
+        ensures { result ≡ record { state = LinkState.Offered; wire = wire; len = len } }
+    {
+        Beginning {
+            state: LinkState::Offered,
+            wire,
+            len,
+        }
+    }
+}
+
 impl Links16 {
     /// No number of a session is left.
     pub(crate) fn is_spent(&self) -> bool
