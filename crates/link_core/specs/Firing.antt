@@ -85,13 +85,13 @@ spoken now a answer n i l state.Accused = turn (Some l) (asked n l) []
 spoken now a answer n i l state.Discharged = discharged_due n l (nat_le (l.until + answer) now)
 spoken now a answer n i l state.Heir = heir_due i l (nat_le l.ripe now)
 
-abbrev pub fired_if : ℕ → Announce → ℕ → Link → Links → Bool → Did
-fired_if now a i l k true = peer_accused i l k
-fired_if now a i l k false = in_place i (spoken now a k.answer k.arbitrators i l l.state) k
+abbrev pub fired_if : ℕ → Announce → ℕ → Link → LinkState → Links → Bool → Did
+fired_if now a i l was k true = peer_accused i l k
+fired_if now a i l was k false = in_place i (spoken now a k.answer k.arbitrators i l was) k
 
 abbrev pub fired_at : ℕ → Announce → ℕ → Option Link → Links → Did
 fired_at now a i None k = same k
-fired_at now a i (Some l) k = fired_if now a i l k (is_over now l)
+fired_at now a i (Some l) k = fired_if now a i l l.state k (is_over now l)
 
 -- the row of the slot in this place
 abbrev pub slot_fired : ℕ → Announce → ℕ → Links → Did

@@ -7,3 +7,5 @@ pub mod Rulings
 pub mod Firing
 pub mod Frames
 pub mod Calls
+pub mod Ties
+pub mod Laws

@@ -54,13 +54,13 @@ awaits state.Accused = true
 awaits state.Discharged = true
 awaits _ = false
 
-abbrev pub ruling_if : ℕ → ℕ → Ruling → Link → Bool → Turn
-ruling_if ripe arbiter ruling l true = ruling_noted ripe (record l { tally = noted l.tally arbiter ruling }) l.state
-ruling_if ripe arbiter ruling l false = stays (Some l)
+abbrev pub ruling_if : ℕ → ℕ → Ruling → Link → LinkState → Bool → Turn
+ruling_if ripe arbiter ruling l was true = ruling_noted ripe (record l { tally = noted l.tally arbiter ruling }) was
+ruling_if ripe arbiter ruling l was false = stays (Some l)
 
 abbrev pub ruling_seen : ℕ → Bound → ℕ → ℕ → Ruling → SlotRow
 ruling_seen now bound answer arbiter ruling None = stays None
-ruling_seen now bound answer arbiter ruling (Some l) = ruling_if (ripe_at now bound answer l) arbiter ruling l (awaits l.state)
+ruling_seen now bound answer arbiter ruling (Some l) = ruling_if (ripe_at now bound answer l) arbiter ruling l l.state (awaits l.state)
 
 -- a ruling of this arbitrator about the victim
 

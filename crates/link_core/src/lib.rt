@@ -14,6 +14,7 @@ mod find;
 mod firing;
 mod flight;
 mod handshake;
+mod laws;
 mod links;
 mod notes;
 mod part;
@@ -23,6 +24,7 @@ mod ruling;
 mod say;
 
 pub use announce::Announce;
+pub use laws::{a_firing_is_its_row, a_frame_is_its_row, a_greeting_is_its_row, parting_is_its_row};
 pub use links::{LATEST_END, LONGEST_TIME, Links16, MAX_ACCUSED, SLOTS};
 pub use notes::{LinkNote, LinkNotes};
 pub use refusal::LinkRefusal;
