@@ -81,7 +81,7 @@ fired_in_tie c now i l Accused w e = asked_tie c i l w e
 fired_in_tie c now i l Discharged w e = discharged_fired-is c now i l w ∙ discharged_due_tie c i l w (nat_le (l.until + c.answer) now) e
 fired_in_tie c now i l Heir w e = heir_due_tie c i l w (nat_le l.ripe now) e
 
-fired_at_tie : (c : Settings) (now i : ℕ) (slot : Option Link) (w : Work) → slot_at i w.ring.slots ≡ slot → rules.fired_at c now i slot w ≡ finished false (fired_at now (announce_of w.ring) i slot (links_of c w.ring)) w
+pub fired_at_tie : (c : Settings) (now i : ℕ) (slot : Option Link) (w : Work) → slot_at i w.ring.slots ≡ slot → rules.fired_at c now i slot w ≡ finished false (fired_at now (announce_of w.ring) i slot (links_of c w.ring)) w
 fired_at_tie c now i None w e = same_tie c false w
 fired_at_tie c now i (Some l) w e = fired_in_tie c now i l l.state w e
 

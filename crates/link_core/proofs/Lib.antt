@@ -12,3 +12,4 @@ pub mod RulingTies
 pub mod FiringTies
 pub mod PartTies
 pub mod FrameTies
+pub mod Deeds

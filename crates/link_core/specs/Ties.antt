@@ -1,6 +1,7 @@
 -- How the rows of links are the rows of a node's ring: what a node has of links, and what it does for a note.
-use Rattle.std.specs.Prelude.{ℕ, Bool, true, false, List, [], ◌∷◌, ◌++◌, Option, Some, None, Result, Ok, Err}
+use Rattle.std.specs.Prelude.{◌≡◌, ℕ, Bool, IsTrue, true, false, List, [], ◌∷◌, ◌++◌, Option, Some, None, Result, Ok, Err}
 use Rattle.ring_points.specs.declared.who.Flight.{Flight}
+use Rattle.ring_points.specs.declared.who.Who.{Who}
 use Rattle.fabric_terms.specs.declared.message.Body.{Body}
 use Rattle.fabric_terms.specs.declared.message.Body.TheVariants as body
 use Rattle.fabric_terms.specs.declared.report.Reason.{Reason}
@@ -14,7 +15,7 @@ use Rattle.ring_rules.specs.declared.link.Link.{Link}
 use Rattle.ring_rules.specs.Rings.{Settings, Ring, Work}
 use Rattle.ring_rules.specs.Slots.{slot_at}
 use Rattle.ring_rules.specs.Links.{flight_part}
-use Rattle.ring_rules.specs.Deeds.{set_phase, tell, refuse, undo_freeze, leave, counted}
+use Rattle.ring_rules.specs.Deeds.{set_phase, tell, refuse, undo_freeze, leave, counted, has_numbers}
 use Rattle.ring_rules.specs.Renewals.{grant_wanted}
 use Rattle.ring_rules.specs.Flights.{take_flight, flight_returned}
 use Rattle.ring_rules.specs.Firing.{inherit}
@@ -91,6 +92,21 @@ all_noted gone (n ∷ ns) w = all_noted gone ns (noted gone n w)
 -- a step with what a row did, once its notes are done
 abbrev pub finished : Bool → Did → Work → Work
 finished gone d w = all_noted gone d.notes (with_did d w)
+
+-- the ring of a step has these links and announces this, and no number of it is past the last
+pub record HasLinks (k : Links) (a : Announce) (c : Settings) (r : Ring) : Type 0 where
+  pub links : links_of c r ≡ k
+  pub announce : announce_of r ≡ a
+  pub numbers : IsTrue (has_numbers r)
+
+-- A call on links is a row of the rules: in any step whose ring has these links and whose frames so far end with these,
+-- the row comes to the same as the links and the frames after the call, once the notes are done.
+abbrev pub Does : (Settings → Work → Work) → Bool → Links → Announce → List (Who × Body) → Did → Type 0
+Does row gone old a out d =
+    (c : Settings) (w : Work) (before : List (Who × Body)) →
+    HasLinks old a c w.ring →
+    w.sent ≡ before ++ out →
+    counted w (row c w) ≡ counted w (all_noted gone d.notes (record w { ring = with_links d.links w.ring; sent = before ++ d.sent }))
 
 -- whether a frame says that its sender is gone and wants an answer
 abbrev pub wants_answer : Body → Bool

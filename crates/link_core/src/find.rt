@@ -107,12 +107,7 @@ pub(crate) fn free_place(slots: &[Option<Link>]) -> Option<usize>
 }
 
 /// The place of the session with this peer that has both these numbers.
-pub(crate) fn session(
-    slots: &[Option<Link>],
-    peer: Who,
-    mine: u32,
-    yours: u32,
-) -> Option<usize>
+pub(crate) fn session(slots: &[Option<Link>], peer: Who, mine: u32, yours: u32) -> Option<usize>
     ensures place { result ≡ slot_where (of_session peer mine yours) slots.now }
     ensures inside { IfSome result (λ i. i < length slots.now) }
 {

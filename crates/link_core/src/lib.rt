@@ -22,9 +22,13 @@ mod refusal;
 mod renewal;
 mod ruling;
 mod say;
+#[cfg(test)]
+mod tests;
 
 pub use announce::Announce;
-pub use laws::{a_firing_is_its_row, a_frame_is_its_row, a_greeting_is_its_row, parting_is_its_row};
+pub use laws::{
+    a_firing_is_its_row, a_frame_is_its_row, a_greeting_is_its_row, parting_is_its_row,
+};
 pub use links::{LATEST_END, LONGEST_TIME, Links16, MAX_ACCUSED, SLOTS};
 pub use notes::{LinkNote, LinkNotes};
 pub use refusal::LinkRefusal;

@@ -1,7 +1,9 @@
-ghost use Rattle.std.specs.Prelude.{◌≡◌, ◌<◌, ◌≤◌, ◌+◌, ◌∷◌, length, IfSome};
+ghost use Rattle.std.specs.Prelude.{◌≡◌, ◌<◌, ◌≤◌, ◌+◌, ◌∷◌, IfSome, false, length};
+ghost use Rattle.ring_rules.specs.Firing as rules;
 ghost use Rattle.ring_rules.specs.Slots.{slot_at};
 ghost use Rattle.link_core.specs.Firing.{peer_accused, slot_fired};
 ghost use Rattle.link_core.specs.Links.{did, did_after};
+ghost use Rattle.link_core.specs.Ties.{Does};
 
 use crate::announce::Announce;
 use crate::firing::{Firing, ask_arbiters, is_over, spoken};
@@ -35,13 +37,17 @@ impl Links16 {
 
     /// What a firing does at this slot: what it says again, whom it accuses, what ends. A slot that is free does
     /// nothing.
-    pub fn due(
-        &mut self,
-        slot: usize,
-        now: u64,
-        announce: &Announce,
-        out: &mut Outbox,
-    ) -> LinkNotes
+    pub fn due(&mut self, slot: usize, now: u64, announce: &Announce, out: &mut Outbox) -> LinkNotes
+        requires slot { slot < 16 }
+        requires now { now ≤ 1_000_000_000_000_000 }
+        requires room { length out.old + 9 ≤ 192 }
+        ensures did { did self.new out.new result ≡ did_after out.old (slot_fired now announce.now slot self.old) }
+        ensures row { Does (λ c w. rules.fired_at c now slot (slot_at slot w.ring.slots) w) false self.old announce.now out.old (did self.new out.new result) }
+    {
+        self.fire(slot, now, announce, out)
+    }
+
+    fn fire(&mut self, slot: usize, now: u64, announce: &Announce, out: &mut Outbox) -> LinkNotes
         requires slot { slot < 16 }
         requires now { now ≤ 1_000_000_000_000_000 }
         requires room { length out.old + 9 ≤ 192 }

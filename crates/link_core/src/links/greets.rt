@@ -4,11 +4,10 @@ ghost use Rattle.link_core.specs.Handshakes.{greeting_for};
 ghost use Rattle.link_core.specs.Links.{is_spent, new_link, with_session};
 ghost use Rattle.link_core.specs.Sound.{IsSoundLink};
 
-use crate::find;
 use crate::links::{LONGEST_TIME, Links16};
 use crate::part::part;
 use crate::refusal::LinkRefusal;
-use crate::say;
+use crate::{find, say};
 use arbiter_quorum::Tally;
 use ring_points::{RangeSet, Who};
 use ring_rules::{Link, LinkState};

@@ -9,16 +9,13 @@ ghost use Rattle.link_core.specs.Renewals.{ack_received, renew_received};
 ghost use Rattle.link_core.specs.Rulings.{ruling_received};
 
 use crate::announce::Announce;
-use crate::find;
 use crate::firing::ARBITERS;
-use crate::flight;
-use crate::handshake;
 use crate::links::greets::Beginning;
 use crate::links::{LONGEST_TIME, Links16};
 use crate::notes::{LinkNote, LinkNotes};
 use crate::renewal::{self, Renewal};
 use crate::ruling::{self, Terms};
-use crate::say;
+use crate::{find, flight, handshake, say};
 use fabric_terms::Why;
 use ring_points::{RangeSet, Ruling, Who};
 use ring_rules::LinkState;
@@ -144,7 +141,13 @@ impl Links16 {
     }
 
     /// An Offer with this length.
-    pub(crate) fn hear_offer(&mut self, now: u64, session: Session, len: u64, out: &mut Outbox) -> LinkNotes
+    pub(crate) fn hear_offer(
+        &mut self,
+        now: u64,
+        session: Session,
+        len: u64,
+        out: &mut Outbox,
+    ) -> LinkNotes
         requires now { now ≤ 1_000_000_000_000_000 }
         requires room { length out.old < 192 }
         ensures { did self.new out.new result ≡ did_after out.old (offer_received now session.from session.theirs session.own len self.old) }
@@ -184,7 +187,12 @@ impl Links16 {
     }
 
     /// A Renew.
-    pub(crate) fn hear_renew(&mut self, session: Session, renewal: &Renewal, out: &mut Outbox) -> LinkNotes
+    pub(crate) fn hear_renew(
+        &mut self,
+        session: Session,
+        renewal: &Renewal,
+        out: &mut Outbox,
+    ) -> LinkNotes
         requires room { length out.old < 192 }
         ensures { did self.new out.new result ≡ did_after out.old (renew_received session.from session.theirs session.own renewal.now.stamp renewal.now.version renewal.now.got renewal.now.want renewal.now.ranges.now self.old) }
     {
@@ -240,7 +248,13 @@ impl Links16 {
     }
 
     /// A Gone.
-    pub(crate) fn hear_gone(&mut self, session: Session, got: u32, bound: bool, out: &mut Outbox) -> LinkNotes
+    pub(crate) fn hear_gone(
+        &mut self,
+        session: Session,
+        got: u32,
+        bound: bool,
+        out: &mut Outbox,
+    ) -> LinkNotes
         requires { length out.old < 192 }
         ensures { did self.new out.new result ≡ did_after out.old (gone_received session.from session.theirs session.own got bound self.old) }
     {

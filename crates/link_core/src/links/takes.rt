@@ -1,6 +1,8 @@
-ghost use Rattle.std.specs.Prelude.{◌≡◌, ◌≤◌, ◌+◌, IsTrue, length};
+ghost use Rattle.std.specs.Prelude.{◌≡◌, ◌≤◌, ◌+◌, IsTrue, false, length};
+ghost use Rattle.ring_rules.specs.Frames as rules;
 ghost use Rattle.link_core.specs.Frames.{frame_row, may_come};
 ghost use Rattle.link_core.specs.Links.{did, did_after};
+ghost use Rattle.link_core.specs.Ties.{Does, is_search, wants_answer};
 
 use crate::announce::Announce;
 use crate::links::Links16;
@@ -16,6 +18,22 @@ impl Links16 {
     /// What a frame of a link does, or an arbitrator's ruling; a frame of another kind does nothing. The frame is one
     /// that the node takes: its stamp is a reading, and a ruling is of a configured arbitrator.
     pub fn on_frame(
+        &mut self,
+        now: u64,
+        message: &Message,
+        announce: &Announce,
+        out: &mut Outbox,
+    ) -> LinkNotes
+        requires now { now ≤ 1_000_000_000_000_000 }
+        requires frame { IsTrue (may_come self.old.arbitrators message.now.from message.now.body) }
+        requires room { length out.old + 9 ≤ 192 }
+        ensures did { did self.new out.new result ≡ did_after out.old (frame_row now announce.now message.now.from message.now.body self.old) }
+        ensures row { is_search message.now.body ≡ false → Does (λ c. rules.frame_row c now message.now.from message.now.body) (wants_answer message.now.body) self.old announce.now out.old (did self.new out.new result) }
+    {
+        self.hear(now, message, announce, out)
+    }
+
+    fn hear(
         &mut self,
         now: u64,
         message: &Message,
