@@ -1,0 +1,15 @@
+pub mod Asked
+pub mod Ruled
+pub mod Freed
+pub mod Silent
+pub mod Places
+pub mod SessionTies
+pub mod HandshakeTies
+pub mod GreetTies
+pub mod RenewalTies
+pub mod FlightTies
+pub mod RulingTies
+pub mod FiringTies
+pub mod PartTies
+pub mod FrameTies
+pub mod Deeds

@@ -1,0 +1,5 @@
+use Rattle.link_core.proofs.Deeds.{does_frame}
+use Rattle.link_core.proofs.links.Links16.on_frame.Goals as goal
+
+pub returns-clause-row : goal.returns-clause-row
+returns-clause-row c = does_frame c.args.now c.args.message.now.from c.args.message.now.body c.args.self.now c.args.announce.now c.args.out.now _ c.hear.ensures

@@ -1,0 +1,11 @@
+pub mod Links
+pub mod Sound
+pub mod Handshakes
+pub mod Renewals
+pub mod Flights
+pub mod Rulings
+pub mod Firing
+pub mod Frames
+pub mod Calls
+pub mod Ties
+pub mod Laws

@@ -1,0 +1,104 @@
+ghost use Rattle.std.specs.Prelude.{◌≡◌, ℕ, ◌+◌, ◌^◌, ◌<◌, ◌≤◌, [], ◌∷◌, ◌++◌, Some, IfSome, length, nat_le};
+ghost use Rattle.arbiter_quorum.specs.Tallies.{has_answered};
+ghost use Rattle.link_core.specs.Links.{turn, turn_after};
+ghost use Rattle.link_core.specs.Firing.{asked, asked_if, is_over, leases, spoken, transfer_again};
+
+use crate::announce::Announce;
+use crate::notes::{LinkNote, LinkNotes};
+use crate::say::{self, say_gone};
+use fabric_terms::Body;
+use ring_points::Who;
+use ring_rules::{Link, LinkState};
+use ring_wire::Outbox;
+
+/// Arbitrator a is the actor of this number plus a.
+pub(crate) const ARBITERS: u16 = 32768;
+
+/// What a firing at one slot goes by: the reading, what the node announces, the time for an answer, and how many
+/// arbitrators there are.
+#[derive(Drop)]
+pub(crate) struct Firing<'a> {
+    pub reading: u64,
+    pub announce: &'a Announce,
+    pub answer: u64,
+    pub arbitrators: u8,
+}
+
+/// A slot with a lease, at its end.
+pub(crate) fn is_over(link: &Link, now: u64) -> bool
+    ensures { result ≡ is_over now link.now }
+{
+    match link.state {
+        LinkState::Offered | LinkState::Bound | LinkState::Parting => link.until <= now,
+        _ => false,
+    }
+}
+
+/// An arbitrator that has not answered is asked about the peer.
+fn ask(link: &Link, arbitrator: u8, out: &mut Outbox)
+    requires few { arbitrator ≤ 9 }
+    requires room { length out.old < 192 }
+    ensures asked { out.new ≡ out.old ++ asked_if arbitrator link.now.peer (has_answered arbitrator link.now.tally.answers) }
+    ensures room { length out.new ≤ length out.old + 1 }
+{
+    if !link.tally.answered(arbitrator) {
+        let to = Who {
+            actor: ARBITERS + u16::from(arbitrator),
+            instance: 0,
+        };
+        out.send(to, Body::Accuse { victim: link.peer });
+    }
+}
+
+/// Each arbitrator that has not answered is asked about the peer.
+pub(crate) fn ask_arbiters(link: &Link, arbitrators: u8, out: &mut Outbox)
+    requires few { arbitrators ≤ 9 }
+    requires room { length out.old + 9 ≤ 192 }
+    ensures { out.new ≡ out.old ++ asked arbitrators link.now }
+{
+    for k in 0..arbitrators {
+        ask(link, k + 1, out);
+    }
+}
+
+fn transfer_again(link: &Link, out: &mut Outbox)
+    requires { length out.old < 192 }
+    ensures { out.new ≡ out.old ++ transfer_again link.now link.now.flight }
+{
+    if let Some(flight) = &link.flight {
+        out.send(link.peer, say::transfer(link, flight));
+    }
+}
+
+/// What a slot says that need not accuse.
+pub(crate) fn spoken(
+    i: usize,
+    slot: &mut Option<Link>,
+    firing: &Firing,
+    out: &mut Outbox,
+) -> LinkNotes
+    requires few { firing.now.arbitrators ≤ 9 }
+    requires room { length out.old + 9 ≤ 192 }
+    requires times { IfSome slot.old (λ l. l.until + firing.now.answer < 2 ^ 64) }
+    ensures { IfSome slot.old (λ l. turn slot.new out.new result ≡ turn_after out.old (spoken firing.now.reading firing.now.announce.now firing.now.answer firing.now.arbitrators i l l.state)) }
+{
+    let Some(link) = slot else {
+        return LinkNotes::none();
+    };
+    match link.state {
+        LinkState::Hello if link.until <= firing.reading => *slot = None,
+        LinkState::Hello => out.send(link.peer, say::hello(link)),
+        LinkState::Offered => out.send(link.peer, say::offer(link)),
+        LinkState::Bound => {
+            out.send(link.peer, say::renew(link, firing.reading, firing.announce));
+            transfer_again(link, out);
+        }
+        LinkState::Parting => say_gone(link, out),
+        LinkState::Accused => ask_arbiters(link, firing.arbitrators, out),
+        LinkState::Discharged if link.until + firing.answer <= firing.reading => *slot = None,
+        LinkState::Discharged => ask_arbiters(link, firing.arbitrators, out),
+        LinkState::Heir if link.ripe <= firing.reading => return LinkNotes::one(LinkNote::Ripe(i)),
+        LinkState::Heir => {}
+    }
+    LinkNotes::none()
+}

@@ -1,0 +1,131 @@
+ghost use Rattle.std.specs.Prelude.{◌≡◌, ◌<◌, ◌++◌, [], Some, length};
+ghost use Rattle.link_core.specs.Calls.{flight_sent, flight_taken, slot_closed};
+ghost use Rattle.link_core.specs.Flights.{gone_seen, last_words, lost_flight, stands, transfer_seen};
+ghost use Rattle.link_core.specs.Links.{turn, turn_after};
+
+use crate::notes::{LinkNote, LinkNotes};
+use crate::say::{self, say_gone};
+use fabric_terms::Body;
+use ring_points::{Flight, RangeSet};
+use ring_rules::{Link, LinkState};
+use ring_wire::Outbox;
+
+/// A Transfer in this session.
+pub(crate) fn transfer_seen(
+    i: usize,
+    slot: &mut Option<Link>,
+    number: u32,
+    part: &RangeSet,
+    out: &mut Outbox,
+) -> LinkNotes
+    requires { length out.old < 192 }
+    ensures { turn slot.new out.new result ≡ turn_after out.old (transfer_seen number part.now i slot.old) }
+{
+    let Some(link) = slot else {
+        return LinkNotes::none();
+    };
+    match link.state {
+        LinkState::Bound if link.got < number => LinkNotes::one(LinkNote::Arrived(
+            i,
+            Flight {
+                number,
+                part: part.copy(),
+            },
+        )),
+        LinkState::Parting => {
+            say_gone(link, out);
+            LinkNotes::none()
+        }
+        _ => LinkNotes::none(),
+    }
+}
+
+/// What is said to the peer at the end of the slot.
+fn last_words(link: &Link, bound: bool, out: &mut Outbox)
+    requires { length out.old < 192 }
+    ensures { out.new ≡ out.old ++ last_words link.now bound }
+{
+    let gone = Body::Gone {
+        mine: link.mine,
+        yours: link.yours,
+        got: link.got,
+        bound: false,
+    };
+    say::answer(bound, link.peer, gone, out);
+}
+
+/// The flight to the peer that it did not get.
+fn lost_flight(link: &Link, got: u32) -> Option<Flight>
+    ensures { result ≡ lost_flight got link.now.flight }
+{
+    match &link.flight {
+        Some(flight) if got < flight.number => Some(flight.copy()),
+        _ => None,
+    }
+}
+
+/// A slot that stands.
+fn stands(state: LinkState) -> bool
+    ensures { result ≡ stands state }
+{
+    matches!(
+        state,
+        LinkState::Offered | LinkState::Bound | LinkState::Parting
+    )
+}
+
+/// A Gone in this session.
+pub(crate) fn gone_seen(
+    i: usize,
+    slot: &mut Option<Link>,
+    got: u32,
+    bound: bool,
+    out: &mut Outbox,
+) -> LinkNotes
+    requires { length out.old < 192 }
+    ensures { turn slot.new out.new result ≡ turn_after out.old (gone_seen got bound i slot.old) }
+{
+    let Some(link) = slot else {
+        return LinkNotes::none();
+    };
+    if !stands(link.state) {
+        return LinkNotes::none();
+    }
+    if let Some(flight) = lost_flight(link, got) {
+        return LinkNotes::one(LinkNote::Return(i, flight));
+    }
+    last_words(link, bound, out);
+    *slot = None;
+    LinkNotes::one(LinkNote::Undo(i))
+}
+
+/// A flight of this number was taken.
+pub(crate) fn took(slot: &mut Option<Link>, number: u32)
+    ensures { turn slot.new [] [] ≡ flight_taken number slot.old }
+{
+    if let Some(link) = slot {
+        link.got = number;
+    }
+}
+
+/// A flight goes to the peer.
+pub(crate) fn put_flight(slot: &mut Option<Link>, flight: &Flight, out: &mut Outbox)
+    requires { length out.old < 192 }
+    ensures { turn slot.new out.new [] ≡ turn_after out.old (flight_sent flight.now slot.old) }
+{
+    if let Some(link) = slot {
+        out.send(link.peer, say::transfer(link, flight));
+        link.flight = Some(flight.copy());
+    }
+}
+
+/// The slot ends, and the peer gets its answer if it wants one.
+pub(crate) fn close(slot: &mut Option<Link>, bound: bool, out: &mut Outbox)
+    requires { length out.old < 192 }
+    ensures { turn slot.new out.new [] ≡ turn_after out.old (slot_closed bound slot.old) }
+{
+    if let Some(link) = slot {
+        last_words(link, bound, out);
+        *slot = None;
+    }
+}

@@ -1,0 +1,104 @@
+ghost use Rattle.std.specs.Prelude.{◌≡◌, ℕ, ◌+◌, ◌^◌, ◌<◌, ◌≤◌, [], ◌∷◌, Some, IfSome, length, min};
+ghost use Rattle.ring_rules.specs.Links.{bound_link};
+ghost use Rattle.link_core.specs.Links.{turn, turn_after};
+ghost use Rattle.link_core.specs.Handshakes.{offer_repeated, offer_taken, hello_repeated, take_seen};
+
+use crate::announce::Announce;
+use crate::notes::{LinkNote, LinkNotes};
+use crate::say::{self, say_gone};
+use fabric_terms::Body;
+use ring_points::Who;
+use ring_rules::{Link, LinkState};
+use ring_wire::Outbox;
+
+/// A Hello of an instance that has a link: one that was accepted before gets its Offer again.
+pub(crate) fn hello_repeated(slot: &mut Option<Link>, theirs: u32, out: &mut Outbox)
+    requires { length out.old < 192 }
+    ensures { turn slot.new out.new [] ≡ turn_after out.old (hello_repeated theirs slot.old) }
+{
+    if let Some(link) = slot
+        && matches!(link.state, LinkState::Offered)
+        && link.yours == theirs
+    {
+        out.send(link.peer, say::offer(link));
+    }
+}
+
+/// The greeting is answered: the link is bound with the sender, for the smaller of the two lengths.
+pub(crate) fn offer_taken(
+    slot: &mut Option<Link>,
+    now: u64,
+    from: Who,
+    theirs: u32,
+    len: u64,
+    out: &mut Outbox,
+) -> LinkNotes
+    requires room { length out.old < 192 }
+    requires times { IfSome slot.old (λ l. now + l.len < 2 ^ 64) }
+    ensures { turn slot.new out.new result ≡ turn_after out.old (offer_taken now from theirs len slot.old) }
+{
+    let Some(link) = slot else {
+        return LinkNotes::none();
+    };
+    link.peer = from;
+    link.yours = theirs;
+    link.state = LinkState::Bound;
+    link.len = link.len.min(len);
+    link.until = now + link.len;
+    out.send(
+        from,
+        Body::Take {
+            mine: link.mine,
+            yours: theirs,
+        },
+    );
+    LinkNotes::one(LinkNote::BoundNow)
+}
+
+/// An Offer in this session: one that was taken before gets its Take again.
+pub(crate) fn offer_repeated(slot: &mut Option<Link>, out: &mut Outbox)
+    requires { length out.old < 192 }
+    ensures { turn slot.new out.new [] ≡ turn_after out.old (offer_repeated slot.old) }
+{
+    let Some(link) = slot else {
+        return;
+    };
+    match link.state {
+        LinkState::Bound => out.send(
+            link.peer,
+            Body::Take {
+                mine: link.mine,
+                yours: link.yours,
+            },
+        ),
+        LinkState::Parting => say_gone(link, out),
+        _ => {}
+    }
+}
+
+/// A Take in this session.
+pub(crate) fn take_seen(
+    slot: &mut Option<Link>,
+    now: u64,
+    announce: &Announce,
+    out: &mut Outbox,
+) -> LinkNotes
+    requires { length out.old < 192 }
+    ensures { turn slot.new out.new result ≡ turn_after out.old (take_seen now announce.now slot.old) }
+{
+    let Some(link) = slot else {
+        return LinkNotes::none();
+    };
+    match link.state {
+        LinkState::Offered => {
+            link.state = LinkState::Bound;
+            out.send(link.peer, say::renew(link, now, announce));
+            LinkNotes::one(LinkNote::BoundNow)
+        }
+        LinkState::Parting => {
+            say_gone(link, out);
+            LinkNotes::none()
+        }
+        _ => LinkNotes::none(),
+    }
+}

@@ -1,0 +1,155 @@
+ghost use Rattle.std.specs.Prelude.{◌≡◌, ◌<◌, ◌≤◌, [], None, length};
+ghost use Rattle.ring_rules.specs.Slots.{fence_of};
+ghost use Rattle.link_core.specs.Calls.{call_in, flight_sent, flight_taken, no_links, slot_closed};
+ghost use Rattle.link_core.specs.Links.{did, did_after, with_slot};
+
+mod fires;
+mod greets;
+mod hears;
+mod takes;
+
+use crate::fence::fence_with;
+use crate::flight;
+use arrayvec::ArrayVec;
+use drift_clock::Bound;
+use ring_points::{Flight, Who};
+use ring_rules::Link;
+use ring_wire::Outbox;
+use std::marker::Model;
+
+/// How many slots a node has.
+pub const SLOTS: usize = 16;
+
+/// How many instances a node can accuse.
+pub const MAX_ACCUSED: usize = 1024;
+
+/// The longest lease, length of a link, or time for an answer, in ticks.
+pub const LONGEST_TIME: u64 = 1_000_000_000;
+
+/// The end of the latest lease, in ticks.
+pub const LATEST_END: u64 = 1_000_001_000_000_000;
+
+/// The links of a node: 16 slots, the number of its next session, and whom it has accused. Contracts see it as the
+/// record `Links`.
+#[derive(Drop)]
+pub struct Links16 {
+    me: Who,
+    lease: u64,
+    longest: u64,
+    answer: u64,
+    bound: Bound,
+    arbitrators: u8,
+    slots: [Option<Link>; SLOTS],
+    last_session: u32,
+    accused: ArrayVec<Who, MAX_ACCUSED>,
+}
+
+impl Model for Links16 {
+    ghost use Rattle.std.specs.Prelude.{ℕ, ◌+◌};
+    ghost use Rattle.link_core.specs.Links.{Links};
+    ghost use Rattle.link_core.specs.Sound.{AreSound};
+
+    ghost Value = { Links };
+
+    ghost view = { λ k. record { me = k.me; lease = k.lease; longest = k.longest; answer = k.answer; bound = k.bound; arbitrators = k.arbitrators; slots = k.slots; next_session = k.last_session + 1; accused = k.accused.items } };
+
+    ghost invariant = { λ k. AreSound (record { me = k.me; lease = k.lease; longest = k.longest; answer = k.answer; bound = k.bound; arbitrators = k.arbitrators; slots = k.slots; next_session = k.last_session + 1; accused = k.accused.items }) };
+}
+
+impl Links16 {
+    /// No links. The lease is that of a link that names no length, the longest the longest that is granted; with the
+    /// time for an answer they are at most 1,000,000,000 ticks. There are at most nine arbitrators.
+    pub fn new(
+        me: Who,
+        lease: u64,
+        longest: u64,
+        answer: u64,
+        bound: Bound,
+        arbitrators: u8,
+    ) -> Links16
+        requires lease { lease ≤ LONGEST_TIME }
+        requires longest { longest ≤ LONGEST_TIME }
+        requires answer { answer ≤ LONGEST_TIME }
+        requires drift { bound.d ≤ 100 }
+        requires grain { bound.grain ≤ 1_000_000 }
+        requires arbitrators { arbitrators ≤ 9 }
+        ensures { result ≡ no_links me lease longest answer bound arbitrators }
+    {
+        Links16 {
+            me,
+            lease,
+            longest,
+            answer,
+            bound,
+            arbitrators,
+            slots: [
+                None, None, None, None, None, None, None, None, None, None, None, None, None, None,
+                None, None,
+            ],
+            last_session: 0,
+            accused: ArrayVec::new(),
+        }
+    }
+
+    /// The instances that the node has accused, in order.
+    pub fn accused(&self) -> &[Who]
+        ensures { result.now ≡ self.now.accused }
+    {
+        self.accused.as_slice()
+    }
+
+    /// The slots.
+    pub fn slots(&self) -> &[Option<Link>; SLOTS]
+        ensures { result.now ≡ self.now.slots }
+    {
+        &self.slots
+    }
+
+    /// The reading from which on the node holds nothing: the least end of a lease, and the time for an answer.
+    pub fn fence(&self) -> Option<u64>
+        ensures { result ≡ fence_of self.now.answer self.now.slots }
+    {
+        let mut fence = None;
+        for i in (0..SLOTS).rev() {
+            fence = fence_with(&self.slots[i], self.answer, fence);
+        }
+        fence
+    }
+
+    /// A flight of this number was taken from the peer of the slot.
+    pub fn took(&mut self, slot: usize, number: u32)
+        requires { slot < 16 }
+        ensures { did self.new [] [] ≡ call_in slot (flight_taken number) self.old }
+    {
+        let place = &mut self.slots[slot];
+        flight::took(place, number);
+    }
+
+    /// A flight stands in the slot, and goes to its peer.
+    pub fn put_flight(&mut self, slot: usize, flight: &Flight, out: &mut Outbox)
+        requires slot { slot < 16 }
+        requires room { length out.old < 192 }
+        ensures { did self.new out.new [] ≡ did_after out.old (call_in slot (flight_sent flight.now) self.old) }
+    {
+        let place = &mut self.slots[slot];
+        flight::put_flight(place, flight, out);
+    }
+
+    /// The slot ends, and its peer gets its answer if it wants one.
+    pub fn close(&mut self, slot: usize, bound: bool, out: &mut Outbox)
+        requires slot { slot < 16 }
+        requires room { length out.old < 192 }
+        ensures { did self.new out.new [] ≡ did_after out.old (call_in slot (slot_closed bound) self.old) }
+    {
+        let place = &mut self.slots[slot];
+        flight::close(place, bound, out);
+    }
+
+    /// The slot is free.
+    pub fn drop_slot(&mut self, slot: usize)
+        requires { slot < 16 }
+        ensures { self.new ≡ with_slot slot None self.old }
+    {
+        self.slots[slot] = None;
+    }
+}

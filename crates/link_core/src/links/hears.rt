@@ -1,0 +1,293 @@
+ghost use Rattle.std.specs.Prelude.{◌≡◌, ◌<◌, ◌≤◌, ◌+◌, IsTrue, IfSome, None, [], ◌∷◌, ◌++◌, length, false};
+ghost use Rattle.fabric_terms.specs.declared.message.Body.TheVariants as body;
+ghost use Rattle.ring_points.specs.Whos.{arbiter_actor};
+ghost use Rattle.ring_rules.specs.Slots.{slot_where, of_session};
+ghost use Rattle.link_core.specs.Flights.{gone_elsewhere, gone_received, transfer_received};
+ghost use Rattle.link_core.specs.Handshakes.{accept, hello_received, offer_again, offer_received, take_received};
+ghost use Rattle.link_core.specs.Links.{did, did_after, new_link, with_slot};
+ghost use Rattle.link_core.specs.Renewals.{ack_received, renew_received};
+ghost use Rattle.link_core.specs.Rulings.{ruling_received};
+
+use crate::announce::Announce;
+use crate::firing::ARBITERS;
+use crate::links::greets::Beginning;
+use crate::links::{LONGEST_TIME, Links16};
+use crate::notes::{LinkNote, LinkNotes};
+use crate::renewal::{self, Renewal};
+use crate::ruling::{self, Terms};
+use crate::{find, flight, handshake, say};
+use fabric_terms::Why;
+use ring_points::{RangeSet, Ruling, Who};
+use ring_rules::LinkState;
+use ring_wire::Outbox;
+
+/// A session as a frame names it: its sender, the sender's number, and the own number.
+#[derive(Clone, Copy)]
+pub(crate) struct Session {
+    pub from: Who,
+    pub theirs: u32,
+    pub own: u32,
+}
+
+impl Session {
+    pub(crate) fn new(from: Who, theirs: u32, own: u32) -> Session
+        ensures { result ≡ record { from = from; theirs = theirs; own = own } }
+    {
+        Session { from, theirs, own }
+    }
+
+    /// The answer where no slot has this session.
+    fn say_unknown(self, out: &mut Outbox)
+        requires { length out.old < 192 }
+        ensures { out.new ≡ out.old ++ (self.from, body.Gone self.own self.theirs 0 false) ∷ [] }
+    {
+        out.send(self.from, say::unknown(self.theirs, self.own));
+    }
+}
+
+impl Links16 {
+    fn session(&self, session: Session) -> Option<usize>
+        ensures place { result ≡ slot_where (of_session session.from session.own session.theirs) self.now.slots }
+        ensures inside { IfSome result (λ i. i < 16) }
+    {
+        find::session(&self.slots, session.from, session.own, session.theirs)
+    }
+
+    /// Accepts a Hello by a new link, in the first free slot.
+    fn accept(
+        &mut self,
+        now: u64,
+        from: Who,
+        theirs: u32,
+        asked: Beginning,
+        out: &mut Outbox,
+    ) -> LinkNotes
+        requires now { now ≤ 1_000_000_000_000_000 }
+        requires len { asked.len ≤ LONGEST_TIME }
+        requires room { length out.old < 192 }
+        ensures { did self.new out.new result ≡ did_after out.old (accept self.old self.old (new_link self.old now from theirs asked.state asked.wire asked.len)) }
+    {
+        let Some(i) = find::free_place(&self.slots) else {
+            return LinkNotes::none();
+        };
+        if self.is_spent() {
+            return LinkNotes::one(LinkNote::Leave(Why::Counters));
+        }
+        let link = self.new_link(now, from, theirs, asked);
+        out.send(link.peer, say::offer(&link));
+        self.begin(i, link);
+        LinkNotes::none()
+    }
+
+    /// Accepts a Hello in place of the own one in this slot.
+    fn cross(
+        &mut self,
+        i: usize,
+        now: u64,
+        from: Who,
+        theirs: u32,
+        asked: Beginning,
+        out: &mut Outbox,
+    ) -> LinkNotes
+        requires inside { i < length self.old.slots }
+        requires now { now ≤ 1_000_000_000_000_000 }
+        requires len { asked.len ≤ LONGEST_TIME }
+        requires room { length out.old < 192 }
+        ensures { did self.new out.new result ≡ did_after out.old (accept self.old (with_slot i None self.old) (new_link self.old now from theirs asked.state asked.wire asked.len)) }
+    {
+        if self.is_spent() {
+            return LinkNotes::one(LinkNote::Leave(Why::Counters));
+        }
+        self.slots[i] = None;
+        self.accept(now, from, theirs, asked, out)
+    }
+
+    /// A Hello: one that was accepted before gets its Offer again; one that crosses the own Hello counts where the
+    /// own node is the higher one; another is accepted.
+    pub(crate) fn hear_hello(
+        &mut self,
+        now: u64,
+        from: Who,
+        theirs: u32,
+        asked: Beginning,
+        out: &mut Outbox,
+    ) -> LinkNotes
+        requires now { now ≤ 1_000_000_000_000_000 }
+        requires len { asked.len ≤ LONGEST_TIME }
+        requires state { asked.state ≡ LinkState.Offered }
+        requires room { length out.old < 192 }
+        ensures { did self.new out.new result ≡ did_after out.old (hello_received now from theirs asked.wire asked.len self.old) }
+    {
+        if let Some(i) = find::instance(&self.slots, from) {
+            handshake::hello_repeated(&mut self.slots[i], theirs, out);
+            return LinkNotes::none();
+        }
+        match find::greeting(&self.slots, from.actor) {
+            None => self.accept(now, from, theirs, asked, out),
+            Some(_) if self.me.actor < from.actor => LinkNotes::none(),
+            Some(i) => self.cross(i, now, from, theirs, asked, out),
+        }
+    }
+
+    /// An Offer that no greeting waits for.
+    pub(crate) fn hear_offer_again(&mut self, session: Session, out: &mut Outbox)
+        requires { length out.old < 192 }
+        ensures { did self.new out.new [] ≡ did_after out.old (offer_again session.from session.theirs session.own self.old) }
+    {
+        match self.session(session) {
+            Some(i) => handshake::offer_repeated(&mut self.slots[i], out),
+            None => session.say_unknown(out),
+        }
+    }
+
+    /// An Offer with this length.
+    pub(crate) fn hear_offer(
+        &mut self,
+        now: u64,
+        session: Session,
+        len: u64,
+        out: &mut Outbox,
+    ) -> LinkNotes
+        requires now { now ≤ 1_000_000_000_000_000 }
+        requires room { length out.old < 192 }
+        ensures { did self.new out.new result ≡ did_after out.old (offer_received now session.from session.theirs session.own len self.old) }
+    {
+        if let Some(i) = find::greeting_of(&self.slots, session.from.actor, session.own) {
+            return handshake::offer_taken(
+                &mut self.slots[i],
+                now,
+                session.from,
+                session.theirs,
+                len,
+                out,
+            );
+        }
+        self.hear_offer_again(session, out);
+        LinkNotes::none()
+    }
+
+    /// A Take.
+    pub(crate) fn hear_take(
+        &mut self,
+        now: u64,
+        session: Session,
+        announce: &Announce,
+        out: &mut Outbox,
+    ) -> LinkNotes
+        requires room { length out.old < 192 }
+        ensures { did self.new out.new result ≡ did_after out.old (take_received now announce.now session.from session.theirs session.own self.old) }
+    {
+        match self.session(session) {
+            Some(i) => handshake::take_seen(&mut self.slots[i], now, announce, out),
+            None => {
+                session.say_unknown(out);
+                LinkNotes::none()
+            }
+        }
+    }
+
+    /// A Renew.
+    pub(crate) fn hear_renew(
+        &mut self,
+        session: Session,
+        renewal: &Renewal,
+        out: &mut Outbox,
+    ) -> LinkNotes
+        requires room { length out.old < 192 }
+        ensures { did self.new out.new result ≡ did_after out.old (renew_received session.from session.theirs session.own renewal.now.stamp renewal.now.version renewal.now.got renewal.now.want renewal.now.ranges.now self.old) }
+    {
+        match self.session(session) {
+            Some(i) => renewal::renew_seen(i, &mut self.slots[i], renewal, out),
+            None => {
+                session.say_unknown(out);
+                LinkNotes::none()
+            }
+        }
+    }
+
+    /// A RenewAck.
+    pub(crate) fn hear_ack(&mut self, session: Session, stamp: u64, version: u32)
+        requires { stamp ≤ 1_000_000_000_000_000 }
+        ensures { did self.new [] [] ≡ ack_received session.from session.theirs session.own stamp version self.old }
+    {
+        if let Some(i) = self.session(session) {
+            renewal::ack_seen(&mut self.slots[i], stamp, version);
+        }
+    }
+
+    /// A Transfer.
+    pub(crate) fn hear_transfer(
+        &mut self,
+        session: Session,
+        number: u32,
+        part: &RangeSet,
+        out: &mut Outbox,
+    ) -> LinkNotes
+        requires { length out.old < 192 }
+        ensures { did self.new out.new result ≡ did_after out.old (transfer_received session.from session.theirs session.own number part.now self.old) }
+    {
+        match self.session(session) {
+            Some(i) => flight::transfer_seen(i, &mut self.slots[i], number, part, out),
+            None => {
+                session.say_unknown(out);
+                LinkNotes::none()
+            }
+        }
+    }
+
+    /// A Gone in no session: a slot that greets by this number ends, and the sender gets its answer if it wants one.
+    pub(crate) fn hear_gone_elsewhere(&mut self, session: Session, bound: bool, out: &mut Outbox)
+        requires { length out.old < 192 }
+        ensures { did self.new out.new [] ≡ did_after out.old (gone_elsewhere session.from session.theirs session.own bound self.old) }
+    {
+        if let Some(i) = find::greeting_by(&self.slots, session.own) {
+            self.drop_slot(i);
+        }
+        let gone = say::unknown(session.theirs, session.own);
+        say::answer(bound, session.from, gone, out);
+    }
+
+    /// A Gone.
+    pub(crate) fn hear_gone(
+        &mut self,
+        session: Session,
+        got: u32,
+        bound: bool,
+        out: &mut Outbox,
+    ) -> LinkNotes
+        requires { length out.old < 192 }
+        ensures { did self.new out.new result ≡ did_after out.old (gone_received session.from session.theirs session.own got bound self.old) }
+    {
+        match self.session(session) {
+            Some(i) => flight::gone_seen(i, &mut self.slots[i], got, bound, out),
+            None => {
+                self.hear_gone_elsewhere(session, bound, out);
+                LinkNotes::none()
+            }
+        }
+    }
+
+    /// A ruling of this arbitrator.
+    pub(crate) fn hear_ruling(
+        &mut self,
+        now: u64,
+        from: Who,
+        victim: Who,
+        ruling: Ruling,
+    ) -> LinkNotes
+        requires now { now ≤ 1_000_000_000_000_000 }
+        requires first { arbiter_actor 1 ≤ from.actor }
+        requires last { from.actor ≤ arbiter_actor self.old.arbitrators }
+        ensures { did self.new [] result ≡ ruling_received now from victim ruling self.old }
+    {
+        let Some(i) = find::instance(&self.slots, victim) else {
+            return LinkNotes::none();
+        };
+        let terms = Terms {
+            answer: self.answer,
+            bound: self.bound,
+        };
+        let arbitrator = (from.actor - ARBITERS) as u8;
+        ruling::ruling_seen(&mut self.slots[i], now, terms, arbitrator, ruling)
+    }
+}

@@ -1,0 +1,111 @@
+ghost use Rattle.std.specs.Prelude.{◌≡◌, ◌≤◌, ◌+◌, IsTrue, false, length};
+ghost use Rattle.ring_rules.specs.Frames as rules;
+ghost use Rattle.link_core.specs.Frames.{frame_row, may_come};
+ghost use Rattle.link_core.specs.Links.{did, did_after};
+ghost use Rattle.link_core.specs.Ties.{Does, is_search, wants_answer};
+
+use crate::announce::Announce;
+use crate::links::Links16;
+use crate::links::greets::Beginning;
+use crate::links::hears::Session;
+use crate::notes::LinkNotes;
+use crate::renewal::Renewal;
+use fabric_terms::{Body, Message};
+use ring_rules::LinkState;
+use ring_wire::Outbox;
+
+impl Links16 {
+    /// What a frame of a link does, or an arbitrator's ruling; a frame of another kind does nothing. The frame is one
+    /// that the node takes: its stamp is a reading, and a ruling is of a configured arbitrator.
+    pub fn on_frame(
+        &mut self,
+        now: u64,
+        message: &Message,
+        announce: &Announce,
+        out: &mut Outbox,
+    ) -> LinkNotes
+        requires now { now ≤ 1_000_000_000_000_000 }
+        requires frame { IsTrue (may_come self.old.arbitrators message.now.from message.now.body) }
+        requires room { length out.old + 9 ≤ 192 }
+        ensures did { did self.new out.new result ≡ did_after out.old (frame_row now announce.now message.now.from message.now.body self.old) }
+        ensures row { is_search message.now.body ≡ false → Does (λ c. rules.frame_row c now message.now.from message.now.body) (wants_answer message.now.body) self.old announce.now out.old (did self.new out.new result) }
+    {
+        self.hear(now, message, announce, out)
+    }
+
+    fn hear(
+        &mut self,
+        now: u64,
+        message: &Message,
+        announce: &Announce,
+        out: &mut Outbox,
+    ) -> LinkNotes
+        requires now { now ≤ 1_000_000_000_000_000 }
+        requires frame { IsTrue (may_come self.old.arbitrators message.now.from message.now.body) }
+        requires room { length out.old + 9 ≤ 192 }
+        ensures { did self.new out.new result ≡ did_after out.old (frame_row now announce.now message.now.from message.now.body self.old) }
+    {
+        let from = message.from;
+        match &message.body {
+            Body::Hello { mine } => {
+                self.hear_hello(now, from, *mine, Beginning::offered(1, self.lease), out)
+            }
+            Body::HelloFor { mine, length } => {
+                let asked = Beginning::offered(2, (*length).min(self.longest));
+                self.hear_hello(now, from, *mine, asked, out)
+            }
+            Body::Offer { mine, yours } => {
+                self.hear_offer(now, Session::new(from, *mine, *yours), self.lease, out)
+            }
+            Body::OfferFor {
+                mine,
+                yours,
+                length,
+            } => self.hear_offer(now, Session::new(from, *mine, *yours), *length, out),
+            Body::Take { mine, yours } => {
+                self.hear_take(now, Session::new(from, *mine, *yours), announce, out)
+            }
+            Body::Renew {
+                mine,
+                yours,
+                stamp,
+                version,
+                got,
+                want,
+                ranges,
+            } => {
+                let renewal = Renewal {
+                    stamp: *stamp,
+                    version: *version,
+                    got: *got,
+                    want: *want,
+                    ranges,
+                };
+                self.hear_renew(Session::new(from, *mine, *yours), &renewal, out)
+            }
+            Body::RenewAck {
+                mine,
+                yours,
+                stamp,
+                version,
+            } => {
+                self.hear_ack(Session::new(from, *mine, *yours), *stamp, *version);
+                LinkNotes::none()
+            }
+            Body::Transfer {
+                mine,
+                yours,
+                flight,
+                ranges,
+            } => self.hear_transfer(Session::new(from, *mine, *yours), *flight, ranges, out),
+            Body::Gone {
+                mine,
+                yours,
+                got,
+                bound,
+            } => self.hear_gone(Session::new(from, *mine, *yours), *got, *bound, out),
+            Body::Ruled { victim, ruling } => self.hear_ruling(now, from, *victim, *ruling),
+            _ => LinkNotes::none(),
+        }
+    }
+}

@@ -1,0 +1,135 @@
+ghost use Rattle.std.specs.Prelude.{◌≡◌, ℕ, ◌+◌, ◌<◌, ◌≤◌, [], ◌∷◌, Some, IfSome, length, not, ◌||◌};
+ghost use Rattle.arbiter_quorum.specs.Tallies.{may_be_heir, noted, verdict_of};
+ghost use Rattle.ring_rules.specs.Links.{is_bare};
+ghost use Rattle.link_core.specs.Links.{turn};
+ghost use Rattle.link_core.specs.Rulings.{awaits, discharge_told, judged, made_heir, kept_discharged, ruling_seen, ripe_at};
+
+use crate::notes::{LinkNote, LinkNotes};
+use arbiter_quorum::Verdict;
+use drift_clock::{Bound, wait_of};
+use fabric_terms::Why;
+use ring_points::Ruling;
+use ring_rules::{Link, LinkState};
+
+/// There is nothing to take over.
+fn is_bare(link: &Link) -> bool
+    ensures { result ≡ is_bare link.now }
+{
+    link.held.intervals().is_empty() && link.flight.is_none()
+}
+
+fn discharge_told(link: &Link) -> LinkNotes
+    ensures { result ≡ discharge_told link.now.state link.now }
+{
+    match link.state {
+        LinkState::Accused => LinkNotes::one(LinkNote::DischargedNow(link.peer)),
+        _ => LinkNotes::none(),
+    }
+}
+
+/// A majority has granted.
+fn made_heir(slot: &mut Option<Link>, ripe: u64) -> LinkNotes
+    ensures { IfSome slot.old (λ l. turn slot.new [] result ≡ made_heir l ripe (is_bare l)) }
+{
+    let Some(link) = slot else {
+        return LinkNotes::none();
+    };
+    let peer = link.peer;
+    if is_bare(link) {
+        *slot = None;
+        LinkNotes::one(LinkNote::DischargedNow(peer))
+    } else {
+        link.state = LinkState::Heir;
+        link.ripe = ripe;
+        LinkNotes::one(LinkNote::HeirNow(peer, ripe))
+    }
+}
+
+/// A majority has not refused.
+fn kept_discharged(slot: &mut Option<Link>) -> LinkNotes
+    ensures { IfSome slot.old (λ l. turn slot.new [] result ≡ kept_discharged l (discharge_told l.state l) (is_bare l || not (may_be_heir l.tally))) }
+{
+    let Some(link) = slot else {
+        return LinkNotes::none();
+    };
+    let notes = discharge_told(link);
+    if is_bare(link) || !link.tally.may_be_heir() {
+        *slot = None;
+    } else {
+        link.state = LinkState::Discharged;
+    }
+    notes
+}
+
+fn judged(slot: &mut Option<Link>, ripe: u64, verdict: Verdict) -> LinkNotes
+    ensures { IfSome slot.old (λ l. turn slot.new [] result ≡ judged l ripe l.state verdict) }
+{
+    match verdict {
+        Verdict::Heir => made_heir(slot, ripe),
+        Verdict::Discharged => kept_discharged(slot),
+        Verdict::Lost => LinkNotes::one(LinkNote::Leave(Why::Lost)),
+        Verdict::Open => LinkNotes::none(),
+    }
+}
+
+/// When an heir may take over: the peer's lease and its answers must be over by every clock.
+fn ripe_at(now: u64, bound: Bound, answer: u64, link: &Link) -> u64
+    requires now { now ≤ 1_000_000_000_000_000 }
+    requires drift { bound.d ≤ 100 }
+    requires grain { bound.grain ≤ 1_000_000 }
+    requires length { link.now.len + answer ≤ 2_000_000_000 }
+    ensures { result ≡ ripe_at now bound answer link.now }
+{
+    now + wait_of(bound, link.len + answer)
+}
+
+/// Counts a ruling of this arbitrator, and says what the rulings amount to now.
+fn note(link: &mut Link, arbitrator: u8, ruling: Ruling) -> Verdict
+    requires first { 1 ≤ arbitrator }
+    requires last { arbitrator ≤ link.old.tally.arbitrators }
+    ensures noted { link.new ≡ record link.old { tally = noted link.old.tally arbitrator ruling } }
+    ensures verdict { result ≡ verdict_of link.new.tally }
+{
+    link.tally.note(arbitrator, ruling)
+}
+
+/// The arbitrators' terms at a node: the time for an answer, and the bound of clocks.
+#[derive(Clone, Copy)]
+pub(crate) struct Terms {
+    pub answer: u64,
+    pub bound: Bound,
+}
+
+/// It waits for the arbitrators.
+fn awaits(state: LinkState) -> bool
+    ensures { result ≡ awaits state }
+{
+    matches!(state, LinkState::Accused | LinkState::Discharged)
+}
+
+/// A ruling of this arbitrator about the peer.
+pub(crate) fn ruling_seen(
+    slot: &mut Option<Link>,
+    now: u64,
+    terms: Terms,
+    arbitrator: u8,
+    ruling: Ruling,
+) -> LinkNotes
+    requires now { now ≤ 1_000_000_000_000_000 }
+    requires drift { terms.bound.d ≤ 100 }
+    requires grain { terms.bound.grain ≤ 1_000_000 }
+    requires length { IfSome slot.old (λ l. l.len + terms.answer ≤ 2_000_000_000) }
+    requires first { 1 ≤ arbitrator }
+    requires last { IfSome slot.old (λ l. arbitrator ≤ l.tally.arbitrators) }
+    ensures { turn slot.new [] result ≡ ruling_seen now terms.bound terms.answer arbitrator ruling slot.old }
+{
+    let Some(link) = slot else {
+        return LinkNotes::none();
+    };
+    if !awaits(link.state) {
+        return LinkNotes::none();
+    }
+    let ripe = ripe_at(now, terms.bound, terms.answer, link);
+    let verdict = note(link, arbitrator, ruling);
+    judged(slot, ripe, verdict)
+}

@@ -1,0 +1,60 @@
+ghost use Rattle.std.specs.Prelude.{◌≡◌, ◌≤◌, ◌<◌, ◌∷◌, ◌++◌, [], length};
+
+use arrayvec::ArrayVec;
+use fabric_terms::Body;
+use ring_points::Who;
+use std::marker::Model;
+
+/// How many messages an outbox holds.
+pub const OUTBOX_LIMIT: usize = 192;
+
+/// What one step sends, in its order, each with its addressee: at most 192 messages. Contracts see them as their list.
+#[derive(Drop)]
+pub struct Outbox {
+    messages: ArrayVec<(Who, Body), 192>,
+}
+
+impl Model for Outbox {
+    ghost use Rattle.std.specs.Prelude.{◌≤◌, List, length};
+    ghost use Rattle.ring_points.specs.declared.who.Who.{Who};
+    ghost use Rattle.fabric_terms.specs.declared.message.Body.{Body};
+
+    ghost Value = { List (Who × Body) };
+
+    ghost view = { λ o. o.messages.items };
+
+    ghost invariant = { λ o. length o.messages.items ≤ 192 };
+}
+
+impl Outbox {
+    /// Nothing is sent yet.
+    pub fn new() -> Self
+        ensures { result ≡ [] }
+    {
+        Outbox {
+            messages: ArrayVec::new(),
+        }
+    }
+
+    /// Nothing is sent any more.
+    pub fn clear(&mut self)
+        ensures { self.new ≡ [] }
+    {
+        self.messages.clear();
+    }
+
+    /// What is sent, in its order.
+    pub fn messages(&self) -> &[(Who, Body)]
+        ensures { result.now ≡ self.now }
+    {
+        self.messages.as_slice()
+    }
+
+    /// Sends one more message.
+    pub fn send(&mut self, to: Who, body: Body)
+        requires { length self.old < 192 }
+        ensures { self.new ≡ self.old ++ (to, body) ∷ [] }
+    {
+        self.messages.push((to, body));
+    }
+}
