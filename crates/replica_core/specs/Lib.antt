@@ -1,0 +1,4 @@
+pub mod Roles
+pub mod Replicas
+pub mod Views
+pub mod Calls
