@@ -22,6 +22,10 @@ abbrev pub unless : {A : Type 0} → Bool → ReplicaRefusal → Replica → Out
 unless true refusal s next = (Err refusal, s)
 unless false refusal s next = next
 
+-- an epoch is admitted unless a greater one is promised
+abbrev pub admission : Epoch → Replica → Result (Unit {0}) ReplicaRefusal
+admission e s = if is_older e s.promised then Err (Older s.promised) else Ok tt
+
 -- every call is refused where a greater epoch is promised
 abbrev pub unless_older : {A : Type 0} → Epoch → Replica → Outcome A → Outcome A
 unless_older e s next = unless (is_older e s.promised) (Older s.promised) s next

@@ -2,3 +2,5 @@ pub mod Roles
 pub mod Replicas
 pub mod Views
 pub mod Calls
+pub mod Histories
+pub mod Laws

@@ -9,11 +9,18 @@
 
 mod entry;
 mod epoch;
+mod laws;
 mod refusal;
 mod replica;
 mod role;
+#[cfg(test)]
+mod tests;
 
 pub use entry::{Entry, EntryBytes};
+pub use laws::{
+    a_taken_call_promises_its_epoch, no_accepted_entry_is_older, no_log_is_ahead_of_the_promise,
+    the_log_of_an_epoch_only_grows, the_promised_epoch_never_falls,
+};
 pub use refusal::{Done, ReplicaRefusal};
 pub use replica::{MOST_ENTRIES, Replica};
 pub use role::Role;

@@ -1,7 +1,7 @@
 ghost use Rattle.std.specs.Prelude.{◌≡◌, ◌≤◌, ◌∷◌, ◌++◌, [], false, length, Ok, Err};
 ghost use Rattle.ring_points.specs.Epochs.{is_older};
 ghost use Rattle.replica_core.specs.Replicas.{first_replica, raised, adopted, settled, uncollected, collected_in, collecting, IsLog, IsSound};
-ghost use Rattle.replica_core.specs.Calls.{Answers, is_gap, is_collected, promise_call, append_call, adopt_own_call, adopt_call, adopt_collected_call, idle_call, activate_call};
+ghost use Rattle.replica_core.specs.Calls.{Answers, admission, is_gap, is_collected, promise_call, append_call, adopt_own_call, adopt_call, adopt_collected_call, idle_call, activate_call};
 
 use crate::entry::{Entry, EntryBytes};
 use crate::epoch::{first_epoch, is_older, same_epoch};
@@ -102,6 +102,16 @@ impl Replica {
         self.collected.len() as u32
     }
 
+    /// A call of an epoch below the promised one is refused.
+    fn admit(&self, e: Epoch) -> Result<(), ReplicaRefusal>
+        ensures { result ≡ admission e self.now }
+    {
+        if is_older(e, self.promised) {
+            return Err(ReplicaRefusal::Older(self.promised));
+        }
+        Ok(())
+    }
+
     /// Promises an epoch that is not below the promised one.
     fn raise(&mut self, e: Epoch)
         requires { is_older e self.old.promised ≡ false }
@@ -109,7 +119,7 @@ impl Replica {
     {
         if is_older(self.promised, e) {
             self.role = self.role.demoted();
-            self.collected.clear();
+            self.drop_collected();
         }
         self.promised = e;
     }
@@ -119,9 +129,7 @@ impl Replica {
     pub fn promise(&mut self, e: Epoch) -> Result<Done, ReplicaRefusal>
         ensures { (result, self.new) ≡ promise_call e self.old }
     {
-        if is_older(e, self.promised) {
-            return Err(ReplicaRefusal::Older(self.promised));
-        }
+        self.admit(e)?;
         if same_epoch(self.promised, e) {
             return Ok(Done::Held);
         }
@@ -134,9 +142,7 @@ impl Replica {
     pub fn idle(&mut self, e: Epoch) -> Result<Done, ReplicaRefusal>
         ensures { (result, self.new) ≡ idle_call e self.old }
     {
-        if is_older(e, self.promised) {
-            return Err(ReplicaRefusal::Older(self.promised));
-        }
+        self.admit(e)?;
         if same_epoch(self.promised, e) && self.role == Role::IdleSecondary {
             return Ok(Done::Held);
         }
@@ -151,9 +157,7 @@ impl Replica {
     pub fn activate(&mut self, me: u16, config: &Config) -> Result<Role, ReplicaRefusal>
         ensures { (result, self.new) ≡ activate_call me config.now self.old }
     {
-        if is_older(config.epoch, self.promised) {
-            return Err(ReplicaRefusal::Older(self.promised));
-        }
+        self.admit(config.epoch)?;
         if !config.members.as_slice().contains(&me) {
             return Err(ReplicaRefusal::NotMember);
         }
@@ -172,9 +176,7 @@ impl Replica {
     pub fn append(&mut self, e: Epoch, lsn: u32, bytes: &[u8]) -> Result<Done, ReplicaRefusal>
         ensures { Answers (append_call e lsn bytes.now self.old) self.old self.new result }
     {
-        if is_older(e, self.promised) {
-            return Err(ReplicaRefusal::Older(self.promised));
-        }
+        self.admit(e)?;
         let next = self.log.len() as u32 + 1;
         if !same_epoch(self.at, e) || next < lsn {
             return Err(ReplicaRefusal::Gap(next - 1));
@@ -200,9 +202,7 @@ impl Replica {
     pub fn adopt_own(&mut self, e: Epoch, last: u32) -> Result<Done, ReplicaRefusal>
         ensures { (result, self.new) ≡ adopt_own_call e last self.old }
     {
-        if is_older(e, self.promised) {
-            return Err(ReplicaRefusal::Older(self.promised));
-        }
+        self.admit(e)?;
         if same_epoch(self.at, e) {
             return Ok(Done::Held);
         }
@@ -280,9 +280,7 @@ impl Replica {
         requires { entry.now.lsn ≤ 100000 }
         ensures { Answers (adopt_call e entry.now last self.old) self.old self.new result }
     {
-        if is_older(e, self.promised) {
-            return Err(ReplicaRefusal::Older(self.promised));
-        }
+        self.admit(e)?;
         if same_epoch(self.at, e) {
             return Ok(Done::Held);
         }
@@ -307,9 +305,7 @@ impl Replica {
     pub fn adopt_collected(&mut self, e: Epoch) -> Result<Done, ReplicaRefusal>
         ensures { (result, self.new) ≡ adopt_collected_call e self.old }
     {
-        if is_older(e, self.promised) {
-            return Err(ReplicaRefusal::Older(self.promised));
-        }
+        self.admit(e)?;
         if same_epoch(self.at, e) {
             return Ok(Done::Held);
         }
