@@ -1,0 +1,6 @@
+pub mod Roles
+pub mod Replicas
+pub mod Views
+pub mod Calls
+pub mod Histories
+pub mod Laws

@@ -1,0 +1,68 @@
+ghost use Rattle.std.specs.Prelude.{◌≡◌, IfOk};
+ghost use Rattle.replica_core.specs.Replicas.{same_entry};
+
+use crate::epoch::same_epoch;
+use ring_points::Epoch;
+use std::alloc::{AllocError, Global};
+use std::marker::Model;
+
+/// The bytes of an entry, which contracts see as their list.
+#[derive(Drop)]
+pub struct EntryBytes {
+    bytes: Vec<u8>,
+}
+
+impl Model for EntryBytes {
+    ghost use Rattle.std.specs.Prelude.{List, ℕ};
+
+    ghost Value = { List ℕ };
+
+    ghost view = { λ a. a.bytes.items };
+}
+
+impl EntryBytes {
+    /// A copy of these bytes.
+    pub fn from_slice(alloc: Global, bytes: &[u8]) -> Result<Self, AllocError>
+        ensures { IfOk result (λ copy. copy ≡ bytes.now) }
+    {
+        Ok(EntryBytes {
+            bytes: bytes.to_vec(alloc)?,
+        })
+    }
+
+    pub fn as_slice(&self) -> &[u8]
+        ensures { result.now ≡ self.now }
+    {
+        self.bytes.as_slice()
+    }
+}
+
+/// A write in a log: the epoch in which it was accepted, its number in the log, from 1, and its bytes.
+#[derive(Drop)]
+pub struct Entry {
+    pub epoch: Epoch,
+    pub lsn: u32,
+    pub bytes: EntryBytes,
+}
+
+impl Entry {
+    /// The same entry again.
+    pub fn copy(&self, alloc: Global) -> Result<Entry, AllocError>
+        ensures { IfOk result (λ copy. copy ≡ self.now) }
+    {
+        Ok(Entry {
+            epoch: self.epoch,
+            lsn: self.lsn,
+            bytes: EntryBytes::from_slice(alloc, self.bytes.as_slice())?,
+        })
+    }
+
+    /// Whether two entries are the same in all parts.
+    pub fn is_same(&self, other: &Entry) -> bool
+        ensures { result ≡ same_entry self.now other.now }
+    {
+        same_epoch(self.epoch, other.epoch)
+            && self.lsn == other.lsn
+            && self.bytes.as_slice() == other.bytes.as_slice()
+    }
+}
