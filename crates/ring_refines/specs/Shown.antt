@@ -4,7 +4,7 @@ use Rattle.ring_points.specs.declared.who.Who.{Who}
 use Rattle.fabric_terms.specs.declared.config.FabricConfig.{FabricConfig}
 use Rattle.join_phases.specs.Phases.{is_left}
 use Rattle.token_core.specs.Laws.{IsRising}
-use Rattle.token_core.specs.Tokens as token
+use Rattle.token_core.specs.Tokens.{Freeze}
 use Rattle.ring_rules.specs.declared.link.Link.{Link}
 use Rattle.ring_rules.specs.declared.link.LinkState.TheVariants as state
 use Rattle.ring_rules.specs.Rings.{Slots, Ring, no_slots}
@@ -30,7 +30,7 @@ pub record ShowsTable (c : FabricConfig) (m : World) (x : Who) (r : Ring) : Type
   -- whom a slot accuses or accused is in the list
   pub accused : (number : ℕ) → is_wronged ((m.instance x).slots number).state ≡ true → IsMember ((m.instance x).slots number).far.who r.accused
   pub rises : IsRising r.token
-  pub frozen : (z : token.Freeze) → r.token.freeze ≡ Some z → IsFrozenFor r.slots z.slot
+  pub frozen : (z : Freeze) → r.token.freeze ≡ Some z → IsFrozenFor r.slots z.slot
 
 -- the ring of x, which has left
 pub record ShowsLeft (m : World) (x : Who) (r : Ring) : Type 0 where
