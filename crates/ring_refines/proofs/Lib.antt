@@ -4,3 +4,4 @@ pub mod Freezes
 pub mod Ranges
 pub mod Telling
 pub mod Going
+pub mod SlotRows
