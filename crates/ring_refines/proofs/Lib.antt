@@ -5,3 +5,5 @@ pub mod Ranges
 pub mod Telling
 pub mod Going
 pub mod SlotRows
+pub mod Unknown
+pub mod Greetings
