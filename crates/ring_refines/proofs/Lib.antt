@@ -7,3 +7,5 @@ pub mod Going
 pub mod SlotRows
 pub mod Unknown
 pub mod Greetings
+pub mod Saying
+pub mod Offers
