@@ -9,3 +9,4 @@ pub mod Unknown
 pub mod Greetings
 pub mod Saying
 pub mod Offers
+pub mod Renewals
