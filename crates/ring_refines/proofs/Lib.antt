@@ -10,3 +10,5 @@ pub mod Greetings
 pub mod Saying
 pub mod Offers
 pub mod Renewals
+pub mod TokenRows
+pub mod Flights
