@@ -12,3 +12,5 @@ pub mod Offers
 pub mod Renewals
 pub mod TokenRows
 pub mod Flights
+pub mod Quiet
+pub mod Commands
