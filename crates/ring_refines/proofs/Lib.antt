@@ -14,3 +14,5 @@ pub mod TokenRows
 pub mod Flights
 pub mod Quiet
 pub mod Commands
+pub mod Tallies
+pub mod Leaving
