@@ -16,3 +16,5 @@ pub mod Quiet
 pub mod Commands
 pub mod Tallies
 pub mod Leaving
+pub mod Accusing
+pub mod Firing
