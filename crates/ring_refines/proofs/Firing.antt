@@ -18,8 +18,9 @@ use Rattle.ring_route.specs.Routes.{near_nodes}
 use Rattle.ring_rules.specs.declared.link.Link.{Link}
 use Rattle.ring_rules.specs.declared.link.LinkState.{LinkState}
 use Rattle.ring_rules.specs.declared.link.LinkState.TheVariants as state
-use Rattle.ring_rules.specs.Deeds.{send, then_unless_left}
+use Rattle.ring_rules.specs.Deeds.{send, say_gone, then_unless_left}
 use Rattle.ring_rules.specs.Firing.{hello_due, hello_fired, lease_over, leased, offered_fired, transfer_again, bound_fired, parting_fired, accused_fired, discharged_due, discharged_fired, take_over, inherit, heir_due, heir_fired, fired_in, fired_at, slot_fired, slots_fired, acked_if, has_acked, all_acked, give_flight, give_to, give_ready, give_frozen, freeze_given, seek_from, greet_all, search_by, place_sought, timer_fired}
+use Rattle.ring_rules.specs.Handshakes.{greet_plainly}
 use Rattle.ring_rules.specs.Links.{hello_body, offer_body, renew_body, transfer_body, flight_part}
 use Rattle.ring_rules.specs.Rings.{Slots, Work, settings_of, slot_count}
 use Rattle.ring_rules.specs.Slots as table
@@ -172,7 +173,7 @@ module _ {c : FabricConfig} {m : World} {x : Who} {now : ℕ} {w : Work} (sound 
       (λ u. transfer_again l l.flight (send l.peer (renew_body now l u.ring) u))
       (transfers sound node renewed i l at is l.flight refl) (nat_le l.until now)
   fired_went i l at state.Parting is =
-      lease_went sound node g i l at (ap (λ s. stands (state_of s)) is) (ap bars_link is) _ (gone_again_going sound g i l at is) (nat_le l.until now)
+      lease_went sound node g i l at (ap (λ s. stands (state_of s)) is) (ap bars_link is) (say_gone l) (gone_again_going sound g i l at is) (nat_le l.until now)
   fired_went i l at state.Accused is = on (asks_going sound node g i l at (ap (λ s. is_tallying (state_of s)) is))
   fired_went i l at state.Discharged is = on (discharged_going sound node g i l at is)
   fired_went i l at state.Heir is = on (heir_going sound node g i l at is (nat_le l.ripe now) refl)
@@ -283,10 +284,11 @@ module _ {c : FabricConfig} {m : World} {x : Who} {now : ℕ} {w : Work} (sound 
       go (Some z) e = ready z e (all_acked z.version w.ring.slots) refl
 
 -- each of the nodes is greeted
-greets_all : {c : FabricConfig} {m : World} {x : Who} {now : ℕ} {w : Work} → IsSound (machine_of c) → (node : ℕ) → (nodes : List ℕ) → Going c m x now w →
+greets_all : {c : FabricConfig} {m : World} {x : Who} {now : ℕ} → IsSound (machine_of c) → (node : ℕ) → (nodes : List ℕ) → (w : Work) → Going c m x now w →
     Going c m x now (greet_all (settings_of c node) now nodes w)
-greets_all sound node [] g = g
-greets_all sound node (n ∷ nodes) g = greets_all sound node nodes (greet_plainly_going sound node g n)
+greets_all sound node [] w g = g
+greets_all {c = c} {m = m} {x = x} {now = now} sound node (n ∷ nodes) w g =
+    greets_all sound node nodes (greet_plainly (settings_of c node) now n w) (greet_plainly_going sound node g n)
 
 place_sought_went : {c : FabricConfig} {m : World} {x : Who} {now : ℕ} {w : Work} → IsSound (machine_of c) → (node : ℕ) → Going c m x now w →
     Went c m x now (place_sought (settings_of c node) now w)
@@ -298,7 +300,7 @@ place_sought_went {c = c} {m = m} {x = x} {now = now} {w = w} sound node g =
     asks (Some member) = seek_place_going sound g member
 
     go : (q : Bool) → Going c m x now (search_by (settings_of c node) now w q)
-    go true = greets_all sound node (near_nodes w.ring.routes c.near w.ring.accused) g
+    go true = greets_all sound node (near_nodes w.ring.routes c.near w.ring.accused) w g
     go false = asks w.ring.target
 
 -- the first k slots
