@@ -204,7 +204,7 @@ module _ {c : FabricConfig} {m : World} {x : Who} {now : ℕ} {w : Work} (sound 
       drops sound g i l at SessionDropped may (ended (slot_of l)) [] refl refl (λ h. not_bound h) (λ h. wronged sound g i l at is_one) _ _ _ (nothing_besides sound g [])
     where
       not_bound : l.state ≡ state.Bound → ⊥
-      not_bound h = let b = ap (λ s. is_wronged (state_of s)) h in cc (is_one, b)
+      not_bound h = cc (is_one, h)
 
   -- the tally with a ruling more
   noted_sound : (i : ℕ) (l : Link) → slot_at i w.ring.slots ≡ Some l → Against l.state → (a : ℕ) (ruling : Ruling) → 1 ≤ a → a ≤ length c.arbiters →

@@ -16,12 +16,13 @@ use Rattle.ring_machine.specs.Frames.{Frame}
 use Rattle.ring_machine.specs.World as world
 use Rattle.ring_machine.specs.World.{Instance, World, Phase, Left, Dead}
 use Rattle.ring_machine.specs.Events.{IsSound, Leaves, in_phase}
+use Rattle.ring_machine.specs.Invariant.{Invariant}
 use Rattle.ring_machine.proofs.Histories.{event_done}
 use Rattle.ring_machine.proofs.Whos.{same_who-false, updated_cases}
 use Rattle.ring_refines.specs.Images.{machine_of, token_of}
-use Rattle.ring_refines.specs.Shown.{Shows, ShowsAs}
-use Rattle.ring_refines.specs.Moves.{places_of, MovedBy}
-use Rattle.ring_refines.specs.Refined.{Beside, Refined}
+use Rattle.ring_refines.specs.Shown.{Shows, ShowsAs, ShowsInstance}
+use Rattle.ring_refines.specs.Moves.{places_of, MovedBy, AreOver}
+use Rattle.ring_refines.specs.Refined.{AllSaid, Beside, Refined}
 use Rattle.ring_refines.proofs.Telling.{moved_and, over_and, over_later}
 use Rattle.ring_refines.proofs.Going.{Going, beside_then}
 
@@ -47,48 +48,65 @@ module _ {c : FabricConfig} {m : World} {x : Who} {now : ℕ} {w : Work} (sound 
     over = g.over;
   }
 
+-- x in a world that shows the work so far, below its fence or not
+pub record Standing (c : FabricConfig) (m : World) (x : Who) (w : Work) : Type 0 where
+  pub after : World
+  pub inv : Invariant (machine_of c) after
+  pub beside : Beside m x after
+  pub dies : (y : Who) → Dead (machine_of c) (m.instance y) → Dead (machine_of c) (after.instance y)
+  pub shows : ShowsInstance c x after.sent (after.instance x) w.ring
+  pub sent : AllSaid c.lease after.sent x w.sent
+  pub moved :
+      MovedBy x w.told (m.instance x).token.next_flight (places_of (world.first_of (machine_of c)) m) w.ring.token.next_flight
+      (places_of (world.first_of (machine_of c)) after)
+  pub over : AreOver (machine_of c) after w.told
+
+pub going_stands : {c : FabricConfig} {m : World} {x : Who} {now : ℕ} {w : Work} → Going c m x now w → Standing c m x w
+going_stands g = record { after = g.after; inv = g.inv; beside = g.beside; dies = g.dies; shows = g.shows; sent = g.sent; moved = g.moved; over = g.over }
+
+module _ {c : FabricConfig} {m : World} {x : Who} {w : Work} (sound : IsSound (machine_of c)) (s : Standing c m x w) where
   -- it leaves
   pub leave_refined : (why : Why) → Refined c m x (leave why w)
   leave_refined why = record {
     after = u;
     inv = done.inv;
-    beside = beside_then m v u x g.beside (record {
+    beside = beside_then m s.after u x s.beside (record {
       time = refl;
       starts = refl;
       first_accuser = refl;
       reading = ap (λ (i : Instance). i.reading) own;
       pairs = ap (λ (i : Instance). i.pairs) own;
-      others = λ y n. updated_cases (λ i. i ≡ v.instance y) v.instance x y out (λ e. absurd (same_who-false x y n e)) (λ e. refl);
+      others = λ y n. updated_cases (λ i. i ≡ s.after.instance y) s.after.instance x y out (λ e. absurd (same_who-false x y n e)) (λ e. refl);
       sent = λ f h. h;
     });
-    dies = λ y h. done.later.dies y (g.dies y h);
+    dies = λ y h. done.later.dies y (s.dies y h);
     live = λ h. absurd (cc (h));
     shows = record {
-      me = g.shows.me;
+      me = s.shows.me;
       ranges = refl;
       freeze = refl;
       slots = refl;
       stands_still = λ h. let p = ap (λ (i : Instance). i.phase) own in cc (p, h);
     };
-    sent = g.sent;
-    moved = subst (λ (n : ℕ). MovedBy x (w.told ++ report.LeftRing why ∷ []) (m.instance x).token.next_flight (places_of first m) n (places_of first v))
-        (sym (ap (λ (i : Instance). i.token.next_flight) own ∙ ap (λ (t : Rattle.ring_machine.specs.Tokens.Token). t.next_flight) g.shows.token))
-        (moved_and x w.told (m.instance x).token.next_flight w.ring.token.next_flight (places_of first m) (places_of first v) (report.LeftRing why) g.moved tt tt);
-    over = over_and (machine_of c) u w.told (report.LeftRing why) (over_later (machine_of c) v u w.told (λ y h. done.later.dies y h) g.over) tt;
+    sent = s.sent;
+    moved = subst (λ (n : ℕ). MovedBy x (w.told ++ report.LeftRing why ∷ []) (m.instance x).token.next_flight (places_of (world.first_of (machine_of c)) m) n (places_of (world.first_of (machine_of c)) s.after))
+        (sym (ap (λ (i : Instance). i.token.next_flight) own ∙ ap (λ (t : Rattle.ring_machine.specs.Tokens.Token). t.next_flight) s.shows.token))
+        (moved_and x w.told (m.instance x).token.next_flight w.ring.token.next_flight (places_of (world.first_of (machine_of c)) m) (places_of (world.first_of (machine_of c)) s.after) (report.LeftRing why) s.moved tt tt);
+    over = over_and (machine_of c) u w.told (report.LeftRing why) (over_later (machine_of c) s.after u w.told (λ y h. done.later.dies y h) s.over) tt;
   }
     where
       out : Instance
-      out = record (v.instance x) { phase = Left }
+      out = record (s.after.instance x) { phase = Left }
 
       u : World
-      u = in_phase v x Left
+      u = in_phase s.after x Left
 
-      own : (in_phase v x Left).instance x ≡ record (v.instance x) { phase = Left }
-      own = updated_cases (λ i. i ≡ record (v.instance x) { phase = Left }) v.instance x x (record (v.instance x) { phase = Left }) (λ e. refl)
+      own : (in_phase s.after x Left).instance x ≡ record (s.after.instance x) { phase = Left }
+      own = updated_cases (λ i. i ≡ record (s.after.instance x) { phase = Left }) s.after.instance x x (record (s.after.instance x) { phase = Left }) (λ e. refl)
           (λ a. absurd (same_who-false x x a refl))
 
-      done : Rattle.ring_machine.proofs.Histories.EventDone (machine_of c) v (in_phase v x Left)
-      done = event_done sound g.inv (Leaves x) g.shows.running
+      done : Rattle.ring_machine.proofs.Histories.EventDone (machine_of c) s.after (in_phase s.after x Left)
+      done = event_done sound s.inv (Leaves x) s.shows.running
 
 -- what a row comes to
 pub data Went (c : FabricConfig) (m : World) (x : Who) (now : ℕ) (w : Work) : Type 0 where
@@ -100,7 +118,7 @@ went_refined sound (on g) = still_refined sound g
 went_refined sound (off h r) = r
 
 pub left_went : {c : FabricConfig} {m : World} {x : Who} {now : ℕ} {w : Work} → IsSound (machine_of c) → Going c m x now w → (why : Why) → Went c m x now (leave why w)
-left_went sound g why = off refl (leave_refined sound g why)
+left_went sound g why = off refl (leave_refined sound (going_stands g) why)
 
 -- a row that needs a number past the last is not done
 pub counted_went : {c : FabricConfig} {m : World} {x : Who} {now : ℕ} {old new : Work} → IsSound (machine_of c) → Going c m x now old → Went c m x now new →

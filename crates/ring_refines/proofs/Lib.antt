@@ -18,3 +18,4 @@ pub mod Tallies
 pub mod Leaving
 pub mod Accusing
 pub mod Firing
+pub mod Steps
