@@ -19,3 +19,4 @@ pub mod Leaving
 pub mod Accusing
 pub mod Firing
 pub mod Steps
+pub mod Starting
