@@ -1,18 +1,17 @@
 -- How a peer is accused, and what the arbitrators' rulings make of its slot.
-use Rattle.std.proofs.Common.{◌≡◌, ℕ, zero, suc, ◌+◌, ◌-◌, ◌<◌, ◌≤◌, ◌||◌, ◌&&◌, nat_le, nat_lt, not, Bool, true, false, cond, List, [], ◌∷◌, ◌++◌, length, Option, Some, None, IsTrue, ◌⊎◌, refl, sym, ap, ◌∙◌, subst, inl, inr, arith}
+use Rattle.std.proofs.Common.{◌≡◌, ℕ, zero, suc, ◌+◌, ◌-◌, ◌<◌, ◌≤◌, ◌||◌, ◌&&◌, nat_le, nat_lt, not, Bool, true, false, List, [], ◌∷◌, ◌++◌, length, Option, Some, None, ◌⊎◌, refl, sym, ap, ◌∙◌, subst, inl, inr, arith}
 use Rattle.std.specs.Prelude.{slice_set}
-use Rattle.std.proofs.lemmas.Bool.{le-leb, and_parts, both_ways}
+use Rattle.std.proofs.lemmas.Bool.{le-leb, and_parts}
 use Rattle.std.proofs.lemmas.List.{append-nil, append_assoc}
 use Rattle.ring_points.specs.declared.interval.Interval.{Interval}
 use Rattle.ring_points.specs.declared.who.Flight as points
 use Rattle.ring_points.specs.declared.who.Ruling.{Ruling}
 use Rattle.ring_points.specs.declared.who.Who.{Who}
 use Rattle.ring_points.specs.Ranges.{in_ranges, rises_from}
-use Rattle.ring_points.specs.Whos.{same_who, node_instance, arbiter_actor}
+use Rattle.ring_points.specs.Whos.{node_instance, arbiter_actor}
 use Rattle.fabric_terms.specs.declared.config.FabricConfig.{FabricConfig}
 use Rattle.fabric_terms.specs.declared.message.Body.{Body}
 use Rattle.fabric_terms.specs.declared.message.Body.TheVariants as body
-use Rattle.fabric_terms.specs.declared.report.Report.{Report}
 use Rattle.fabric_terms.specs.declared.report.Report.TheVariants as report
 use Rattle.fabric_terms.specs.declared.report.Why.TheVariants.{AccusedFull, Lost}
 use Rattle.token_core.specs.Calls.{is_empty}
@@ -27,15 +26,12 @@ use Rattle.ring_rules.specs.Deeds.{in_slot, in_found, put_slot, send, tell}
 use Rattle.ring_rules.specs.Firing.{ask_if, ask_first, ask_arbiters, accuse_at, accuse_if, peer_accused}
 use Rattle.ring_rules.specs.Links.{accused_link, is_bare, has_flight}
 use Rattle.ring_rules.specs.Rings.{Work, settings_of, accused_limit}
-use Rattle.ring_rules.specs.Rulings.{ripe_at, made_heir, tell_discharge, kept_discharged, judged, ruling_noted, ruling_seen, ruling_received}
+use Rattle.ring_rules.specs.Rulings.{ripe_at, made_heir, kept_discharged, judged, ruling_seen, ruling_received}
 use Rattle.ring_rules.specs.Slots.{slot_at, slot_where, of_instance, bars_link}
 use Rattle.ring_rules.proofs.Rows.{peer_accused-is, ruling_received-is}
 use Rattle.ring_machine.specs.Members.{IsMember}
-use Rattle.ring_machine.specs.Ends.{End, end_of}
-use Rattle.ring_machine.specs.Points.{Points}
-use Rattle.ring_machine.specs.Slots.{Slot, Accused, Discharged, Heir, HasClaim, of_record, of_flight, stands, is_tallying, is_decided}
+use Rattle.ring_machine.specs.Slots.{Accused, HasClaim, of_record, of_flight, stands, is_tallying, is_decided}
 use Rattle.ring_machine.specs.Frames.{Frame, Accuse, Ruled}
-use Rattle.ring_machine.specs.World as world
 use Rattle.ring_machine.specs.World.{World}
 use Rattle.ring_machine.specs.Arbitration.{AnsweredBy}
 use Rattle.ring_machine.specs.Deeds.{PeerAccused, AccuseAgain, MajorityAnswered, MajorityGranted, SessionDropped}
@@ -45,16 +41,16 @@ use Rattle.ring_machine.proofs.Lists.{IsMember-append_left, IsMember-append_righ
 use Rattle.ring_machine.proofs.Whos.{same_who-true}
 use Rattle.ring_refines.specs.Images.{machine_of, state_of, points_of, flight_of, slot_of}
 use Rattle.ring_refines.specs.Tables.{is_wronged, SoundTally}
-use Rattle.ring_refines.specs.Refined.{Said, AllSaid}
+use Rattle.ring_refines.specs.Refined.{AllSaid}
 use Rattle.ring_refines.proofs.Places.{found_at}
-use Rattle.ring_refines.proofs.Changes.{stays, stays_alone, tally_later}
+use Rattle.ring_refines.proofs.Changes.{stays, stays_alone}
 use Rattle.ring_refines.proofs.Ranges.{Rises}
 use Rattle.ring_refines.proofs.Tallies.{granted_by, answered_by, tally_noted, granted_answered, RestsOn, verdict_rests}
 use Rattle.ring_refines.proofs.Telling.{moved_and, over_and, all_said_both}
 use Rattle.ring_refines.proofs.Going.{Going, says}
 use Rattle.ring_refines.proofs.Leaving.{Went, on, left_went}
 use Rattle.ring_refines.proofs.Quiet.{tells}
-use Rattle.ring_refines.proofs.SlotRows.{nothing_besides, Besides, puts, drops, wronged}
+use Rattle.ring_refines.proofs.SlotRows.{nothing_besides, puts, drops, wronged}
 use Rattle.ring_refines.proofs.TokenRows.{undoes}
 
 -- the arbitrators are asked: all messages have one image

@@ -1,5 +1,5 @@
 -- A table of which one place changes, against the slots of which one number changes.
-use Rattle.std.proofs.Common.{◌≡◌, ℕ, ◌<◌, ◌≤◌, true, List, length, Option, Some, None, ◌⊎◌, refl, sym, ap, ◌∙◌, subst, inl, inr, ⊎_elim, arith}
+use Rattle.std.proofs.Common.{◌≡◌, ℕ, ◌<◌, ◌≤◌, true, List, length, Option, Some, None, ◌⊎◌, refl, sym, ◌∙◌, subst, inl, inr, arith}
 use Rattle.std.specs.Prelude.{slice_set}
 use Rattle.ring_points.specs.declared.who.Who.{Who}
 use Rattle.fabric_terms.specs.declared.config.FabricConfig.{FabricConfig}
@@ -13,7 +13,7 @@ use Rattle.ring_machine.specs.Frames.{Frame}
 use Rattle.ring_machine.proofs.Whos.{replaced_cases}
 use Rattle.ring_refines.specs.Images.{slot_of}
 use Rattle.ring_refines.specs.Tables.{is_over, SoundTally, SoundLink, Has, ShowsSlots}
-use Rattle.ring_refines.proofs.Places.{used_within, set_cases, set_same, set_other}
+use Rattle.ring_refines.proofs.Places.{set_cases, set_same, set_other}
 
 -- beside the link at place i no greeting meets a link that bars it
 pub record StandsAlone (slots : Slots) (i : ℕ) (k : Link) : Type 0 where
@@ -47,7 +47,6 @@ sound_later c x sent more l later h = record {
 }
 
 module _ {c : FabricConfig} {x : Who} {sent : List Frame} {slots : Slots} {next : ℕ} {f : ℕ → Slot} (h : ShowsSlots c x sent slots next f) where
-
   -- more was sent
   pub shows_later : (more : List Frame) → ((g : Frame) → IsMember g sent → IsMember g more) → ShowsSlots c x more slots next f
   shows_later more later = record {

@@ -1,14 +1,13 @@
 -- What an operator commands: link, part, give.
-use Rattle.std.proofs.Common.{◌≡◌, ℕ, ◌==◌, ◌&&◌, ◌||◌, Bool, true, false, List, [], ◌∷◌, ◌++◌, Option, Some, None, refl, sym, ap, subst, inl}
+use Rattle.std.proofs.Common.{◌≡◌, ℕ, ◌==◌, ◌||◌, Bool, true, false, List, [], ◌∷◌, ◌++◌, Option, Some, None, refl, sym, ap, subst, inl}
 use Rattle.std.specs.Prelude.{is_some}
-use Rattle.std.proofs.lemmas.Bool.{and_parts, both_ways}
+use Rattle.std.proofs.lemmas.Bool.{and_parts}
 use Rattle.ring_points.specs.declared.interval.Interval.{Interval}
 use Rattle.ring_points.specs.declared.who.Flight as points
 use Rattle.ring_points.specs.declared.who.Who.{Who}
 use Rattle.fabric_terms.specs.declared.config.FabricConfig.{FabricConfig}
 use Rattle.fabric_terms.specs.declared.message.Body.TheVariants as body
 use Rattle.fabric_terms.specs.declared.report.Verb.TheVariants as verb
-use Rattle.fabric_terms.specs.declared.report.Reason.TheVariants as reason
 use Rattle.join_phases.specs.Phases.{is_routing}
 use Rattle.token_core.specs.Tokens.{Freeze}
 use Rattle.ring_route.specs.Routes.{point_of}
@@ -17,7 +16,7 @@ use Rattle.ring_rules.specs.declared.link.LinkState.{LinkState}
 use Rattle.ring_rules.specs.declared.link.LinkState.TheVariants as state
 use Rattle.ring_rules.specs.Commands.{link_commanded, part_unless, part_at, part_seen, part_commanded, part_to_give, give_unless, give_part, give_at, give_seen, give_if, give_commanded}
 use Rattle.ring_rules.specs.Links.{parting_link, has_flight}
-use Rattle.ring_rules.specs.Renewals.{near_part, owns_none, may_freeze}
+use Rattle.ring_rules.specs.Renewals.{owns_none, may_freeze}
 use Rattle.ring_rules.specs.Rings.{Work, settings_of}
 use Rattle.ring_rules.specs.Slots.{slot_at, slot_where, is_bound, may_part, bars_link, of_node}
 use Rattle.ring_rules.specs.Deeds.{refuse}
@@ -28,7 +27,6 @@ use Rattle.ring_machine.specs.Frames.{Gone}
 use Rattle.ring_machine.specs.World.{World}
 use Rattle.ring_machine.specs.Deeds.{PartingBegun}
 use Rattle.ring_machine.specs.Events.{IsSound}
-use Rattle.ring_machine.proofs.Lists.{IsMember-append_right}
 use Rattle.ring_refines.specs.Images.{machine_of, state_of, flight_of, slot_of}
 use Rattle.ring_refines.proofs.Places.{found_at}
 use Rattle.ring_refines.proofs.Changes.{stays, stays_alone}

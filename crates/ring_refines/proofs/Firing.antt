@@ -1,48 +1,40 @@
 -- A firing of a node's timer: each slot, a freeze that is ready, and the search for a place.
 use Rattle.std.proofs.Common.{◌≡◌, ℕ, zero, suc, ◌+◌, ◌<◌, ◌≤◌, ◌&&◌, ◌||◌, nat_le, not, Bool, true, false, cond, List, [], ◌∷◌, ◌++◌, length, Option, Some, None, ◌⊎◌, refl, sym, ap, ◌∙◌, subst, inl, inr, ⊎_elim}
-use Rattle.std.specs.Prelude.{slice_set}
-use Rattle.std.specs.List.{list_all}
 use Rattle.std.proofs.lemmas.Bool.{leb-true, and_parts, both_ways}
 use Rattle.ring_points.specs.declared.interval.Interval.{Interval}
 use Rattle.ring_points.specs.declared.who.Flight as points
 use Rattle.ring_points.specs.declared.who.Who.{Who}
-use Rattle.ring_points.specs.Ranges.{in_ranges, fits}
+use Rattle.ring_points.specs.Ranges.{in_ranges}
 use Rattle.fabric_terms.specs.declared.config.FabricConfig.{FabricConfig}
-use Rattle.fabric_terms.specs.declared.message.Body.TheVariants as body
 use Rattle.fabric_terms.specs.declared.report.Report.TheVariants as report
-use Rattle.fabric_terms.specs.Places.{Place, With, Flying, TakesFrom}
-use Rattle.join_phases.specs.Phases.{holding_phase, is_routing}
-use Rattle.token_core.specs.Laws.{Inheriting, IsRising}
+use Rattle.fabric_terms.specs.Places.{Place, TakesFrom}
+use Rattle.join_phases.specs.Phases.{is_routing}
 use Rattle.token_core.specs.Tokens.{Freeze, Token, gained, can_gain, given, inherited}
 use Rattle.ring_route.specs.Routes.{near_nodes}
 use Rattle.ring_rules.specs.declared.link.Link.{Link}
 use Rattle.ring_rules.specs.declared.link.LinkState.{LinkState}
 use Rattle.ring_rules.specs.declared.link.LinkState.TheVariants as state
-use Rattle.ring_rules.specs.Deeds.{send, say_gone, then_unless_left}
-use Rattle.ring_rules.specs.Firing.{hello_due, hello_fired, lease_over, leased, offered_fired, transfer_again, bound_fired, parting_fired, accused_fired, discharged_due, discharged_fired, take_over, inherit, heir_due, heir_fired, fired_in, fired_at, slot_fired, slots_fired, acked_if, has_acked, all_acked, give_flight, give_to, give_ready, give_frozen, freeze_given, seek_from, greet_all, search_by, place_sought, timer_fired}
+use Rattle.ring_rules.specs.Deeds.{send, say_gone}
+use Rattle.ring_rules.specs.Firing.{hello_due, lease_over, transfer_again, discharged_due, discharged_fired, take_over, heir_due, fired_in, fired_at, slot_fired, slots_fired, acked_if, has_acked, all_acked, give_to, give_ready, give_frozen, freeze_given, seek_from, greet_all, search_by, place_sought, timer_fired}
 use Rattle.ring_rules.specs.Handshakes.{greet_plainly}
-use Rattle.ring_rules.specs.Links.{hello_body, offer_body, renew_body, transfer_body, flight_part}
-use Rattle.ring_rules.specs.Rings.{Slots, Work, settings_of, slot_count}
+use Rattle.ring_rules.specs.Links.{offer_body, renew_body, flight_part}
+use Rattle.ring_rules.specs.Rings.{Work, settings_of, slot_count}
 use Rattle.ring_rules.specs.Slots as table
 use Rattle.ring_rules.specs.Slots.{slot_at, bars_link}
 use Rattle.ring_rules.proofs.Rows.{discharged_fired-is, slot_fired-is, slots_fired-zero, slots_fired-suc, freeze_given-is, place_sought-is, timer_fired-is}
-use Rattle.ring_machine.specs.Members.{IsMember}
-use Rattle.ring_machine.specs.Ends.{End, end_of}
+use Rattle.ring_machine.specs.Ends.{end_of}
 use Rattle.ring_machine.specs.Points.{Points, union}
 use Rattle.ring_machine.specs.Slots.{Slot, State, Flight, Unused, Abandoned, Parted, Ended, Heir, part_of, guards, stands, is_tallying, is_decided}
 use Rattle.ring_machine.specs.Slots as slots
 use Rattle.ring_machine.specs.Tokens as machine
-use Rattle.ring_machine.specs.Frames.{Frame, Transfer}
 use Rattle.ring_machine.specs.World as world
 use Rattle.ring_machine.specs.World.{World, Dead, slot}
 use Rattle.ring_machine.specs.Deeds.{PartGiven, TakenOver}
-use Rattle.ring_machine.specs.Effects.{ended, moved}
 use Rattle.ring_machine.specs.Events.{IsSound}
 use Rattle.ring_machine.specs.Guards.{AllAcked}
 use Rattle.ring_machine.proofs.TakeOverDuty.{accused_dead}
 use Rattle.ring_refines.specs.Images.{machine_of, state_of, points_of, flight_of, number_of, freeze_of, slot_of, token_of}
 use Rattle.ring_refines.specs.Tables.{is_over, is_wronged, Has}
-use Rattle.ring_refines.specs.Shown.{IsFrozenFor}
 use Rattle.ring_refines.specs.Moves.{place_of, places_of, MovedBy}
 use Rattle.ring_refines.proofs.Places.{all_at}
 use Rattle.ring_refines.proofs.Changes.{stays, goes, stays_alone}

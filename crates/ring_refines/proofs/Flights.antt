@@ -1,5 +1,5 @@
 -- How points move, and how a session ends: a Transfer is heard, and a Gone.
-use Rattle.std.proofs.Common.{◌≡◌, ℕ, ◌+◌, ◌<◌, ◌==◌, ◌&&◌, nat_le, nat_lt, Bool, true, false, cond, List, [], ◌∷◌, ◌++◌, Option, Some, None, ◌⊎◌, refl, sym, ap, ◌∙◌, subst, inl, inr, ⊎_elim}
+use Rattle.std.proofs.Common.{◌≡◌, ℕ, ◌<◌, ◌==◌, ◌&&◌, nat_le, nat_lt, Bool, true, false, List, [], ◌∷◌, ◌++◌, Option, Some, None, refl, sym, ap, ◌∙◌, subst, inl, ⊎_elim}
 use Rattle.std.specs.Prelude.{slice_set}
 use Rattle.std.proofs.lemmas.Bool.{eqb-true, eq-eqb, ltb-true, leb-false, and_parts, and_from, both_ways}
 use Rattle.ring_points.specs.declared.interval.Interval.{Interval}
@@ -8,11 +8,9 @@ use Rattle.ring_points.specs.declared.who.Who.{Who}
 use Rattle.fabric_terms.specs.declared.config.FabricConfig.{FabricConfig}
 use Rattle.fabric_terms.specs.declared.message.Body.{Body}
 use Rattle.fabric_terms.specs.declared.message.Body.TheVariants as body
-use Rattle.fabric_terms.specs.declared.report.Report.{Report}
 use Rattle.fabric_terms.specs.declared.report.Report.TheVariants as report
-use Rattle.fabric_terms.specs.Places.{Place, place_after}
-use Rattle.join_phases.specs.Phases.{holding_phase}
-use Rattle.token_core.specs.Tokens.{Freeze, gained, can_gain}
+use Rattle.fabric_terms.specs.Places.{Place}
+use Rattle.token_core.specs.Tokens.{gained, can_gain}
 use Rattle.ring_rules.specs.declared.link.Link.{Link}
 use Rattle.ring_rules.specs.declared.link.LinkState.{LinkState}
 use Rattle.ring_rules.specs.declared.link.LinkState.TheVariants as state
@@ -20,33 +18,31 @@ use Rattle.ring_rules.specs.Links.{flight_part}
 use Rattle.ring_rules.specs.Rings.{Work}
 use Rattle.ring_rules.specs.Slots.{slot_at, slot_where, is_hello, greets_by, of_session}
 use Rattle.ring_rules.specs.Deeds.{answer_unknown, drop_slot}
-use Rattle.ring_rules.specs.Flights.{take_flight, transfer_seen, transfer_received, answer_if, close, flight_returned, flight_settled, gone_heard, gone_seen, gone_unknown, gone_greeting, gone_elsewhere, gone_received}
+use Rattle.ring_rules.specs.Flights.{take_flight, transfer_seen, transfer_received, close, flight_returned, flight_settled, gone_heard, gone_seen, gone_unknown, gone_greeting, gone_elsewhere, gone_received}
 use Rattle.ring_rules.proofs.Rows.{transfer_received-is, gone_received-is}
 use Rattle.ring_machine.specs.Members.{IsMember}
-use Rattle.ring_machine.specs.Ends.{End, end_of}
+use Rattle.ring_machine.specs.Ends.{end_of}
 use Rattle.ring_machine.specs.Slots.{Slot, Flight, Asking, Abandoned, is_used, stands}
 use Rattle.ring_machine.specs.Frames.{Frame, Transfer, Gone}
 use Rattle.ring_machine.specs.Frames as frames
 use Rattle.ring_machine.specs.World as world
 use Rattle.ring_machine.specs.World.{World, slot}
 use Rattle.ring_machine.specs.Deeds.{FlightTaken, FlightReturned, GoneHeard, HelloDenied}
-use Rattle.ring_machine.specs.Effects.{Outcome, outcome, effect, moved, parted}
-use Rattle.ring_machine.specs.Effects as effects
+use Rattle.ring_machine.specs.Effects.{outcome, moved, parted}
 use Rattle.ring_machine.specs.Events.{IsSound}
 use Rattle.ring_machine.specs.SoundFrames.{SoundTransfer, SoundGone}
-use Rattle.ring_machine.proofs.Lists.{IsMember-append_right}
 use Rattle.ring_machine.specs.Tokens as machine
 use Rattle.ring_refines.specs.Images.{machine_of, state_of, points_of, flight_of, freeze_of, slot_of, token_of}
 use Rattle.ring_refines.specs.Tables.{is_wronged, Has}
-use Rattle.ring_refines.specs.Moves.{place_of, places_of, MovedBy, AreOver}
+use Rattle.ring_refines.specs.Moves.{places_of, MovedBy}
 use Rattle.ring_refines.specs.Refined.{AllSaid}
-use Rattle.ring_refines.proofs.Places.{found_at, none_at, used_within}
-use Rattle.ring_refines.proofs.Changes.{stays, goes, stays_alone, sound_later}
+use Rattle.ring_refines.proofs.Places.{found_at, none_at}
+use Rattle.ring_refines.proofs.Changes.{stays, goes, stays_alone}
 use Rattle.ring_refines.proofs.Freezes.{freeze_put, frozen_put}
 use Rattle.ring_refines.proofs.Ranges.{Rises, gained_is, gained_rises}
 use Rattle.ring_refines.proofs.Telling.{moved_and, over_and, all_said_both}
-use Rattle.ring_refines.proofs.Going.{Going, Makes, slot_deed}
-use Rattle.ring_refines.proofs.SlotRows.{holding_stays, nothing_besides, Besides, drops, in_its_session}
+use Rattle.ring_refines.proofs.Going.{Going, slot_deed}
+use Rattle.ring_refines.proofs.SlotRows.{holding_stays, nothing_besides, drops, in_its_session}
 use Rattle.ring_refines.proofs.Saying.{tied_used, tied_asks, gone_again_going}
 use Rattle.ring_refines.proofs.TokenRows.{moved_is, flying_is, moves, undoes}
 use Rattle.ring_refines.proofs.Unknown.{unknown_going}
@@ -139,15 +135,21 @@ module _ {c : FabricConfig} {m : World} {x : Who} {now : ℕ} {w : Work} (sound 
   closed i l got bound at standing came = shape bound (ends bound came)
     where
       ends : (bound : Bool) → IsMember (Gone (end_of l.peer l.yours) (end_of x l.mine) got bound) v.sent →
-          Going c m x now (record { ring = record w.ring { slots = slice_set w.ring.slots i None; token = Rattle.ring_rules.specs.Deeds.undone i w.ring.token };
-          sent = answers bound l.peer l.mine l.yours l.got w.sent; told = w.told })
+          Going c m x now (record {
+            ring = record w.ring { slots = slice_set w.ring.slots i None; token = Rattle.ring_rules.specs.Deeds.undone i w.ring.token };
+            sent = answers bound l.peer l.mine l.yours l.got w.sent;
+            told = w.told;
+          })
       ends bound came =
           undoes sound g i l at (GoneHeard got bound) (standing, came) w.ring.token g.shows.rises refl (parted (slot_of l)) None
           (frames.answer_if bound (Gone (end_of x l.mine) (end_of l.peer l.yours) l.got false)) v.place refl (goes refl refl) w.ring.accused (λ y h. h)
           (λ h. absurd (cc (h))) (answers bound l.peer l.mine l.yours l.got w.sent) (answers_said bound l.peer l.mine l.yours l.got) w.told (λ k P h. h) (λ h. h)
 
-      shape : (bound : Bool) → Going c m x now (record { ring = record w.ring { slots = slice_set w.ring.slots i None; token = Rattle.ring_rules.specs.Deeds.undone i w.ring.token };
-          sent = answers bound l.peer l.mine l.yours l.got w.sent; told = w.told }) → Going c m x now (close i l bound w)
+      shape : (bound : Bool) → Going c m x now (record {
+        ring = record w.ring { slots = slice_set w.ring.slots i None; token = Rattle.ring_rules.specs.Deeds.undone i w.ring.token };
+        sent = answers bound l.peer l.mine l.yours l.got w.sent;
+        told = w.told;
+      }) → Going c m x now (close i l bound w)
       shape true h = h
       shape false h = h
 
@@ -195,10 +197,10 @@ module _ {c : FabricConfig} {m : World} {x : Who} {now : ℕ} {w : Work} (sound 
           (λ h. over_and (machine_of c) v w.told (report.Returned l.peer f.number f.part) h tt)
 
       shape : (bound : Bool) → Going c m x now (record {
-            ring = record w.ring { slots = slice_set w.ring.slots i None; token = Rattle.ring_rules.specs.Deeds.undone i (gained w.ring.token f.part) };
-            sent = answers bound l.peer l.mine l.yours l.got w.sent;
-            told = w.told ++ report.Returned l.peer f.number f.part ∷ [];
-          }) → Going c m x now (flight_returned i l f bound w true)
+        ring = record w.ring { slots = slice_set w.ring.slots i None; token = Rattle.ring_rules.specs.Deeds.undone i (gained w.ring.token f.part) };
+        sent = answers bound l.peer l.mine l.yours l.got w.sent;
+        told = w.told ++ report.Returned l.peer f.number f.part ∷ [];
+      }) → Going c m x now (flight_returned i l f bound w true)
       shape true h = h
       shape false h = h
 

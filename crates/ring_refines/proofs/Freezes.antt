@@ -1,13 +1,11 @@
 -- A freeze against its image, when a place of the table changes.
-use Rattle.std.proofs.Common.{◌≡◌, ◌≢◌, ℕ, ◌+◌, ◌<◌, Bool, true, false, cond, ◌==◌, List, length, Option, Some, None, refl, sym, ap, ◌∙◌, subst, arith}
+use Rattle.std.proofs.Common.{◌≡◌, ℕ, ◌+◌, ◌<◌, Bool, true, false, cond, ◌==◌, length, Option, Some, None, refl, sym, ap, ◌∙◌, subst}
 use Rattle.std.specs.Prelude.{slice_set}
 use Rattle.std.proofs.lemmas.Bool.{eqb-true, eq-eqb, eqb-false, both_ways}
-use Rattle.ring_points.specs.declared.interval.Interval.{Interval}
 use Rattle.token_core.specs.Tokens as token
 use Rattle.token_core.specs.Tokens.{Freeze}
 use Rattle.ring_rules.specs.Deeds as rows
 use Rattle.ring_rules.specs.declared.link.Link.{Link}
-use Rattle.ring_rules.specs.declared.link.LinkState.{LinkState}
 use Rattle.ring_rules.specs.declared.link.LinkState.TheVariants as state
 use Rattle.ring_rules.specs.Rings.{Slots}
 use Rattle.ring_rules.specs.Slots.{slot_at}
@@ -15,7 +13,7 @@ use Rattle.ring_machine.specs.Tokens as machine
 use Rattle.ring_machine.proofs.Whos.{test}
 use Rattle.ring_refines.specs.Images.{points_of, number_of, freeze_of, token_of}
 use Rattle.ring_refines.specs.Shown.{IsFrozenFor}
-use Rattle.ring_refines.proofs.Places.{used_within, set_cases, set_same, set_other}
+use Rattle.ring_refines.proofs.Places.{used_within, set_cases, set_other}
 
 -- the place of a freeze has its number as before
 pub freeze_kept : (slots now : Slots) (o : Option Freeze) →

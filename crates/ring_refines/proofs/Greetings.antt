@@ -1,38 +1,36 @@
 -- How a link begins: a node is greeted, and a Hello is heard.
-use Rattle.std.proofs.Common.{◌≡◌, ℕ, ◌+◌, ◌<◌, ◌≤◌, ◌==◌, ◌&&◌, nat_lt, min, Bool, true, false, List, [], ◌∷◌, ◌++◌, length, Option, Some, None, refl, sym, ap, ◌∙◌, subst, inl, inr, arith}
-use Rattle.std.specs.Prelude.{slice_set}
+use Rattle.std.proofs.Common.{◌≡◌, ℕ, ◌+◌, ◌<◌, ◌≤◌, ◌==◌, nat_lt, Bool, true, false, List, [], ◌∷◌, length, Option, Some, None, refl, sym, ap, ◌∙◌, subst, inl}
 use Rattle.std.proofs.lemmas.Bool.{eqb-true, eq-eqb, and_parts, and_from, both_ways}
 use Rattle.ring_points.specs.declared.who.Who.{Who}
-use Rattle.ring_points.specs.Whos.{same_who, node_instance}
+use Rattle.ring_points.specs.Whos.{same_who}
 use Rattle.fabric_terms.specs.declared.config.FabricConfig.{FabricConfig}
 use Rattle.fabric_terms.specs.declared.report.Reason.{Reason}
 use Rattle.fabric_terms.specs.declared.report.Reason.TheVariants as reason
 use Rattle.ring_rules.specs.declared.link.Link.{Link}
 use Rattle.ring_rules.specs.declared.link.LinkState.{LinkState}
 use Rattle.ring_rules.specs.declared.link.LinkState.TheVariants as state
-use Rattle.ring_rules.specs.Rings.{Slots, Work, settings_of}
+use Rattle.ring_rules.specs.Rings.{Work, settings_of}
 use Rattle.ring_rules.specs.Slots.{slot_at, slot_where, is_free, is_hello, bars_link, of_instance, of_node}
 use Rattle.ring_rules.specs.Links.{greeting_link, offered_link, hello_by, offer_by}
 use Rattle.ring_rules.specs.Deeds.{drop_slot}
-use Rattle.ring_rules.specs.Handshakes.{greet, greet_unless, greet_free, greet_plainly, hello_accepted, accept_free, hello_crossed, hello_of_node, offer_same, offer_again, hello_repeated, hello_of_instance, hello_meets, hello_received}
+use Rattle.ring_rules.specs.Handshakes.{greet, greet_unless, greet_free, greet_plainly, hello_accepted, accept_free, hello_crossed, hello_of_node, offer_same, offer_again, hello_repeated, hello_of_instance, hello_received}
 use Rattle.ring_machine.specs.Members.{IsMember}
-use Rattle.ring_machine.specs.Ends.{End, end_of}
-use Rattle.ring_machine.specs.Slots.{Slot, Abandoned, is_active}
+use Rattle.ring_machine.specs.Ends.{end_of}
+use Rattle.ring_machine.specs.Slots.{Abandoned}
 use Rattle.ring_machine.specs.Tokens as machine
 use Rattle.ring_machine.specs.Frames.{Frame, Hello, Offer}
-use Rattle.ring_machine.specs.World.{Instance, World}
+use Rattle.ring_machine.specs.World.{World}
 use Rattle.ring_machine.specs.Deeds.{HelloBegun, OfferBegun, HelloDropped, OfferAgain}
 use Rattle.ring_machine.specs.Guards.{May}
-use Rattle.ring_machine.specs.Effects.{Outcome, outcome, hello_begun, offer_begun, stepped, done}
+use Rattle.ring_machine.specs.Effects.{outcome, hello_begun, offer_begun, stepped, done}
 use Rattle.ring_machine.specs.Events.{IsSound}
 use Rattle.ring_machine.proofs.DeedSteps.{DeedsDone, deed_done}
 use Rattle.ring_machine.proofs.Whos.{same_who-refl}
 use Rattle.ring_rules.proofs.Rows.{hello_received-is}
 use Rattle.ring_refines.specs.Images.{machine_of, slot_of, token_of}
-use Rattle.ring_refines.specs.Tables.{is_proposing, SoundLink}
+use Rattle.ring_refines.specs.Tables.{is_proposing}
 use Rattle.ring_refines.specs.Refined.{Said}
-use Rattle.ring_refines.proofs.Places.{found_at, none_at, set_cases, set_same, set_other, used_within}
-use Rattle.ring_refines.proofs.Changes.{StandsAlone}
+use Rattle.ring_refines.proofs.Places.{found_at, none_at, set_cases, used_within}
 use Rattle.ring_refines.proofs.Telling.{all_said_both}
 use Rattle.ring_refines.proofs.Going.{Going, says}
 use Rattle.ring_refines.proofs.SlotRows.{begins, drops, alone_of, nothing_besides}
@@ -154,9 +152,11 @@ module _ {c : FabricConfig} {m : World} {x : Who} {now : ℕ} {w : Work} (sound 
           (subst (λ (z : World). DeedsDone (machine_of c) v x z) shown (deed_done sound g.inv x g.live (OfferBegun (end_of from theirs) proposed len) may))
           refl (record { held = refl; part = refl; length = λ p q. length_is q; tally = λ h. absurd (cc (h)) })
           (record { greets = λ h j l at b e. absurd (cc (h)); bars = λ h j l at b e. absurd (none_greets j l at b e) }) refl _
-          (λ h. all_said_both c.lease _ x w.sent _ h
-          (offer_said c.lease (Offer (end_of x w.ring.next_session) (end_of from theirs) len ∷ v.sent) x
-          (offered_link (settings_of c node) now w.ring from theirs wire len) (wire == 2) length_is (inl refl), tt))
+          (λ h. all_said_both c.lease _ x w.sent _ h (
+            offer_said c.lease (Offer (end_of x w.ring.next_session) (end_of from theirs) len ∷ v.sent) x
+                (offered_link (settings_of c node) now w.ring from theirs wire len) (wire == 2) length_is (inl refl),
+            tt,
+          ))
 
 module _ {c : FabricConfig} {m : World} {x : Who} {now : ℕ} {w : Work} (sound : IsSound (machine_of c)) (node : ℕ) (g : Going c m x now w) where
   -- a Hello that x gave up
@@ -170,9 +170,11 @@ module _ {c : FabricConfig} {m : World} {x : Who} {now : ℕ} {w : Work} (sound 
       Going c m x now (Rattle.ring_rules.specs.Deeds.send l.peer (Rattle.ring_rules.specs.Links.offer_body l) w)
   offer_again_going i l at is =
       says sound g i l at OfferAgain (ap Rattle.ring_refines.specs.Images.state_of is) (Offer (end_of x l.mine) (end_of l.peer l.yours) l.len ∷ []) refl
-      ((l.peer, Rattle.ring_rules.specs.Links.offer_body l) ∷ [])
-      (offer_said c.lease (Offer (end_of x l.mine) (end_of l.peer l.yours) l.len ∷ g.after.sent) x l (l.wire == 2)
-      (λ q. (g.shows.slots.sound i l at).length (ap is_proposing is) q) (inl refl), tt)
+      ((l.peer, Rattle.ring_rules.specs.Links.offer_body l) ∷ []) (
+        offer_said c.lease (Offer (end_of x l.mine) (end_of l.peer l.yours) l.len ∷ g.after.sent) x l (l.wire == 2)
+            (λ q. (g.shows.slots.sound i l at).length (ap is_proposing is) q) (inl refl),
+        tt,
+      )
 
   pub hello_going : (from : Who) (theirs wire proposed len : ℕ) → (wire == 2 ≡ false → len ≡ c.lease) →
       IsMember (Hello (end_of from theirs) x.actor proposed) m.sent → len ≤ proposed → same_who x from ≡ false →

@@ -1,26 +1,21 @@
 -- A node that leaves, and what a row comes to: it goes on, or it has left.
-use Rattle.std.proofs.Common.{◌≡◌, ℕ, ◌<◌, Bool, true, false, List, [], ◌∷◌, ◌++◌, Option, Some, None, ◌⊎◌, refl, sym, ap, ◌∙◌, subst, inl, inr}
-use Rattle.std.proofs.lemmas.Bool.{both_ways}
+use Rattle.std.proofs.Common.{◌≡◌, ℕ, Bool, true, false, [], ◌∷◌, ◌++◌, refl, sym, ap, ◌∙◌, subst}
 use Rattle.ring_points.specs.declared.who.Who.{Who}
-use Rattle.ring_points.specs.Whos.{same_who}
 use Rattle.fabric_terms.specs.declared.config.FabricConfig.{FabricConfig}
 use Rattle.fabric_terms.specs.declared.report.Report.TheVariants as report
 use Rattle.fabric_terms.specs.declared.report.Why.{Why}
 use Rattle.fabric_terms.specs.declared.report.Why.TheVariants.{Counters}
-use Rattle.fabric_terms.specs.Places.{Place}
 use Rattle.join_phases.specs.Phases.{is_left}
-use Rattle.ring_rules.specs.Rings.{Ring, Work}
+use Rattle.ring_rules.specs.Rings.{Work}
 use Rattle.ring_rules.specs.Deeds.{leave, then_if, then_unless_left, has_numbers, counted_if, counted}
-use Rattle.ring_machine.specs.Members.{IsMember}
-use Rattle.ring_machine.specs.Frames.{Frame}
 use Rattle.ring_machine.specs.World as world
 use Rattle.ring_machine.specs.World.{Instance, World, Phase, Left, Dead}
 use Rattle.ring_machine.specs.Events.{IsSound, Leaves, in_phase}
 use Rattle.ring_machine.specs.Invariant.{Invariant}
 use Rattle.ring_machine.proofs.Histories.{event_done}
 use Rattle.ring_machine.proofs.Whos.{same_who-false, updated_cases}
-use Rattle.ring_refines.specs.Images.{machine_of, token_of}
-use Rattle.ring_refines.specs.Shown.{Shows, ShowsAs, ShowsInstance}
+use Rattle.ring_refines.specs.Images.{machine_of}
+use Rattle.ring_refines.specs.Shown.{ShowsAs, ShowsInstance}
 use Rattle.ring_refines.specs.Moves.{places_of, MovedBy, AreOver}
 use Rattle.ring_refines.specs.Refined.{AllSaid, Beside, Refined}
 use Rattle.ring_refines.proofs.Telling.{moved_and, over_and, over_later}

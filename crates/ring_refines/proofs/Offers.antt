@@ -3,21 +3,20 @@ use Rattle.std.proofs.Common.{◌≡◌, ℕ, ◌==◌, ◌&&◌, true, false, L
 use Rattle.std.proofs.lemmas.Bool.{eqb-true, eq-eqb, and_parts, and_from, both_ways}
 use Rattle.ring_points.specs.declared.who.Who.{Who}
 use Rattle.fabric_terms.specs.declared.config.FabricConfig.{FabricConfig}
-use Rattle.fabric_terms.specs.declared.message.Body.TheVariants as body
 use Rattle.join_phases.specs.Phases.{bound_phase}
 use Rattle.ring_rules.specs.declared.link.Link.{Link}
 use Rattle.ring_rules.specs.declared.link.LinkState.{LinkState}
 use Rattle.ring_rules.specs.declared.link.LinkState.TheVariants as state
 use Rattle.ring_rules.specs.Links.{bound_link}
 use Rattle.ring_rules.specs.Rings.{Work}
-use Rattle.ring_rules.specs.Slots.{slot_at, slot_where, is_hello, bars_link, of_session, greets_node_by}
+use Rattle.ring_rules.specs.Slots.{slot_at, slot_where, is_hello, bars_link, greets_node_by}
 use Rattle.ring_rules.specs.Deeds.{put_slot, answer_unknown}
 use Rattle.ring_rules.specs.Handshakes.{offer_taken, offer_repeated, offer_seen, offer_received, take_seen, take_received}
 use Rattle.ring_rules.proofs.Rows.{offer_received-is, take_received-is}
 use Rattle.ring_machine.specs.Members.{IsMember}
 use Rattle.ring_machine.specs.Ends.{End, end_of}
 use Rattle.ring_machine.specs.Slots.{Slot, Asking, is_active, is_used}
-use Rattle.ring_machine.specs.Frames.{Frame, Offer, Take}
+use Rattle.ring_machine.specs.Frames.{Offer, Take}
 use Rattle.ring_machine.specs.World.{World, slot}
 use Rattle.ring_machine.specs.Deeds.{OfferTaken, TakeHeard}
 use Rattle.ring_machine.specs.Events.{IsSound}
@@ -31,7 +30,7 @@ use Rattle.ring_refines.proofs.Places.{found_at, none_at, set_same, used_within}
 use Rattle.ring_refines.proofs.Changes.{stays_alone}
 use Rattle.ring_refines.proofs.Telling.{all_said_both}
 use Rattle.ring_refines.proofs.Going.{Going}
-use Rattle.ring_refines.proofs.SlotRows.{bound_stays, Besides, nothing_besides, puts, wronged, alone_of, in_its_session}
+use Rattle.ring_refines.proofs.SlotRows.{bound_stays, nothing_besides, puts, wronged, alone_of, in_its_session}
 use Rattle.ring_refines.proofs.Saying.{tied_used, tied_asks, phase_going, take_again_going, gone_again_going, renew_going}
 use Rattle.ring_refines.proofs.Unknown.{unknown_going}
 

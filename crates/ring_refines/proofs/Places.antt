@@ -1,10 +1,9 @@
 -- The places of a table: which one a test finds, and what each holds after a change.
-use Rattle.std.proofs.Common.{◌≡◌, ℕ, zero, suc, ◌+◌, ◌<◌, Bool, true, false, cond, List, [], ◌∷◌, length, Option, Some, None, ◌⊎◌, refl, sym, ap, ◌∙◌, subst, ⊎_elim, arith}
+use Rattle.std.proofs.Common.{◌≡◌, ℕ, zero, suc, ◌+◌, ◌<◌, Bool, true, false, cond, [], ◌∷◌, length, Option, Some, None, refl, sym, subst, ⊎_elim, arith}
 use Rattle.std.specs.Prelude.{slice_set}
 use Rattle.std.specs.List.{position_from, list_all}
 use Rattle.std.proofs.lemmas.Bool.{cases_eq, and_parts}
-use Rattle.std.proofs.lemmas.List.{get_or-set_same, get_or-set_other, set-get_or}
-use Rattle.ring_machine.proofs.Whos.{test}
+use Rattle.std.proofs.lemmas.List.{get_or-set_same, get_or-set_other}
 use Rattle.ring_rules.specs.declared.link.Link.{Link}
 use Rattle.ring_rules.specs.Rings.{Slots}
 use Rattle.ring_rules.specs.Slots.{slot_at, slot_where}

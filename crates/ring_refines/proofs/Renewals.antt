@@ -1,8 +1,7 @@
 -- How a link lives: a Renew is heard and acknowledged, and what it wants is frozen; a RenewAck is heard.
-use Rattle.std.proofs.Common.{◌≡◌, ℕ, ◌+◌, ◌<◌, ◌≤◌, nat_le, nat_lt, not, ◌&&◌, Bool, true, false, cond, List, [], ◌∷◌, ◌++◌, Option, Some, None, refl, sym, ap, ◌∙◌, subst, inl}
+use Rattle.std.proofs.Common.{◌≡◌, ℕ, ◌+◌, nat_le, nat_lt, not, ◌&&◌, Bool, true, false, cond, List, [], ◌∷◌, Option, Some, None, refl, sym, ap, ◌∙◌, subst, inl}
 use Rattle.std.specs.Prelude.{is_some}
 use Rattle.std.proofs.lemmas.Bool.{and_parts, not-true, both_ways}
-use Rattle.std.proofs.lemmas.List.{set-get_or}
 use Rattle.ring_points.specs.declared.interval.Interval.{Interval}
 use Rattle.ring_points.specs.declared.who.Flight as points
 use Rattle.ring_points.specs.declared.who.Who.{Who}
@@ -16,15 +15,14 @@ use Rattle.ring_rules.specs.declared.link.LinkState.{LinkState}
 use Rattle.ring_rules.specs.declared.link.LinkState.TheVariants as state
 use Rattle.ring_rules.specs.Links.{acknowledged, confirmed, confirmed_if, recorded_if, renewed, has_flight, flight_part}
 use Rattle.ring_rules.specs.Rings.{Work}
-use Rattle.ring_rules.specs.Slots.{slot_at, slot_where, bars_link}
-use Rattle.ring_rules.specs.Deeds.{put_slot, send, set_token, set_phase, answer_unknown}
-use Rattle.ring_rules.specs.Renewals.{near_part, owns_none, may_freeze, freeze_if, freeze_part, grant_if, grant_wanted, renew_heard, renew_seen, renew_received, ack_seen, ack_received}
+use Rattle.ring_rules.specs.Slots.{slot_at, bars_link}
+use Rattle.ring_rules.specs.Deeds.{put_slot, send, set_token, answer_unknown}
+use Rattle.ring_rules.specs.Renewals.{near_part, freeze_if, grant_if, grant_wanted, renew_heard, renew_seen, renew_received, ack_seen, ack_received}
 use Rattle.ring_rules.proofs.Rows.{renew_received-is, ack_received-is}
 use Rattle.ring_machine.specs.Members.{IsMember}
-use Rattle.ring_machine.specs.Ends.{End, end_of}
-use Rattle.ring_machine.specs.Points.{Points, meet}
+use Rattle.ring_machine.specs.Ends.{end_of}
+use Rattle.ring_machine.specs.Points.{meet}
 use Rattle.ring_machine.specs.Slots.{Slot, Flight, is_willing, stands}
-use Rattle.ring_machine.specs.Tokens as machine
 use Rattle.ring_machine.specs.Frames.{Frame, Renew, RenewAck}
 use Rattle.ring_machine.specs.World.{World}
 use Rattle.ring_machine.specs.Deeds.{RenewHeard, AckHeard, PartFrozen}
@@ -37,7 +35,7 @@ use Rattle.ring_refines.proofs.Places.{set_same, used_within}
 use Rattle.ring_refines.proofs.Changes.{stays_alone}
 use Rattle.ring_refines.proofs.Ranges.{Rises, frozen_is, frozen_rises, nearer_part_rises}
 use Rattle.ring_refines.proofs.Telling.{all_said_both}
-use Rattle.ring_refines.proofs.Going.{Going, Makes, slot_deed, same_slots, kept_new}
+use Rattle.ring_refines.proofs.Going.{Going, slot_deed, same_slots, kept_new}
 use Rattle.ring_refines.proofs.SlotRows.{bound_stays, nothing_besides, puts, wronged, in_its_session}
 use Rattle.ring_refines.proofs.Saying.{tied_used, tied_asks, phase_going, gone_again_going}
 use Rattle.ring_refines.proofs.Unknown.{unknown_going}

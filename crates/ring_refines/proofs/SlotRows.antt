@@ -1,12 +1,11 @@
 -- Deeds of one slot that leave token and places: its link changes, or goes; and the sessions that a frame can meet.
-use Rattle.std.proofs.Common.{◌≡◌, ℕ, ◌+◌, ◌<◌, ◌≤◌, ◌==◌, ◌&&◌, Bool, true, false, List, [], ◌∷◌, ◌++◌, length, Option, Some, None, ◌⊎◌, refl, sym, ap, ◌∙◌, subst, ⊎_elim, arith}
+use Rattle.std.proofs.Common.{◌≡◌, ℕ, ◌+◌, ◌<◌, ◌==◌, ◌&&◌, true, false, List, ◌++◌, length, Option, Some, None, refl, sym, ap, ◌∙◌, subst, ⊎_elim, arith}
 use Rattle.std.specs.Prelude.{slice_set}
-use Rattle.std.proofs.lemmas.Bool.{eqb-true, eq-eqb, and_parts, and_from, both_ways}
+use Rattle.std.proofs.lemmas.Bool.{eqb-true, and_parts, both_ways}
 use Rattle.ring_points.specs.declared.who.Who.{Who}
 use Rattle.ring_points.specs.Whos.{same_who}
 use Rattle.fabric_terms.specs.declared.config.FabricConfig.{FabricConfig}
 use Rattle.fabric_terms.specs.declared.message.Body.{Body}
-use Rattle.fabric_terms.specs.declared.message.Body.TheVariants as body
 use Rattle.fabric_terms.specs.declared.report.Report.{Report}
 use Rattle.fabric_terms.specs.Places.{Place}
 use Rattle.join_phases.specs.declared.phases.Phase.{Phase}
@@ -16,26 +15,25 @@ use Rattle.token_core.specs.Tokens.{Freeze}
 use Rattle.ring_rules.specs.declared.link.Link.{Link}
 use Rattle.ring_rules.specs.declared.link.LinkState.{LinkState}
 use Rattle.ring_rules.specs.declared.link.LinkState.TheVariants as state
-use Rattle.ring_rules.specs.Rings.{Slots, Work}
+use Rattle.ring_rules.specs.Rings.{Work}
 use Rattle.ring_rules.specs.Slots.{slot_at, slot_where, of_session}
 use Rattle.ring_rules.specs.Deeds.{SessionRow, in_slot, in_found, in_session}
 use Rattle.ring_machine.specs.Members.{IsMember}
 use Rattle.ring_machine.specs.Ends.{End, end_of}
 use Rattle.ring_machine.specs.Slots.{Slot, State, Unused, Abandoned, Parted, Ended, is_active}
 use Rattle.ring_machine.specs.Frames.{Frame}
-use Rattle.ring_machine.specs.World.{Instance, World, first_of, slot}
+use Rattle.ring_machine.specs.World.{World, first_of}
 use Rattle.ring_machine.specs.Deeds.{SlotDeed}
 use Rattle.ring_machine.specs.Guards.{MayInSlot, IsAlone}
 use Rattle.ring_machine.specs.Effects.{Outcome, outcome, effect, stepped}
 use Rattle.ring_machine.specs.Events.{IsSound}
 use Rattle.ring_machine.proofs.DeedSteps.{DeedsDone}
 use Rattle.ring_machine.proofs.Lists.{IsMember-append_right}
-use Rattle.ring_machine.proofs.Whos.{same_who-true, same_who-refl}
+use Rattle.ring_machine.proofs.Whos.{same_who-true}
 use Rattle.ring_refines.specs.Images.{machine_of, state_of, slot_of, token_of}
-use Rattle.ring_refines.specs.Tables.{is_over, is_wronged, SoundLink, Has, ShowsSlots}
-use Rattle.ring_refines.specs.Shown.{IsFrozenFor, ShowsInstance}
+use Rattle.ring_refines.specs.Tables.{is_over, is_wronged, SoundLink, Has}
 use Rattle.ring_refines.specs.Moves.{places_of, MovedBy, AreOver}
-use Rattle.ring_refines.specs.Refined.{Said, AllSaid}
+use Rattle.ring_refines.specs.Refined.{AllSaid}
 use Rattle.ring_refines.proofs.Places.{used_within, found_at, none_at}
 use Rattle.ring_refines.proofs.Changes.{StandsAlone, stays, goes, sound_later}
 use Rattle.ring_refines.proofs.Freezes.{freeze_put, frozen_put, not_frozen, freeze_other, frozen_other, freeze_kept}

@@ -1,6 +1,5 @@
 -- The whole step of a ring.
-use Rattle.std.proofs.Common.{◌≡◌, ℕ, zero, suc, ◌+◌, ◌-◌, ◌<◌, ◌≤◌, ◌==◌, ◌&&◌, ◌||◌, nat_le, nat_lt, min, not, Bool, true, false, cond, List, [], ◌∷◌, ◌++◌, length, Option, Some, None, ◌⊎◌, refl, sym, ap, ◌∙◌, subst, inl, inr, ⊎_elim, arith}
-use Rattle.std.specs.List.{list_any}
+use Rattle.std.proofs.Common.{◌≡◌, ℕ, zero, suc, ◌+◌, ◌-◌, ◌<◌, ◌==◌, ◌&&◌, ◌||◌, nat_le, nat_lt, min, not, Bool, true, false, List, [], ◌∷◌, length, Option, Some, None, refl, sym, ap, ◌∙◌, subst, inl, inr, ⊎_elim, arith}
 use Rattle.std.proofs.lemmas.Bool.{eqb-true, eq-eqb, ltb-true, leb-true, leb-false, lt-leb, and_parts, not-true, both_ways}
 use Rattle.ring_points.specs.declared.who.Who.{Who}
 use Rattle.ring_points.specs.Whos.{same_who, arbiter_actor}
@@ -19,31 +18,30 @@ use Rattle.ring_rules.specs.declared.link.Link.{Link}
 use Rattle.ring_rules.specs.declared.link.LinkState.{LinkState}
 use Rattle.ring_rules.specs.declared.link.LinkState.TheVariants as state
 use Rattle.ring_rules.specs.Deeds.{counted}
-use Rattle.ring_rules.specs.Frames.{is_for, is_between_nodes, is_arbiters_answer, is_node, is_arbiter, may_send, passes, heard_if, sender_heard, frame_row, frame_received}
+use Rattle.ring_rules.specs.Frames.{is_for, is_between_nodes, is_arbiters_answer, is_node, may_send, passes, heard_if, sender_heard, frame_row}
 use Rattle.ring_rules.specs.Rings.{Ring, Slots, Work, settings_of}
 use Rattle.ring_rules.specs.Slots as table
 use Rattle.ring_rules.specs.Slots.{slot_at, sooner, fence_if, fence_with, fence_of, is_past}
 use Rattle.ring_rules.specs.Starts.{begun}
-use Rattle.ring_rules.specs.Steps.{frame_if, command_row, command_received, input_taken, before_fence, step_if, ring_step}
+use Rattle.ring_rules.specs.Steps.{frame_if, command_row, input_taken, before_fence, step_if}
 use Rattle.ring_rules.proofs.Rows.{frame_received-is, command_received-is, ring_step-is}
 use Rattle.ring_machine.specs.Members.{IsMember}
 use Rattle.ring_machine.specs.Ends.{End, end_of}
 use Rattle.ring_machine.specs.Slots.{Slot, State, Unused, Abandoned, Parted, Ended, guards, is_used}
-use Rattle.ring_machine.specs.Frames.{Frame, Hello, Offer, Take, Renew, RenewAck, Transfer, Gone, Ruled}
-use Rattle.ring_machine.specs.World as world
+use Rattle.ring_machine.specs.Frames.{Hello, Offer, Take, Renew, RenewAck, Transfer, Gone, Ruled}
 use Rattle.ring_machine.specs.World.{World, BelowFence, slot}
 use Rattle.ring_machine.specs.Events.{IsSound}
 use Rattle.ring_machine.specs.Invariant.{Invariant}
 use Rattle.ring_machine.specs.Sessions.{BothTied}
 use Rattle.ring_machine.specs.SoundFrames.{SoundOffer, SoundRenew, SoundAck, SoundTransfer, SoundGone}
-use Rattle.ring_machine.proofs.Whos.{test, same_who_from, same_who-refl}
+use Rattle.ring_machine.proofs.Whos.{same_who_from, same_who-refl}
 use Rattle.ring_refines.specs.Images.{machine_of, state_of, points_of, slot_of, Posted}
-use Rattle.ring_refines.specs.Tables.{is_over, Has, ShowsSlots}
+use Rattle.ring_refines.specs.Tables.{is_over, Has}
 use Rattle.ring_refines.specs.Shown.{Shows, ShowsAs, ShowsInstance}
 use Rattle.ring_refines.specs.Refined.{Beside, Refined}
 use Rattle.ring_refines.specs.Laws.{Comes, StepIsDeeds}
 use Rattle.ring_refines.proofs.Going.{Going}
-use Rattle.ring_refines.proofs.Leaving.{Standing, Went, on, still_refined, leave_refined, went_refined, counted_went}
+use Rattle.ring_refines.proofs.Leaving.{Standing, Went, on, leave_refined, went_refined, counted_went}
 use Rattle.ring_refines.proofs.Saying.{tied_used}
 use Rattle.ring_refines.proofs.Unknown.{started}
 use Rattle.ring_refines.proofs.Greetings.{hello_going}

@@ -1,32 +1,29 @@
 -- A frame of a session that the table does not have is answered by Gone.
-use Rattle.std.proofs.Common.{◌≡◌, ℕ, ◌==◌, ◌&&◌, true, false, List, [], ◌∷◌, ◌++◌, Option, Some, None, ◌⊎◌, refl, sym, ap, ◌∙◌, subst, inl, inr, ⊎_elim}
+use Rattle.std.proofs.Common.{◌≡◌, ℕ, ◌==◌, ◌&&◌, true, false, [], ◌∷◌, Some, None, refl, sym, ap, ◌∙◌, subst, inl, inr, ⊎_elim}
 use Rattle.std.proofs.lemmas.Bool.{eq-eqb, and_from, both_ways}
 use Rattle.ring_points.specs.declared.who.Who.{Who}
 use Rattle.ring_points.specs.Whos.{same_who}
 use Rattle.fabric_terms.specs.declared.config.FabricConfig.{FabricConfig}
 use Rattle.fabric_terms.specs.declared.message.Body.TheVariants as body
-use Rattle.ring_rules.specs.declared.link.Link.{Link}
 use Rattle.ring_rules.specs.declared.link.LinkState.{LinkState}
 use Rattle.ring_rules.specs.declared.link.LinkState.TheVariants as state
 use Rattle.ring_rules.specs.Rings.{Work}
-use Rattle.ring_rules.specs.Slots.{slot_at, slot_where, of_session}
+use Rattle.ring_rules.specs.Slots.{slot_where, of_session}
 use Rattle.ring_rules.specs.Deeds.{answer_unknown}
 use Rattle.ring_machine.specs.Members.{IsMember}
 use Rattle.ring_machine.specs.Ends.{End, end_of, replaced}
-use Rattle.ring_machine.specs.Slots.{Slot, State, Unused, Asking, Abandoned, Parted, Ended, is_used, is_settled, is_engaged}
+use Rattle.ring_machine.specs.Slots.{Slot, State, Unused, Asking, Abandoned, Parted, Ended, is_used, is_settled}
 use Rattle.ring_machine.specs.Frames.{Frame, Gone, ends_of}
-use Rattle.ring_machine.specs.World.{Instance, World, Unborn, slot, unborn}
+use Rattle.ring_machine.specs.World.{Instance, World, slot, unborn}
 use Rattle.ring_machine.specs.Deeds.{UnknownDenied, InSlot}
 use Rattle.ring_machine.specs.Guards.{Came, IsUnknown, other_session, abandoned, parted}
-use Rattle.ring_machine.specs.Effects.{outcome, changed, stepped}
+use Rattle.ring_machine.specs.Effects.{outcome, stepped}
 use Rattle.ring_machine.specs.Events.{IsSound}
 use Rattle.ring_machine.proofs.DeedSteps.{DeedsDone, deed_done}
-use Rattle.ring_machine.proofs.Lists.{IsMember-append_right}
 use Rattle.ring_machine.proofs.Whos.{same_who-refl, replaced_cases}
 use Rattle.ring_refines.specs.Images.{machine_of, state_of, slot_of}
 use Rattle.ring_refines.specs.Tables.{is_over, Has}
 use Rattle.ring_refines.specs.Shown.{ShowsInstance}
-use Rattle.ring_refines.specs.Refined.{Beside}
 use Rattle.ring_refines.proofs.Places.{none_at}
 use Rattle.ring_refines.proofs.Changes.{shows_later}
 use Rattle.ring_refines.proofs.Telling.{over_later, all_said_later, all_said_both}
