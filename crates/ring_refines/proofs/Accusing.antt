@@ -1,6 +1,6 @@
 -- How a peer is accused, and what the arbitrators' rulings make of its slot.
 use Rattle.std.proofs.Common.{◌≡◌, ℕ, zero, suc, ◌+◌, ◌-◌, ◌<◌, ◌≤◌, ◌||◌, ◌&&◌, nat_le, nat_lt, not, Bool, true, false, List, [], ◌∷◌, ◌++◌, length, Option, Some, None, ◌⊎◌, refl, sym, ap, ◌∙◌, subst, inl, inr, arith}
-use Rattle.std.specs.Prelude.{slice_set}
+use Rattle.std.specs.Prelude.{slice_set, is_some}
 use Rattle.std.proofs.lemmas.Bool.{le-leb, and_parts}
 use Rattle.std.proofs.lemmas.List.{append-nil, append_assoc}
 use Rattle.ring_points.specs.declared.interval.Interval.{Interval}
@@ -188,7 +188,7 @@ claims l h bare = go l.flight refl bare
     first_fails true e = absurd (cc (e))
     first_fails false e = refl
 
-    go : (o : Option points.Flight) → l.flight ≡ o → (is_empty l.held && not (Rattle.std.specs.Prelude.is_some o)) ≡ false → HasClaim (points_of l.held) (flight_of l.flight)
+    go : (o : Option points.Flight) → l.flight ≡ o → (is_empty l.held && not (is_some o)) ≡ false → HasClaim (points_of l.held) (flight_of l.flight)
     go None e b = held (first_fails (is_empty l.held) b)
     go (Some f) e b = of_flight (record { number = f.number; part = points_of f.part }) (ap flight_of e)
 

@@ -1,6 +1,6 @@
 -- A firing of a node's timer: each slot, a freeze that is ready, and the search for a place.
-use Rattle.std.proofs.Common.{◌≡◌, ℕ, zero, suc, ◌+◌, ◌<◌, ◌≤◌, ◌&&◌, ◌||◌, nat_le, not, Bool, true, false, cond, List, [], ◌∷◌, ◌++◌, length, Option, Some, None, ◌⊎◌, refl, sym, ap, ◌∙◌, subst, inl, inr, ⊎_elim}
-use Rattle.std.proofs.lemmas.Bool.{leb-true, and_parts, both_ways}
+use Rattle.std.proofs.Common.{◌≡◌, ℕ, zero, suc, ◌+◌, ◌≤◌, ◌&&◌, nat_le, not, Bool, true, false, List, [], ◌∷◌, ◌++◌, Option, Some, None, refl, sym, ap, ◌∙◌, subst, inl, inr, ⊎_elim, arith}
+use Rattle.std.proofs.lemmas.Bool.{leb-true, and_parts}
 use Rattle.ring_points.specs.declared.interval.Interval.{Interval}
 use Rattle.ring_points.specs.declared.who.Flight as points
 use Rattle.ring_points.specs.declared.who.Who.{Who}
@@ -9,7 +9,7 @@ use Rattle.fabric_terms.specs.declared.config.FabricConfig.{FabricConfig}
 use Rattle.fabric_terms.specs.declared.report.Report.TheVariants as report
 use Rattle.fabric_terms.specs.Places.{Place, TakesFrom}
 use Rattle.join_phases.specs.Phases.{is_routing}
-use Rattle.token_core.specs.Tokens.{Freeze, Token, gained, can_gain, given, inherited}
+use Rattle.token_core.specs.Tokens.{Freeze, gained, inherited, frozen_part}
 use Rattle.ring_route.specs.Routes.{near_nodes}
 use Rattle.ring_rules.specs.declared.link.Link.{Link}
 use Rattle.ring_rules.specs.declared.link.LinkState.{LinkState}
@@ -23,7 +23,7 @@ use Rattle.ring_rules.specs.Slots as table
 use Rattle.ring_rules.specs.Slots.{slot_at, bars_link}
 use Rattle.ring_rules.proofs.Rows.{discharged_fired-is, slot_fired-is, slots_fired-zero, slots_fired-suc, freeze_given-is, place_sought-is, timer_fired-is}
 use Rattle.ring_machine.specs.Ends.{end_of}
-use Rattle.ring_machine.specs.Points.{Points, union}
+use Rattle.ring_machine.specs.Points.{Points, union, minus}
 use Rattle.ring_machine.specs.Slots.{Slot, State, Flight, Unused, Abandoned, Parted, Ended, Heir, part_of, guards, stands, is_tallying, is_decided}
 use Rattle.ring_machine.specs.Slots as slots
 use Rattle.ring_machine.specs.Tokens as machine
@@ -34,12 +34,12 @@ use Rattle.ring_machine.specs.Events.{IsSound}
 use Rattle.ring_machine.specs.Guards.{AllAcked}
 use Rattle.ring_machine.proofs.TakeOverDuty.{accused_dead}
 use Rattle.ring_refines.specs.Images.{machine_of, state_of, points_of, flight_of, number_of, freeze_of, slot_of, token_of}
-use Rattle.ring_refines.specs.Tables.{is_over, is_wronged, Has}
+use Rattle.ring_refines.specs.Tables.{is_wronged}
 use Rattle.ring_refines.specs.Moves.{place_of, places_of, MovedBy}
 use Rattle.ring_refines.proofs.Places.{all_at}
-use Rattle.ring_refines.proofs.Changes.{stays, goes, stays_alone}
+use Rattle.ring_refines.proofs.Changes.{open_shown, guards_shown, stays, goes, stays_alone}
 use Rattle.ring_refines.proofs.Freezes.{freeze_other, frozen_other, not_frozen}
-use Rattle.ring_refines.proofs.Ranges.{Rises, gained_is, gained_rises, given_is, given_rises, inherited_rises}
+use Rattle.ring_refines.proofs.Ranges.{Rises, gained_is, gained_rises, given_is, given_rises, inherited_rises, inherited_is}
 use Rattle.ring_refines.proofs.Telling.{moved_and, over_and, all_said_both}
 use Rattle.ring_refines.proofs.Going.{Going, slot_deed}
 use Rattle.ring_refines.proofs.Greetings.{greet_plainly_going, hello_dropped, offer_again_going}
@@ -112,8 +112,8 @@ module _ {c : FabricConfig} {m : World} {x : Who} {now : ℕ} {w : Work} (sound 
       within : (p : ℕ) → points_of (inherited w.ring.token l.held (flight_part l.flight)) p ≡ true → union (points_of l.held) (part_of (flight_of l.flight)) p ≡ true
       within p h =
           let e : points_of (inherited w.ring.token l.held (flight_part l.flight)) ≡
-          Rattle.ring_machine.specs.Points.minus (union (points_of l.held) (points_of (flight_part l.flight))) (points_of w.ring.token.ranges) =
-          Rattle.ring_refines.proofs.Ranges.inherited_is w.ring.slots w.ring.token g.shows.rises l.held (flight_part l.flight) held part in
+          minus (union (points_of l.held) (points_of (flight_part l.flight))) (points_of w.ring.token.ranges) =
+          inherited_is w.ring.slots w.ring.token g.shows.rises l.held (flight_part l.flight) held part in
           let both : union (points_of l.held) (points_of (flight_part l.flight)) p && not (in_ranges p w.ring.token.ranges) ≡ true = sym (ap (λ (f : Points). f p) e) ∙ h in
           let one = (and_parts (union (points_of l.held) (points_of (flight_part l.flight)) p) (not (in_ranges p w.ring.token.ranges)) both).0 in
           subst (λ (f : Points). union (points_of l.held) f p ≡ true) (flight_part_is l.flight) one
@@ -135,7 +135,7 @@ module _ {c : FabricConfig} {m : World} {x : Who} {now : ℕ} {w : Work} (sound 
       dead : Dead (machine_of c) (g.after.instance l.peer)
       dead = subst (λ (s : Slot). Dead (machine_of c) (g.after.instance s.far.who)) kept
           (accused_dead {e = end_of x l.mine} sound.drift (record { inv = g.inv; live = g.live }) (ap (λ (s : Slot). s.state) kept ∙ ap state_of is)
-          (let r = g.reading in let s = ap (λ (s : Slot). s.ripe) kept in omega Rattle.std.proofs.Common.arith))
+          (let r = g.reading in let s = ap (λ (s : Slot). s.ripe) kept in omega arith))
 
   heir_going : (i : ℕ) (l : Link) → slot_at i w.ring.slots ≡ Some l → l.state ≡ state.Heir → (q : Bool) → nat_le l.ripe now ≡ q → Going c m x now (heir_due i l w q)
   heir_going i l at is true e = takes_over i l at is (leb-true l.ripe now e) _
@@ -180,40 +180,12 @@ module _ {c : FabricConfig} {m : World} {x : Who} {now : ℕ} {w : Work} (sound 
 
   -- every slot that guards has acknowledged the version
   acked_shown : (version : ℕ) → all_acked version w.ring.slots ≡ true → AllAcked version (g.after.instance x).slots
-  acked_shown version all number guarding = ⊎_elim (λ h. absurd (calm ((g.after.instance x).slots number).state h guarding)) (λ e. there e) (g.shows.slots.over number)
+  acked_shown version all = open_shown g.shows.slots guards refl (λ s. version ≤ s.acked) there
     where
-      calm : (s : State) → is_over s ≡ true → guards s ≡ true → ⊥
-      calm Unused h a = cc (a)
-      calm Abandoned h a = cc (a)
-      calm Parted h a = cc (a)
-      calm Ended h a = cc (a)
-      calm s h a = cc (h)
-
-      there : Has w.ring.slots number → version ≤ ((g.after.instance x).slots number).acked
-      there e = by_state e.link.state refl
-        where
-          kept : (g.after.instance x).slots number ≡ slot_of e.link
-          kept = subst (λ (n : ℕ). (g.after.instance x).slots n ≡ slot_of e.link) e.numbered (g.shows.slots.kept e.place e.link e.at)
-
-          passes : acked_if (table.guards e.link.state) version e.link.acked ≡ true
-          passes = all_at (has_acked version) w.ring.slots e.place e.link all e.at
-
-          acked : table.guards e.link.state ≡ true → version ≤ ((g.after.instance x).slots number).acked
-          acked h =
-              let p : acked_if true version e.link.acked ≡ true = subst (λ (b : Bool). acked_if b version e.link.acked ≡ true) h passes in
-              subst (λ (s : Slot). version ≤ s.acked) (sym kept) (leb-true version e.link.acked p)
-
-          silent : guards (state_of e.link.state) ≡ false → version ≤ ((g.after.instance x).slots number).acked
-          silent h = absurd (both_ways _ h (subst (λ (s : Slot). guards s.state ≡ true) kept guarding))
-
-          by_state : (s : LinkState) → e.link.state ≡ s → version ≤ ((g.after.instance x).slots number).acked
-          by_state state.Offered h = acked (ap table.guards h)
-          by_state state.Bound h = acked (ap table.guards h)
-          by_state state.Parting h = acked (ap table.guards h)
-          by_state state.Accused h = acked (ap table.guards h)
-          by_state state.Hello h = silent (ap (λ s. guards (state_of s)) h)
-          by_state state.Discharged h = silent (ap (λ s. guards (state_of s)) h)
-          by_state state.Heir h = silent (ap (λ s. guards (state_of s)) h)
+      there : (i : ℕ) (l : Link) → slot_at i w.ring.slots ≡ Some l → guards (state_of l.state) ≡ true → version ≤ l.acked
+      there i l at guarding =
+          let passes : acked_if (table.guards l.state) version l.acked ≡ true = all_at (has_acked version) w.ring.slots i l all at in
+          leb-true version l.acked (subst (λ (b : Bool). acked_if b version l.acked ≡ true) (guards_shown l.state guarding) passes)
 
   -- a frozen part is given
   gives_going : (z : Freeze) → w.ring.token.freeze ≡ Some z → all_acked z.version w.ring.slots ≡ true → (l : Link) → slot_at z.slot w.ring.slots ≡ Some l → l.state ≡ state.Bound →
@@ -248,7 +220,7 @@ module _ {c : FabricConfig} {m : World} {x : Who} {now : ℕ} {w : Work} (sound 
       k = record l { flight = Some (record { number = w.ring.token.next_flight; part = z.part }) }
 
       rises : Rises z.part
-      rises = subst (λ (o : Option Freeze). Rises (Rattle.token_core.specs.Tokens.frozen_part o)) frozen g.shows.rises.part
+      rises = subst (λ (o : Option Freeze). Rises (frozen_part o)) frozen g.shows.rises.part
 
       freeze : machine.Freeze
       freeze = record { part = points_of z.part; number = number_of (slot_at z.slot w.ring.slots); version = z.version }

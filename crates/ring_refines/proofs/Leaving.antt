@@ -12,7 +12,7 @@ use Rattle.ring_machine.specs.World as world
 use Rattle.ring_machine.specs.World.{Instance, World, Phase, Left, Dead}
 use Rattle.ring_machine.specs.Events.{IsSound, Leaves, in_phase}
 use Rattle.ring_machine.specs.Invariant.{Invariant}
-use Rattle.ring_machine.proofs.Histories.{event_done}
+use Rattle.ring_machine.proofs.Histories.{event_done, EventDone}
 use Rattle.ring_machine.proofs.Whos.{same_who-false, updated_cases}
 use Rattle.ring_refines.specs.Images.{machine_of}
 use Rattle.ring_refines.specs.Shown.{ShowsAs, ShowsInstance}
@@ -20,6 +20,7 @@ use Rattle.ring_refines.specs.Moves.{places_of, MovedBy, AreOver}
 use Rattle.ring_refines.specs.Refined.{AllSaid, Beside, Refined}
 use Rattle.ring_refines.proofs.Telling.{moved_and, over_and, over_later}
 use Rattle.ring_refines.proofs.Going.{Going, beside_then}
+use Rattle.ring_machine.specs.Tokens.{Token}
 
 module _ {c : FabricConfig} {m : World} {x : Who} {now : ℕ} {w : Work} (sound : IsSound (machine_of c)) (g : Going c m x now w) where
   abbrev v : World
@@ -39,7 +40,7 @@ module _ {c : FabricConfig} {m : World} {x : Who} {now : ℕ} {w : Work} (sound 
     shows = subst (λ (b : Bool). ShowsAs c v x w.ring b) (sym g.stays) g.shows;
     sent = g.sent;
     moved = subst (λ (n : ℕ). MovedBy x w.told (m.instance x).token.next_flight (places_of first m) n (places_of first v))
-        (sym (ap (λ (t : Rattle.ring_machine.specs.Tokens.Token). t.next_flight) g.shows.token)) g.moved;
+        (sym (ap (λ (t : Token). t.next_flight) g.shows.token)) g.moved;
     over = g.over;
   }
 
@@ -85,7 +86,7 @@ module _ {c : FabricConfig} {m : World} {x : Who} {w : Work} (sound : IsSound (m
     };
     sent = s.sent;
     moved = subst (λ (n : ℕ). MovedBy x (w.told ++ report.LeftRing why ∷ []) (m.instance x).token.next_flight (places_of (world.first_of (machine_of c)) m) n (places_of (world.first_of (machine_of c)) s.after))
-        (sym (ap (λ (i : Instance). i.token.next_flight) own ∙ ap (λ (t : Rattle.ring_machine.specs.Tokens.Token). t.next_flight) s.shows.token))
+        (sym (ap (λ (i : Instance). i.token.next_flight) own ∙ ap (λ (t : Token). t.next_flight) s.shows.token))
         (moved_and x w.told (m.instance x).token.next_flight w.ring.token.next_flight (places_of (world.first_of (machine_of c)) m) (places_of (world.first_of (machine_of c)) s.after) (report.LeftRing why) s.moved tt tt);
     over = over_and (machine_of c) u w.told (report.LeftRing why) (over_later (machine_of c) s.after u w.told (λ y h. done.later.dies y h) s.over) tt;
   }
@@ -100,7 +101,7 @@ module _ {c : FabricConfig} {m : World} {x : Who} {w : Work} (sound : IsSound (m
       own = updated_cases (λ i. i ≡ record (s.after.instance x) { phase = Left }) s.after.instance x x (record (s.after.instance x) { phase = Left }) (λ e. refl)
           (λ a. absurd (same_who-false x x a refl))
 
-      done : Rattle.ring_machine.proofs.Histories.EventDone (machine_of c) s.after (in_phase s.after x Left)
+      done : EventDone (machine_of c) s.after (in_phase s.after x Left)
       done = event_done sound s.inv (Leaves x) s.shows.running
 
 -- what a row comes to

@@ -8,7 +8,7 @@ use Rattle.join_phases.specs.declared.phases.Phase.{Phase}
 use Rattle.join_phases.specs.Phases.{is_left}
 use Rattle.ring_rules.specs.declared.link.Link.{Link}
 use Rattle.ring_rules.specs.declared.link.LinkState.TheVariants as state
-use Rattle.ring_rules.specs.Links.{renew_body, transfer_body, hello_body}
+use Rattle.ring_rules.specs.Links.{renew_body, transfer_body, hello_body, flight_part}
 use Rattle.ring_rules.specs.Rings.{Work}
 use Rattle.ring_rules.specs.Slots.{slot_at}
 use Rattle.ring_rules.specs.Deeds.{send, set_phase, say_gone}
@@ -23,9 +23,10 @@ use Rattle.ring_machine.specs.Sessions.{Tied}
 use Rattle.ring_machine.proofs.States.{implied}
 use Rattle.ring_refines.specs.Images.{machine_of, state_of, points_of, flight_of, token_of}
 use Rattle.ring_refines.specs.Tables.{is_proposing}
-use Rattle.ring_refines.proofs.Ranges.{announced_is, announced_rises}
+use Rattle.ring_refines.proofs.Ranges.{announced_is, announced_rises, Rises}
 use Rattle.ring_refines.proofs.Greetings.{hello_said}
 use Rattle.ring_refines.proofs.Going.{Going, says}
+use Rattle.ring_machine.specs.Tokens as machine
 
 -- an end that has a session is used, and asks no more
 pub tied_used : (v : World) (e f : End) → Tied v e f → is_used (slot v e).state ≡ true
@@ -82,7 +83,7 @@ module _ {c : FabricConfig} {m : World} {x : Who} {now : ℕ} {w : Work} (sound 
       (Transfer (end_of x l.mine) (end_of l.peer l.yours) f.number (points_of f.part) ∷ []) refl ((l.peer, transfer_body l f) ∷ []) (
         record {
           image = inl refl;
-          rises = subst (λ (o : Option points.Flight). Rattle.ring_refines.proofs.Ranges.Rises (Rattle.ring_rules.specs.Links.flight_part o)) flies (g.shows.slots.sound i l at).part;
+          rises = subst (λ (o : Option points.Flight). Rises (flight_part o)) flies (g.shows.slots.sound i l at).part;
           no_ruling = refl;
         },
         tt,
@@ -91,7 +92,7 @@ module _ {c : FabricConfig} {m : World} {x : Who} {now : ℕ} {w : Work} (sound 
   -- what is owned and not frozen is announced
   pub renew_going : (i : ℕ) (l : Link) → slot_at i w.ring.slots ≡ Some l → l.state ≡ state.Bound → Going c m x now (send l.peer (renew_body now l w.ring) w)
   renew_going i l at is =
-      says sound g i l at RenewSent (ap state_of is) (frame (Rattle.ring_machine.specs.Tokens.announced (token_of w.ring.slots w.ring.token)) ∷ []) refl
+      says sound g i l at RenewSent (ap state_of is) (frame (machine.announced (token_of w.ring.slots w.ring.token)) ∷ []) refl
       ((l.peer, renew_body now l w.ring) ∷ []) (
         record {
           image = inl (ap frame (announced_is w.ring.slots w.ring.token g.shows.rises));

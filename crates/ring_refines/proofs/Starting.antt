@@ -9,7 +9,7 @@ use Rattle.fabric_terms.specs.declared.config.FabricConfig.{FabricConfig}
 use Rattle.join_phases.specs.declared.phases.Phase.{Phase}
 use Rattle.join_phases.specs.Phases.{seeking, routing}
 use Rattle.ring_rules.specs.declared.link.Link.{Link}
-use Rattle.ring_rules.specs.Rings.{no_slots}
+use Rattle.ring_rules.specs.Rings.{no_slots, Work}
 use Rattle.ring_rules.specs.Slots.{slot_at, is_free}
 use Rattle.ring_rules.specs.Starts.{new_ring, start_first}
 use Rattle.ring_rules.proofs.Rows.{node_started-is}
@@ -61,7 +61,7 @@ module _ (c : FabricConfig) (time reading : ℕ) (x : Who) (sent : List Frame) w
 
 pub start_is_shown_lem : StartIsShown
 start_is_shown_lem c node reading m =
-    subst (λ (u : Rattle.ring_rules.specs.Rings.Work). Shows c (started (machine_of c) m node reading) (next_instance m node) u.ring)
+    subst (λ (u : Work). Shows c (started (machine_of c) m node reading) (next_instance m node) u.ring)
     (sym (node_started-is c (next_instance m node) false))
     (go ((next_instance m node).actor == c.first && (next_instance m node).instance == 1) refl)
   where
@@ -78,5 +78,5 @@ start_is_shown_lem c node reading m =
 
 pub spent_is_left_lem : SpentIsLeft
 spent_is_left_lem c m x still =
-    subst (λ (u : Rattle.ring_rules.specs.Rings.Work). Shows c m x u.ring) (sym (node_started-is c x true))
+    subst (λ (u : Work). Shows c m x u.ring) (sym (node_started-is c x true))
     (record { me = refl; ranges = refl; freeze = refl; slots = refl; stands_still = still })

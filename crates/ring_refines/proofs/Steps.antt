@@ -1,5 +1,5 @@
 -- The whole step of a ring.
-use Rattle.std.proofs.Common.{◌≡◌, ℕ, zero, suc, ◌+◌, ◌-◌, ◌<◌, ◌==◌, ◌&&◌, ◌||◌, nat_le, nat_lt, min, not, Bool, true, false, List, [], ◌∷◌, length, Option, Some, None, refl, sym, ap, ◌∙◌, subst, inl, inr, ⊎_elim, arith}
+use Rattle.std.proofs.Common.{◌≡◌, ℕ, zero, suc, ◌+◌, ◌-◌, ◌<◌, ◌==◌, ◌&&◌, ◌||◌, nat_le, nat_lt, min, not, Bool, true, false, List, [], ◌∷◌, length, Option, Some, None, refl, sym, ap, ◌∙◌, subst, inl, inr, arith}
 use Rattle.std.proofs.lemmas.Bool.{eqb-true, eq-eqb, ltb-true, leb-true, leb-false, lt-leb, and_parts, not-true, both_ways}
 use Rattle.ring_points.specs.declared.who.Who.{Who}
 use Rattle.ring_points.specs.Whos.{same_who, arbiter_actor}
@@ -15,8 +15,6 @@ use Rattle.ring_route.specs.Routes.{heard, is_among}
 use Rattle.ring_rules.specs.declared.input.Input.{Input}
 use Rattle.ring_rules.specs.declared.input.Input.TheVariants as input
 use Rattle.ring_rules.specs.declared.link.Link.{Link}
-use Rattle.ring_rules.specs.declared.link.LinkState.{LinkState}
-use Rattle.ring_rules.specs.declared.link.LinkState.TheVariants as state
 use Rattle.ring_rules.specs.Deeds.{counted}
 use Rattle.ring_rules.specs.Frames.{is_for, is_between_nodes, is_arbiters_answer, is_node, may_send, passes, heard_if, sender_heard, frame_row}
 use Rattle.ring_rules.specs.Rings.{Ring, Slots, Work, settings_of}
@@ -27,7 +25,7 @@ use Rattle.ring_rules.specs.Steps.{frame_if, command_row, input_taken, before_fe
 use Rattle.ring_rules.proofs.Rows.{frame_received-is, command_received-is, ring_step-is}
 use Rattle.ring_machine.specs.Members.{IsMember}
 use Rattle.ring_machine.specs.Ends.{End, end_of}
-use Rattle.ring_machine.specs.Slots.{Slot, State, Unused, Abandoned, Parted, Ended, guards, is_used}
+use Rattle.ring_machine.specs.Slots.{guards, is_used}
 use Rattle.ring_machine.specs.Frames.{Hello, Offer, Take, Renew, RenewAck, Transfer, Gone, Ruled}
 use Rattle.ring_machine.specs.World.{World, BelowFence, slot}
 use Rattle.ring_machine.specs.Events.{IsSound}
@@ -35,11 +33,11 @@ use Rattle.ring_machine.specs.Invariant.{Invariant}
 use Rattle.ring_machine.specs.Sessions.{BothTied}
 use Rattle.ring_machine.specs.SoundFrames.{SoundOffer, SoundRenew, SoundAck, SoundTransfer, SoundGone}
 use Rattle.ring_machine.proofs.Whos.{same_who_from, same_who-refl}
-use Rattle.ring_refines.specs.Images.{machine_of, state_of, points_of, slot_of, Posted}
-use Rattle.ring_refines.specs.Tables.{is_over, Has}
+use Rattle.ring_refines.specs.Images.{machine_of, state_of, points_of, Posted}
 use Rattle.ring_refines.specs.Shown.{Shows, ShowsAs, ShowsInstance}
 use Rattle.ring_refines.specs.Refined.{Beside, Refined}
 use Rattle.ring_refines.specs.Laws.{Comes, StepIsDeeds}
+use Rattle.ring_refines.proofs.Changes.{open_shown, guards_shown}
 use Rattle.ring_refines.proofs.Going.{Going}
 use Rattle.ring_refines.proofs.Leaving.{Standing, Went, on, leave_refined, went_refined, counted_went}
 use Rattle.ring_refines.proofs.Saying.{tied_used}
@@ -52,6 +50,12 @@ use Rattle.ring_refines.proofs.Quiet.{knows, join_going, find_going, seek_receiv
 use Rattle.ring_refines.proofs.Commands.{link_going, part_going, give_going}
 use Rattle.ring_refines.proofs.Accusing.{ruling_went}
 use Rattle.ring_refines.proofs.Firing.{timer_went}
+use Rattle.ring_points.specs.declared.interval.Interval.{Interval}
+use Rattle.ring_rules.specs.Flights.{transfer_received, gone_received}
+use Rattle.ring_rules.specs.Handshakes.{offer_received, take_received}
+use Rattle.ring_rules.specs.Renewals.{renew_received, ack_received}
+use Rattle.ring_refines.proofs.Ranges.{Rises}
+use Rattle.ring_machine.specs.Tokens.{Token}
 
 -- who is not among them is no member
 not_among : (y : Who) (zs : List Who) → is_among y zs ≡ false → IsMember y zs → ⊥
@@ -136,7 +140,7 @@ module _ {c : FabricConfig} {m : World} {x : Who} {now : ℕ} {w : Work} (sound 
 
   -- the frames of each session
   offers : (from to : Who) (theirs own len : ℕ) → (IsMember from w.ring.accused → ⊥) → is_for x to ≡ true → IsMember (Offer (end_of from theirs) (end_of to own) len) m.sent →
-      Going c m x now (Rattle.ring_rules.specs.Handshakes.offer_received now from theirs own len w)
+      Going c m x now (offer_received now from theirs own len w)
   offers from to theirs own len trusted for_x came =
       offer_going sound g from theirs own len trusted
       (subst (λ (y : Who). IsMember (Offer (end_of from theirs) (end_of y own) len) m.sent) (for_one to own used for_x) came)
@@ -148,7 +152,7 @@ module _ {c : FabricConfig} {m : World} {x : Who} {now : ℕ} {w : Work} (sound 
       used = subst (λ (e : End). is_used (slot g.after e).state ≡ true) offer.tied.far ((g.inv.slots (end_of from theirs)).far_used offer.tied.engaged)
 
   takes : (from to : Who) (theirs own : ℕ) → (IsMember from w.ring.accused → ⊥) → is_for x to ≡ true → IsMember (Take (end_of from theirs) (end_of to own)) m.sent →
-      Going c m x now (Rattle.ring_rules.specs.Handshakes.take_received now from theirs own w)
+      Going c m x now (take_received now from theirs own w)
   takes from to theirs own trusted for_x came =
       take_going sound g from theirs own trusted (subst (λ (y : Who). IsMember (Take (end_of from theirs) (end_of y own)) m.sent) (for_one to own used for_x) came)
     where
@@ -158,9 +162,9 @@ module _ {c : FabricConfig} {m : World} {x : Who} {now : ℕ} {w : Work} (sound 
       used : is_used (slot g.after (end_of to own)).state ≡ true
       used = tied_used g.after (end_of to own) (end_of from theirs) tied.theirs
 
-  renews : (from to : Who) (theirs own stamp version got : ℕ) (want : Bool) (ranges : List Rattle.ring_points.specs.declared.interval.Interval.Interval) → (IsMember from w.ring.accused → ⊥) →
-      is_for x to ≡ true → Rattle.ring_refines.proofs.Ranges.Rises ranges → IsMember (Renew (end_of from theirs) (end_of to own) stamp version got (points_of ranges)) m.sent →
-      Going c m x now (Rattle.ring_rules.specs.Renewals.renew_received from theirs own stamp version got want ranges w)
+  renews : (from to : Who) (theirs own stamp version got : ℕ) (want : Bool) (ranges : List Interval) → (IsMember from w.ring.accused → ⊥) →
+      is_for x to ≡ true → Rises ranges → IsMember (Renew (end_of from theirs) (end_of to own) stamp version got (points_of ranges)) m.sent →
+      Going c m x now (renew_received from theirs own stamp version got want ranges w)
   renews from to theirs own stamp version got want ranges trusted for_x rises came =
       renew_received_going sound g from theirs own stamp version got want ranges trusted rises
       (subst (λ (y : Who). IsMember (Renew (end_of from theirs) (end_of y own) stamp version got (points_of ranges)) m.sent) (for_one to own used for_x) came)
@@ -172,7 +176,7 @@ module _ {c : FabricConfig} {m : World} {x : Who} {now : ℕ} {w : Work} (sound 
       used = tied_used g.after (end_of to own) (end_of from theirs) renew.tied.theirs
 
   acks : (from to : Who) (theirs own stamp version : ℕ) → is_for x to ≡ true → IsMember (RenewAck (end_of from theirs) (end_of to own) stamp version) m.sent →
-      Going c m x now (Rattle.ring_rules.specs.Renewals.ack_received from theirs own stamp version w)
+      Going c m x now (ack_received from theirs own stamp version w)
   acks from to theirs own stamp version for_x came =
       ack_received_going sound g from theirs own stamp version
       (subst (λ (y : Who). IsMember (RenewAck (end_of from theirs) (end_of y own) stamp version) m.sent) (for_one to own used for_x) came)
@@ -183,9 +187,9 @@ module _ {c : FabricConfig} {m : World} {x : Who} {now : ℕ} {w : Work} (sound 
       used : is_used (slot g.after (end_of to own)).state ≡ true
       used = tied_used g.after (end_of to own) (end_of from theirs) ack.tied.theirs
 
-  transfers : (from to : Who) (theirs own number : ℕ) (part : List Rattle.ring_points.specs.declared.interval.Interval.Interval) → (IsMember from w.ring.accused → ⊥) →
-      is_for x to ≡ true → Rattle.ring_refines.proofs.Ranges.Rises part → IsMember (Transfer (end_of from theirs) (end_of to own) number (points_of part)) m.sent →
-      Going c m x now (Rattle.ring_rules.specs.Flights.transfer_received from theirs own number part w)
+  transfers : (from to : Who) (theirs own number : ℕ) (part : List Interval) → (IsMember from w.ring.accused → ⊥) →
+      is_for x to ≡ true → Rises part → IsMember (Transfer (end_of from theirs) (end_of to own) number (points_of part)) m.sent →
+      Going c m x now (transfer_received from theirs own number part w)
   transfers from to theirs own number part trusted for_x rises came =
       transfer_going sound g from theirs own number part trusted rises
       (subst (λ (y : Who). IsMember (Transfer (end_of from theirs) (end_of y own) number (points_of part)) m.sent) (for_one to own used for_x) came)
@@ -197,7 +201,7 @@ module _ {c : FabricConfig} {m : World} {x : Who} {now : ℕ} {w : Work} (sound 
       used = tied_used g.after (end_of to own) (end_of from theirs) transfer.tied.theirs
 
   gones : (from to : Who) (theirs own got : ℕ) (bound : Bool) → (IsMember from w.ring.accused → ⊥) → is_for x to ≡ true →
-      IsMember (Gone (end_of from theirs) (end_of to own) got bound) m.sent → Going c m x now (Rattle.ring_rules.specs.Flights.gone_received from theirs own got bound w)
+      IsMember (Gone (end_of from theirs) (end_of to own) got bound) m.sent → Going c m x now (gone_received from theirs own got bound w)
   gones from to theirs own got bound trusted for_x came =
       gone_going sound g from theirs own got bound trusted
       (subst (λ (y : Who). IsMember (Gone (end_of from theirs) (end_of y own) got bound) m.sent) (for_one to own gone.used for_x) came)
@@ -301,44 +305,18 @@ module _ {c : FabricConfig} {m : World} {x : Who} {r : Ring} (sound : IsSound (m
     dies = λ y h. h;
     shows = shows;
     sent = tt;
-    moved = (ap (λ (t : Rattle.ring_machine.specs.Tokens.Token). t.next_flight) shows.token, refl);
+    moved = (ap (λ (t : Token). t.next_flight) shows.token, refl);
     over = tt;
   }
 
   -- below the fence that the ring sees, x is live
   below : (now : ℕ) → (m.instance x).reading ≡ now → is_past now (fence_of c.answer r.slots) ≡ false → BelowFence (machine_of c) (m.instance x)
-  below now read past number guarding = ⊎_elim (λ h. absurd (calm ((m.instance x).slots number).state h guarding)) (λ e. there e) (shows.slots.over number)
+  below now read past = open_shown shows.slots guards refl (λ s. (m.instance x).reading < s.until + c.answer) there
     where
-      calm : (s : State) → is_over s ≡ true → guards s ≡ true → ⊥
-      calm Unused h a = cc (a)
-      calm Abandoned h a = cc (a)
-      calm Parted h a = cc (a)
-      calm Ended h a = cc (a)
-      calm s h a = cc (h)
-
-      there : Has r.slots number → (m.instance x).reading < ((m.instance x).slots number).until + c.answer
-      there e = by_state e.link.state refl
-        where
-          kept : (m.instance x).slots number ≡ slot_of e.link
-          kept = subst (λ (n : ℕ). (m.instance x).slots n ≡ slot_of e.link) e.numbered (shows.slots.kept e.place e.link e.at)
-
-          soon : table.guards e.link.state ≡ true → (m.instance x).reading < ((m.instance x).slots number).until + c.answer
-          soon h =
-              let until = ap (λ (s : Slot). s.until) kept in
-              let lt : now < e.link.until + c.answer = below_fence c.answer now r.slots past e.place e.link e.at h in
-              omega arith
-
-          silent : guards (state_of e.link.state) ≡ false → (m.instance x).reading < ((m.instance x).slots number).until + c.answer
-          silent h = absurd (both_ways _ h (subst (λ (s : Slot). guards s.state ≡ true) kept guarding))
-
-          by_state : (s : LinkState) → e.link.state ≡ s → (m.instance x).reading < ((m.instance x).slots number).until + c.answer
-          by_state state.Offered h = soon (ap table.guards h)
-          by_state state.Bound h = soon (ap table.guards h)
-          by_state state.Parting h = soon (ap table.guards h)
-          by_state state.Accused h = soon (ap table.guards h)
-          by_state state.Hello h = silent (ap (λ s. guards (state_of s)) h)
-          by_state state.Discharged h = silent (ap (λ s. guards (state_of s)) h)
-          by_state state.Heir h = silent (ap (λ s. guards (state_of s)) h)
+      there : (i : ℕ) (l : Link) → slot_at i r.slots ≡ Some l → guards (state_of l.state) ≡ true → (m.instance x).reading < l.until + c.answer
+      there i l at guarding =
+          let soon : now < l.until + c.answer = below_fence c.answer now r.slots past i l at (guards_shown l.state guarding) in
+          omega arith
 
   goes_at_first : (now : ℕ) → (m.instance x).reading ≡ now → is_left r.phase ≡ false → is_past now (fence_of c.answer r.slots) ≡ false → Going c m x now (begun r)
   goes_at_first now read stays past = record {
@@ -351,7 +329,7 @@ module _ {c : FabricConfig} {m : World} {x : Who} {r : Ring} (sound : IsSound (m
     stays = stays;
     shows = shows;
     sent = tt;
-    moved = (ap (λ (t : Rattle.ring_machine.specs.Tokens.Token). t.next_flight) shows.token, refl);
+    moved = (ap (λ (t : Token). t.next_flight) shows.token, refl);
     over = tt;
   }
 
