@@ -59,7 +59,9 @@ module _ (slots : Slots) (i : ℕ) (l : Link) (at : slot_at i slots ≡ Some l) 
   module _ (once : (j : ℕ) (k : Link) → slot_at j slots ≡ Some k → k.mine ≡ l.mine → i ≡ j) where
     pub undone_is : (p : Option Link) (t : token.Token) (o : Option Freeze) → ((z : Freeze) → o ≡ Some z → IsFrozenFor slots z.slot) → t.freeze ≡ o →
         token_of (slice_set slots i p) (rows.undone_at i t o) ≡ machine.undone l.mine (token_of slots t) (freeze_of slots o)
-    undone_is p t None frozen e = λ j. record { ranges = points_of t.ranges; version = t.version; freeze = (ap (freeze_of (slice_set slots i p)) e ∙ sym (ap (freeze_of slots) e)) j; next_flight = t.next_flight }
+    undone_is p t None frozen e =
+        let none = ap (freeze_of (slice_set slots i p)) e ∙ sym (ap (freeze_of slots) e) in
+        λ j. record { ranges = points_of t.ranges; version = t.version; freeze = none j; next_flight = t.next_flight }
     undone_is p t (Some z) frozen e = test (z.slot == i) here there
       where
         is : IsFrozenFor slots z.slot
@@ -85,7 +87,8 @@ module _ (slots : Slots) (i : ℕ) (l : Link) (at : slot_at i slots ≡ Some l) 
         there h =
             let other : z.slot ≡ i → ⊥ = eqb-false z.slot i h in
             let number_other : number_of (slot_at z.slot slots) == l.mine ≡ false =
-            test (number_of (slot_at z.slot slots) == l.mine) (λ k. absurd (other (sym (once z.slot is.link is.at (sym number ∙ eqb-true (number_of (slot_at z.slot slots)) l.mine k))))) (λ k. k) in
+            test (number_of (slot_at z.slot slots) == l.mine)
+            (λ k. absurd (other (sym (once z.slot is.link is.at (sym number ∙ eqb-true (number_of (slot_at z.slot slots)) l.mine k))))) (λ k. k) in
             by_tests (z.slot == i) (number_of (slot_at z.slot slots) == l.mine) (h ∙ sym number_other)
             (λ n. subst (λ (o : Option Freeze). freeze_of (slice_set slots i p) o ≡ freeze_of slots o) (sym e)
             (freeze_other p (Some z) (λ y k m. other (let same : z ≡ y = cc (k) in ap (λ (y : Freeze). y.slot) same ∙ sym m))))

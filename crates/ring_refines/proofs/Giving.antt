@@ -54,7 +54,12 @@ module _ {c : FabricConfig} {m : World} {x : Who} {now : ℕ} {w : Work} (sound 
           numbered = refl;
           below = g.shows.slots.below z.slot l at;
           shown = refl;
-          sound = let o = g.shows.slots.sound z.slot l at in record { held = o.held; part = rises; length = o.length; tally = λ h. absurd (let t = ap (λ s. is_tallying (state_of s)) is in cc (t, h)) };
+          sound = let o = g.shows.slots.sound z.slot l at in record {
+            held = o.held;
+            part = rises;
+            length = o.length;
+            tally = λ h. absurd (let t = ap (λ s. is_tallying (state_of s)) is in cc (t, h));
+          };
           alone = stays_alone g.shows.slots z.slot l k at refl (λ h. h) (λ h. h);
         });
         me = refl;

@@ -61,6 +61,9 @@ pub going_stands : {c : FabricConfig} {m : World} {x : Who} {now : ℕ} {w : Wor
 going_stands g = record { after = g.after; inv = g.inv; beside = g.beside; dies = g.dies; shows = g.shows; sent = g.sent; moved = g.moved; over = g.over }
 
 module _ {c : FabricConfig} {m : World} {x : Who} {w : Work} (sound : IsSound (machine_of c)) (s : Standing c m x w) where
+  abbrev first_one : Who
+  first_one = world.first_of (machine_of c)
+
   -- it leaves
   pub leave_refined : (why : Why) → Refined c m x (leave why w)
   leave_refined why = record {
@@ -85,9 +88,10 @@ module _ {c : FabricConfig} {m : World} {x : Who} {w : Work} (sound : IsSound (m
       stands_still = λ h. let p = ap (λ (i : Instance). i.phase) own in cc (p, h);
     };
     sent = s.sent;
-    moved = subst (λ (n : ℕ). MovedBy x (w.told ++ report.LeftRing why ∷ []) (m.instance x).token.next_flight (places_of (world.first_of (machine_of c)) m) n (places_of (world.first_of (machine_of c)) s.after))
+    moved = subst (λ (n : ℕ). MovedBy x (w.told ++ report.LeftRing why ∷ []) (m.instance x).token.next_flight (places_of first_one m) n (places_of first_one s.after))
         (sym (ap (λ (i : Instance). i.token.next_flight) own ∙ ap (λ (t : Token). t.next_flight) s.shows.token))
-        (moved_and x w.told (m.instance x).token.next_flight w.ring.token.next_flight (places_of (world.first_of (machine_of c)) m) (places_of (world.first_of (machine_of c)) s.after) (report.LeftRing why) s.moved tt tt);
+        (moved_and x w.told (m.instance x).token.next_flight w.ring.token.next_flight (places_of first_one m) (places_of first_one s.after)
+        (report.LeftRing why) s.moved tt tt);
     over = over_and (machine_of c) u w.told (report.LeftRing why) (over_later (machine_of c) s.after u w.told (λ y h. done.later.dies y h) s.over) tt;
   }
     where

@@ -166,7 +166,8 @@ module _ {c : FabricConfig} {m : World} {x : Who} {now : ℕ} {w : Work} (sound 
 
 module _ {c : FabricConfig} {m : World} {x : Who} {now : ℕ} {w : Work} (sound : IsSound (machine_of c)) (node : ℕ) (g : Going c m x now w) where
   -- the verdict on a slot
-  judged_went : (i : ℕ) (l : Link) → slot_at i w.ring.slots ≡ Some l → (before : LinkState) → l.state ≡ before → Against before → (a : ℕ) (ruling : Ruling) → 1 ≤ a → a ≤ length c.arbiters →
+  judged_went : (i : ℕ) (l : Link) → slot_at i w.ring.slots ≡ Some l → (before : LinkState) → l.state ≡ before → Against before →
+      (a : ℕ) (ruling : Ruling) → 1 ≤ a → a ≤ length c.arbiters →
       IsMember (Ruled a x l.peer ruling) m.sent → (u : Verdict) → RestsOn (noted l.tally a ruling) u →
       Went c m x now (judged (settings_of c node) now i (record l { tally = noted l.tally a ruling }) before u w)
   judged_went i l at before is s a ruling from to came verdict.Heir rests =
