@@ -1,0 +1,33 @@
+-- What the laws of this crate say, of whatever runs above the ring.
+use Rattle.std.specs.Prelude.{◌≡◌, ℕ, [], Some}
+use Rattle.fabric_terms.specs.declared.config.FabricConfig.{FabricConfig}
+use Rattle.fabric_terms.specs.Places.{has_left}
+use Rattle.fabric_terms.specs.Reports.{told}
+use Rattle.fabric_terms.specs.Runs.{own_of}
+use Rattle.join_phases.specs.Phases.{is_left}
+use Rattle.ring_rules.specs.Arbiters.{accusations_after}
+use Rattle.ring_points.specs.Whos.{arbiter_actor}
+use Rattle.world_rules.specs.Arbiters.{ArbiterState}
+use Rattle.world_rules.specs.Maps.{at}
+use Rattle.world_rules.specs.Runs.{History, world_after, run_of}
+use Rattle.world_rules.specs.Uppers.{Upper}
+use Rattle.world_rules.specs.Worlds.{Running, kept_of}
+use Rattle.ring_safety.specs.Held.{owned_by}
+
+-- what a running instance told last is what its ring holds
+abbrev pub LastOwnIsHeld : Upper → Type 0
+LastOwnIsHeld a =
+    (c : FabricConfig) (h : History) (node : ℕ) (s : Running a) → at node (world_after a c h).nodes ≡ Some s →
+    own_of s.node.ring.me (run_of a c h) ≡ Some (owned_by c s.node.ring)
+
+-- a running instance has told its leave exactly if it has left
+abbrev pub LeaveIsTold : Upper → Type 0
+LeaveIsTold a =
+    (c : FabricConfig) (h : History) (node : ℕ) (s : Running a) → at node (world_after a c h).nodes ≡ Some s →
+    has_left s.node.ring.me (told (run_of a c h)) ≡ is_left s.node.ring.phase
+
+-- a running arbitrator's table is that of its synced records
+abbrev pub TableIsKept : Upper → Type 0
+TableIsKept a =
+    (c : FabricConfig) (h : History) (arbiter : ℕ) (s : ArbiterState a) → at arbiter (world_after a c h).arbiters ≡ Some s →
+    s.table ≡ accusations_after [] (kept_of (world_after a c h) (arbiter_actor arbiter))

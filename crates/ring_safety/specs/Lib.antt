@@ -1,0 +1,4 @@
+pub mod Above
+pub mod Nothing
+pub mod Held
+pub mod Laws
