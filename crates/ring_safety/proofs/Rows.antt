@@ -1,32 +1,39 @@
 -- What each row of a node says of it.
-use Rattle.std.proofs.Common.{◌≡◌, ℕ, zero, suc, ◌+◌, ◌-◌, Bool, true, false, not, ◌&&◌, ◌||◌, List, [], ◌∷◌, Option, Some, None, refl, subst, sym}
+use Rattle.std.proofs.Common.{◌≡◌, ℕ, zero, suc, ◌+◌, ◌-◌, Bool, true, false, not, ◌&&◌, ◌||◌, List, [], ◌∷◌, ◌++◌, Option, Some, None, refl, subst, sym}
 use Rattle.std.specs.Prelude.{◌==◌, is_some, length, min, nat_le, nat_lt}
 use Rattle.ring_points.specs.declared.interval.Interval.{Interval}
 use Rattle.ring_points.specs.declared.point.Point.{Point}
 use Rattle.ring_points.specs.declared.who.Flight.{Flight}
 use Rattle.ring_points.specs.declared.who.Ruling.{Ruling}
 use Rattle.ring_points.specs.declared.who.Who.{Who}
+use Rattle.ring_points.specs.Ranges.{fits}
+use Rattle.ring_points.specs.Whos.{arbiter_actor}
 use Rattle.fabric_terms.specs.declared.command.Command.{Command}
 use Rattle.fabric_terms.specs.declared.command.Command.TheVariants as command
 use Rattle.fabric_terms.specs.declared.message.Body.{Body}
 use Rattle.fabric_terms.specs.declared.message.Body.TheVariants as body
 use Rattle.fabric_terms.specs.declared.message.Message.{Message}
 use Rattle.fabric_terms.specs.declared.report.Reason.{Reason}
+use Rattle.fabric_terms.specs.declared.report.Reason.TheVariants as reason
 use Rattle.fabric_terms.specs.declared.report.Report.TheVariants as report
 use Rattle.fabric_terms.specs.declared.report.Verb.TheVariants as verb
+use Rattle.fabric_terms.specs.declared.report.Why.TheVariants.{Lost, Fence, AccusedFull}
+use Rattle.arbiter_quorum.specs.Tallies.{noted, verdict_of, may_be_heir}
 use Rattle.arbiter_quorum.specs.declared.verdict.Verdict.{Verdict}
 use Rattle.arbiter_quorum.specs.declared.verdict.Verdict.TheVariants as verdict
-use Rattle.token_core.specs.Tokens.{Freeze, gained}
+use Rattle.token_core.specs.Tokens.{Freeze, gained, can_gain, given, inherited}
+use Rattle.ring_route.specs.Routes.{near_nodes}
 use Rattle.ring_route.specs.declared.hop.Hop.{Hop}
 use Rattle.ring_route.specs.declared.hop.Hop.TheVariants as hop
-use Rattle.join_phases.specs.Phases.{is_left}
+use Rattle.join_phases.specs.Phases.{is_left, is_routing}
 use Rattle.ring_rules.specs.declared.input.Input.{Input}
 use Rattle.ring_rules.specs.declared.input.Input.TheVariants as input
 use Rattle.ring_rules.specs.declared.link.Link.{Link}
 use Rattle.ring_rules.specs.declared.link.LinkState.{LinkState}
 use Rattle.ring_rules.specs.declared.link.LinkState.TheVariants as state
-use Rattle.ring_rules.specs.Rings.{Ring, Settings, Work, slot_count}
-use Rattle.ring_rules.specs.Slots.{slot_where, of_session}
+use Rattle.ring_rules.specs.Rings.{Ring, Settings, Work, slot_count, ◌▷◌}
+use Rattle.ring_rules.specs.Links.{is_bare, accused_link, transfer_body, flight_part, renew_body, offer_body}
+use Rattle.ring_rules.specs.Slots.{slot_at, slot_where, of_session, of_instance}
 use Rattle.ring_rules.specs.Deeds as d
 use Rattle.ring_rules.specs.Handshakes as h
 use Rattle.ring_rules.specs.Renewals as n
@@ -39,6 +46,14 @@ use Rattle.ring_rules.specs.Frames as m
 use Rattle.ring_rules.specs.Steps as s
 use Rattle.ring_rules.specs.Starts.{begun}
 use Rattle.ring_safety.proofs.Said.{Said, Says, says_tell, says_refuse, says_bound, says_holding, says_leave, says_counted, says_then}
+
+-- the link with the ruling noted
+abbrev noting : Who → Ruling → Link → Link
+noting from ruling l = record l { tally = noted l.tally (from.actor - arbiter_actor 0) ruling }
+
+-- what an heir does not own yet
+abbrev added_by : Work → Link → List Interval
+added_by w l = inherited w.ring.token l.held (flight_part l.flight)
 
 module _ (m0 : Who) where
   abbrev Fine : Work → Type 0
@@ -57,14 +72,14 @@ module _ (m0 : Who) where
   -- handshakes
 
   greet_says : (l : Link) (refused : Reason → Work → Work) (w : Work) → ((reason : Reason) → Fine (refused reason w)) → Fine w → Fine (h.greet l refused w)
-  greet_says l refused w no a = unless (slot_where _ w.ring.slots)
+  greet_says l refused w refuses a = unless (slot_where _ w.ring.slots)
     where
       free : (o : Option ℕ) → Fine (h.greet_free l refused w o)
-      free None = no _
+      free None = refuses reason.Full
       free (Some i) = a
 
       unless : (o : Option ℕ) → Fine (h.greet_unless l refused w o)
-      unless (Some i) = no _
+      unless (Some i) = refuses reason.Linked
       unless None = free _
 
   accepted_says : (l : Link) (w : Work) → Fine w → Fine (h.hello_accepted l w)
@@ -173,11 +188,14 @@ module _ (m0 : Who) where
   transfer_says from theirs own number part w a = found_says (f.transfer_seen number part) (d.answer_unknown from theirs own) _ w inside a a
     where
       taken : (i : ℕ) (l : Link) (t : Bool) → Fine (f.take_flight i l number part w t)
-      taken i l true = says_holding m0 _ (says_tell m0 (report.Took l.peer number part) (d.put_slot i (record l { got = number }) (d.set_token (gained w.ring.token part) w)) refl refl a)
+      taken i l true =
+          let put : Work = d.put_slot i (record l { got = number }) (d.set_token (gained w.ring.token part) w) in
+          let tells : Work = d.tell (report.Took l.peer number part) put in
+          says_holding m0 tells (says_tell m0 (report.Took l.peer number part) put refl refl a)
       taken i l false = a
 
       inside : (i : ℕ) (l : Link) (st : LinkState) → Fine (f.transfer_seen number part i l st w)
-      inside i l state.Bound = taken i l _
+      inside i l state.Bound = taken i l (nat_lt l.got number && can_gain w.ring.token part)
       inside i l state.Parting = a
       inside i l st = a
 
@@ -194,15 +212,17 @@ module _ (m0 : Who) where
     where
       returned : (i : ℕ) (l : Link) (z : Flight) (t : Bool) → Fine (f.flight_returned i l z bound w t)
       returned i l z false = a
-      returned i l z true = close_says i l bound _ (says_tell m0 (report.Returned l.peer z.number z.part) (d.set_token (gained w.ring.token z.part) w) refl refl a)
+      returned i l z true =
+          let gains : Work = d.set_token (gained w.ring.token z.part) w in
+          close_says i l bound (d.tell (report.Returned l.peer z.number z.part) gains) (says_tell m0 (report.Returned l.peer z.number z.part) gains refl refl a)
 
       settled : (i : ℕ) (l : Link) (z : Flight) (t : Bool) → Fine (f.flight_settled i l z bound w t)
       settled i l z true = close_says i l bound w a
-      settled i l z false = returned i l z _
+      settled i l z false = returned i l z (can_gain w.ring.token z.part)
 
       heard : (i : ℕ) (l : Link) (o : Option Flight) → Fine (f.gone_heard i l got bound o w)
       heard i l None = close_says i l bound w a
-      heard i l (Some z) = settled i l z _
+      heard i l (Some z) = settled i l z (nat_le z.number got)
 
       inside : (i : ℕ) (l : Link) (st : LinkState) → Fine (f.gone_seen got bound i l st w)
       inside i l state.Offered = heard i l _
@@ -218,7 +238,7 @@ module _ (m0 : Who) where
 
   ruling_says : (set : Settings) (now : ℕ) (from victim : Who) (ruling : Ruling) (w : Work) → Fine w → Fine (r.ruling_received set now from victim ruling w)
   unfolding r.ruling_received
-  ruling_says set now from victim ruling w a = found_says (r.ruling_seen set now _ ruling) (λ v. v) _ w inside a a
+  ruling_says set now from victim ruling w a = found_says (r.ruling_seen set now (from.actor - arbiter_actor 0) ruling) (λ v. v) (slot_where (of_instance victim) w.ring.slots) w inside a a
     where
       heir : (i : ℕ) (l : Link) (t : Bool) → Fine (r.made_heir set now i l w t)
       heir i l true = says_tell m0 (report.Discharged l.peer) w refl refl a
@@ -233,14 +253,14 @@ module _ (m0 : Who) where
       keeps i l v false b = b
 
       judges : (i : ℕ) (l : Link) (before : LinkState) (v : Verdict) → Fine (r.judged set now i l before v w)
-      judges i l before verdict.Heir = heir i l _
-      judges i l before verdict.Discharged = keeps i l _ _ (tells before l)
-      judges i l before verdict.Lost = says_leave m0 _ w a
+      judges i l before verdict.Heir = heir i l (is_bare l)
+      judges i l before verdict.Discharged = keeps i l (r.tell_discharge before l w) (is_bare l || not (may_be_heir l.tally)) (tells before l)
+      judges i l before verdict.Lost = says_leave m0 Lost w a
       judges i l before verdict.Open = a
 
-      inside : (i : ℕ) (l : Link) (st : LinkState) → Fine (r.ruling_seen set now _ ruling i l st w)
-      inside i l state.Accused = judges i _ state.Accused _
-      inside i l state.Discharged = judges i _ state.Discharged _
+      inside : (i : ℕ) (l : Link) (st : LinkState) → Fine (r.ruling_seen set now (from.actor - arbiter_actor 0) ruling i l st w)
+      inside i l state.Accused = judges i (noting from ruling l) state.Accused (verdict_of (noting from ruling l).tally)
+      inside i l state.Discharged = judges i (noting from ruling l) state.Discharged (verdict_of (noting from ruling l).tally)
       inside i l st = a
 
   -- searches
@@ -250,9 +270,9 @@ module _ (m0 : Who) where
   find_says key w a = by_hop _
     where
       by_hop : (o : Hop) → Fine (k.find_by key o w)
-      by_hop hop.Here = says_tell m0 _ w refl refl a
+      by_hop hop.Here = says_tell m0 (report.Found key w.ring.me) w refl refl a
       by_hop (hop.To next) = a
-      by_hop hop.Nowhere = says_tell m0 _ w refl refl a
+      by_hop hop.Nowhere = says_tell m0 (report.Nowhere key) w refl refl a
 
   seek_says : (origin : Who) (key : Point) (hops : ℕ) (w : Work) → Fine w → Fine (k.seek_received origin key hops w)
   unfolding k.seek_received
@@ -262,7 +282,7 @@ module _ (m0 : Who) where
       on hop.Here t = a
       on (hop.To next) true = a
       on (hop.To next) false = a
-      on hop.Nowhere true = says_tell m0 _ w refl refl a
+      on hop.Nowhere true = says_tell m0 (report.Nowhere key) w refl refl a
       on hop.Nowhere false = a
 
   plainly_says : (set : Settings) (now node : ℕ) (w : Work) → Fine w → Fine (h.greet_plainly set now node w)
@@ -270,7 +290,7 @@ module _ (m0 : Who) where
 
   found_received_says : (set : Settings) (now : ℕ) (key : Point) (holder : Who) (w : Work) → Fine w → Fine (k.found_received set now key holder w)
   unfolding k.found_received
-  found_received_says set now key holder w a = holds _ _ (says_tell m0 (report.Found key holder) w refl refl a)
+  found_received_says set now key holder w a = holds (k.seeks_own w.ring key) (d.tell (report.Found key holder) w) (says_tell m0 (report.Found key holder) w refl refl a)
     where
       holds : (t : Bool) (v : Work) → Fine v → Fine (k.greet_holder set now holder v t)
       holds true v b = plainly_says set now holder.actor (d.on_ring (λ z. record z { target = None }) v) b
@@ -330,7 +350,7 @@ module _ (m0 : Who) where
 
   command_says : (set : Settings) (now : ℕ) (o : Command) (w : Work) → Fine w → Fine (s.command_received set now o w)
   unfolding s.command_received
-  command_says set now o w a = says_counted m0 w _ a (row o)
+  command_says set now o w a = says_counted m0 w (s.command_row set now o w) a (row o)
     where
       row : (o : Command) → Fine (s.command_row set now o w)
       row (command.Link node) = link_says set now node 1 set.lease w a
@@ -357,8 +377,10 @@ module _ (m0 : Who) where
   accused_says set i l w a = by_test _
     where
       by_test : (t : Bool) → Fine (g.accuse_if set i l w t)
-      by_test true = ask_says set.arbitrators _ _ (says_tell m0 (report.Accused l.peer) _ refl refl a)
-      by_test false = says_leave m0 _ w a
+      by_test true =
+          let accuses : Work = d.put_slot i (accused_link set w.ring.me l) (d.undo_freeze i (d.on_ring (λ z. record z { accused = z.accused ++ l.peer ∷ [] }) w)) in
+          ask_says set.arbitrators (accused_link set w.ring.me l) (d.tell (report.Accused l.peer) accuses) (says_tell m0 (report.Accused l.peer) accuses refl refl a)
+      by_test false = says_leave m0 AccusedFull w a
 
   leased_says : (set : Settings) (now i : ℕ) (l : Link) (says : Work → Work) (w : Work) → Fine w → Fine (says w) → Fine (g.leased set now i l says w)
   leased_says set now i l says w a b = over _
@@ -377,7 +399,7 @@ module _ (m0 : Who) where
 
   fired_says : (set : Settings) (now i : ℕ) (w : Work) → Fine w → Fine (g.slot_fired set now i w)
   unfolding g.slot_fired
-  fired_says set now i w a = says_counted m0 w _ a (in_place _)
+  fired_says set now i w a = says_counted m0 w (g.fired_at set now i (slot_at i w.ring.slots) w) a (in_place (slot_at i w.ring.slots))
     where
       hello : (l : Link) (t : Bool) → Fine (g.hello_due i l w t)
       hello l true = a
@@ -389,17 +411,19 @@ module _ (m0 : Who) where
 
       over : (l : Link) (added : List Interval) (t : Bool) → Fine (g.take_over i l added w t)
       over l added false = a
-      over l added true = says_holding m0 _ (says_tell m0 (report.TookOver l.peer added) (d.set_token (gained w.ring.token added) w) refl refl a)
+      over l added true =
+          let gains : Work = d.set_token (gained w.ring.token added) w in
+          says_holding m0 (d.tell (report.TookOver l.peer added) gains) (says_tell m0 (report.TookOver l.peer added) gains refl refl a)
 
       heir : (l : Link) (t : Bool) → Fine (g.heir_due i l w t)
-      heir l true = over l _ _
+      heir l true = over l (added_by w l) (fits (added_by w l) && can_gain w.ring.token (added_by w l))
       heir l false = a
 
       inside : (l : Link) (st : LinkState) → Fine (g.fired_in set now i l st w)
       inside l state.Hello = hello l _
-      inside l state.Offered = leased_says set now i l _ w a a
-      inside l state.Bound = leased_says set now i l _ w a (flies l _ _ a)
-      inside l state.Parting = leased_says set now i l _ w a a
+      inside l state.Offered = leased_says set now i l (λ v. d.send l.peer (offer_body l) v) w a a
+      inside l state.Bound = leased_says set now i l (λ v. v ▷ d.send l.peer (renew_body now l v.ring) ▷ g.transfer_again l l.flight) w a (flies l l.flight (d.send l.peer (renew_body now l w.ring) w) a)
+      inside l state.Parting = leased_says set now i l (d.say_gone l) w a a
       inside l state.Accused = ask_says set.arbitrators l w a
       inside l state.Discharged = discharged_says set now i l w a
       inside l state.Heir = heir l _
@@ -411,52 +435,54 @@ module _ (m0 : Who) where
   slots_says : (set : Settings) (now k : ℕ) (w : Work) → Fine w → Fine (g.slots_fired set now k w)
   unfolding g.slots_fired
   slots_says set now zero w a = a
-  slots_says set now (suc k) w a = let b = slots_says set now k w a in says_then m0 (g.slot_fired set now k) _ b (fired_says set now k _ b)
+  slots_says set now (suc k) w a = let b = slots_says set now k w a in says_then m0 (g.slot_fired set now k) (g.slots_fired set now k w) b (fired_says set now k (g.slots_fired set now k w) b)
 
   given_says : (w : Work) → Fine w → Fine (g.freeze_given w)
   unfolding g.freeze_given
-  given_says w a = says_counted m0 w _ a (frozen _)
+  given_says w a = says_counted m0 w (g.give_frozen w.ring.token.freeze w) a (frozen w.ring.token.freeze)
     where
       gives : (z : Freeze) (o : Option Link) → Fine (g.give_to z o w)
       gives z None = a
-      gives z (Some l) = says_tell m0 _ _ refl refl a
+      gives z (Some l) = says_tell m0 (report.Gave l.peer w.ring.token.next_flight z.part) (d.set_token (given w.ring.token z) w) refl refl a
 
       ready : (z : Freeze) (t : Bool) → Fine (g.give_ready z w t)
-      ready z true = gives z _
+      ready z true = gives z (slot_at z.slot w.ring.slots)
       ready z false = a
 
       frozen : (o : Option Freeze) → Fine (g.give_frozen o w)
       frozen None = a
-      frozen (Some z) = ready z _
+      frozen (Some z) = ready z (g.all_acked z.version w.ring.slots)
 
   greets_says : (set : Settings) (now : ℕ) (nodes : List ℕ) (w : Work) → Fine w → Fine (g.greet_all set now nodes w)
   greets_says set now [] w a = a
-  greets_says set now (node ∷ nodes) w a = greets_says set now nodes _ (plainly_says set now node w a)
+  greets_says set now (node ∷ nodes) w a = greets_says set now nodes (h.greet_plainly set now node w) (plainly_says set now node w a)
 
   sought_says : (set : Settings) (now : ℕ) (w : Work) → Fine w → Fine (g.place_sought set now w)
   unfolding g.place_sought
-  sought_says set now w a = says_counted m0 w _ a (search _)
+  sought_says set now w a = says_counted m0 w (g.search_by set now w (is_routing w.ring.phase)) a (search (is_routing w.ring.phase))
     where
       from : (o : Option ℕ) → Fine (g.seek_from o w)
       from None = a
       from (Some member) = a
 
       search : (t : Bool) → Fine (g.search_by set now w t)
-      search true = greets_says set now _ w a
-      search false = from _
+      search true = greets_says set now (near_nodes w.ring.routes set.near w.ring.accused) w a
+      search false = from w.ring.target
 
   timer_says : (set : Settings) (now : ℕ) (w : Work) → Fine w → Fine (g.timer_fired set now w)
   unfolding g.timer_fired
   timer_says set now w a =
+      let fires : Work = g.slots_fired set now slot_count w in
+      let gives : Work = d.then_unless_left g.freeze_given fires in
       let b = slots_says set now slot_count w a in
-      let e = says_then m0 g.freeze_given _ b (given_says _ b) in
-      says_then m0 (g.place_sought set now) _ e (sought_says set now _ e)
+      let e = says_then m0 g.freeze_given fires b (given_says fires b) in
+      says_then m0 (g.place_sought set now) gives e (sought_says set now gives e)
 
   -- frames
 
   frame_says : (set : Settings) (now : ℕ) (from : Who) (b : Body) (w : Work) → Fine w → Fine (m.frame_received set now from b w)
   unfolding m.frame_received
-  frame_says set now from b w a = says_counted m0 w _ a (row b)
+  frame_says set now from b w a = says_counted m0 w (m.frame_row set now from b w) a (row b)
     where
       row : (b : Body) → Fine (m.frame_row set now from b w)
       row (body.Hello mine) = hello_says set now from mine 1 set.lease w a
@@ -486,7 +512,7 @@ module _ (m0 : Who) where
   input_says set now (input.Frame z) w a = passed _
     where
       passed : (t : Bool) → Fine (s.frame_if set now z w t)
-      passed true = frame_says set now z.from z.body _ (heard_says now z.from w a)
+      passed true = frame_says set now z.from z.body (m.sender_heard now z.from w) (heard_says now z.from w a)
       passed false = a
 
 -- what a step of the ring says, where it has not left before
@@ -498,7 +524,7 @@ step_says set now i z h = by_left (is_left z.phase) h
     a = record { name = refl; owns = refl; leaves = h }
 
     by_fence : (t : Bool) → Says z.me (s.before_fence set now i (begun z) t)
-    by_fence true = says_leave z.me _ (begun z) a
+    by_fence true = says_leave z.me Fence (begun z) a
     by_fence false = input_says z.me set now i (begun z) a
 
     by_left : (t : Bool) → t ≡ false → Says z.me (s.step_if set now i (begun z) t)

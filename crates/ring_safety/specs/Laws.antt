@@ -1,5 +1,5 @@
 -- What the laws of this crate say, of whatever runs above the ring.
-use Rattle.std.specs.Prelude.{◌≡◌, ℕ, [], Some}
+use Rattle.std.specs.Prelude.{◌≡◌, ℕ, Bool, List, [], Some}
 use Rattle.fabric_terms.specs.declared.config.FabricConfig.{FabricConfig}
 use Rattle.fabric_terms.specs.Places.{has_left}
 use Rattle.fabric_terms.specs.Reports.{told}
@@ -10,6 +10,7 @@ use Rattle.ring_points.specs.Whos.{arbiter_actor}
 use Rattle.world_rules.specs.Arbiters.{ArbiterState}
 use Rattle.world_rules.specs.Maps.{at}
 use Rattle.world_rules.specs.Runs.{History, world_after, run_of}
+use Rattle.world_rules.specs.Schedules.{Valid}
 use Rattle.world_rules.specs.Uppers.{Upper}
 use Rattle.world_rules.specs.Worlds.{Running, kept_of}
 use Rattle.ring_safety.specs.Held.{owned_by}
@@ -29,5 +30,5 @@ LeaveIsTold a =
 -- a running arbitrator's table is that of its synced records
 abbrev pub TableIsKept : Upper → Type 0
 TableIsKept a =
-    (c : FabricConfig) (h : History) (arbiter : ℕ) (s : ArbiterState a) → at arbiter (world_after a c h).arbiters ≡ Some s →
+    (is_frame : List ℕ → Bool) (c : FabricConfig) (h : History) → Valid a is_frame c h → (arbiter : ℕ) (s : ArbiterState a) → at arbiter (world_after a c h).arbiters ≡ Some s →
     s.table ≡ accusations_after [] (kept_of (world_after a c h) (arbiter_actor arbiter))
