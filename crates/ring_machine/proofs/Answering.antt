@@ -192,6 +192,7 @@ module _ {c : Settings} {w : World} (inv : Invariant c w) (a : ℕ) (x y : Who) 
     unborn_place = inv.unborn_place;
     whole_ring = inv.whole_ring;
     not_started = inv.not_started;
+    no_zeroth = inv.no_zeroth;
     blank = inv.blank;
     clocks = inv.clocks;
     present = inv.present;

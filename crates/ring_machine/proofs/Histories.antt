@@ -41,6 +41,7 @@ module _ (c : Settings) where
         (λ i j. absurd (cc (j)));
     whole_ring = λ p h q. first_place p (λ o. o ≡ At (first_of c)) (λ i. refl) (λ i. absurd (cc (q, i)));
     not_started = λ x h. refl;
+    no_zeroth = λ x h. refl;
     blank = λ x h. refl;
     clocks = λ x time reading h. absurd (cc (h));
     present = λ x h. absurd (cc (h));

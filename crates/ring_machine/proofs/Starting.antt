@@ -87,6 +87,7 @@ module _ {c : Settings} {w : World} (inv : Invariant c w) (node reading : ℕ) w
     not_started =
         instance_cases (λ y i j. starts y.actor < y.instance → j.phase ≡ Unborn) (λ h. absurd (counted_here h))
         (λ y h. let rises = starts_rise y.actor in inv.not_started y (omega arith));
+    no_zeroth = instance_cases (λ y i j. y.instance ≡ 0 → j.phase ≡ Unborn) (λ h. absurd (omega arith)) inv.no_zeroth;
     blank = instance_cases (λ y i j. j.phase ≡ Unborn → j ≡ unborn) (λ h. absurd (cc (h))) inv.blank;
     clocks = instance_cases (λ y i j. (time read : ℕ) → j.phase ≡ Running → IsMember (time, read) j.pairs → Within c.bound (time, read) (w.time, j.reading))
         (λ time read h m.

@@ -24,6 +24,8 @@ pub record Invariant (c : Settings) (w : World) : Type 0 where
   pub whole_ring : (p : ℕ) → w.starts c.first ≡ 0 → is_point p ≡ true → w.place p ≡ At (first_of c)
   -- instances above the count of starts have not started
   pub not_started : (x : Who) → w.starts x.actor < x.instance → (w.instance x).phase ≡ Unborn
+  -- instances are counted from 1
+  pub no_zeroth : (x : Who) → x.instance ≡ 0 → (w.instance x).phase ≡ Unborn
   pub blank : (x : Who) → (w.instance x).phase ≡ Unborn → w.instance x ≡ unborn
   -- a running clock keeps its bound between each of its readings and the present one
   pub clocks : (x : Who) (time reading : ℕ) → (w.instance x).phase ≡ Running → IsMember (time, reading) (w.instance x).pairs →
