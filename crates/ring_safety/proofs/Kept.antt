@@ -33,6 +33,15 @@ without_cases {X = X} k es q y h = go (k == q) refl (sym (at-without k es q) ∙
     go true e g = absurd (cc (g))
     go false e g = (e, g)
 
+pub at_put_same : {X : Type 0} (k : ℕ) (x : X) (es : List (ℕ × X)) → at k (put k x es) ≡ Some x
+at_put_same k x es = at-put k x es k ∙ ap (λ b. cond b (Some x) (at k es)) (eq-eqb k k refl)
+
+pub at_put_other : {X : Type 0} (k : ℕ) (x : X) (es : List (ℕ × X)) (q : ℕ) → (k == q) ≡ false → at q (put k x es) ≡ at q es
+at_put_other k x es q h = at-put k x es q ∙ ap (λ b. cond b (Some x) (at q es)) h
+
+pub at_without_other : {X : Type 0} (k : ℕ) (es : List (ℕ × X)) (q : ℕ) → (k == q) ≡ false → at q (without k es) ≡ at q es
+at_without_other k es q h = at-without k es q ∙ ap (λ b. cond b None (at q es)) h
+
 -- the records after an outcome
 pub kept_after : {a : Upper} (w : World a) (who : Who) (records : List Record) (sent : List (Who × Body)) (q : ℕ) →
     kept_of (with_outcome w who records sent) q ≡ cond (who.actor == q) (kept_of w who.actor ++ records) (kept_of w q)
@@ -54,6 +63,17 @@ kept_there w who records sent q h = kept_after w who records sent q ∙ ap (λ b
 
 pub boots_append : (rs more : List Record) → boots_of (rs ++ more) ≡ boots_of rs + boots_of more
 boots_append rs more = sum_by-append (λ r. cond (is_boot r) 1 0) rs more
+
+-- records without a start leave the starts of an actor
+pub boots_still : {a : Upper} (w : World a) (who : Who) (records : List Record) (sent : List (Who × Body)) → boots_of records ≡ 0 → (q : ℕ) →
+    boots_of (kept_of (with_outcome w who records sent) q) ≡ boots_of (kept_of w q)
+boots_still w who records sent none q = go (who.actor == q) refl
+  where
+    go : (b : Bool) → (who.actor == q) ≡ b → boots_of (kept_of (with_outcome w who records sent) q) ≡ boots_of (kept_of w q)
+    go true h =
+        subst (λ q. boots_of (kept_of (with_outcome w who records sent) q) ≡ boots_of (kept_of w q)) (eqb-true who.actor q h)
+        (ap boots_of (kept_here w who records sent) ∙ (let sum = boots_append (kept_of w who.actor) records in let e = none in omega arith))
+    go false h = ap boots_of (kept_there w who records sent q h)
 
 -- records that are not the ring's count no start and keep no accusation
 

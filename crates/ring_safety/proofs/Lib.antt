@@ -6,3 +6,5 @@ pub mod Steps
 pub mod ArbiterSteps
 pub mod Orderly
 pub mod Tables
+pub mod Moves
+pub mod Follows

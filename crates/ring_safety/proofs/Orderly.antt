@@ -31,8 +31,8 @@ use Rattle.ring_safety.specs.Above.{StaysAbove}
 use Rattle.ring_safety.specs.Held.{owned_by}
 use Rattle.ring_safety.specs.Laws.{LastOwnIsHeld, LeaveIsTold}
 use Rattle.ring_safety.proofs.Happens.{Cases, CameTo, by_cases}
-use Rattle.ring_safety.proofs.Kept.{put_cases, without_cases, kept_here, kept_there, boots_append, no_boots}
-use Rattle.ring_safety.proofs.Steps.{Acted, Begun, node_acted-told, node_begun-told, begun_boots, begun_spent}
+use Rattle.ring_safety.proofs.Kept.{put_cases, without_cases, kept_here, kept_there, boots_append, boots_still, no_boots}
+use Rattle.ring_safety.proofs.Steps.{Acted, Begun, node_acted-told, node_begun-told, begun_boots, begun_spent, begun_positive}
 use Rattle.ring_safety.proofs.ArbiterSteps.{Answered, arbiter_stepped}
 
 -- a leave is told on, or was told before
@@ -79,6 +79,7 @@ cond_same false x y e = refl
 -- who runs under each number, and what was told
 pub record Orderly {a : Upper} (c : FabricConfig) (w : World a) (run : Run) : Type 0 where
   pub name : (node : ℕ) (s : Running a) → at node w.nodes ≡ Some s → s.node.ring.me ≡ node_instance node (boots_of (kept_of w node))
+  pub counted : (node : ℕ) (s : Running a) → at node w.nodes ≡ Some s → 0 < boots_of (kept_of w node)
   pub own : (node : ℕ) (s : Running a) → at node w.nodes ≡ Some s → own_of s.node.ring.me run ≡ Some (owned_by c s.node.ring)
   pub left : (node : ℕ) (s : Running a) → at node w.nodes ≡ Some s → has_left s.node.ring.me (told run) ≡ is_left s.node.ring.phase
   pub fresh : (x : Who) → boots_of (kept_of w x.actor) < x.instance → has_left x (told run) ≡ false
@@ -92,8 +93,13 @@ module _ (a : Upper) (c : FabricConfig) where
       d.state.ring.me ≡ node_instance node (boots_of (kept_of w node ++ d.records)) →
       last_own d.told (own_of d.state.ring.me run) ≡ Some (owned_by c d.state.ring) →
       (list_any tells_leave d.told || has_left d.state.ring.me (told run)) ≡ is_left d.state.ring.phase →
-      Orderly c w run → After line run (node_acted a w node reading pairs d)
-  acted line run w node reading pairs d name own left o = record {
+      0 < boots_of (kept_of w node ++ d.records) → Orderly c w run → After line run (node_acted a w node reading pairs d)
+  acted line run w node reading pairs d name own left positive o = record {
+    counted = λ q s h.
+        put_cases (λ (z : Running a). 0 < boots_of (kept_of (node_acted a w node reading pairs d).world q)) node
+        (record { node = d.state; reading = reading; pairs = pairs }) w.nodes q s h
+        (λ same. subst (λ (k : List Record). 0 < boots_of k) (kept_at q same) positive)
+        (λ apart there. subst (λ (k : List Record). 0 < boots_of k) (sym (kept_apart q apart)) (o.counted q s there));
     name = λ q s h.
         put_cases (λ (z : Running a). z.node.ring.me ≡ node_instance q (boots_of (kept_of (node_acted a w node reading pairs d).world q))) node (record { node = d.state; reading = reading; pairs = pairs }) w.nodes q s h
         (λ same. name ∙ (λ i. node_instance (same i) (boots_of (kept_at q same i))))
@@ -154,6 +160,7 @@ module _ (a : Upper) (c : FabricConfig) where
       ((x : Who) → has_left x (told_in st.entry (told run)) ≡ has_left x (told run)) →
       Orderly c w run → After line run st
   aside line run w st nodes boots own left o = record {
+    counted = λ q s h. let r = nodes q s h in let e = boots q in let lt = o.counted q r.0 r.1 in omega arith;
     name = λ q s h.
         let r = nodes q s h in
         ap (λ (z : NodeState a). z.ring.me) r.2 ∙ (o.name q r.0 r.1 ∙ (λ i. node_instance q (sym (boots q) i)));
@@ -191,7 +198,7 @@ module _ (a : Upper) (c : FabricConfig) where
         acted line run w node reading ((w.time, reading) ∷ []) d
         (b.name ∙ (λ i. node_instance node ((count ∙ sym (boots_append (kept_of w node) d.records)) i)))
         (b.own (own_of d.state.ring.me run))
-        (by_spent (is_spent (kept_of w node)) refl) o
+        (by_spent (is_spent (kept_of w node)) refl) (subst (λ n. 0 < n) (count ∙ sym (boots_append (kept_of w node) d.records)) (begun_positive (kept_of w node))) o
       where
         by_spent : (t : Bool) → is_spent (kept_of w node) ≡ t → (list_any tells_leave d.told || has_left d.state.ring.me (told run)) ≡ is_left d.state.ring.phase
         by_spent true h = ap (λ t. t || has_left d.state.ring.me (told run)) (spent h) ∙ sym (sym b.leaves ∙ spent h)
@@ -207,7 +214,8 @@ module _ (a : Upper) (c : FabricConfig) where
         acted line run w node s.reading s.pairs d
         (t.name ∙ (o.name node s there ∙ (λ i. node_instance node (count i))))
         (ap (λ x. last_own d.told (own_of x run)) t.name ∙ (ap (last_own d.told) (o.own node s there) ∙ t.own))
-        ((λ i. list_any tells_leave d.told || (ap (λ x. has_left x (told run)) t.name ∙ o.left node s there) i) ∙ t.leaves) o
+        ((λ i. list_any tells_leave d.told || (ap (λ x. has_left x (told run)) t.name ∙ o.left node s there) i) ∙ t.leaves)
+        (let lt = o.counted node s there in let e = count in omega arith) o
       where
         count : boots_of (kept_of w node) ≡ boots_of (kept_of w node ++ d.records)
         count = let sum = boots_append (kept_of w node) d.records in let none = no_boots d.records t.apart in omega arith
@@ -220,14 +228,7 @@ module _ (a : Upper) (c : FabricConfig) where
         (λ x. ap (λ rs. has_left x (told_on (arbiter_who arbiter) rs (told run))) t.silent) o
       where
         boots : (q : ℕ) → boots_of (kept_of (arbiter_acted a w arbiter d).world q) ≡ boots_of (kept_of w q)
-        boots q = go (arbiter_actor arbiter == q) refl
-          where
-            go : (b : Bool) → (arbiter_actor arbiter == q) ≡ b → boots_of (kept_of (arbiter_acted a w arbiter d).world q) ≡ boots_of (kept_of w q)
-            go true h =
-                subst (λ q. boots_of (kept_of (arbiter_acted a w arbiter d).world q) ≡ boots_of (kept_of w q)) (eqb-true (arbiter_actor arbiter) q h)
-                (ap boots_of (kept_here w (arbiter_who arbiter) d.records d.sent)
-                ∙ (let sum = boots_append (kept_of w (arbiter_actor arbiter)) d.records in let none = t.boots in omega arith))
-            go false h = ap boots_of (kept_there w (arbiter_who arbiter) d.records d.sent q h)
+        boots = boots_still w (arbiter_who arbiter) d.records d.sent t.boots
 
     silently : (x who : Who) (rs : List Report) → last_own rs (own_of x run) ≡ own_of x run → cond (same_who who x) (last_own rs (own_of x run)) (own_of x run) ≡ own_of x run
     silently x who rs h = cond_same (same_who who x) (last_own rs (own_of x run)) (own_of x run) h
@@ -257,6 +258,7 @@ module _ (a : Upper) (c : FabricConfig) where
   pub orderly : StaysAbove a → (h : History) → Orderly c (world_after a c h) (run_of a c h)
   orderly stays [] = record {
     name = λ node s there. absurd (cc (there));
+    counted = λ node s there. absurd (cc (there));
     own = λ node s there. absurd (cc (there));
     left = λ node s there. absurd (cc (there));
     fresh = λ x lt. refl;

@@ -1,8 +1,9 @@
 -- What a whole node records and tells in a step and at its start.
-use Rattle.std.proofs.Common.{◌≡◌, ℕ, ◌+◌, Bool, true, false, cond, not, ◌&&◌, ◌||◌, List, [], ◌∷◌, ◌++◌, Option, Some, None, refl, sym, ap, ◌∙◌, subst, arith}
+use Rattle.std.proofs.Common.{◌≡◌, ℕ, ◌+◌, Bool, true, false, cond, not, ◌&&◌, ◌||◌, ◌<◌, List, [], ◌∷◌, ◌++◌, Option, Some, None, refl, sym, ap, ◌∙◌, subst, arith}
 use Rattle.std.specs.Prelude.{◌==◌}
 use Rattle.std.specs.List.{list_any}
-use Rattle.std.proofs.lemmas.Bool.{and_parts, eqb-true}
+use Rattle.std.proofs.lemmas.Bool.{and_parts, eqb-true, leb-true}
+use Rattle.token_core.specs.Tokens.{last_number}
 use Rattle.std.proofs.lemmas.List.Folds.{list_any-append}
 use Rattle.fabric_terms.specs.declared.config.FabricConfig.{FabricConfig}
 use Rattle.fabric_terms.specs.declared.record.Record.{Record}
@@ -141,7 +142,7 @@ or_false : (b : Bool) → (b || false) ≡ b
 or_false true = refl
 or_false false = refl
 
-acted_told : (c : FabricConfig) (node : ℕ) (old : Ring) (k : Work) (more : List Report) (records : List Record) → Stepped old k →
+pub acted_told : (c : FabricConfig) (node : ℕ) (old : Ring) (k : Work) (more : List Report) (records : List Record) → Stepped old k →
     list_any is_ring_report more ≡ false → list_any is_ring_record records ≡ false →
     Acted c old k.ring records (k.told ++ more ++ own_after (settings_of c node) old k.ring)
 acted_told c node old k more records step tells recs = with_last (own_after (settings_of c node) old k.ring) (own_told c node old k.ring) (own_stays (settings_of c node) old k.ring)
@@ -181,7 +182,7 @@ pub record Begun (c : FabricConfig) (me : Who) (new : Ring) (told : List Report)
   pub own : (before : Option Owned) → last_own told before ≡ Some (owned_by c new)
   pub leaves : list_any tells_leave told ≡ is_left new.phase
 
-started_as : (c : FabricConfig) (me : Who) (spent : Bool) → let k = node_started c me spent in (k.ring.me ≡ me) × (list_any tells_leave k.told ≡ is_left k.ring.phase)
+pub started_as : (c : FabricConfig) (me : Who) (spent : Bool) → let k = node_started c me spent in (k.ring.me ≡ me) × (list_any tells_leave k.told ≡ is_left k.ring.phase)
 unfolding node_started
 started_as c me true = (refl, refl)
 started_as c me false = by_first (me.actor == c.first && me.instance == 1)
@@ -237,6 +238,14 @@ begun_boots a c node records = go (is_spent records) refl
         by_spent : (b : Bool) → b ≡ false → cond b (boots_of records) (boots_of records + 1) ≡ boots_of records + boots_of (cond b [] (Rattle.fabric_terms.specs.declared.record.Record.TheVariants.Boot (instance_begun records) ∷ []))
         by_spent false e = refl
         by_spent true e = absurd (cc (e))
+
+-- instances are counted from 1
+pub begun_positive : (records : List Record) → 0 < instance_begun records
+begun_positive records = go (is_spent records) refl
+  where
+    go : (b : Bool) → is_spent records ≡ b → 0 < cond b (boots_of records) (boots_of records + 1)
+    go true h = let le = leb-true last_number (boots_of records) h in omega arith
+    go false h = omega arith
 
 pub begun_accuses : (a : Upper) (c : FabricConfig) (node : ℕ) (records : List Record) (table : Accusations) →
     accusations_after table (node_begun a c node records).records ≡ table
