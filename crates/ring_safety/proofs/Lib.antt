@@ -8,3 +8,4 @@ pub mod Orderly
 pub mod Tables
 pub mod Moves
 pub mod Follows
+pub mod NodeFollows
