@@ -9,3 +9,4 @@ pub mod Tables
 pub mod Moves
 pub mod Follows
 pub mod NodeFollows
+pub mod ActFollows

@@ -63,7 +63,6 @@ pub record Follow {a : Upper} (c : FabricConfig) (w : World a) (t : Told) (m v :
   pub tables : v.first_accuser ≡ m.first_accuser
   pub accuses : (z : Accusations) → accusations_after z d.records ≡ z
   pub says : (s : Who × Body) → IsMember s d.sent → Known c.lease v.sent (record { from = x; to = s.0; body = s.1 })
-  pub next : (m.instance x).token.next_flight ≤ (v.instance x).token.next_flight
   pub moved : MovedBy x d.told (m.instance x).token.next_flight (places_of (first_of (machine_of c)) m) (v.instance x).token.next_flight (places_of (first_of (machine_of c)) v)
   pub dies : (y : Who) → Dead (machine_of c) (m.instance y) → Dead (machine_of c) (v.instance y)
   pub over : AreOver (machine_of c) v d.told

@@ -1,5 +1,5 @@
 use Rattle.ring_safety.proofs.Tables.{table_is_kept_lem}
-use Rattle.ring_safety.proofs.NodeFollows.{node_follows}
+use Rattle.ring_safety.proofs.ActFollows.{acts_follow}
 use Rattle.ring_safety.proofs.laws.table_is_kept.Goals as goal
 
 pub returns : goal.returns
