@@ -10,3 +10,6 @@ pub mod Moves
 pub mod Follows
 pub mod NodeFollows
 pub mod ActFollows
+pub mod BeginFollows
+pub mod StopFollows
+pub mod TickFollows
