@@ -24,7 +24,7 @@ first_boots accuser victim None None = refl
 first_boots accuser victim None (Some z) = refl
 first_boots accuser victim (Some z) o = refl
 
-kept_boots : (table : Accusations) (accuser victim : Who) → boots_of (accusation_kept table accuser victim) ≡ 0
+pub kept_boots : (table : Accusations) (accuser victim : Who) → boots_of (accusation_kept table accuser victim) ≡ 0
 unfolding accusation_kept
 kept_boots table accuser victim = first_boots accuser victim (first_accuser accuser table) (first_accuser victim table)
 

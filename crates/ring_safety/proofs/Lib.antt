@@ -13,3 +13,4 @@ pub mod ActFollows
 pub mod BeginFollows
 pub mod StopFollows
 pub mod TickFollows
+pub mod RuleFollows
