@@ -14,3 +14,5 @@ pub mod BeginFollows
 pub mod StopFollows
 pub mod TickFollows
 pub mod RuleFollows
+pub mod Followed
+pub mod Clocks
