@@ -16,3 +16,5 @@ pub mod TickFollows
 pub mod RuleFollows
 pub mod Followed
 pub mod Clocks
+pub mod Holders
+pub mod Safe
