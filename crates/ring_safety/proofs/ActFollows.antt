@@ -1,26 +1,19 @@
 -- The machine follows a step of a node.
-use Rattle.std.proofs.Common.{◌≡◌, ℕ, ◌+◌, ◌<◌, ◌≤◌, Bool, true, false, cond, ◌||◌, List, [], ◌∷◌, ◌++◌, Option, Some, None, refl, sym, ap, ◌∙◌, subst, inl, inr, ⊎_elim, arith}
-use Rattle.std.specs.Prelude.{◌==◌}
+use Rattle.std.proofs.Common.{◌≡◌, ℕ, ◌<◌, Bool, true, false, ◌||◌, ◌++◌, Some, refl, sym, ap, ◌∙◌, subst, ⊎_elim, arith}
 use Rattle.std.specs.List.{list_any}
-use Rattle.std.proofs.lemmas.List.Folds.{list_any-append}
-use Rattle.drift_clock.specs.Within.{Pair}
 use Rattle.fabric_terms.specs.declared.config.FabricConfig.{FabricConfig}
-use Rattle.fabric_terms.specs.declared.message.Body.{Body}
-use Rattle.fabric_terms.specs.declared.message.Message.{Message}
-use Rattle.fabric_terms.specs.declared.report.Report.{Report}
-use Rattle.fabric_terms.specs.Places.{Place, tells_leave}
-use Rattle.fabric_terms.specs.Reports.{Told, told_in, told_on}
+use Rattle.fabric_terms.specs.Places.{tells_leave}
+use Rattle.fabric_terms.specs.Reports.{Told, told_in}
 use Rattle.join_phases.specs.Phases.{is_left}
 use Rattle.ring_points.specs.declared.who.Who.{Who}
 use Rattle.ring_points.specs.Whos.{node_instance}
-use Rattle.ring_machine.specs.Members.{IsMember}
 use Rattle.ring_machine.proofs.Lists.{IsMember-append_cases}
 use Rattle.ring_machine.specs.World as machine
 use Rattle.ring_machine.specs.World.{first_of}
 use Rattle.ring_machine.specs.Events as events
 use Rattle.ring_refines.specs.Images.{machine_of}
 use Rattle.ring_refines.specs.Laws.{StepIsDeeds, Comes}
-use Rattle.ring_refines.specs.Moves.{places_of, MovedBy, AreOver}
+use Rattle.ring_refines.specs.Moves.{places_of}
 use Rattle.ring_refines.specs.Refined.{Refined}
 use Rattle.ring_rules.specs.declared.input.Input.{Input}
 use Rattle.ring_rules.specs.declared.input.Input.TheVariants as input
@@ -29,13 +22,13 @@ use Rattle.ring_rules.specs.Rings.{Ring, Settings, Work, settings_of}
 use Rattle.ring_rules.specs.Steps.{ring_step}
 use Rattle.world_rules.specs.Events.{node_acts}
 use Rattle.world_rules.specs.Maps.{at}
-use Rattle.world_rules.specs.Nodes.{NodeState, above_acts, both_did, boots_of, node_step}
+use Rattle.world_rules.specs.Nodes.{NodeState, above_acts, both_did, boots_of}
 use Rattle.world_rules.specs.Uppers.{Upper, Did}
 use Rattle.world_rules.specs.Worlds as real
 use Rattle.world_rules.specs.Worlds.{World, kept_of, node_acted}
 use Rattle.world_rules.proofs.Rows.{node_step-is}
 use Rattle.ring_safety.specs.Above.{KeepsOut, StaysAbove, is_ring_frame}
-use Rattle.ring_safety.proofs.Follows.{Follows, Known, ShowsClock, known_said, known_other, all_said, none_passes}
+use Rattle.ring_safety.proofs.Follows.{Follows, known_said, known_other, all_said, none_passes}
 use Rattle.ring_safety.proofs.Happens.{CameTo}
 use Rattle.ring_safety.proofs.Kept.{boots_still, no_boots, no_accusations}
 use Rattle.ring_safety.proofs.Moves.{moves, none_moves, none_over, moved_then, over_append, others_move}
@@ -125,7 +118,7 @@ module _ (a : Upper) (c : FabricConfig) (w : World a) (t : Told) (m : machine.Wo
       let u : Did a.Above = above_acts a c s.reading i s.node k.ring in
       let out = acts_out a stays c s.reading i s.node k.ring in
       let r : Refined c m s.node.ring.me k =
-          step c s.node.ring.me.actor s.reading m s.node.ring.me s.node.ring i sound f.inv (f.shows node s there) (λ stay. (f.clock node s there stay).reads) (comes node i came) in
+      step c s.node.ring.me.actor s.reading m s.node.ring.me s.node.ring i sound f.inv (f.shows node s there) (λ stay. (f.clock node s there stay).reads) (comes node i came) in
       let acted = acted_told c s.node.ring.me.actor s.node.ring k u.told u.records (ring_stepped set s.reading i s.node.ring) out.tells out.records in
       subst (λ (d : Did (NodeState a)). Followed c (node_acted a w node s.reading s.pairs d).world (told_in (node_acted a w node s.reading s.pairs d).entry t))
       (sym (node_step-is a c s.reading i s.node))

@@ -1,5 +1,5 @@
 -- What a whole arbitrator records and tells in a step.
-use Rattle.std.proofs.Common.{◌≡◌, ℕ, Bool, true, false, List, [], ◌∷◌, Option, Some, None, refl, sym, ap, ◌∙◌}
+use Rattle.std.proofs.Common.{◌≡◌, ℕ, Bool, true, false, List, [], Option, Some, None, refl, sym}
 use Rattle.fabric_terms.specs.declared.config.FabricConfig.{FabricConfig}
 use Rattle.fabric_terms.specs.declared.message.Body.{Body}
 use Rattle.fabric_terms.specs.declared.message.Body.TheVariants as body
@@ -10,8 +10,8 @@ use Rattle.ring_points.specs.declared.who.Who.{Who}
 use Rattle.ring_rules.specs.Arbiters.{Accusations, accusation_kept, accusations_after, first_accuser, first_kept, takes_frame}
 use Rattle.world_rules.specs.Arbiters.{ArbiterState, arbiter_step, arbiter_takes}
 use Rattle.world_rules.specs.Nodes.{boots_of}
-use Rattle.world_rules.specs.Uppers.{Upper, Did}
-use Rattle.ring_safety.specs.Above.{KeepsOut, StaysAbove}
+use Rattle.world_rules.specs.Uppers.{Upper}
+use Rattle.ring_safety.specs.Above.{StaysAbove}
 use Rattle.ring_safety.proofs.Kept.{no_boots, no_accusations}
 
 pub record Answered (old new : Accusations) (records : List Record) (told : List Report) : Type 0 where

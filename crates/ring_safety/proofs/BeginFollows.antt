@@ -1,19 +1,18 @@
 -- The machine follows the start of a node.
-use Rattle.std.proofs.Common.{◌≡◌, ℕ, ◌+◌, ◌<◌, Bool, true, false, cond, not, ◌&&◌, List, [], ◌∷◌, ◌++◌, Option, Some, None, refl, sym, ap, ◌∙◌, subst, arith}
+use Rattle.std.proofs.Common.{◌≡◌, ℕ, ◌+◌, Bool, true, false, cond, not, ◌&&◌, ◌||◌, List, [], ◌∷◌, ◌++◌, Some, refl, sym, ap, ◌∙◌, subst, arith}
 use Rattle.std.specs.Prelude.{◌==◌, is_some}
 use Rattle.std.specs.List.{list_any}
-use Rattle.std.proofs.lemmas.Bool.{and_parts, not-true, eqb-true}
+use Rattle.std.proofs.lemmas.Bool.{and_parts, both_ways, not-true, eqb-true}
 use Rattle.std.proofs.lemmas.List.Folds.{list_any-append}
 use Rattle.fabric_terms.specs.declared.config.FabricConfig.{FabricConfig}
 use Rattle.fabric_terms.specs.declared.record.Record.{Record}
 use Rattle.fabric_terms.specs.declared.record.Record.TheVariants.{Boot}
 use Rattle.fabric_terms.specs.declared.report.Report.TheVariants.{Own}
-use Rattle.fabric_terms.specs.Places.{Place}
 use Rattle.fabric_terms.specs.Reports.{Told, told_in}
 use Rattle.join_phases.specs.Phases.{is_left}
 use Rattle.ring_points.specs.declared.who.Who.{Who}
-use Rattle.ring_points.specs.Whos.{same_who, node_instance}
-use Rattle.ring_machine.specs.Ends.{replaced, updated}
+use Rattle.ring_points.specs.Whos.{node_instance}
+use Rattle.ring_machine.specs.Ends.{updated}
 use Rattle.ring_machine.specs.World as machine
 use Rattle.ring_machine.specs.World.{Instance, Running, Unborn, first_of, born}
 use Rattle.ring_machine.specs.Events as events
@@ -25,7 +24,8 @@ use Rattle.ring_refines.specs.Laws.{StartIsShown, SpentIsLeft}
 use Rattle.ring_refines.specs.Moves.{places_of, MovedBy}
 use Rattle.ring_refines.specs.Shown.{Shows}
 use Rattle.ring_rules.specs.Arbiters.{Accusations, accusations_after}
-use Rattle.ring_rules.specs.Rings.{Ring, Work, settings_of}
+use Rattle.ring_rules.specs.Rings.{Work}
+use Rattle.ring_rules.specs.Slots.{fence_of}
 use Rattle.ring_rules.specs.Starts.{node_started, start_first}
 use Rattle.world_rules.specs.Maps.{at}
 use Rattle.world_rules.specs.Nodes.{NodeState, boot_kept, boots_of, begun_as, instance_begun, is_spent, node_begun}
@@ -84,7 +84,7 @@ nobody_runs c w node reading h s there =
     cc (stopped, runs)
 
 module _ (a : Upper) (c : FabricConfig) (w : World a) (t : Told) (m : machine.World) (n : Numbered w) (f : Follows c w t m) (node reading : ℕ)
-  (alone : (s : real.Running a) → at node w.nodes ≡ Some s → ⊥) where
+    (alone : (s : real.Running a) → at node w.nodes ≡ Some s → ⊥) where
   abbrev recs : List Record
   recs = kept_of w node
 
@@ -98,7 +98,7 @@ module _ (a : Upper) (c : FabricConfig) (w : World a) (t : Told) (m : machine.Wo
   d = begun_as a c me recs k
 
   told_moves : list_any moves d.told ≡ false
-  told_moves = list_any-append moves k.told (Own k.ring.token.ranges (Rattle.ring_rules.specs.Slots.fence_of c.answer k.ring.slots) ∷ []) ∙ ap (λ b. Rattle.std.specs.Prelude.◌||◌ b false) (started_moves c me (is_spent recs))
+  told_moves = list_any-append moves k.told (Own k.ring.token.ranges (fence_of c.answer k.ring.slots) ∷ []) ∙ ap (λ b. b || false) (started_moves c me (is_spent recs))
 
   -- the starts of each node after it
   boots_after : (x : Who) → k.ring.me ≡ x → x.actor ≡ node → (b : Bool) → is_spent recs ≡ b → (q : ℕ) →
@@ -129,7 +129,7 @@ module _ (a : Upper) (c : FabricConfig) (w : World a) (t : Told) (m : machine.Wo
     time = f.time;
     starts = λ q. f.starts q ∙ sym (boots_after me (started_as c me (is_spent recs)).0 refl true h q ∙ same (node == q) q refl);
     shows = subst (λ b. Shows c m me (node_started c me b).ring) (sym h) (spent c m me (λ runs. let r = f.runs me runs in alone r.state r.here));
-    clock = λ stay. absurd (Rattle.std.proofs.lemmas.Bool.both_ways (is_left k.ring.phase) stay (ap (λ b. is_left (node_started c me b).ring.phase) h ∙ spent_left c me));
+    clock = λ stay. absurd (both_ways (is_left k.ring.phase) stay (ap (λ b. is_left (node_started c me b).ring.phase) h ∙ spent_left c me));
     others = λ y apart. refl;
     sent = λ g e. e;
     tables = refl;

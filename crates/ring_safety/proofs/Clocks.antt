@@ -1,22 +1,22 @@
 -- The clocks of a run are those of the running nodes, each under its number once.
-use Rattle.std.proofs.Common.{◌≡◌, ℕ, ◌+◌, ◌<◌, ◌≤◌, Bool, true, false, cond, ◌&&◌, List, [], ◌∷◌, Option, Some, None, refl, sym, ap, ◌∙◌, subst, arith}
+use Rattle.std.proofs.Common.{◌≡◌, ℕ, ◌+◌, ◌≤◌, Bool, true, false, cond, List, [], ◌∷◌, Some, refl, sym, ap, ◌∙◌, arith}
 use Rattle.std.specs.Prelude.{◌==◌, map, nat_le}
 use Rattle.std.specs.List.{find}
 use Rattle.std.specs.Option.{option_map}
-use Rattle.std.proofs.lemmas.Bool.{and_parts, eqb-true, eq-eqb, leb-true}
+use Rattle.std.proofs.lemmas.Bool.{and_parts, and_from, eqb-true, eq-eqb, leb-true}
 use Rattle.std.proofs.lemmas.Bool.Decides.{nat_tests}
 use Rattle.fabric_terms.specs.declared.config.FabricConfig.{FabricConfig}
 use Rattle.fabric_terms.specs.declared.event.Event.{Event}
-use Rattle.fabric_terms.specs.Runs.{Clocks, Run, clocks_of, reading_of}
+use Rattle.fabric_terms.specs.Runs.{clocks_of, reading_of}
 use Rattle.ring_points.specs.declared.who.Who.{Who}
 use Rattle.ring_points.specs.Whos.{same_who}
 use Rattle.ring_machine.proofs.Whos.{same_who-true}
-use Rattle.world_rules.specs.Events.{node_stops, ticked, ticks}
-use Rattle.world_rules.specs.Maps.{at, put, without, rises, rises_from}
+use Rattle.world_rules.specs.Events.{ticked}
+use Rattle.world_rules.specs.Maps.{at, rises, rises_from}
 use Rattle.world_rules.specs.Nodes.{NodeState, node_begun, node_step}
 use Rattle.world_rules.specs.Runs.{History, world_after, run_of}
 use Rattle.world_rules.specs.Uppers.{Upper, Did}
-use Rattle.world_rules.specs.Worlds.{World, Running, Stepped, clocks_in, kept_of, node_acted}
+use Rattle.world_rules.specs.Worlds.{World, Running, clocks_in, kept_of}
 use Rattle.world_rules.proofs.Maps.{rises-put, rises-without}
 use Rattle.ring_safety.proofs.Happens.{Cases, by_cases}
 
@@ -24,7 +24,7 @@ ticked_rises : {a : Upper} (time : ℕ) (rs : List (ℕ × ℕ)) (low : ℕ) (es
 ticked_rises time rs low [] h = refl
 ticked_rises {a = a} time rs low (e ∷ es) h =
     let parts = and_parts (nat_le low e.0) (rises_from (e.0 + 1) es) h in
-    Rattle.std.proofs.lemmas.Bool.and_from (nat_le low e.0) (rises_from (e.0 + 1) (map (ticked {a = a} time rs) es)) parts.0 (ticked_rises {a = a} time rs (e.0 + 1) es parts.1)
+    and_from (nat_le low e.0) (rises_from (e.0 + 1) (map (ticked {a = a} time rs) es)) parts.0 (ticked_rises {a = a} time rs (e.0 + 1) es parts.1)
 
 module _ (a : Upper) (c : FabricConfig) where
   rising_cases : (w : World a) (e : Event) → rises w.nodes ≡ true → Cases a c w e (λ st. rises st.world.nodes ≡ true)

@@ -1,13 +1,11 @@
 -- After every valid history a world of the machine follows the real one.
-use Rattle.std.proofs.Common.{◌≡◌, ℕ, ◌+◌, ◌<◌, Bool, true, false, cond, List, [], ◌∷◌, Option, Some, None, refl, sym, ap, ◌∙◌, subst, arith}
+use Rattle.std.proofs.Common.{◌≡◌, ℕ, Bool, true, List, [], ◌∷◌, Some, refl, sym, ◌∙◌, subst}
 use Rattle.std.proofs.lemmas.Bool.{cond_both}
 use Rattle.fabric_terms.specs.declared.config.FabricConfig.{FabricConfig}
 use Rattle.fabric_terms.specs.declared.event.Event.{Event}
-use Rattle.fabric_terms.specs.declared.event.Event.TheVariants.{Start, Tick}
 use Rattle.fabric_terms.specs.declared.report.Report.TheVariants.{Stopped}
 use Rattle.fabric_terms.specs.Places.{With}
 use Rattle.fabric_terms.specs.Reports.{Told, told, told_in}
-use Rattle.fabric_terms.specs.Sound as fabric
 use Rattle.ring_machine.specs.Points.{is_point}
 use Rattle.ring_machine.specs.World as machine
 use Rattle.ring_machine.specs.World.{first_of}
@@ -27,9 +25,9 @@ use Rattle.world_rules.proofs.Rows.{is_there-start, is_there-tick, keeps_bound-t
 use Rattle.ring_safety.specs.Above.{StaysAbove}
 use Rattle.ring_safety.proofs.ActFollows.{Followed, Numbered, acts_follow}
 use Rattle.ring_safety.proofs.BeginFollows.{begins_follow, nobody_runs}
-use Rattle.ring_safety.proofs.Follows.{Follows, sound_machine}
+use Rattle.ring_safety.proofs.Follows.{Follows}
 use Rattle.ring_safety.proofs.Happens.{Cases, by_cases}
-use Rattle.ring_safety.proofs.Orderly.{Orderly, orderly}
+use Rattle.ring_safety.proofs.Orderly.{orderly}
 use Rattle.ring_safety.proofs.RuleFollows.{rules_follow}
 use Rattle.ring_safety.proofs.StopFollows.{arbiters_follow, silent_follows, stops_follow}
 use Rattle.ring_safety.proofs.Tables.{Tabled, tabled}

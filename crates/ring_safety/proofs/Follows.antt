@@ -1,6 +1,6 @@
 -- A world of the machine that follows the real one, and what of it stays while others act.
-use Rattle.std.proofs.Common.{◌≡◌, ℕ, ◌+◌, ◌-◌, ◌<◌, Bool, true, false, cond, ◌||◌, List, [], ◌∷◌, ◌++◌, Option, Some, None, refl, sym, ap, ◌∙◌, subst, ◌⊎◌, inl, inr, ⊎_elim, arith}
-use Rattle.std.specs.Prelude.{◌==◌, length}
+use Rattle.std.proofs.Common.{◌≡◌, ℕ, ◌<◌, Bool, true, false, ◌||◌, List, [], ◌∷◌, Option, Some, None, refl, sym, ap, ◌∙◌, subst, ◌⊎◌, inl, inr, ⊎_elim}
+use Rattle.std.specs.Prelude.{length}
 use Rattle.std.specs.List.{list_any}
 use Rattle.std.proofs.lemmas.Bool.{both_ways}
 use Rattle.fabric_terms.specs.declared.config.FabricConfig.{FabricConfig}
@@ -22,7 +22,7 @@ use Rattle.ring_machine.specs.Invariant.{Invariant}
 use Rattle.ring_refines.specs.Images.{machine_of, Posted, IsSent, frame_of, is_ruling}
 use Rattle.ring_refines.specs.Moves.{places_of}
 use Rattle.ring_refines.specs.Refined.{Said, AllSaid}
-use Rattle.ring_refines.specs.Shown.{Shows, ShowsAs, ShowsInstance, ShowsLeft}
+use Rattle.ring_refines.specs.Shown.{Shows, ShowsAs, ShowsInstance}
 use Rattle.ring_refines.proofs.Changes.{shows_later}
 use Rattle.ring_rules.specs.Arbiters.{first_accuser}
 use Rattle.ring_rules.specs.Rings.{Ring}
@@ -32,7 +32,7 @@ use Rattle.world_rules.specs.Uppers.{Upper}
 use Rattle.world_rules.specs.Worlds as real
 use Rattle.world_rules.specs.Worlds.{World, kept_of, posted}
 use Rattle.ring_safety.specs.Above.{is_ring_frame}
-use Rattle.ring_safety.proofs.Moves.{SoFar, AllMoved, AllNew, has_given}
+use Rattle.ring_safety.proofs.Moves.{AllMoved, AllNew, has_given}
 use Rattle.ring_safety.proofs.Tables.{table_of}
 use Rattle.fabric_terms.specs.Places.{place_of}
 

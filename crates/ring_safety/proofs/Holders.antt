@@ -1,11 +1,9 @@
 -- Who holds a point by its reports is live on the machine and owns the point there.
-use Rattle.std.proofs.Common.{◌≡◌, ℕ, zero, suc, ◌+◌, ◌<◌, ◌≤◌, Bool, true, false, cond, List, [], ◌∷◌, Option, Some, None, refl, sym, ap, ◌∙◌, subst, ◌⊎◌, inl, inr, ⊎_elim, arith}
-use Rattle.std.specs.Prelude.{min}
+use Rattle.std.proofs.Common.{◌≡◌, ℕ, zero, suc, ◌+◌, ◌<◌, Bool, true, false, [], ◌∷◌, Option, Some, None, refl, sym, ap, ◌∙◌, subst, ⊎_elim, arith}
 use Rattle.std.proofs.lemmas.Bool.{both_ways}
 use Rattle.fabric_terms.specs.declared.config.FabricConfig.{FabricConfig}
-use Rattle.fabric_terms.specs.Places.{has_left}
-use Rattle.fabric_terms.specs.Reports.{Told, told}
-use Rattle.fabric_terms.specs.Runs.{Run, Owned, Holds, IsBelow, clocks_of, reading_of, own_of}
+use Rattle.fabric_terms.specs.Reports.{Told}
+use Rattle.fabric_terms.specs.Runs.{Owned, IsBelow, clocks_of, reading_of, own_of}
 use Rattle.join_phases.specs.Phases.{is_left}
 use Rattle.ring_points.specs.declared.who.Who.{Who}
 use Rattle.ring_points.specs.Ranges.{in_ranges}
@@ -14,14 +12,14 @@ use Rattle.ring_machine.specs.Slots.{Slot, State}
 use Rattle.ring_machine.specs.World as machine
 use Rattle.ring_machine.specs.World.{Instance, Live, Running}
 use Rattle.ring_machine.proofs.States.{excluded}
-use Rattle.ring_refines.specs.Images.{machine_of, slot_of, state_of, points_of}
-use Rattle.ring_refines.specs.Shown.{Shows, ShowsAs, ShowsInstance}
+use Rattle.ring_refines.specs.Images.{machine_of, slot_of, state_of}
+use Rattle.ring_refines.specs.Shown.{ShowsAs, ShowsInstance}
 use Rattle.ring_refines.specs.Tables.{Has, is_over}
 use Rattle.ring_rules.specs.declared.link.Link.{Link}
 use Rattle.ring_rules.specs.declared.link.LinkState.{LinkState}
 use Rattle.ring_rules.specs.declared.link.LinkState.TheVariants as state
 use Rattle.ring_rules.specs.Rings.{Ring, Slots}
-use Rattle.ring_rules.specs.Slots.{fence_of, fence_with, guards, slot_at}
+use Rattle.ring_rules.specs.Slots.{fence_if, fence_of, guards, slot_at}
 use Rattle.world_rules.specs.Maps.{at}
 use Rattle.world_rules.specs.Runs.{History, world_after, run_of}
 use Rattle.world_rules.specs.Uppers.{Upper}
@@ -29,9 +27,9 @@ use Rattle.world_rules.specs.Worlds as real
 use Rattle.world_rules.specs.Worlds.{World}
 use Rattle.ring_safety.specs.Above.{StaysAbove}
 use Rattle.ring_safety.specs.Held.{owned_by}
-use Rattle.ring_safety.proofs.Clocks.{Reads, reads}
+use Rattle.ring_safety.proofs.Clocks.{reads}
 use Rattle.ring_safety.proofs.Follows.{Follows, ShowsClock}
-use Rattle.ring_safety.proofs.Orderly.{Orderly, orderly}
+use Rattle.ring_safety.proofs.Orderly.{orderly}
 
 -- a reading below the fence is below the end of each lease that counts
 below_each : (answer reading : ℕ) (ss : Slots) → IsBelow reading (fence_of answer ss) → (i : ℕ) (l : Link) → slot_at i ss ≡ Some l → guards l.state ≡ true → reading < l.until + answer
@@ -40,7 +38,7 @@ below_each answer reading (None ∷ ss) below zero l there g = absurd (cc (there
 below_each answer reading (None ∷ ss) below (suc i) l there g = below_each answer reading ss below i l there g
 below_each answer reading (Some k ∷ ss) below i l there g = go i (guards k.state) refl (fence_of answer ss) below there (λ rest j. below_each answer reading ss rest j l)
   where
-    go : (i : ℕ) (b : Bool) → guards k.state ≡ b → (o : Option ℕ) → IsBelow reading (Rattle.ring_rules.specs.Slots.fence_if b (k.until + answer) o) → slot_at i (Some k ∷ ss) ≡ Some l →
+    go : (i : ℕ) (b : Bool) → guards k.state ≡ b → (o : Option ℕ) → IsBelow reading (fence_if b (k.until + answer) o) → slot_at i (Some k ∷ ss) ≡ Some l →
         (IsBelow reading o → (j : ℕ) → slot_at j ss ≡ Some l → guards l.state ≡ true → reading < l.until + answer) → reading < l.until + answer
     go zero true e None lt at again = let same : k ≡ l = cc (at) in subst (λ (z : Link). reading < z.until + answer) same lt
     go zero true e (Some other) lt at again = let same : k ≡ l = cc (at) in subst (λ (z : Link). reading < z.until + answer) same (omega arith)
@@ -88,7 +86,7 @@ pub seen : (a : Upper) → StaysAbove a → (c : FabricConfig) (h : History) (x 
 seen a stays c h x o reading runs own below =
     let r = reads a c h x reading runs in
     let last : own_of x (run_of a c h) ≡ Some (owned_by c r.state.node.ring) =
-        subst (λ y. own_of y (run_of a c h) ≡ Some (owned_by c r.state.node.ring)) r.name ((orderly a c stays h).own r.number r.state r.here) in
+    subst (λ y. own_of y (run_of a c h) ≡ Some (owned_by c r.state.node.ring)) r.name ((orderly a c stays h).own r.number r.state r.here) in
     let same : o ≡ owned_by c r.state.node.ring = cc (own, last) in
     record {
       number = r.number;
@@ -108,9 +106,6 @@ pub lives : {a : Upper} (c : FabricConfig) (w : World a) (t : Told) (m : machine
     is_left s.state.node.ring.phase ≡ false → Lives c m x o
 lives {a = a} c w t m x o f s stays = at_name (f.clock s.number s.state s.here stays) (go (is_left s.state.node.ring.phase) stays (f.shows s.number s.state s.here))
   where
-    r : Ring
-    r = s.state.node.ring
-
     go : (b : Bool) → b ≡ false → ShowsAs c m s.state.node.ring.me s.state.node.ring b → ShowsInstance c s.state.node.ring.me m.sent (m.instance s.state.node.ring.me) s.state.node.ring
     go false e i = i
     go true e i = absurd (cc (e))

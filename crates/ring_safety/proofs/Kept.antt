@@ -1,6 +1,6 @@
 -- The synced records of an actor, and what stands in a map after a change.
-use Rattle.std.proofs.Common.{◌≡◌, ℕ, ◌+◌, ◌≤◌, Bool, true, false, cond, List, [], ◌∷◌, ◌++◌, Option, Some, None, refl, sym, ap, ◌∙◌, subst, arith}
-use Rattle.std.specs.Prelude.{◌==◌, unwrap_or, count_by}
+use Rattle.std.proofs.Common.{◌≡◌, ℕ, ◌+◌, Bool, true, false, cond, ◌||◌, List, [], ◌∷◌, ◌++◌, Some, None, refl, sym, ap, ◌∙◌, subst, arith}
+use Rattle.std.specs.Prelude.{◌==◌, unwrap_or}
 use Rattle.std.specs.List.{list_any}
 use Rattle.std.proofs.lemmas.Bool.{eqb-true, eq-eqb}
 use Rattle.std.proofs.lemmas.List.Sums.{sum_by-append, sum_by-cons}
@@ -80,7 +80,7 @@ boots_still w who records sent none q = go (who.actor == q) refl
 not_ring : (r : Record) (rs : List Record) → list_any is_ring_record (r ∷ rs) ≡ false → (is_ring_record r ≡ false) × (list_any is_ring_record rs ≡ false)
 not_ring r rs h = go (is_ring_record r) (list_any is_ring_record rs) refl refl h
   where
-    go : (a b : Bool) → is_ring_record r ≡ a → list_any is_ring_record rs ≡ b → Rattle.std.specs.Prelude.◌||◌ a b ≡ false → (is_ring_record r ≡ false) × (list_any is_ring_record rs ≡ false)
+    go : (a b : Bool) → is_ring_record r ≡ a → list_any is_ring_record rs ≡ b → (a || b) ≡ false → (is_ring_record r ≡ false) × (list_any is_ring_record rs ≡ false)
     go true b e f g = absurd (cc (g))
     go false true e f g = absurd (cc (g))
     go false false e f g = (e, f)

@@ -1,4 +1,6 @@
 pub mod Said
+pub mod SessionRows
+pub mod NodeRows
 pub mod Rows
 pub mod Happens
 pub mod Kept

@@ -1,6 +1,6 @@
 -- Reports that move points from where they are, told one after the other.
 use Rattle.std.proofs.Common.{◌≡◌, ℕ, ◌+◌, ◌<◌, Bool, true, false, ◌&&◌, ◌||◌, List, [], ◌∷◌, ◌++◌, refl, sym, ap, ◌∙◌, subst, ◌⊎◌, inl, inr, ⊎_elim, arith}
-use Rattle.std.specs.Prelude.{◌==◌, drop}
+use Rattle.std.specs.Prelude.{◌==◌}
 use Rattle.std.specs.List.{list_any}
 use Rattle.std.proofs.lemmas.Bool.{and_parts, eqb-true, both_ways}
 use Rattle.fabric_terms.specs.declared.report.Report.{Report}
@@ -8,10 +8,11 @@ use Rattle.fabric_terms.specs.declared.report.Report.TheVariants.{Own, Gave, Too
 use Rattle.fabric_terms.specs.Places.{Place, place_after, place_of, TakesFrom, gave_number}
 use Rattle.fabric_terms.specs.Reports.{Told, told_on}
 use Rattle.fabric_terms.specs.TakeOvers.{tells_take_over, was_taken_over}
+use Rattle.ring_points.specs.declared.interval.Interval.{Interval}
 use Rattle.ring_points.specs.declared.who.Who.{Who}
 use Rattle.ring_points.specs.Whos.{same_who}
 use Rattle.ring_machine.specs.World as machine
-use Rattle.ring_machine.proofs.Whos.{same_who-true, same_who-refl}
+use Rattle.ring_machine.proofs.Whos.{same_who-true}
 use Rattle.ring_refines.specs.Moves.{MovedBy, IsNext, next_after, IsOver, AreOver}
 use Rattle.ring_safety.specs.Above.{is_ring_report}
 
@@ -41,7 +42,7 @@ either false b h = inr h
 
 -- what a report says of flights given
 
-given_is : (x y z : Who) (number n : ℕ) (ranges : List Rattle.ring_points.specs.declared.interval.Interval.Interval) → gave_number x number z (Gave y n ranges) ≡ true → (z ≡ x) × (n ≡ number)
+given_is : (x y z : Who) (number n : ℕ) (ranges : List Interval) → gave_number x number z (Gave y n ranges) ≡ true → (z ≡ x) × (n ≡ number)
 given_is x y z number n ranges h =
     let both : (same_who z x ≡ true) × ((n == number) ≡ true) = and_parts (same_who z x) (n == number) h in
     (same_who-true z x both.0, eqb-true n number both.1)

@@ -1,29 +1,27 @@
 -- The machine follows what one node does, while all other nodes stay as they are.
-use Rattle.std.proofs.Common.{◌≡◌, ℕ, ◌+◌, ◌<◌, ◌≤◌, Bool, true, false, cond, List, [], ◌∷◌, ◌++◌, Option, Some, None, refl, sym, ap, ◌∙◌, subst, inl, inr, ⊎_elim, arith}
+use Rattle.std.proofs.Common.{◌≡◌, ℕ, ◌<◌, Bool, true, false, List, Some, refl, sym, ap, ◌∙◌, subst, ⊎_elim}
 use Rattle.std.specs.Prelude.{◌==◌}
-use Rattle.std.proofs.lemmas.Bool.{both_ways, eqb-true, eqb-false}
+use Rattle.std.proofs.lemmas.Bool.{eqb-true, eqb-false}
 use Rattle.drift_clock.specs.Within.{Pair}
 use Rattle.fabric_terms.specs.declared.config.FabricConfig.{FabricConfig}
 use Rattle.fabric_terms.specs.declared.message.Body.{Body}
 use Rattle.fabric_terms.specs.declared.message.Message.{Message}
-use Rattle.fabric_terms.specs.declared.record.Record.{Record}
-use Rattle.fabric_terms.specs.declared.report.Report.{Report}
-use Rattle.fabric_terms.specs.Places.{Place}
+use Rattle.fabric_terms.specs.Places.{place_of}
 use Rattle.fabric_terms.specs.Reports.{Told, told_on}
 use Rattle.fabric_terms.specs.TakeOvers.{was_taken_over}
 use Rattle.join_phases.specs.Phases.{is_left}
 use Rattle.ring_points.specs.declared.who.Who.{Who}
-use Rattle.ring_points.specs.Whos.{same_who, node_instance, arbiter_actor}
+use Rattle.ring_points.specs.Whos.{same_who, arbiter_actor}
 use Rattle.ring_machine.specs.Frames.{Frame}
 use Rattle.ring_machine.specs.Members.{IsMember}
 use Rattle.ring_machine.specs.World as machine
 use Rattle.ring_machine.specs.World.{Instance, Running, Dead, first_of}
 use Rattle.ring_machine.specs.Invariant.{Invariant}
-use Rattle.ring_machine.proofs.Whos.{test, same_who-true, same_who_from}
+use Rattle.ring_machine.proofs.Whos.{test, same_who-true, same_who-false, same_who_from}
 use Rattle.ring_refines.specs.Images.{machine_of}
 use Rattle.ring_refines.specs.Moves.{places_of, MovedBy, AreOver}
 use Rattle.ring_refines.specs.Shown.{Shows, ShowsAs}
-use Rattle.ring_rules.specs.Arbiters.{accusations_after, Accusations}
+use Rattle.ring_rules.specs.Arbiters.{Accusations, accusations_after, first_accuser}
 use Rattle.ring_rules.specs.Rings.{Ring}
 use Rattle.world_rules.specs.Maps.{at, put}
 use Rattle.world_rules.specs.Nodes.{NodeState, boots_of}
@@ -32,7 +30,7 @@ use Rattle.world_rules.specs.Worlds as real
 use Rattle.world_rules.specs.Worlds.{World, kept_of, posted, node_acted}
 use Rattle.ring_safety.proofs.Follows.{Follows, Runs, ShowsClock, Known, shows_still, known_still, clock_still, posted_cases}
 use Rattle.ring_safety.proofs.Kept.{put_cases, at_put_same, at_put_other}
-use Rattle.ring_safety.proofs.Moves.{SoFar, told_so_far, given_elsewhere, over_told, has_given}
+use Rattle.ring_safety.proofs.Moves.{AllMoved, AllNew, SoFar, told_so_far, given_elsewhere, over_told, has_given}
 use Rattle.ring_safety.proofs.Tables.{table_stays}
 
 -- what is under each number
@@ -88,11 +86,11 @@ node_follows {a = a} c w t m v x node reading pairs d named f e = record {
       (λ h. other_runs y h);
   tables = λ arbiter victim.
       (λ i. e.tables i arbiter victim) ∙ (f.tables arbiter victim
-      ∙ ap (Rattle.ring_rules.specs.Arbiters.first_accuser victim) (sym (table_stays w d.state.ring.me d.records d.sent e.accuses (arbiter_actor arbiter))));
+      ∙ ap (first_accuser victim) (sym (table_stays w d.state.ring.me d.records d.sent e.accuses (arbiter_actor arbiter))));
   frames = λ g h. ⊎_elim (λ k. known_still c m v e.sent c.lease g (f.frames g k)) (λ k. subst (Known c.lease v.sent) (sym (k.2 ∙ from_x k.0)) (e.says k.0 k.1)) (posted_cases d.state.ring.me d.sent w.frames g h);
-  placed = subst (λ y. (p : ℕ) → Rattle.fabric_terms.specs.Places.place_of (first_of (machine_of c)) (told_on y d.told t) p ≡ places_of (first_of (machine_of c)) v p) (sym e.name) so_far.placed;
-  moved = subst (λ y. Rattle.ring_safety.proofs.Moves.AllMoved (first_of (machine_of c)) (told_on y d.told t)) (sym e.name) so_far.moved;
-  new = subst (λ y. Rattle.ring_safety.proofs.Moves.AllNew (told_on y d.told t)) (sym e.name) so_far.new;
+  placed = subst (λ y. (p : ℕ) → place_of (first_of (machine_of c)) (told_on y d.told t) p ≡ places_of (first_of (machine_of c)) v p) (sym e.name) so_far.placed;
+  moved = subst (λ y. AllMoved (first_of (machine_of c)) (told_on y d.told t)) (sym e.name) so_far.moved;
+  new = subst (λ y. AllNew (told_on y d.told t)) (sym e.name) so_far.new;
   below = subst (λ z. (y : Who) (number : ℕ) → has_given y number (told_on z d.told t) ≡ true → number < (v.instance y).token.next_flight) (sym e.name) below;
   over = subst (λ z. (y : Who) → was_taken_over y (told_on z d.told t) ≡ true → Dead (machine_of c) (v.instance y)) (sym e.name)
       (λ y. over_told (machine_of c) v y x d.told t e.over (λ h. e.dies y (f.over y h)));
@@ -129,7 +127,7 @@ node_follows {a = a} c w t m v x node reading pairs d named f e = record {
         by_number old false g = g
         by_number old true g =
             let there : at node w.nodes ≡ Some old.state = ap (λ q. at q w.nodes) (eqb-true node y.actor g) ∙ old.here in
-            absurd (Rattle.ring_machine.proofs.Whos.same_who-false x y apart (sym (e.before old.state there) ∙ old.name))
+            absurd (same_who-false x y apart (sym (e.before old.state there) ∙ old.name))
 
     so_far : SoFar (first_of (machine_of c)) x (told_on x d.told t) (v.instance x).token.next_flight (places_of (first_of (machine_of c)) v)
     so_far =
@@ -140,7 +138,7 @@ node_follows {a = a} c w t m v x node reading pairs d named f e = record {
     below : (y : Who) (number : ℕ) → has_given y number (told_on x d.told t) ≡ true → number < (v.instance y).token.next_flight
     below y number h = test (same_who x y)
         (λ g.
-            let same = same_who-true x y g in
-            subst (λ y. has_given y number (told_on x d.told t) ≡ true → number < (v.instance y).token.next_flight) same (so_far.below number) h)
+        let same = same_who-true x y g in
+        subst (λ y. has_given y number (told_on x d.told t) ≡ true → number < (v.instance y).token.next_flight) same (so_far.below number) h)
         (λ g.
-            subst (λ (i : Instance). number < i.token.next_flight) (sym (e.others y g)) (f.below y number (given_elsewhere x y number d.told t g h)))
+        subst (λ (i : Instance). number < i.token.next_flight) (sym (e.others y g)) (f.below y number (given_elsewhere x y number d.told t g h)))

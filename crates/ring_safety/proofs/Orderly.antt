@@ -1,37 +1,34 @@
 -- In every run: who runs under a number, what it told last, and whether it told a leave.
-use Rattle.std.proofs.Common.{◌≡◌, ℕ, ◌+◌, ◌<◌, ◌≤◌, Bool, true, false, cond, ◌||◌, List, [], ◌∷◌, ◌++◌, Option, Some, None, refl, sym, ap, ◌∙◌, subst, arith}
-use Rattle.std.specs.Prelude.{◌==◌, map, unwrap_or}
+use Rattle.std.proofs.Common.{◌≡◌, ℕ, ◌+◌, ◌<◌, ◌≤◌, Bool, true, false, cond, ◌||◌, List, [], ◌∷◌, ◌++◌, Some, None, refl, sym, ap, ◌∙◌, subst, arith}
+use Rattle.std.specs.Prelude.{◌==◌, map}
 use Rattle.std.specs.List.{list_any}
-use Rattle.std.proofs.lemmas.Bool.{eqb-true, eqb-false, eq-eqb, both_ways}
+use Rattle.std.proofs.lemmas.Bool.{eqb-true, eqb-false}
 use Rattle.fabric_terms.specs.declared.config.FabricConfig.{FabricConfig}
 use Rattle.fabric_terms.specs.declared.event.Event.{Event}
-use Rattle.fabric_terms.specs.declared.message.Message.{Message}
 use Rattle.fabric_terms.specs.declared.record.Record.{Record}
 use Rattle.fabric_terms.specs.declared.report.Report.{Report}
 use Rattle.fabric_terms.specs.declared.report.Report.TheVariants.{Stopped}
 use Rattle.fabric_terms.specs.Places.{has_left, tells_leave}
 use Rattle.fabric_terms.specs.Reports.{Told, told, told_on, told_in}
-use Rattle.fabric_terms.specs.Runs.{Moment, Run, Owned, last_own, own_in, own_of}
+use Rattle.fabric_terms.specs.Runs.{Run, last_own, own_in, own_of}
 use Rattle.join_phases.specs.Phases.{is_left}
 use Rattle.drift_clock.specs.Within.{Pair}
 use Rattle.ring_points.specs.declared.who.Who.{Who}
-use Rattle.ring_points.specs.Whos.{same_who, node_instance, arbiter_actor}
-use Rattle.ring_machine.proofs.Whos.{same_who-true, same_who-refl, same_who_from}
-use Rattle.ring_machine.specs.Members.{IsMember}
-use Rattle.ring_rules.specs.declared.input.Input.{Input}
-use Rattle.ring_rules.specs.Rings.{Ring}
+use Rattle.ring_points.specs.Whos.{same_who, node_instance}
+use Rattle.ring_machine.proofs.Whos.{same_who-refl, same_who_from}
 use Rattle.world_rules.specs.Arbiters.{ArbiterState, arbiter_step}
-use Rattle.world_rules.specs.Events.{world_step, node_stops, arbiter_stops, starts_with, arbiter_number, ticks, ticked, node_acts}
-use Rattle.world_rules.specs.Maps.{at, put, without}
+use Rattle.world_rules.specs.Events.{node_stops, arbiter_stops, starts_with, arbiter_number, ticks, ticked}
+use Rattle.world_rules.specs.Maps.{at}
 use Rattle.world_rules.specs.Nodes.{NodeState, boots_of, instance_begun, is_spent, node_begun, node_step}
 use Rattle.world_rules.specs.Runs.{History, world_after, run_of, moment_of}
 use Rattle.world_rules.specs.Uppers.{Upper, Did}
-use Rattle.world_rules.specs.Worlds.{World, Running, Stepped, quiet, kept_of, empty_world, node_acted, arbiter_acted, arbiter_who, with_outcome}
+use Rattle.world_rules.specs.Worlds.{World, Running, Stepped, quiet, kept_of, node_acted, arbiter_acted, arbiter_who}
 use Rattle.ring_safety.specs.Above.{StaysAbove}
 use Rattle.ring_safety.specs.Held.{owned_by}
 use Rattle.ring_safety.specs.Laws.{LastOwnIsHeld, LeaveIsTold}
-use Rattle.ring_safety.proofs.Happens.{Cases, CameTo, by_cases}
+use Rattle.ring_safety.proofs.Happens.{Cases, by_cases}
 use Rattle.ring_safety.proofs.Kept.{put_cases, without_cases, kept_here, kept_there, boots_append, boots_still, no_boots}
+use Rattle.ring_safety.proofs.Said.{or_false}
 use Rattle.ring_safety.proofs.Steps.{Acted, Begun, node_acted-told, node_begun-told, begun_boots, begun_spent, begun_positive}
 use Rattle.ring_safety.proofs.ArbiterSteps.{Answered, arbiter_stepped}
 
@@ -67,10 +64,6 @@ left_silent x who rs before h = left_on x who rs before ∙ by_test (same_who wh
     by_test true true e = absurd (cc (e))
     by_test true false e = refl
     by_test false t e = refl
-
-or_false : (b : Bool) → (b || false) ≡ b
-or_false true = refl
-or_false false = refl
 
 cond_same : {X : Type 0} (b : Bool) (x y : X) → x ≡ y → cond b x y ≡ y
 cond_same true x y e = e
@@ -205,7 +198,7 @@ module _ (a : Upper) (c : FabricConfig) where
         by_spent false h =
             let next : instance_begun (kept_of w node) ≡ boots_of (kept_of w node) + 1 = ap (λ t. cond t (boots_of (kept_of w node)) (boots_of (kept_of w node) + 1)) h in
             let new : has_left d.state.ring.me (told run) ≡ false =
-                o.fresh d.state.ring.me (subst (λ (x : Who). boots_of (kept_of w x.actor) < x.instance) (sym b.name) (omega arith)) in
+            o.fresh d.state.ring.me (subst (λ (x : Who). boots_of (kept_of w x.actor) < x.instance) (sym b.name) (omega arith)) in
             ap (λ t. list_any tells_leave d.told || t) new ∙ (or_false (list_any tells_leave d.told) ∙ b.leaves)
 
     acts_with : (node : ℕ) (s : Running a) (d : Did (NodeState a)) → at node w.nodes ≡ Some s → Acted c s.node.ring d.state.ring d.records d.told →

@@ -1,45 +1,41 @@
 -- The machine follows what an arbitrator answers.
-use Rattle.std.proofs.Common.{◌≡◌, ℕ, ◌+◌, ◌-◌, ◌<◌, Bool, true, false, cond, List, [], ◌∷◌, ◌++◌, Option, Some, None, refl, sym, ap, ◌∙◌, subst, ◌⊎◌, inl, inr, ⊎_elim, arith}
+use Rattle.std.proofs.Common.{◌≡◌, ℕ, ◌+◌, ◌-◌, ◌<◌, Bool, true, false, cond, [], ◌∷◌, ◌++◌, Option, Some, None, refl, sym, ap, ◌∙◌, subst, inl, inr, ⊎_elim, arith}
 use Rattle.std.specs.Prelude.{◌==◌}
-use Rattle.std.proofs.lemmas.Bool.{eqb-true, both_ways}
+use Rattle.std.proofs.lemmas.Bool.{eqb-true}
 use Rattle.fabric_terms.specs.declared.config.FabricConfig.{FabricConfig}
 use Rattle.fabric_terms.specs.declared.message.Body.{Body}
 use Rattle.fabric_terms.specs.declared.message.Body.TheVariants as body
 use Rattle.fabric_terms.specs.declared.message.Message.{Message}
-use Rattle.fabric_terms.specs.declared.record.Record.{Record}
 use Rattle.fabric_terms.specs.Reports.{Told, told_in, told_on}
-use Rattle.ring_points.specs.declared.who.Ruling.{Ruling}
-use Rattle.ring_points.specs.declared.who.Ruling.TheVariants.{Granted, Taken, Refused}
+use Rattle.ring_points.specs.declared.who.Ruling.TheVariants.{Granted, Taken}
 use Rattle.ring_points.specs.declared.who.Who.{Who}
 use Rattle.ring_points.specs.Whos.{same_who, arbiter_actor}
 use Rattle.ring_machine.specs.Arbitration.{ruled, ruling_of, first_after}
-use Rattle.ring_machine.specs.Ends.{replaced, updated}
+use Rattle.ring_machine.specs.Ends.{updated}
 use Rattle.ring_machine.specs.Events as events
 use Rattle.ring_machine.specs.Events.{Answers}
-use Rattle.ring_machine.specs.Frames as frame
 use Rattle.ring_machine.specs.Frames.{Frame, Accuse, Ruled}
 use Rattle.ring_machine.specs.Invariant.{Invariant}
 use Rattle.ring_machine.specs.Members.{IsMember}
 use Rattle.ring_machine.specs.World as machine
 use Rattle.ring_machine.specs.World.{Instance, Running, Place, Dead, first_of}
 use Rattle.ring_machine.proofs.Histories.{event_done}
-use Rattle.ring_machine.proofs.Whos.{test, same_who-true}
-use Rattle.ring_refines.specs.Images.{machine_of, IsSent, frame_of, is_ruling}
-use Rattle.ring_refines.specs.Moves.{place_of, places_of}
+use Rattle.ring_machine.proofs.Whos.{same_who-true}
+use Rattle.ring_refines.specs.Images.{machine_of, IsSent, frame_of}
+use Rattle.ring_refines.specs.Moves.{place_of}
 use Rattle.ring_rules.specs.Arbiters.{Accusations, accusation_kept, accusation_ruled, accusations_after, first_accuser, first_kept, ruling_by, takes_frame}
 use Rattle.ring_rules.proofs.Rows.{accusation_kept-is, accusation_ruled-is}
-use Rattle.world_rules.specs.Arbiters.{ArbiterState, arbiter_step, arbiter_takes, accused_by}
-use Rattle.world_rules.specs.Maps.{at}
+use Rattle.world_rules.specs.Arbiters.{ArbiterState, arbiter_step, arbiter_takes, accused_by, beside_did}
 use Rattle.world_rules.specs.Nodes.{boots_of}
-use Rattle.world_rules.specs.Uppers.{Upper, Did}
+use Rattle.world_rules.specs.Uppers.{Upper, Did, idle}
 use Rattle.world_rules.specs.Worlds.{World, kept_of, arbiter_who, arbiter_acted}
 use Rattle.world_rules.proofs.Rows.{arbiter_step-is}
-use Rattle.ring_safety.specs.Above.{KeepsOut, StaysAbove, is_ring_frame}
+use Rattle.ring_safety.specs.Above.{StaysAbove, is_ring_frame}
 use Rattle.ring_safety.proofs.ActFollows.{Followed}
 use Rattle.ring_safety.proofs.ArbiterSteps.{kept_boots}
 use Rattle.ring_safety.proofs.Follows.{Follows, Known, shows_still, known_still, known_other, clock_still, is_accusation, none_passes, posted_cases}
 use Rattle.ring_safety.proofs.Kept.{boots_still, kept_here, kept_there, no_boots, no_accusations, accusations_append}
-use Rattle.ring_safety.proofs.Tables.{Tabled, table_of, table_stays, two_arbiters}
+use Rattle.ring_safety.proofs.Tables.{table_of, table_stays, two_arbiters}
 
 -- who is found after one accusation more
 
@@ -118,7 +114,7 @@ rule_follows {a = a} c w t m v arbiter d f e = subst (λ rs. Follows c (arbiter_
 })
 
 module _ (a : Upper) (c : FabricConfig) (w : World a) (t : Told) (m : machine.World) (f : Follows c w t m) (arbiter : ℕ) (g : Message) (s : ArbiterState a)
-  (sent_was : IsMember g w.frames) (kept : s.table ≡ table_of w (arbiter_actor arbiter)) where
+    (sent_was : IsMember g w.frames) (kept : s.table ≡ table_of w (arbiter_actor arbiter)) where
   -- what is no accusation changes nothing
   aside : (d : Did (ArbiterState a)) → d.told ≡ [] → boots_of d.records ≡ 0 → ((z : Accusations) → accusations_after z d.records ≡ z) →
       ((q : Who × Body) → IsMember q d.sent → is_ring_frame q.1 ≡ false) → Rule c w m m arbiter d
@@ -135,11 +131,11 @@ module _ (a : Upper) (c : FabricConfig) (w : World a) (t : Told) (m : machine.Wo
     silent = silent;
   }
 
-  beside : StaysAbove a → Rule c w m m arbiter (Rattle.world_rules.specs.Arbiters.beside_did a s (a.beside_step c arbiter s.beside g))
+  beside : StaysAbove a → Rule c w m m arbiter (beside_did a s (a.beside_step c arbiter s.beside g))
   beside stays =
       let out = stays.beside c arbiter s.beside g in
       let u : Did a.Beside = a.beside_step c arbiter s.beside g in
-      aside (Rattle.world_rules.specs.Arbiters.beside_did a s u) refl (no_boots u.records out.records) (λ z. no_accusations z u.records out.records)
+      aside (beside_did a s u) refl (no_boots u.records out.records) (λ z. no_accusations z u.records out.records)
       (λ q k. none_passes (λ (p : Who × Body). is_ring_frame p.1) u.sent q out.sends k)
 
   -- an accusation is answered on the machine
@@ -226,15 +222,15 @@ module _ (a : Upper) (c : FabricConfig) (w : World a) (t : Told) (m : machine.Wo
       subst (λ (d : Did (ArbiterState a)). Followed c (arbiter_acted a w arbiter d).world (told_in (arbiter_acted a w arbiter d).entry t)) (sym (arbiter_step-is a c arbiter g s))
       (taken g.body refl (takes_frame arbiter g))
     where
-      beside_follows : Followed c (arbiter_acted a w arbiter (Rattle.world_rules.specs.Arbiters.beside_did a s (a.beside_step c arbiter s.beside g))).world
-          (told_in (arbiter_acted a w arbiter (Rattle.world_rules.specs.Arbiters.beside_did a s (a.beside_step c arbiter s.beside g))).entry t)
-      beside_follows = record { world = m; follows = rule_follows c w t m m arbiter (Rattle.world_rules.specs.Arbiters.beside_did a s (a.beside_step c arbiter s.beside g)) f (beside stays) }
+      beside_follows : Followed c (arbiter_acted a w arbiter (beside_did a s (a.beside_step c arbiter s.beside g))).world
+          (told_in (arbiter_acted a w arbiter (beside_did a s (a.beside_step c arbiter s.beside g))).entry t)
+      beside_follows = record { world = m; follows = rule_follows c w t m m arbiter (beside_did a s (a.beside_step c arbiter s.beside g)) f (beside stays) }
 
       taken : (b : Body) → g.body ≡ b → (takes : Bool) →
           Followed c (arbiter_acted a w arbiter (arbiter_takes a c arbiter g s b takes)).world (told_in (arbiter_acted a w arbiter (arbiter_takes a c arbiter g s b takes)).entry t)
       taken b h false = record {
         world = m;
-        follows = rule_follows c w t m m arbiter (Rattle.world_rules.specs.Uppers.idle s) f (aside (Rattle.world_rules.specs.Uppers.idle s) refl refl (λ z. refl) (λ q k. absurd k));
+        follows = rule_follows c w t m m arbiter (idle s) f (aside (idle s) refl refl (λ z. refl) (λ q k. absurd k));
       }
       taken (body.Accuse victim) h true = record {
         world = ruled m arbiter g.from victim;

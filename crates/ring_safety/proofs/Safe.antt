@@ -1,14 +1,12 @@
 -- The laws of every valid run, from the world of the machine that follows.
-use Rattle.std.proofs.Common.{◌≡◌, ℕ, zero, suc, ◌+◌, ◌-◌, ◌^◌, ◌<◌, Bool, true, false, List, [], ◌∷◌, Option, Some, None, refl, sym, ap, ◌∙◌, subst, ◌⊎◌, inl, inr, ⊎_elim, arith}
-use Rattle.std.specs.Prelude.{drop, nat_lt}
-use Rattle.std.proofs.lemmas.Bool.{both_ways, lt-ltb}
+use Rattle.std.proofs.Common.{◌≡◌, ℕ, zero, suc, ◌+◌, ◌-◌, ◌^◌, ◌<◌, Bool, true, false, List, [], ◌∷◌, refl, sym, ap, ◌∙◌, subst, inl, inr, ⊎_elim, arith}
+use Rattle.std.specs.Prelude.{drop}
+use Rattle.std.proofs.lemmas.Bool.{lt-ltb}
 use Rattle.fabric_terms.specs.declared.config.FabricConfig.{FabricConfig}
-use Rattle.fabric_terms.specs.declared.event.Event.{Event}
-use Rattle.fabric_terms.specs.declared.message.Message.{Message}
 use Rattle.fabric_terms.specs.declared.report.Report.{Report}
-use Rattle.fabric_terms.specs.Places.{Place, With, Flying, IsLive, PlaceKept, TakesFrom, gave_number, has_left, place_of}
+use Rattle.fabric_terms.specs.Places.{With, IsLive, PlaceKept, TakesFrom, gave_number, has_left, place_of}
 use Rattle.fabric_terms.specs.Reports.{Told, told}
-use Rattle.fabric_terms.specs.Runs.{Moment, Run, Owned, Holds, RingSafe}
+use Rattle.fabric_terms.specs.Runs.{Owned, Holds, RingSafe}
 use Rattle.fabric_terms.specs.Sound.{IsSound}
 use Rattle.fabric_terms.specs.TakeOvers.{TakenAfterLeave, was_taken_over}
 use Rattle.join_phases.specs.Phases.{is_left}
@@ -18,7 +16,7 @@ use Rattle.ring_points.specs.declared.who.Who.{Who}
 use Rattle.ring_points.specs.Ranges.{in_ranges}
 use Rattle.ring_points.specs.Whos.{node_instance}
 use Rattle.ring_machine.specs.Arbitration.{GrantedBy, AnsweredBy}
-use Rattle.ring_machine.specs.Frames.{Frame, Ruled}
+use Rattle.ring_machine.specs.Frames.{Ruled}
 use Rattle.ring_machine.specs.Members.{IsMember}
 use Rattle.ring_machine.specs.Points.{is_point}
 use Rattle.ring_machine.specs.World as machine
@@ -134,7 +132,7 @@ module _ (nodes : NodesRefine) (a : Upper) (stays : StaysAbove a) (is_frame : Li
           (place_of (node_instance c.first 1) (told (run_of a c h)) p ≡ With x → in_ranges p o.ranges ≡ true)
       from_machine f live = (
         λ has. f.placed p ∙ ap (moves.place_of (first_of (machine_of c))) (f.inv.owned x p live.live (live.owns p ∙ has)),
-        λ placed. sym (live.owns p) ∙ f.inv.exact x p live.live (with_x (m.world.place p) refl (sym (f.placed p) ∙ placed))
+        λ placed. sym (live.owns p) ∙ f.inv.exact x p live.live (with_x (m.world.place p) refl (sym (f.placed p) ∙ placed)),
       )
         where
           with_x : (place : machine.Place) → m.world.place p ≡ place → moves.place_of (first_of (machine_of c)) place ≡ With x → m.world.place p ≡ machine.At x
@@ -146,8 +144,8 @@ module _ (nodes : NodesRefine) (a : Upper) (stays : StaysAbove a) (is_frame : Li
   place_kept h valid = record {
     owned = λ ago p x o l lt.
         subst (λ r.
-            (in_ranges p o.ranges ≡ true → place_of (node_instance c.first 1) (told r) p ≡ With x) ×
-            (place_of (node_instance c.first 1) (told r) p ≡ With x → in_ranges p o.ranges ≡ true)) (sym (run_before a c ago h))
+        (in_ranges p o.ranges ≡ true → place_of (node_instance c.first 1) (told r) p ≡ With x) ×
+        (place_of (node_instance c.first 1) (told r) p ≡ With x → in_ranges p o.ranges ≡ true)) (sym (run_before a c ago h))
         (exactly (drop ago h) (valid_before a is_frame c ago h valid) p x o (subst (λ r. IsLive r x o) (run_before a c ago h) l) lt);
     moves = λ newer x r before e. moved_at (node_instance c.first 1) newer (told (run_of a c h)) x r before (after h valid).follows.moved e;
     numbers = λ newer number x r before e g. new_at newer number (told (run_of a c h)) x r before (after h valid).follows.new e g;

@@ -1,5 +1,5 @@
 -- What a row says of its node: who it is stays, it tells no Own, and it has left exactly if it told so.
-use Rattle.std.proofs.Common.{◌≡◌, ℕ, Bool, true, false, ◌||◌, List, [], ◌∷◌, ◌++◌, refl, sym, ap, ◌∙◌}
+use Rattle.std.proofs.Common.{◌≡◌, Bool, true, false, ◌||◌, List, [], ◌∷◌, ◌++◌, refl, sym, ap, ◌∙◌}
 use Rattle.std.specs.List.{list_any}
 use Rattle.std.proofs.lemmas.List.Folds.{list_any-append}
 use Rattle.fabric_terms.specs.declared.report.Report.{Report}
@@ -12,7 +12,7 @@ use Rattle.join_phases.specs.declared.phases.Phase.{Phase}
 use Rattle.join_phases.specs.declared.phases.Phase.TheVariants as phase
 use Rattle.join_phases.specs.Phases.{is_left, bound_phase, holding_phase}
 use Rattle.ring_points.specs.declared.who.Who.{Who}
-use Rattle.ring_rules.specs.Rings.{Ring, Work}
+use Rattle.ring_rules.specs.Rings.{Work}
 use Rattle.ring_rules.specs.Deeds.{tell, set_phase, refuse, leave, has_numbers, counted_if, counted, then_if, then_unless_left}
 
 abbrev pub tells_own : Report → Bool
@@ -38,7 +38,7 @@ one_more test rs r b h = list_any-append test rs (r ∷ []) ∙ (λ i. h i || la
         go true h = ap (λ t. t || false) h ∙ sym h
         go false h = ap (λ t. t || false) h ∙ sym h
 
-or_false : (b : Bool) → (b || false) ≡ b
+pub or_false : (b : Bool) → (b || false) ≡ b
 or_false true = refl
 or_false false = refl
 

@@ -1,26 +1,24 @@
 -- The ring of a node that starts is that of the machine's next instance.
-use Rattle.std.proofs.Common.{◌≡◌, ℕ, zero, suc, ◌-◌, ◌^◌, Bool, true, false, cond, ◌&&◌, ◌||◌, List, [], ◌∷◌, Option, Some, None, refl, sym, ap, ◌∙◌, subst, inl, arith}
-use Rattle.std.specs.Prelude.{◌==◌, nat_le, nat_lt, is_some}
+use Rattle.std.proofs.Common.{◌≡◌, ℕ, zero, suc, ◌-◌, ◌^◌, Bool, true, false, cond, ◌&&◌, ◌||◌, List, [], ◌∷◌, Some, None, refl, sym, ap, ◌∙◌, subst, inl, arith}
+use Rattle.std.specs.Prelude.{nat_le, nat_lt, is_some}
 use Rattle.std.specs.List.{list_any}
 use Rattle.std.proofs.lemmas.Bool.Decides.{nat_tests}
 use Rattle.fabric_terms.specs.declared.config.FabricConfig.{FabricConfig}
 use Rattle.join_phases.specs.declared.phases.Phase.{Phase}
 use Rattle.join_phases.specs.Phases.{is_left, seeking, routing}
-use Rattle.token_core.specs.Tokens as token
 use Rattle.ring_points.specs.declared.interval.Interval.{Interval}
 use Rattle.ring_points.specs.declared.who.Who.{Who}
 use Rattle.ring_points.specs.Ranges.{in_ranges, rises_from, whole_ring}
 use Rattle.ring_points.specs.Whos.{same_who}
 use Rattle.ring_machine.specs.Frames.{Frame}
-use Rattle.ring_machine.specs.Points.{Points, is_point}
+use Rattle.ring_machine.specs.Points.{is_point}
 use Rattle.ring_machine.specs.Slots.{unused_slot}
-use Rattle.ring_machine.specs.Tokens.{Token}
-use Rattle.ring_machine.specs.World.{Instance, World, born, first_of}
+use Rattle.ring_machine.specs.World.{born, first_of}
 use Rattle.ring_machine.specs.Events.{next_instance, started}
 use Rattle.ring_machine.proofs.Whos.{same_who-refl}
-use Rattle.ring_refines.specs.Images.{machine_of, points_of, token_of}
+use Rattle.ring_refines.specs.Images.{machine_of}
 use Rattle.ring_refines.specs.Laws.{StartIsShown, SpentIsLeft}
-use Rattle.ring_refines.specs.Shown.{Shows, ShowsAs, ShowsInstance}
+use Rattle.ring_refines.specs.Shown.{ShowsAs, ShowsInstance}
 use Rattle.ring_refines.specs.Tables.{ShowsSlots}
 use Rattle.ring_rules.specs.declared.link.Link.{Link}
 use Rattle.ring_rules.specs.Rings.{Slots, no_slots}

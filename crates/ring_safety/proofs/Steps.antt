@@ -7,9 +7,9 @@ use Rattle.token_core.specs.Tokens.{last_number}
 use Rattle.std.proofs.lemmas.List.Folds.{list_any-append}
 use Rattle.fabric_terms.specs.declared.config.FabricConfig.{FabricConfig}
 use Rattle.fabric_terms.specs.declared.record.Record.{Record}
+use Rattle.fabric_terms.specs.declared.record.Record.TheVariants.{Boot}
 use Rattle.fabric_terms.specs.declared.report.Report.{Report}
 use Rattle.fabric_terms.specs.declared.report.Report.TheVariants.{Own, Gave, Took, Returned, TookOver, LeftRing}
-use Rattle.fabric_terms.specs.declared.report.Why.TheVariants.{Counters}
 use Rattle.fabric_terms.specs.Places.{tells_leave}
 use Rattle.fabric_terms.specs.Runs.{Owned, owned_after, last_own}
 use Rattle.join_phases.specs.Phases.{is_left}
@@ -20,14 +20,14 @@ use Rattle.ring_rules.specs.declared.input.Input.{Input}
 use Rattle.ring_rules.specs.Owns.{own_after, own_unless, is_same_own, same_ranges, same_fence}
 use Rattle.ring_rules.specs.Rings.{Ring, Settings, Work, settings_of}
 use Rattle.ring_rules.specs.Slots.{fence_of}
-use Rattle.ring_rules.specs.Starts.{node_started, start_first, start_if}
+use Rattle.ring_rules.specs.Starts.{begun, node_started, start_first}
 use Rattle.ring_rules.specs.Steps.{ring_step, step_if}
 use Rattle.ring_rules.proofs.Rows.{ring_step-is}
-use Rattle.world_rules.specs.Nodes.{NodeState, node_begun, node_step, above_acts, above_if, both_did, boot_kept, boots_of, begun_as, instance_begun, is_spent}
-use Rattle.world_rules.specs.Uppers.{Upper, Did, idle}
+use Rattle.world_rules.specs.Nodes.{NodeState, node_begun, node_step, above_acts, above_if, boot_kept, boots_of, begun_as, instance_begun, is_spent}
+use Rattle.world_rules.specs.Uppers.{Upper}
 use Rattle.ring_safety.specs.Above.{KeepsOut, StaysAbove, is_ring_report, is_ring_record}
 use Rattle.ring_safety.specs.Held.{owned_by}
-use Rattle.ring_safety.proofs.Said.{Says, tells_own}
+use Rattle.ring_safety.proofs.Said.{tells_own, or_false}
 use Rattle.ring_safety.proofs.Rows.{step_says}
 
 -- lists of reports
@@ -120,16 +120,12 @@ ring_stepped set now i r = by_left (is_left r.phase) refl
     by_left : (b : Bool) → is_left r.phase ≡ b → Stepped r (ring_step set now i r)
     by_left true h = subst (Stepped r) (sym (ring_step-is set now i r)) (gone (is_left r.phase) h)
       where
-        gone : (b : Bool) → b ≡ true → Stepped r (step_if set now i (Rattle.ring_rules.specs.Starts.begun r) b)
+        gone : (b : Bool) → b ≡ true → Stepped r (step_if set now i (begun r) b)
         gone true e = record { name = refl; owns = refl; leaves = refl }
         gone false e = absurd (cc (e))
     by_left false h =
         let says = step_says set now i r h in
         record { name = says.name; owns = says.owns; leaves = ap (λ b. list_any tells_leave (ring_step set now i r).told || b) h ∙ (or_false _ ∙ sym says.leaves) }
-      where
-        or_false : (b : Bool) → (b || false) ≡ b
-        or_false true = refl
-        or_false false = refl
 
 -- what a step of a whole node leaves
 pub record Acted (c : FabricConfig) (old new : Ring) (records : List Record) (told : List Report) : Type 0 where
@@ -137,10 +133,6 @@ pub record Acted (c : FabricConfig) (old new : Ring) (records : List Record) (to
   pub own : last_own told (Some (owned_by c old)) ≡ Some (owned_by c new)
   pub leaves : (list_any tells_leave told || is_left old.phase) ≡ is_left new.phase
   pub apart : list_any is_ring_record records ≡ false
-
-or_false : (b : Bool) → (b || false) ≡ b
-or_false true = refl
-or_false false = refl
 
 pub acted_told : (c : FabricConfig) (node : ℕ) (old : Ring) (k : Work) (more : List Report) (records : List Record) → Stepped old k →
     list_any is_ring_report more ≡ false → list_any is_ring_record records ≡ false →
@@ -154,8 +146,8 @@ acted_told c node old k more records step tells recs = with_last (own_after (set
       own =
           last_own-append (k.told ++ more) last (Some (owned_by c old))
           ∙ (ap (last_own last)
-              (last_own-append k.told more (Some (owned_by c old))
-              ∙ (ap (last_own more) (no_own k.told (Some (owned_by c old)) step.owns) ∙ no_own more (Some (owned_by c old)) (others_own more tells)))
+          (last_own-append k.told more (Some (owned_by c old))
+          ∙ (ap (last_own more) (no_own k.told (Some (owned_by c old)) step.owns) ∙ no_own more (Some (owned_by c old)) (others_own more tells)))
           ∙ own);
       leaves = ap (λ b. b || is_left old.phase) silent ∙ step.leaves;
       apart = recs;
@@ -230,12 +222,12 @@ begun_boots a c node records = go (is_spent records) refl
     go : (b : Bool) → is_spent records ≡ b → instance_begun records ≡ boots_of records + boots_of (boot_kept records)
     go true h = by_spent (is_spent records) h
       where
-        by_spent : (b : Bool) → b ≡ true → cond b (boots_of records) (boots_of records + 1) ≡ boots_of records + boots_of (cond b [] (Rattle.fabric_terms.specs.declared.record.Record.TheVariants.Boot (instance_begun records) ∷ []))
+        by_spent : (b : Bool) → b ≡ true → cond b (boots_of records) (boots_of records + 1) ≡ boots_of records + boots_of (cond b [] (Boot (instance_begun records) ∷ []))
         by_spent true e = omega arith
         by_spent false e = absurd (cc (e))
     go false h = by_spent (is_spent records) h
       where
-        by_spent : (b : Bool) → b ≡ false → cond b (boots_of records) (boots_of records + 1) ≡ boots_of records + boots_of (cond b [] (Rattle.fabric_terms.specs.declared.record.Record.TheVariants.Boot (instance_begun records) ∷ []))
+        by_spent : (b : Bool) → b ≡ false → cond b (boots_of records) (boots_of records + 1) ≡ boots_of records + boots_of (cond b [] (Boot (instance_begun records) ∷ []))
         by_spent false e = refl
         by_spent true e = absurd (cc (e))
 
@@ -252,6 +244,6 @@ pub begun_accuses : (a : Upper) (c : FabricConfig) (node : ℕ) (records : List 
 unfolding node_begun
 begun_accuses a c node records table = go (is_spent records)
   where
-    go : (b : Bool) → accusations_after table (cond b [] (Rattle.fabric_terms.specs.declared.record.Record.TheVariants.Boot (instance_begun records) ∷ [])) ≡ table
+    go : (b : Bool) → accusations_after table (cond b [] (Boot (instance_begun records) ∷ [])) ≡ table
     go true = refl
     go false = refl

@@ -1,26 +1,24 @@
 -- The machine follows the stop of a node, and reports that move nothing.
-use Rattle.std.proofs.Common.{◌≡◌, ℕ, ◌+◌, ◌<◌, Bool, true, false, cond, List, [], ◌∷◌, Option, Some, None, refl, sym, ap, ◌∙◌, subst, arith}
+use Rattle.std.proofs.Common.{◌≡◌, ℕ, Bool, true, false, cond, List, [], ◌∷◌, Some, refl, sym, ap, ◌∙◌, subst, arith}
 use Rattle.std.specs.Prelude.{◌==◌}
 use Rattle.std.specs.List.{list_any}
-use Rattle.std.proofs.lemmas.Bool.{both_ways, eqb-true}
+use Rattle.std.proofs.lemmas.Bool.{both_ways, eqb-true, eqb-false}
 use Rattle.fabric_terms.specs.declared.config.FabricConfig.{FabricConfig}
 use Rattle.fabric_terms.specs.declared.report.Report.{Report}
 use Rattle.fabric_terms.specs.declared.report.Report.TheVariants.{Stopped}
 use Rattle.fabric_terms.specs.Reports.{Told, told_in, told_on}
-use Rattle.fabric_terms.specs.TakeOvers.{was_taken_over}
 use Rattle.join_phases.specs.Phases.{is_left}
 use Rattle.ring_points.specs.declared.who.Who.{Who}
-use Rattle.ring_points.specs.Whos.{same_who, node_instance}
+use Rattle.ring_points.specs.Whos.{same_who}
 use Rattle.ring_machine.specs.World as machine
 use Rattle.ring_machine.specs.World.{Instance, Running, first_of, has_clock}
 use Rattle.ring_machine.specs.Events as events
 use Rattle.ring_machine.specs.Events.{Stops, in_phase}
 use Rattle.ring_machine.proofs.Histories.{EventDone, event_done}
-use Rattle.ring_machine.proofs.Whos.{test, same_who-true, same_who-refl, same_who-false, same_who_from}
+use Rattle.ring_machine.proofs.Whos.{test, same_who-true, same_who-false, same_who_from}
 use Rattle.ring_refines.specs.Images.{machine_of}
 use Rattle.ring_refines.specs.Moves.{places_of}
-use Rattle.ring_refines.specs.Shown.{Shows, ShowsAs}
-use Rattle.ring_rules.specs.Rings.{Ring}
+use Rattle.ring_refines.specs.Shown.{ShowsAs}
 use Rattle.world_rules.specs.Arbiters.{ArbiterState}
 use Rattle.world_rules.specs.Events.{node_stops}
 use Rattle.world_rules.specs.Maps.{at, without}
@@ -28,7 +26,7 @@ use Rattle.world_rules.specs.Uppers.{Upper}
 use Rattle.world_rules.specs.Worlds as real
 use Rattle.world_rules.specs.Worlds.{World, kept_of}
 use Rattle.ring_safety.proofs.ActFollows.{Followed, Numbered, named}
-use Rattle.ring_safety.proofs.Follows.{Follows, Runs, ShowsClock, shows_still, clock_still}
+use Rattle.ring_safety.proofs.Follows.{Follows, Runs, shows_still, clock_still}
 use Rattle.ring_safety.proofs.Kept.{without_cases, at_without_other}
 use Rattle.ring_safety.proofs.Moves.{SoFar, moves, none_moves, none_over, told_so_far, given_elsewhere, over_told, has_given}
 
@@ -80,7 +78,7 @@ arbiters_follow c w t m arbiters f = record {
 }
 
 module _ {a : Upper} (c : FabricConfig) (w : World a) (t : Told) (m : machine.World) (n : Numbered w) (f : Follows c w t m) (node : ℕ) (s : real.Running a)
-  (there : at node w.nodes ≡ Some s) where
+    (there : at node w.nodes ≡ Some s) where
   abbrev gone : World a
   gone = record w { nodes = without node w.nodes }
 
@@ -145,12 +143,12 @@ module _ {a : Upper} (c : FabricConfig) (w : World a) (t : Told) (m : machine.Wo
       other : (q : ℕ) (r : real.Running a) → (node == q) ≡ false → at q w.nodes ≡ Some r → same_who s.node.ring.me r.node.ring.me ≡ false
       other q r apart h =
           same_who_from s.node.ring.me r.node.ring.me
-          (λ same. Rattle.std.proofs.lemmas.Bool.eqb-false node q apart (sym (named w n node s there) ∙ (ap (λ (z : Who). z.actor) same ∙ named w n q r h)))
+          (λ same. eqb-false node q apart (sym (named w n node s there) ∙ (ap (λ (z : Who). z.actor) same ∙ named w n q r h)))
 
       stopped : (x : Who) → same_who s.node.ring.me x ≡ true → ((in_phase m s.node.ring.me machine.Stopped).instance x).phase ≡ Running → ⊥
       stopped x h g =
           let phase : ((in_phase m s.node.ring.me machine.Stopped).instance x).phase ≡ machine.Stopped =
-              ap (λ b. (cond b (record (m.instance s.node.ring.me) { phase = machine.Stopped }) (m.instance x)).phase) h in
+          ap (λ b. (cond b (record (m.instance s.node.ring.me) { phase = machine.Stopped }) (m.instance x)).phase) h in
           cc (phase, g)
 
   pub stops_follow : events.IsSound (machine_of c) → Followed c (node_stops a w node (Some s)).world (told_in (node_stops a w node (Some s)).entry t)

@@ -1,10 +1,10 @@
 -- A running arbitrator's table is that of its synced records.
-use Rattle.std.proofs.Common.{◌≡◌, ℕ, ◌+◌, ◌-◌, ◌<◌, Bool, true, false, cond, not, ◌&&◌, List, [], ◌∷◌, ◌++◌, Option, Some, None, refl, sym, ap, ◌∙◌, subst, arith}
+use Rattle.std.proofs.Common.{◌≡◌, ℕ, ◌+◌, ◌-◌, Bool, true, false, not, ◌&&◌, List, [], ◌∷◌, Some, None, refl, sym, ap, ◌∙◌, subst, arith}
 use Rattle.std.specs.Prelude.{◌==◌, nat_lt, nat_le, length}
-use Rattle.std.proofs.lemmas.Bool.{and_parts, eqb-true, eqb-false, eq-eqb, ltb-true, both_ways}
+use Rattle.std.proofs.lemmas.Bool.{and_parts, eqb-true, eqb-false, ltb-true}
 use Rattle.fabric_terms.specs.declared.config.FabricConfig.{FabricConfig}
 use Rattle.fabric_terms.specs.declared.event.Event.{Event}
-use Rattle.fabric_terms.specs.declared.event.Event.TheVariants.{Start}
+use Rattle.fabric_terms.specs.declared.message.Body.{Body}
 use Rattle.fabric_terms.specs.declared.record.Record.{Record}
 use Rattle.ring_points.specs.Whos.{arbiter_actor}
 use Rattle.ring_points.specs.declared.who.Who.{Who}
@@ -12,26 +12,26 @@ use Rattle.ring_rules.specs.Arbiters.{Accusations, accusations_after}
 use Rattle.drift_clock.specs.Within.{Pair}
 use Rattle.world_rules.specs.Arbiters.{ArbiterState, arbiter_begun, arbiter_step}
 use Rattle.world_rules.specs.Events.{arbiter_number}
-use Rattle.world_rules.specs.Maps.{at}
-use Rattle.world_rules.specs.Nodes.{NodeState, boot_kept, instance_begun, is_spent, node_begun, node_step}
+use Rattle.world_rules.specs.Maps.{at, put}
+use Rattle.world_rules.specs.Nodes.{NodeState, node_begun, node_step}
 use Rattle.world_rules.specs.Runs.{History, world_after}
-use Rattle.world_rules.specs.Schedules.{may_start, arbiter_runs, MayCome, Valid}
+use Rattle.world_rules.specs.Schedules.{is_there, may_start, arbiter_runs, MayCome, Valid}
 use Rattle.world_rules.specs.Uppers.{Upper, Did}
-use Rattle.world_rules.specs.Worlds.{World, Stepped, kept_of, arbiter_who, arbiter_acted, node_acted, with_outcome}
+use Rattle.world_rules.specs.Worlds.{World, kept_of, arbiter_who, arbiter_acted, node_acted, with_outcome}
 use Rattle.world_rules.proofs.Rows.{arbiter_begun-is, is_there-start}
 use Rattle.ring_safety.specs.Above.{StaysAbove}
 use Rattle.ring_safety.specs.Laws.{TableIsKept}
 use Rattle.ring_safety.proofs.ArbiterSteps.{Answered, arbiter_stepped}
 use Rattle.ring_safety.proofs.Happens.{Cases, by_cases}
 use Rattle.ring_safety.proofs.Kept.{put_cases, without_cases, kept_here, kept_there, no_accusations, accusations_append}
-use Rattle.ring_safety.proofs.Steps.{Acted, node_acted-told, begun_accuses}
+use Rattle.ring_safety.proofs.Steps.{node_acted-told, begun_accuses}
 
 -- the table of an actor's records
 abbrev pub table_of : {a : Upper} → World a → ℕ → Accusations
 table_of w actor = accusations_after [] (kept_of w actor)
 
 -- records without an accusation leave the table of an actor
-pub table_stays : {a : Upper} (w : World a) (who : Who) (records : List Record) (sent : List (Who × Rattle.fabric_terms.specs.declared.message.Body.Body)) →
+pub table_stays : {a : Upper} (w : World a) (who : Who) (records : List Record) (sent : List (Who × Body)) →
     ((t : Accusations) → accusations_after t records ≡ t) → (q : ℕ) → table_of (with_outcome w who records sent) q ≡ table_of w q
 table_stays w who records sent none q = go (who.actor == q) refl
   where
@@ -81,14 +81,14 @@ module _ (a : Upper) (stays : StaysAbove a) (c : FabricConfig) (w : World a) (t 
           ∙ sym (ap (accusations_after []) (kept_here w (arbiter_who arbiter) d.records d.sent) ∙ accusations_append [] (kept_of w (arbiter_actor arbiter)) d.records))
 
   begun_tabled : (actor : ℕ) → arbiter_actor (arbiter_number actor) ≡ actor →
-      (q : ℕ) (s : ArbiterState a) → at q (Rattle.world_rules.specs.Maps.put (arbiter_number actor) (arbiter_begun a c (arbiter_number actor) (kept_of w actor)) w.arbiters) ≡ Some s →
+      (q : ℕ) (s : ArbiterState a) → at q (put (arbiter_number actor) (arbiter_begun a c (arbiter_number actor) (kept_of w actor)) w.arbiters) ≡ Some s →
       s.table ≡ table_of w (arbiter_actor q)
   begun_tabled actor is q s h =
       put_cases (λ (z : ArbiterState a). z.table ≡ table_of w (arbiter_actor q)) (arbiter_number actor)
       (arbiter_begun a c (arbiter_number actor) (kept_of w actor)) w.arbiters q s h
       (λ same.
-          ap (λ (z : ArbiterState a). z.table) (arbiter_begun-is a c (arbiter_number actor) (kept_of w actor))
-          ∙ ap (table_of w) (sym is ∙ ap arbiter_actor same))
+      ap (λ (z : ArbiterState a). z.table) (arbiter_begun-is a c (arbiter_number actor) (kept_of w actor))
+      ∙ ap (table_of w) (sym is ∙ ap arbiter_actor same))
       (λ apart g. t q s g)
 
   pub tabled_cases : (is_frame : List ℕ → Bool) (e : Event) → MayCome is_frame c w e → Cases a c w e (λ st. Tabled st.world)
@@ -101,7 +101,7 @@ module _ (a : Upper) (stays : StaysAbove a) (c : FabricConfig) (w : World a) (t 
         node_tabled node s.reading s.pairs (node_step a c s.reading i s.node)
         (λ z. no_accusations z (node_step a c s.reading i s.node).records (node_acted-told a stays c s.reading i s.node).apart);
     table_begins = λ actor h.
-        begun_tabled actor (actor_of_number c w actor (sym (is_there-start is_frame c w actor None) ∙ subst (λ e. Rattle.world_rules.specs.Schedules.is_there is_frame c w e ≡ true) h may.there));
+        begun_tabled actor (actor_of_number c w actor (sym (is_there-start is_frame c w actor None) ∙ subst (λ e. is_there is_frame c w e ≡ true) h may.there));
     table_stops = λ arbiter s h q r g. let still = without_cases arbiter w.arbiters q r g in t q r still.1;
     rules = λ arbiter f s h m to. rules_tabled arbiter s (arbiter_step a c arbiter f s) h (arbiter_stepped a stays c arbiter f s);
   }

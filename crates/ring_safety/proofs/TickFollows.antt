@@ -1,5 +1,5 @@
 -- The machine follows a tick: each running clock keeps its bound.
-use Rattle.std.proofs.Common.{◌≡◌, ℕ, ◌+◌, ◌<◌, Bool, true, false, cond, ◌&&◌, List, [], ◌∷◌, Option, Some, None, refl, sym, ap, ◌∙◌, subst, ◌⊎◌, inl, inr, arith}
+use Rattle.std.proofs.Common.{◌≡◌, ℕ, ◌+◌, Bool, true, false, cond, List, [], ◌∷◌, Option, Some, None, refl, sym, ap, ◌∙◌, subst, inl, inr, arith}
 use Rattle.std.specs.Prelude.{◌==◌, map, unwrap_or}
 use Rattle.std.proofs.lemmas.Bool.{and_parts, eqb-true, eq-eqb}
 use Rattle.drift_clock.specs.Within.{Pair, FitsAll, fits_all}
@@ -126,7 +126,7 @@ ticked_from {a = a} time rs es q s h = go (at q es) refl
     go (Some r) g = let after = ticked_at time rs es q r g in (r, g, let same : s ≡ shows {a = a} time (unwrap_or (at q rs) r.reading) r = cc (h, after) in same)
 
 module _ (a : Upper) (c : FabricConfig) (w : World a) (t : Told) (m : machine.World) (n : Numbered w) (f : Follows c w t m) (advance : ℕ) (rs : List (ℕ × ℕ))
-  (all : are_of rs w.nodes ≡ true) (fit : readings_fit c w (w.time + advance) rs ≡ true) where
+    (all : are_of rs w.nodes ≡ true) (fit : readings_fit c w (w.time + advance) rs ≡ true) where
   abbrev after : World a
   after = (ticks a w (w.time + advance) rs).world
 
@@ -181,7 +181,7 @@ module _ (a : Upper) (c : FabricConfig) (w : World a) (t : Told) (m : machine.Wo
         let x : Who = r.node.ring.me in
         let old = f.clock q r there stay in
         let at_x : at x.actor after.nodes ≡ Some (shows {a = a} (w.time + advance) (unwrap_or (at q rs) r.reading) r) =
-            subst (λ z. at z after.nodes ≡ Some (shows {a = a} (w.time + advance) (unwrap_or (at q rs) r.reading) r)) (sym (named w n q r there)) (ticked_at (w.time + advance) rs w.nodes q r there) in
+        subst (λ z. at z after.nodes ≡ Some (shows {a = a} (w.time + advance) (unwrap_or (at q rs) r.reading) r)) (sym (named w n q r there)) (ticked_at (w.time + advance) rs w.nodes q r there) in
         let reads : now x ≡ unwrap_or (at q rs) r.reading = now_at x (shows {a = a} (w.time + advance) (unwrap_or (at q rs) r.reading) r) at_x in
         let clocked : has_clock (m.instance x).phase ≡ true = ap has_clock (running x r.node.ring stay (f.shows q r there)) in
         subst (λ b. ShowsClock (events.ticked (m.instance x) (m.time + advance) (now x) b) (unwrap_or (at q rs) r.reading) ((w.time + advance, unwrap_or (at q rs) r.reading) ∷ r.pairs)) (sym clocked)

@@ -1,5 +1,5 @@
 -- What arbitrators have answered to accusers, by the frames that were sent.
-use Rattle.std.specs.Prelude.{◌≡◌, ℕ, Bool, true, List, ◌⊎◌, length}
+use Rattle.std.specs.Prelude.{◌≡◌, ℕ, Bool, true, List, ◌⊎◌}
 use Rattle.fabric_terms.specs.declared.config.FabricConfig.{FabricConfig}
 use Rattle.fabric_terms.specs.declared.message.Body.TheVariants.{Ruled}
 use Rattle.fabric_terms.specs.declared.message.Message.{Message}

@@ -1,5 +1,4 @@
 -- What an instance owns by its state.
-use Rattle.std.specs.Prelude.{ℕ}
 use Rattle.fabric_terms.specs.declared.config.FabricConfig.{FabricConfig}
 use Rattle.fabric_terms.specs.Runs.{Owned}
 use Rattle.ring_rules.specs.Rings.{Ring}
