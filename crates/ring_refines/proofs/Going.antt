@@ -174,6 +174,17 @@ module _ {c : FabricConfig} {m : World} {x : Who} {now : ℕ} {w : Work} (sound 
   pub same_slots : (i : ℕ) (l : Link) → slot_at i w.ring.slots ≡ Some l → w.ring.slots ≡ slice_set w.ring.slots i (Some l)
   same_slots i l at = subst (λ (o : Option Link). w.ring.slots ≡ slice_set w.ring.slots i o) at (sym (set-get_or w.ring.slots i None))
 
+  -- the link that place i has, as what it has then
+  pub kept_new : (frames : List Frame) (i : ℕ) (l : Link) → slot_at i w.ring.slots ≡ Some l →
+      NewAt c x (frames ++ v.sent) w.ring.slots i l.mine w.ring.next_session (slot_of l) (Some l)
+  kept_new frames i l at = stays l refl (record {
+    numbered = refl;
+    below = g.shows.slots.below i l at;
+    shown = refl;
+    sound = (shows_later g.shows.slots (frames ++ v.sent) (λ f h. IsMember-append_right f frames v.sent h)).sound i l at;
+    alone = stays_alone g.shows.slots i l l at refl (λ h. h) (λ h. h);
+  })
+
   -- a deed that only sends: the messages are among what it sends, or were sent before
   pub says : (i : ℕ) (l : Link) → slot_at i w.ring.slots ≡ Some l → (deed : SlotDeed) →
       MayInSlot (machine_of c) v (end_of x l.mine) now (slot_of l) tok deed → (frames : List Frame) →
@@ -184,13 +195,7 @@ module _ {c : FabricConfig} {m : World} {x : Who} {now : ℕ} {w : Work} (sound 
       (subst (λ (o : Outcome). Makes c x v w i l.mine w.ring.next_session o (record w { sent = w.sent ++ ss })) (sym is) (record {
         placed = Some l;
         slots = same_slots i l at;
-        new = stays l refl (record {
-          numbered = refl;
-          below = g.shows.slots.below i l at;
-          shown = refl;
-          sound = (shows_later g.shows.slots (frames ++ v.sent) (λ f h. IsMember-append_right f frames v.sent h)).sound i l at;
-          alone = stays_alone g.shows.slots i l l at refl (λ h. h) (λ h. h);
-        });
+        new = kept_new frames i l at;
         me = refl;
         counter = refl;
         stays = g.stays;

@@ -88,6 +88,11 @@ module _ (slots : Slots) (t : token.Token) (h : IsRising t) where
   pub inherited_rises : (held flight : List Interval) → Rises held → Rises flight → Rises (token.inherited t held flight)
   inherited_rises held flight k l = rises_from-minus_of 0 0 (union_of held flight) t.ranges (rises_from-union_of 0 0 held flight k l) h.ranges
 
+  pub inherited_is : (held flight : List Interval) → Rises held → Rises flight →
+      points_of (token.inherited t held flight) ≡ minus (union (points_of held) (points_of flight)) (points_of t.ranges)
+  inherited_is held flight k l =
+      minus_is (union_of held flight) t.ranges (rises_from-union_of 0 0 held flight k l) h.ranges ∙ ap (λ q. minus q (points_of t.ranges)) (union_is held flight k l)
+
 -- an arc that leaves a gap rises
 rises_from-gap : (lo hi : ℕ) → hi < 2 ^ 64 → (hi < lo → hi + 2 ≤ lo) → Rises (arc lo hi)
 rises_from-gap lo hi k gap = chosen (nat_le lo hi) refl

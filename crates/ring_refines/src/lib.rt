@@ -5,3 +5,7 @@
 //! as it tells, and does nothing that the machine forbids. So whoever carries a world of the machine along with the real
 //! one has the machine's laws of the real one.
 #![tactic(auto)]
+
+mod laws;
+
+pub use laws::{a_spent_start_has_left, a_start_is_shown, each_step_is_deeds};
