@@ -12,7 +12,8 @@ use Rattle.ring_machine.specs.World.{first_of}
 use Rattle.ring_machine.specs.Events as events
 use Rattle.ring_machine.proofs.Histories.{empty_sound}
 use Rattle.ring_refines.specs.Images.{machine_of}
-use Rattle.ring_refines.specs.Laws.{StepIsDeeds, StartIsShown, SpentIsLeft}
+use Rattle.ring_refines.proofs.Starting.{spent_is_left_lem, start_is_shown_lem}
+use Rattle.ring_refines.proofs.Steps.{step_is_deeds_lem}
 use Rattle.ring_refines.specs.Moves.{place_of}
 use Rattle.world_rules.specs.Events.{arbiter_number}
 use Rattle.world_rules.specs.Arbiters.{arbiter_begun}
@@ -33,13 +34,7 @@ use Rattle.ring_safety.proofs.StopFollows.{arbiters_follow, silent_follows, stop
 use Rattle.ring_safety.proofs.Tables.{Tabled, tabled}
 use Rattle.ring_safety.proofs.TickFollows.{ticks_follow}
 
--- what is proved of one node's ring
-pub record NodesRefine : Type 0 where
-  pub step : StepIsDeeds
-  pub start : StartIsShown
-  pub spent : SpentIsLeft
-
-module _ (nodes : NodesRefine) (a : Upper) (stays : StaysAbove a) (is_frame : List ℕ → Bool) (c : FabricConfig) (sound : events.IsSound (machine_of c)) where
+module _ (a : Upper) (stays : StaysAbove a) (is_frame : List ℕ → Bool) (c : FabricConfig) (sound : events.IsSound (machine_of c)) where
   abbrev After : Told → Stepped a → Type 0
   After t st = Followed c st.world (told_in st.entry t)
 
@@ -49,13 +44,13 @@ module _ (nodes : NodesRefine) (a : Upper) (stays : StaysAbove a) (is_frame : Li
     begins = λ node reading h.
         begins_follow a c w t m n f node reading
         (nobody_runs c w node reading (sym (is_there-start is_frame c w node (Some reading)) ∙ subst (λ e. is_there is_frame c w e ≡ true) h may.there))
-        nodes.start nodes.spent sound;
+        start_is_shown_lem spent_is_left_lem sound;
     stops = λ node s there. stops_follow c w t m n f node s there sound;
     ticks = λ advance readings h.
         ticks_follow a c w t m n f advance readings
         (sym (is_there-tick is_frame c w advance readings) ∙ subst (λ e. is_there is_frame c w e ≡ true) h may.there)
         (sym (keeps_bound-tick c w advance readings) ∙ subst (λ e. keeps_bound c w e ≡ true) h may.bound) sound;
-    acts = λ node i s there came. acts_follow a c w t m n f nodes.step stays sound node i s there came;
+    acts = λ node i s there came. acts_follow a c w t m n f step_is_deeds_lem stays sound node i s there came;
     table_begins = λ actor h. record {
       world = m;
       follows = arbiters_follow c w t m (put (arbiter_number actor) (arbiter_begun a c (arbiter_number actor) (kept_of w actor)) w.arbiters) f;

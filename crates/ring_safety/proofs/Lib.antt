@@ -16,7 +16,6 @@ pub mod BeginFollows
 pub mod StopFollows
 pub mod TickFollows
 pub mod RuleFollows
-pub mod Starts
 pub mod Followed
 pub mod Clocks
 pub mod Holders

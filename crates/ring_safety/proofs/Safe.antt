@@ -33,7 +33,7 @@ use Rattle.ring_safety.specs.Above.{StaysAbove}
 use Rattle.ring_safety.specs.Answers.{MajorityGranted, MajorityAnswered, answer_of}
 use Rattle.ring_safety.specs.Laws.{RingIsSafe, LeavesBeforeTakeOver, PlacesAreKept, AnswersExclude, OneHeir}
 use Rattle.ring_safety.proofs.ActFollows.{Followed}
-use Rattle.ring_safety.proofs.Followed.{NodesRefine, followed}
+use Rattle.ring_safety.proofs.Followed.{followed}
 use Rattle.ring_safety.proofs.Follows.{Follows, sound_machine}
 use Rattle.ring_safety.proofs.Holders.{Lives, Seen, seen, lives, holds_there}
 use Rattle.ring_safety.proofs.Moves.{AllMoved, AllNew, has_given}
@@ -76,9 +76,9 @@ a_point : (p : ℕ) → p < 2 ^ 64 → is_point p ≡ true
 unfolding is_point
 a_point p h = lt-ltb p (2 ^ 64) h
 
-module _ (nodes : NodesRefine) (a : Upper) (stays : StaysAbove a) (is_frame : List ℕ → Bool) (c : FabricConfig) (sound : IsSound c) where
+module _ (a : Upper) (stays : StaysAbove a) (is_frame : List ℕ → Bool) (c : FabricConfig) (sound : IsSound c) where
   after : (h : History) → Valid a is_frame c h → Followed c (world_after a c h) (told (run_of a c h))
-  after h valid = followed nodes a stays is_frame c (sound_machine c sound) h valid
+  after h valid = followed a stays is_frame c (sound_machine c sound) h valid
 
   holder : (h : History) → Valid a is_frame c h → (x : Who) (p : ℕ) → Holds (run_of a c h) x p → (m : machine.World) → Follows c (world_after a c h) (told (run_of a c h)) m →
       machine.Holds (machine_of c) m x p
@@ -182,18 +182,18 @@ module _ (nodes : NodesRefine) (a : Upper) (stays : StaysAbove a) (is_frame : Li
       let m = after h valid in
       one_heir m.follows.inv x y victim (granted m.world m.follows x victim k) (granted m.world m.follows y victim l)
 
-module _ (nodes : NodesRefine) (a : Upper) (stays : StaysAbove a) where
+module _ (a : Upper) (stays : StaysAbove a) where
   pub ring_is_safe_lem : RingIsSafe a
-  ring_is_safe_lem is_frame c h sound valid = ring_safe nodes a stays is_frame c sound h valid
+  ring_is_safe_lem is_frame c h sound valid = ring_safe a stays is_frame c sound h valid
 
   pub leaves_before_take_over_lem : LeavesBeforeTakeOver a
-  leaves_before_take_over_lem is_frame c h sound valid = taken_after_leave nodes a stays is_frame c sound h valid
+  leaves_before_take_over_lem is_frame c h sound valid = taken_after_leave a stays is_frame c sound h valid
 
   pub places_are_kept_lem : PlacesAreKept a
-  places_are_kept_lem is_frame c h sound valid = place_kept nodes a stays is_frame c sound h valid
+  places_are_kept_lem is_frame c h sound valid = place_kept a stays is_frame c sound h valid
 
   pub answers_exclude_lem : AnswersExclude a
-  answers_exclude_lem is_frame c h sound valid = exclude nodes a stays is_frame c sound h valid
+  answers_exclude_lem is_frame c h sound valid = exclude a stays is_frame c sound h valid
 
   pub one_heir_lem : OneHeir a
-  one_heir_lem is_frame c h sound valid = unique nodes a stays is_frame c sound h valid
+  one_heir_lem is_frame c h sound valid = unique a stays is_frame c sound h valid
