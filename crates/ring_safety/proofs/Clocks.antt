@@ -7,7 +7,7 @@ use Rattle.std.proofs.lemmas.Bool.{and_parts, and_from, eqb-true, eq-eqb, leb-tr
 use Rattle.std.proofs.lemmas.Bool.Decides.{nat_tests}
 use Rattle.fabric_terms.specs.declared.config.FabricConfig.{FabricConfig}
 use Rattle.fabric_terms.specs.declared.event.Event.{Event}
-use Rattle.fabric_terms.specs.Runs.{clocks_of, reading_of}
+use Rattle.fabric_terms.specs.Runs.{Clocks, clocks_of, reading_of}
 use Rattle.ring_points.specs.declared.who.Who.{Who}
 use Rattle.ring_points.specs.Whos.{same_who}
 use Rattle.ring_machine.proofs.Whos.{same_who-true}
@@ -20,7 +20,8 @@ use Rattle.world_rules.specs.Worlds.{World, Running, clocks_in, kept_of}
 use Rattle.world_rules.proofs.Maps.{rises-put, rises-without}
 use Rattle.ring_safety.proofs.Happens.{Cases, by_cases}
 
-ticked_rises : {a : Upper} (time : ℕ) (rs : List (ℕ × ℕ)) (low : ℕ) (es : List (ℕ × Running a)) → rises_from low es ≡ true → rises_from low (map (ticked {a = a} time rs) es) ≡ true
+ticked_rises : {a : Upper} (time : ℕ) (rs : List (ℕ × ℕ)) (low : ℕ) (es : List (ℕ × Running a)) → rises_from low es ≡ true →
+    rises_from low (map (ticked {a = a} time rs) es) ≡ true
 ticked_rises time rs low [] h = refl
 ticked_rises {a = a} time rs low (e ∷ es) h =
     let parts = and_parts (nat_le low e.0) (rises_from (e.0 + 1) es) h in
@@ -67,16 +68,22 @@ pub record Reads {a : Upper} (nodes : List (ℕ × Running a)) (x : Who) (readin
   pub name : state.node.ring.me ≡ x
   pub reads : state.reading ≡ reading
 
+-- the clocks of these nodes
+abbrev clocks : {a : Upper} → List (ℕ × Running a) → Clocks
+clocks es = map (λ n. (n.1.node.ring.me, n.1.reading)) es
+
 reads_in : {a : Upper} (low : ℕ) (es : List (ℕ × Running a)) (x : Who) (reading : ℕ) → rises_from low es ≡ true →
-    reading_of x (map (λ n. (n.1.node.ring.me, n.1.reading)) es) ≡ Some reading → Reads {a = a} es x reading
+    reading_of x (clocks {a = a} es) ≡ Some reading → Reads {a = a} es x reading
 reads_in low [] x reading h r = absurd (cc (r))
 reads_in {a = a} low (e ∷ es) x reading h r =
     let parts = and_parts (nat_le low e.0) (rises_from (e.0 + 1) es) h in
     go (same_who e.1.node.ring.me x) refl r (reads_in {a = a} (e.0 + 1) es x reading parts.1) parts.1
   where
     go : (b : Bool) → same_who e.1.node.ring.me x ≡ b →
-        option_map (λ (clock : Who × ℕ). clock.1) (cond b (Some (e.1.node.ring.me, e.1.reading)) (find (λ (clock : Who × ℕ). same_who clock.0 x) (map (λ (n : ℕ × Running a). (n.1.node.ring.me, n.1.reading)) es))) ≡ Some reading →
-        (reading_of x (map (λ (n : ℕ × Running a). (n.1.node.ring.me, n.1.reading)) es) ≡ Some reading → Reads {a = a} es x reading) → rises_from (e.0 + 1) es ≡ true → Reads {a = a} (e ∷ es) x reading
+        option_map (λ (clock : Who × ℕ). clock.1)
+        (cond b (Some (e.1.node.ring.me, e.1.reading)) (find (λ (clock : Who × ℕ). same_who clock.0 x) (clocks {a = a} es))) ≡ Some reading →
+        (reading_of x (clocks {a = a} es) ≡ Some reading → Reads {a = a} es x reading) → rises_from (e.0 + 1) es ≡ true →
+        Reads {a = a} (e ∷ es) x reading
     go true g r again rest = record {
       number = e.0;
       state = e.1;
@@ -101,5 +108,6 @@ clocks_are a c [] = refl
 clocks_are a c (e ∷ h) = refl
 
 -- an instance with a reading runs
-pub reads : (a : Upper) (c : FabricConfig) (h : History) (x : Who) (reading : ℕ) → reading_of x (clocks_of (run_of a c h)) ≡ Some reading → Reads (world_after a c h).nodes x reading
+pub reads : (a : Upper) (c : FabricConfig) (h : History) (x : Who) (reading : ℕ) → reading_of x (clocks_of (run_of a c h)) ≡ Some reading →
+    Reads (world_after a c h).nodes x reading
 reads a c h x reading r = reads_in {a = a} 0 (world_after a c h).nodes x reading (rising a c h) (sym (ap (reading_of x) (clocks_are a c h)) ∙ r)

@@ -12,8 +12,6 @@ use Rattle.ring_machine.specs.World.{first_of}
 use Rattle.ring_machine.specs.Events as events
 use Rattle.ring_machine.proofs.Histories.{empty_sound}
 use Rattle.ring_refines.specs.Images.{machine_of}
-use Rattle.ring_refines.proofs.Starting.{spent_is_left_lem, start_is_shown_lem}
-use Rattle.ring_refines.proofs.Steps.{step_is_deeds_lem}
 use Rattle.ring_refines.specs.Moves.{place_of}
 use Rattle.world_rules.specs.Events.{arbiter_number}
 use Rattle.world_rules.specs.Arbiters.{arbiter_begun}
@@ -26,7 +24,7 @@ use Rattle.world_rules.proofs.Rows.{is_there-start, is_there-tick, keeps_bound-t
 use Rattle.ring_safety.specs.Above.{StaysAbove}
 use Rattle.ring_safety.proofs.ActFollows.{Followed, Numbered, acts_follow}
 use Rattle.ring_safety.proofs.BeginFollows.{begins_follow, nobody_runs}
-use Rattle.ring_safety.proofs.Follows.{Follows}
+use Rattle.ring_safety.proofs.Follows.{Follows, first_instance}
 use Rattle.ring_safety.proofs.Happens.{Cases, by_cases}
 use Rattle.ring_safety.proofs.Orderly.{orderly}
 use Rattle.ring_safety.proofs.RuleFollows.{rules_follow}
@@ -38,19 +36,20 @@ module _ (a : Upper) (stays : StaysAbove a) (is_frame : List ℕ → Bool) (c : 
   abbrev After : Told → Stepped a → Type 0
   After t st = Followed c st.world (told_in st.entry t)
 
-  followed_cases : (w : World a) (t : Told) (m : machine.World) → Numbered w → Tabled w → Follows c w t m → (e : Event) → MayCome is_frame c w e → Cases a c w e (After t)
+  followed_cases : (w : World a) (t : Told) (m : machine.World) → Numbered w → Tabled w → Follows c w t m → (e : Event) → MayCome is_frame c w e →
+      Cases a c w e (After t)
   followed_cases w t m n tables f e may = record {
     still = record { world = m; follows = f };
     begins = λ node reading h.
         begins_follow a c w t m n f node reading
         (nobody_runs c w node reading (sym (is_there-start is_frame c w node (Some reading)) ∙ subst (λ e. is_there is_frame c w e ≡ true) h may.there))
-        start_is_shown_lem spent_is_left_lem sound;
+        sound;
     stops = λ node s there. stops_follow c w t m n f node s there sound;
     ticks = λ advance readings h.
         ticks_follow a c w t m n f advance readings
         (sym (is_there-tick is_frame c w advance readings) ∙ subst (λ e. is_there is_frame c w e ≡ true) h may.there)
         (sym (keeps_bound-tick c w advance readings) ∙ subst (λ e. keeps_bound c w e ≡ true) h may.bound) sound;
-    acts = λ node i s there came. acts_follow a c w t m n f step_is_deeds_lem stays sound node i s there came;
+    acts = λ node i s there came. acts_follow a c w t m n f stays sound node i s there came;
     table_begins = λ actor h. record {
       world = m;
       follows = arbiters_follow c w t m (put (arbiter_number actor) (arbiter_begun a c (arbiter_number actor) (kept_of w actor)) w.arbiters) f;
@@ -74,7 +73,7 @@ module _ (a : Upper) (stays : StaysAbove a) (is_frame : List ℕ → Bool) (c : 
     tables = λ arbiter victim. refl;
     frames = λ g k. absurd k;
     placed = λ p.
-        cond_both (is_point p) (machine.At (first_of (machine_of c))) machine.Outside (λ o. With (first_of (machine_of c)) ≡ place_of (first_of (machine_of c)) o)
+        cond_both (is_point p) (machine.At (first_instance c)) machine.Outside (λ o. With (first_instance c) ≡ place_of (first_instance c) o)
         (λ h. refl) (λ h. refl);
     moved = tt;
     new = tt;

@@ -7,6 +7,7 @@ use Rattle.fabric_terms.specs.declared.config.FabricConfig.{FabricConfig}
 use Rattle.fabric_terms.specs.declared.message.Body.{Body}
 use Rattle.fabric_terms.specs.declared.message.Body.TheVariants as body
 use Rattle.fabric_terms.specs.declared.message.Message.{Message}
+use Rattle.fabric_terms.specs.Places.{Place, place_of}
 use Rattle.fabric_terms.specs.Reports.{Told}
 use Rattle.fabric_terms.specs.Sound as fabric
 use Rattle.fabric_terms.specs.TakeOvers.{was_taken_over}
@@ -34,7 +35,18 @@ use Rattle.world_rules.specs.Worlds.{World, kept_of, posted}
 use Rattle.ring_safety.specs.Above.{is_ring_frame}
 use Rattle.ring_safety.proofs.Moves.{AllMoved, AllNew, has_given}
 use Rattle.ring_safety.proofs.Tables.{table_of}
-use Rattle.fabric_terms.specs.Places.{place_of}
+
+-- the instance that the ring begins with
+abbrev pub first_instance : FabricConfig → Who
+first_instance c = first_of (machine_of c)
+
+-- where the points of a world of the machine are, as they are told
+abbrev pub places_in : FabricConfig → machine.World → ℕ → Place
+places_in c m = places_of (first_of (machine_of c)) m
+
+-- the number of an instance's next flight
+abbrev pub next_of : machine.World → Who → ℕ
+next_of m x = (m.instance x).token.next_flight
 
 -- a sound configuration makes a sound machine
 pub sound_machine : (c : FabricConfig) → fabric.IsSound c → events.IsSound (machine_of c)
@@ -73,10 +85,10 @@ pub record Follows {a : Upper} (c : FabricConfig) (w : World a) (t : Told) (m : 
   pub tables : (arbiter : ℕ) (victim : Who) → m.first_accuser arbiter victim ≡ first_accuser victim (table_of w (arbiter_actor arbiter))
   pub frames : (f : Message) → IsMember f w.frames → Known c.lease m.sent f
   -- what was told
-  pub placed : (p : ℕ) → place_of (first_of (machine_of c)) t p ≡ places_of (first_of (machine_of c)) m p
-  pub moved : AllMoved (first_of (machine_of c)) t
+  pub placed : (p : ℕ) → place_of (first_instance c) t p ≡ places_in c m p
+  pub moved : AllMoved (first_instance c) t
   pub new : AllNew t
-  pub below : (x : Who) (number : ℕ) → has_given x number t ≡ true → number < (m.instance x).token.next_flight
+  pub below : (x : Who) (number : ℕ) → has_given x number t ≡ true → number < (next_of m x)
   pub over : (v : Who) → was_taken_over v t ≡ true → Dead (machine_of c) (m.instance v)
 
 -- what is shown stays shown while the instance stays and more is sent
@@ -124,7 +136,8 @@ pub posted_cases : (from : Who) (ms : List (Who × Body)) (frames : List Message
 posted_cases from [] frames f m = inl m
 posted_cases from (s ∷ ms) frames f m = ⊎_elim now (λ g. inr (g.0, inr g.1, g.2)) (posted_cases from ms (record { from = from; to = s.0; body = s.1 } ∷ frames) f m)
   where
-    now : IsMember f (record { from = from; to = s.0; body = s.1 } ∷ frames) → IsMember f frames ⊎ ((z : Who × Body) × IsMember z (s ∷ ms) × (f ≡ record { from = from; to = z.0; body = z.1 }))
+    now : IsMember f (record { from = from; to = s.0; body = s.1 } ∷ frames) →
+        IsMember f frames ⊎ ((z : Who × Body) × IsMember z (s ∷ ms) × (f ≡ record { from = from; to = z.0; body = z.1 }))
     now (inl e) = inr (s, inl refl, e)
     now (inr g) = inl g
 
@@ -137,7 +150,8 @@ known_said lease sent from to b one s = record {
   by_instance = λ h. one;
 }
 
-pub known_other : (lease : ℕ) (sent : List Frame) (from to : Who) (b : Body) → is_ring_frame b ≡ false → Known lease sent (record { from = from; to = to; body = b })
+pub known_other : (lease : ℕ) (sent : List Frame) (from to : Who) (b : Body) → is_ring_frame b ≡ false →
+    Known lease sent (record { from = from; to = to; body = b })
 known_other lease sent from to b h = record { posted = go b h; by_instance = λ e. absurd (both_ways (is_ring_frame b) h (ring b e)) }
   where
     go : (b : Body) → is_ring_frame b ≡ false → Posted lease sent from to b
@@ -158,7 +172,8 @@ known_other lease sent from to b h = record { posted = go b h; by_instance = λ 
     ring (body.Accuse victim) e = refl
     ring b e = absurd (cc (e))
 
-pub all_said : (lease : ℕ) (sent : List Frame) (from : Who) (ms : List (Who × Body)) (s : Who × Body) → AllSaid lease sent from ms → IsMember s ms → Said lease sent from s.0 s.1
+pub all_said : (lease : ℕ) (sent : List Frame) (from : Who) (ms : List (Who × Body)) (s : Who × Body) → AllSaid lease sent from ms → IsMember s ms →
+    Said lease sent from s.0 s.1
 all_said lease sent from [] s a m = absurd m
 all_said lease sent from (z ∷ ms) s a (inl e) = subst (λ (z : Who × Body). Said lease sent from z.0 z.1) (sym e) a.0
 all_said lease sent from (z ∷ ms) s a (inr m) = all_said lease sent from ms s a.1 m

@@ -64,7 +64,8 @@ module _ (a : Upper) (c : FabricConfig) (w : World a) (e : Event) (P : Stepped a
   at_node f None h m = k.still
   at_node f (Some s) h m = arrive_if f s _ h m
 
-  at_arbiter : (f : Message) (arbiter : ℕ) (o : Option (ArbiterState a)) → at arbiter w.arbiters ≡ o → IsMember f w.frames → f.to.actor ≡ arbiter_actor arbiter →
+  at_arbiter : (f : Message) (arbiter : ℕ) (o : Option (ArbiterState a)) → at arbiter w.arbiters ≡ o → IsMember f w.frames →
+      f.to.actor ≡ arbiter_actor arbiter →
       P (arrives_at_arbiter a c w f arbiter o)
   at_arbiter f arbiter None h m to = k.still
   at_arbiter f arbiter (Some s) h m to = k.rules arbiter f s h m to

@@ -32,13 +32,15 @@ use Rattle.ring_safety.proofs.Follows.{Follows, ShowsClock}
 use Rattle.ring_safety.proofs.Orderly.{orderly}
 
 -- a reading below the fence is below the end of each lease that counts
-below_each : (answer reading : ℕ) (ss : Slots) → IsBelow reading (fence_of answer ss) → (i : ℕ) (l : Link) → slot_at i ss ≡ Some l → guards l.state ≡ true → reading < l.until + answer
+below_each : (answer reading : ℕ) (ss : Slots) → IsBelow reading (fence_of answer ss) → (i : ℕ) (l : Link) → slot_at i ss ≡ Some l →
+    guards l.state ≡ true → reading < l.until + answer
 below_each answer reading [] below i l there g = absurd (cc (there))
 below_each answer reading (None ∷ ss) below zero l there g = absurd (cc (there))
 below_each answer reading (None ∷ ss) below (suc i) l there g = below_each answer reading ss below i l there g
 below_each answer reading (Some k ∷ ss) below i l there g = go i (guards k.state) refl (fence_of answer ss) below there (λ rest j. below_each answer reading ss rest j l)
   where
-    go : (i : ℕ) (b : Bool) → guards k.state ≡ b → (o : Option ℕ) → IsBelow reading (fence_if b (k.until + answer) o) → slot_at i (Some k ∷ ss) ≡ Some l →
+    go : (i : ℕ) (b : Bool) → guards k.state ≡ b → (o : Option ℕ) → IsBelow reading (fence_if b (k.until + answer) o) →
+        slot_at i (Some k ∷ ss) ≡ Some l →
         (IsBelow reading o → (j : ℕ) → slot_at j ss ≡ Some l → guards l.state ≡ true → reading < l.until + answer) → reading < l.until + answer
     go zero true e None lt at again = let same : k ≡ l = cc (at) in subst (λ (z : Link). reading < z.until + answer) same lt
     go zero true e (Some other) lt at again = let same : k ≡ l = cc (at) in subst (λ (z : Link). reading < z.until + answer) same (omega arith)
@@ -58,14 +60,16 @@ same_guards state.Discharged = refl
 same_guards state.Heir = refl
 
 -- a ring below its fence shows a live instance
-pub live_below : (c : FabricConfig) (m : machine.World) (x : Who) (r : Ring) (reading : ℕ) → ShowsInstance c x m.sent (m.instance x) r → (m.instance x).reading ≡ reading →
+pub live_below : (c : FabricConfig) (m : machine.World) (x : Who) (r : Ring) (reading : ℕ) → ShowsInstance c x m.sent (m.instance x) r →
+    (m.instance x).reading ≡ reading →
     IsBelow reading (fence_of c.answer r.slots) → Live (machine_of c) (m.instance x)
 live_below c m x r reading s reads below = record {
   running = s.running;
   below = λ number g. ⊎_elim (λ over. absurd (excluded is_over slots.guards refl ((m.instance x).slots number).state over g)) (λ has. guarded number has g) (s.slots.over number);
 }
   where
-    guarded : (number : ℕ) → Has r.slots number → slots.guards ((m.instance x).slots number).state ≡ true → (m.instance x).reading < ((m.instance x).slots number).until + c.answer
+    guarded : (number : ℕ) → Has r.slots number → slots.guards ((m.instance x).slots number).state ≡ true →
+        (m.instance x).reading < ((m.instance x).slots number).until + c.answer
     guarded number has g =
         let shown : (m.instance x).slots number ≡ slot_of has.link = ap (m.instance x).slots (sym has.numbered) ∙ s.slots.kept has.place has.link has.at in
         let counts : guards has.link.state ≡ true = sym (same_guards has.link.state) ∙ (sym (ap (λ (z : Slot). slots.guards z.state) shown) ∙ g) in
@@ -81,7 +85,8 @@ pub record Seen {a : Upper} (c : FabricConfig) (w : World a) (x : Who) (o : Owne
   pub owned : o ≡ owned_by c state.node.ring
   pub below : IsBelow state.reading (fence_of c.answer state.node.ring.slots)
 
-pub seen : (a : Upper) → StaysAbove a → (c : FabricConfig) (h : History) (x : Who) (o : Owned) (reading : ℕ) → reading_of x (clocks_of (run_of a c h)) ≡ Some reading →
+pub seen : (a : Upper) → StaysAbove a → (c : FabricConfig) (h : History) (x : Who) (o : Owned) (reading : ℕ) →
+    reading_of x (clocks_of (run_of a c h)) ≡ Some reading →
     own_of x (run_of a c h) ≡ Some o → IsBelow reading o.fence → Seen c (world_after a c h) x o
 seen a stays c h x o reading runs own below =
     let r = reads a c h x reading runs in
@@ -106,7 +111,8 @@ pub lives : {a : Upper} (c : FabricConfig) (w : World a) (t : Told) (m : machine
     is_left s.state.node.ring.phase ≡ false → Lives c m x o
 lives {a = a} c w t m x o f s stays = at_name (f.clock s.number s.state s.here stays) (go (is_left s.state.node.ring.phase) stays (f.shows s.number s.state s.here))
   where
-    go : (b : Bool) → b ≡ false → ShowsAs c m s.state.node.ring.me s.state.node.ring b → ShowsInstance c s.state.node.ring.me m.sent (m.instance s.state.node.ring.me) s.state.node.ring
+    go : (b : Bool) → b ≡ false → ShowsAs c m s.state.node.ring.me s.state.node.ring b →
+        ShowsInstance c s.state.node.ring.me m.sent (m.instance s.state.node.ring.me) s.state.node.ring
     go false e i = i
     go true e i = absurd (cc (e))
 
@@ -118,7 +124,8 @@ lives {a = a} c w t m x o f s stays = at_name (f.clock s.number s.state s.here s
     })
 
 -- who holds a point has not left
-pub holder_stays : {a : Upper} (c : FabricConfig) (w : World a) (t : Told) (m : machine.World) (x : Who) (o : Owned) (p : ℕ) → Follows c w t m → (s : Seen c w x o) →
+pub holder_stays : {a : Upper} (c : FabricConfig) (w : World a) (t : Told) (m : machine.World) (x : Who) (o : Owned) (p : ℕ) → Follows c w t m →
+    (s : Seen c w x o) →
     in_ranges p o.ranges ≡ true → is_left s.state.node.ring.phase ≡ false
 holder_stays c w t m x o p f s has = go (is_left s.state.node.ring.phase) (f.shows s.number s.state s.here)
   where
@@ -128,7 +135,8 @@ holder_stays c w t m x o p f s has = go (is_left s.state.node.ring.phase) (f.sho
         let none : in_ranges p o.ranges ≡ false = ap (λ (z : Owned). in_ranges p z.ranges) s.owned ∙ ap (in_ranges p) i.ranges in
         absurd (both_ways (in_ranges p o.ranges) none has)
 
-pub holds_there : {a : Upper} (c : FabricConfig) (w : World a) (t : Told) (m : machine.World) (x : Who) (o : Owned) (p : ℕ) → Follows c w t m → Seen c w x o →
+pub holds_there : {a : Upper} (c : FabricConfig) (w : World a) (t : Told) (m : machine.World) (x : Who) (o : Owned) (p : ℕ) → Follows c w t m →
+    Seen c w x o →
     in_ranges p o.ranges ≡ true → machine.Holds (machine_of c) m x p
 holds_there c w t m x o p f s has =
     let l = lives c w t m x o f s (holder_stays c w t m x o p f s has) in

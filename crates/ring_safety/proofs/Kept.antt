@@ -77,10 +77,12 @@ boots_still w who records sent none q = go (who.actor == q) refl
 
 -- records that are not the ring's count no start and keep no accusation
 
-not_ring : (r : Record) (rs : List Record) → list_any is_ring_record (r ∷ rs) ≡ false → (is_ring_record r ≡ false) × (list_any is_ring_record rs ≡ false)
+not_ring : (r : Record) (rs : List Record) → list_any is_ring_record (r ∷ rs) ≡ false →
+    (is_ring_record r ≡ false) × (list_any is_ring_record rs ≡ false)
 not_ring r rs h = go (is_ring_record r) (list_any is_ring_record rs) refl refl h
   where
-    go : (a b : Bool) → is_ring_record r ≡ a → list_any is_ring_record rs ≡ b → (a || b) ≡ false → (is_ring_record r ≡ false) × (list_any is_ring_record rs ≡ false)
+    go : (a b : Bool) → is_ring_record r ≡ a → list_any is_ring_record rs ≡ b → (a || b) ≡ false →
+        (is_ring_record r ≡ false) × (list_any is_ring_record rs ≡ false)
     go true b e f g = absurd (cc (g))
     go false true e f g = absurd (cc (g))
     go false false e f g = (e, f)
@@ -111,6 +113,7 @@ no_accusations table (r ∷ rs) h =
     let parts = not_ring r rs h in
     ap (λ t. accusations_after t rs) (no_accusation table r parts.0) ∙ no_accusations table rs parts.1
 
-pub accusations_append : (table : Accusations) (rs more : List Record) → accusations_after table (rs ++ more) ≡ accusations_after (accusations_after table rs) more
+pub accusations_append : (table : Accusations) (rs more : List Record) →
+    accusations_after table (rs ++ more) ≡ accusations_after (accusations_after table rs) more
 accusations_append table [] more = refl
 accusations_append table (r ∷ rs) more = accusations_append (accused_after table r) rs more

@@ -47,7 +47,8 @@ given_is x y z number n ranges h =
     let both : (same_who z x ≡ true) × ((n == number) ≡ true) = and_parts (same_who z x) (n == number) h in
     (same_who-true z x both.0, eqb-true n number both.1)
 
-new_report : (x z : Who) (number next : ℕ) (r : Report) → IsNext r next → gave_number z number x r ≡ true → (x ≡ z) × (number ≡ next) × (next_after r next ≡ next + 1)
+new_report : (x z : Who) (number next : ℕ) (r : Report) → IsNext r next → gave_number z number x r ≡ true →
+    (x ≡ z) × (number ≡ next) × (next_after r next ≡ next + 1)
 new_report x z number next (Gave y n ranges) is h = let g = given_is z y x number n ranges h in (g.0, sym g.1 ∙ is, refl)
 new_report x z number next r is h = absurd (cc (h))
 
@@ -56,7 +57,8 @@ next_rises (Gave y n ranges) number next lt = omega arith
 next_rises r number next lt = lt
 
 -- one report more
-report_on : (first x : Who) (t : Told) (next : ℕ) (places : ℕ → Place) (r : Report) → TakesFrom x r places → IsNext r next → SoFar first x t next places →
+report_on : (first x : Who) (t : Told) (next : ℕ) (places : ℕ → Place) (r : Report) → TakesFrom x r places → IsNext r next →
+    SoFar first x t next places →
     SoFar first x ((x, r) ∷ t) (next_after r next) (λ p. place_after x r p (places p))
 report_on first x t next places r takes is s = record {
   placed = λ p. ap (place_after x r p) (s.placed p);
@@ -84,7 +86,7 @@ told_so_far first x (r ∷ rs) t next then places later m s =
     told_so_far first x rs ((x, r) ∷ t) (next_after r next) then (λ p. place_after x r p (places p)) later m.2 (report_on first x t next places r m.0 m.1 s)
 
 -- reports of steps one after the other
-pub moved_then : (x : Who) (rs more : List Report) (n1 n2 n3 : ℕ) (p1 p2 p3 : ℕ → Place) → MovedBy x rs n1 p1 n2 p2 → MovedBy x more n2 p2 n3 p3 →
+moved_then : (x : Who) (rs more : List Report) (n1 n2 n3 : ℕ) (p1 p2 p3 : ℕ → Place) → MovedBy x rs n1 p1 n2 p2 → MovedBy x more n2 p2 n3 p3 →
     MovedBy x (rs ++ more) n1 p1 n3 p3
 moved_then x [] more n1 n2 n3 p1 p2 p3 a b = subst (λ (z : ℕ × (ℕ → Place)). MovedBy x more z.0 z.1 n3 p3) (λ i. (sym a.0 i, sym a.1 i)) b
 moved_then x (r ∷ rs) more n1 n2 n3 p1 p2 p3 a b = (a.0, a.1, moved_then x rs more (next_after r n1) n2 n3 (λ p. place_after x r p (p1 p)) p2 p3 a.2 b)
@@ -125,9 +127,19 @@ others_move (TookOver v ranges ∷ rs) h = absurd (cc (h))
 others_move (LeftRing why ∷ rs) h = absurd (cc (h))
 others_move (r ∷ rs) h = others_move rs h
 
-pub over_append : (k : machine.Settings) (w : machine.World) (rs more : List Report) → AreOver k w rs → AreOver k w more → AreOver k w (rs ++ more)
+over_append : (k : machine.Settings) (w : machine.World) (rs more : List Report) → AreOver k w rs → AreOver k w more → AreOver k w (rs ++ more)
 over_append k w [] more a b = b
 over_append k w (r ∷ rs) more a b = (a.0, over_append k w rs more a.1 b)
+
+-- reports that move nothing may come after
+
+pub moved_quietly : (x : Who) (rs more : List Report) (n1 n2 : ℕ) (p1 p2 : ℕ → Place) → list_any moves more ≡ false → MovedBy x rs n1 p1 n2 p2 →
+    MovedBy x (rs ++ more) n1 p1 n2 p2
+moved_quietly x rs more n1 n2 p1 p2 quiet a = moved_then x rs more n1 n2 n2 p1 p2 p2 a (none_moves x more n2 p2 quiet)
+
+pub over_quietly : (k : machine.Settings) (w : machine.World) (rs more : List Report) → list_any moves more ≡ false → AreOver k w rs →
+    AreOver k w (rs ++ more)
+over_quietly k w rs more quiet a = over_append k w rs more a (none_over k w more quiet)
 
 -- what others gave stays
 
@@ -135,7 +147,8 @@ same_given : (x y : Who) (number : ℕ) (r : Report) → same_who x y ≡ false 
 same_given x y number (Gave z n ranges) h = ap (λ b. b && n == number) h
 same_given x y number r h = refl
 
-pub given_elsewhere : (x y : Who) (number : ℕ) (rs : List Report) (t : Told) → same_who x y ≡ false → has_given y number (told_on x rs t) ≡ true → has_given y number t ≡ true
+pub given_elsewhere : (x y : Who) (number : ℕ) (rs : List Report) (t : Told) → same_who x y ≡ false → has_given y number (told_on x rs t) ≡ true →
+    has_given y number t ≡ true
 given_elsewhere x y number [] t h g = g
 given_elsewhere x y number (r ∷ rs) t h g =
     let more = given_elsewhere x y number rs ((x, r) ∷ t) h g in

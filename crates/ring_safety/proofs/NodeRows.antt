@@ -158,7 +158,8 @@ module _ (m0 : Who) where
           ask_says set.arbitrators (accused_link set w.ring.me l) (d.tell (report.Accused l.peer) accuses) (says_tell m0 (report.Accused l.peer) accuses refl refl a)
       by_test false = says_leave m0 AccusedFull w a
 
-  pub leased_says : (set : Settings) (now i : ℕ) (l : Link) (says : Work → Work) (w : Work) → Fine w → Fine (says w) → Fine (g.leased set now i l says w)
+  pub leased_says : (set : Settings) (now i : ℕ) (l : Link) (says : Work → Work) (w : Work) → Fine w → Fine (says w) →
+      Fine (g.leased set now i l says w)
   leased_says set now i l says w a b = over _
     where
       over : (t : Bool) → Fine (g.lease_over set i l says w t)
@@ -198,7 +199,9 @@ module _ (m0 : Who) where
       inside : (l : Link) (st : LinkState) → Fine (g.fired_in set now i l st w)
       inside l state.Hello = hello l _
       inside l state.Offered = leased_says set now i l (λ v. d.send l.peer (offer_body l) v) w a a
-      inside l state.Bound = leased_says set now i l (λ v. v ▷ d.send l.peer (renew_body now l v.ring) ▷ g.transfer_again l l.flight) w a (flies l l.flight (d.send l.peer (renew_body now l w.ring) w) a)
+      inside l state.Bound =
+          leased_says set now i l (λ v. v ▷ d.send l.peer (renew_body now l v.ring) ▷ g.transfer_again l l.flight) w a
+          (flies l l.flight (d.send l.peer (renew_body now l w.ring) w) a)
       inside l state.Parting = leased_says set now i l (d.say_gone l) w a a
       inside l state.Accused = ask_says set.arbitrators l w a
       inside l state.Discharged = discharged_says set now i l w a
@@ -211,7 +214,10 @@ module _ (m0 : Who) where
   pub slots_says : (set : Settings) (now k : ℕ) (w : Work) → Fine w → Fine (g.slots_fired set now k w)
   unfolding g.slots_fired
   slots_says set now zero w a = a
-  slots_says set now (suc k) w a = let b = slots_says set now k w a in says_then m0 (g.slot_fired set now k) (g.slots_fired set now k w) b (fired_says set now k (g.slots_fired set now k w) b)
+  slots_says set now (suc k) w a =
+      let before : Work = g.slots_fired set now k w in
+      let b = slots_says set now k w a in
+      says_then m0 (g.slot_fired set now k) before b (fired_says set now k before b)
 
   pub given_says : (w : Work) → Fine w → Fine (g.freeze_given w)
   unfolding g.freeze_given

@@ -57,7 +57,8 @@ left_here : (who : Who) (rs : List Report) (before : Told) → has_left who (tol
 left_here who rs before = left_on who who rs before ∙ ap (λ s. cond s (list_any tells_leave rs) false || has_left who before) (same_who-refl who)
 
 -- reports without a leave tell none
-left_silent : (x who : Who) (rs : List Report) (before : Told) → list_any tells_leave rs ≡ false → has_left x (told_on who rs before) ≡ has_left x before
+left_silent : (x who : Who) (rs : List Report) (before : Told) → list_any tells_leave rs ≡ false →
+    has_left x (told_on who rs before) ≡ has_left x before
 left_silent x who rs before h = left_on x who rs before ∙ by_test (same_who who x) (list_any tells_leave rs) h
   where
     by_test : (s t : Bool) → t ≡ false → (cond s t false || has_left x before) ≡ has_left x before
@@ -94,15 +95,18 @@ module _ (a : Upper) (c : FabricConfig) where
         (λ same. subst (λ (k : List Record). 0 < boots_of k) (kept_at q same) positive)
         (λ apart there. subst (λ (k : List Record). 0 < boots_of k) (sym (kept_apart q apart)) (o.counted q s there));
     name = λ q s h.
-        put_cases (λ (z : Running a). z.node.ring.me ≡ node_instance q (boots_of (kept_of (node_acted a w node reading pairs d).world q))) node (record { node = d.state; reading = reading; pairs = pairs }) w.nodes q s h
+        put_cases (λ (z : Running a). z.node.ring.me ≡ node_instance q (boots_of (kept_of (node_acted a w node reading pairs d).world q))) node
+        (record { node = d.state; reading = reading; pairs = pairs }) w.nodes q s h
         (λ same. name ∙ (λ i. node_instance (same i) (boots_of (kept_at q same i))))
         (λ apart there. o.name q s there ∙ (λ i. node_instance q (boots_of (sym (kept_apart q apart) i))));
     own = λ q s h.
-        put_cases (λ (z : Running a). own_of z.node.ring.me (moment_of {a = a} line (node_acted a w node reading pairs d) ∷ run) ≡ Some (owned_by c z.node.ring)) node (record { node = d.state; reading = reading; pairs = pairs }) w.nodes q s h
+        put_cases (λ (z : Running a). own_of z.node.ring.me (moment_of {a = a} line (node_acted a w node reading pairs d) ∷ run) ≡ Some (owned_by c z.node.ring)) node
+        (record { node = d.state; reading = reading; pairs = pairs }) w.nodes q s h
         (λ same. ap (λ b. cond b (last_own d.told (own_of d.state.ring.me run)) (own_of d.state.ring.me run)) (same_who-refl d.state.ring.me) ∙ own)
         (λ apart there. ap (λ b. cond b (last_own d.told (own_of s.node.ring.me run)) (own_of s.node.ring.me run)) (other q s apart there) ∙ o.own q s there);
     left = λ q s h.
-        put_cases (λ (z : Running a). has_left z.node.ring.me (told (moment_of {a = a} line (node_acted a w node reading pairs d) ∷ run)) ≡ is_left z.node.ring.phase) node (record { node = d.state; reading = reading; pairs = pairs }) w.nodes q s h
+        put_cases (λ (z : Running a). has_left z.node.ring.me (told (moment_of {a = a} line (node_acted a w node reading pairs d) ∷ run)) ≡ is_left z.node.ring.phase) node
+        (record { node = d.state; reading = reading; pairs = pairs }) w.nodes q s h
         (λ same. left_here d.state.ring.me d.told (told run) ∙ left)
         (λ apart there. left_elsewhere s.node.ring.me d.state.ring.me d.told (told run) (other q s apart there) ∙ o.left q s there);
     fresh = λ x h. left_elsewhere x d.state.ring.me d.told (told run) (same_who_from d.state.ring.me x (λ same. later x h same)) ∙ o.fresh x (before x h);
@@ -114,7 +118,8 @@ module _ (a : Upper) (c : FabricConfig) where
       kept_at : (q : ℕ) → node ≡ q → kept_of w node ++ d.records ≡ kept_of (node_acted a w node reading pairs d).world q
       kept_at q same =
           (λ i. kept_of w (same i) ++ d.records)
-          ∙ subst (λ (n : ℕ). kept_of w n ++ d.records ≡ kept_of (node_acted a w node reading pairs d).world n) (actor ∙ same) (sym (kept_here w d.state.ring.me d.records d.sent))
+          ∙ subst (λ (n : ℕ). kept_of w n ++ d.records ≡ kept_of (node_acted a w node reading pairs d).world n) (actor ∙ same)
+          (sym (kept_here w d.state.ring.me d.records d.sent))
 
       kept_apart : (q : ℕ) → (node == q) ≡ false → kept_of (node_acted a w node reading pairs d).world q ≡ kept_of w q
       kept_apart q h = kept_there w d.state.ring.me d.records d.sent q (subst (λ (n : ℕ). (n == q) ≡ false) (sym actor) h)
@@ -135,7 +140,8 @@ module _ (a : Upper) (c : FabricConfig) where
               (subst (λ (n : ℕ). boots_of (kept_of w q) ≤ boots_of (kept_of w n ++ d.records)) (sym same) (let sum = boots_append (kept_of w q) d.records in omega arith))
           go false h = let e = ap boots_of (kept_apart q h) in omega arith
 
-      before : (x : Who) → boots_of (kept_of (node_acted a w node reading pairs d).world x.actor) < x.instance → boots_of (kept_of w x.actor) < x.instance
+      before : (x : Who) → boots_of (kept_of (node_acted a w node reading pairs d).world x.actor) < x.instance →
+          boots_of (kept_of w x.actor) < x.instance
       before x h = let g = grows x.actor in omega arith
 
       later : (x : Who) → boots_of (kept_of (node_acted a w node reading pairs d).world x.actor) < x.instance → d.state.ring.me ≡ x → ⊥
@@ -170,7 +176,8 @@ module _ (a : Upper) (c : FabricConfig) where
   same_nodes w q s h = (s, h, refl)
 
   -- a clock's reading changes nothing else
-  at_ticked : (time : ℕ) (readings : List (ℕ × ℕ)) (es : List (ℕ × Running a)) (q : ℕ) (s : Running a) → at q (map (ticked {a = a} time readings) es) ≡ Some s →
+  at_ticked : (time : ℕ) (readings : List (ℕ × ℕ)) (es : List (ℕ × Running a)) (q : ℕ) (s : Running a) →
+      at q (map (ticked {a = a} time readings) es) ≡ Some s →
       (r : Running a) × (at q es ≡ Some r) × (s.node ≡ r.node)
   at_ticked time readings [] q s h = absurd (cc (h))
   at_ticked time readings (e ∷ es) q s h = go (e.0 == q) refl h (at_ticked time readings es q s)
@@ -184,7 +191,8 @@ module _ (a : Upper) (c : FabricConfig) where
       go false f g again = let r = again g in (r.0, ap (λ b. cond b (Some e.1) (at q es)) f ∙ r.1, r.2)
 
   module _ (stays : StaysAbove a) (line : ℕ) (run : Run) (w : World a) (o : Orderly c w run) where
-    begins_with : (node reading : ℕ) (d : Did (NodeState a)) → Begun c (record { actor = node; instance = instance_begun (kept_of w node) }) d.state.ring d.told →
+    begins_with : (node reading : ℕ) (d : Did (NodeState a)) →
+        Begun c (record { actor = node; instance = instance_begun (kept_of w node) }) d.state.ring d.told →
         instance_begun (kept_of w node) ≡ boots_of (kept_of w node) + boots_of d.records →
         (is_spent (kept_of w node) ≡ true → list_any tells_leave d.told ≡ true) → After line run (node_acted a w node reading ((w.time, reading) ∷ []) d)
     begins_with node reading d b count spent =
@@ -193,7 +201,8 @@ module _ (a : Upper) (c : FabricConfig) where
         (b.own (own_of d.state.ring.me run))
         (by_spent (is_spent (kept_of w node)) refl) (subst (λ n. 0 < n) (count ∙ sym (boots_append (kept_of w node) d.records)) (begun_positive (kept_of w node))) o
       where
-        by_spent : (t : Bool) → is_spent (kept_of w node) ≡ t → (list_any tells_leave d.told || has_left d.state.ring.me (told run)) ≡ is_left d.state.ring.phase
+        by_spent : (t : Bool) → is_spent (kept_of w node) ≡ t →
+            (list_any tells_leave d.told || has_left d.state.ring.me (told run)) ≡ is_left d.state.ring.phase
         by_spent true h = ap (λ t. t || has_left d.state.ring.me (told run)) (spent h) ∙ sym (sym b.leaves ∙ spent h)
         by_spent false h =
             let next : instance_begun (kept_of w node) ≡ boots_of (kept_of w node) + 1 = ap (λ t. cond t (boots_of (kept_of w node)) (boots_of (kept_of w node) + 1)) h in
@@ -223,7 +232,8 @@ module _ (a : Upper) (c : FabricConfig) where
         boots : (q : ℕ) → boots_of (kept_of (arbiter_acted a w arbiter d).world q) ≡ boots_of (kept_of w q)
         boots = boots_still w (arbiter_who arbiter) d.records d.sent t.boots
 
-    silently : (x who : Who) (rs : List Report) → last_own rs (own_of x run) ≡ own_of x run → cond (same_who who x) (last_own rs (own_of x run)) (own_of x run) ≡ own_of x run
+    silently : (x who : Who) (rs : List Report) → last_own rs (own_of x run) ≡ own_of x run →
+        cond (same_who who x) (last_own rs (own_of x run)) (own_of x run) ≡ own_of x run
     silently x who rs h = cond_same (same_who who x) (last_own rs (own_of x run)) (own_of x run) h
 
     pub orderly_cases : (e : Event) → Cases a c w e (After line run)

@@ -1,11 +1,12 @@
 -- The machine follows what an arbitrator answers.
-use Rattle.std.proofs.Common.{◌≡◌, ℕ, ◌+◌, ◌-◌, ◌<◌, Bool, true, false, cond, [], ◌∷◌, ◌++◌, Option, Some, None, refl, sym, ap, ◌∙◌, subst, inl, inr, ⊎_elim, arith}
+use Rattle.std.proofs.Common.{◌≡◌, ℕ, ◌+◌, ◌-◌, ◌<◌, Bool, true, false, cond, [], ◌∷◌, ◌++◌, Option, Some, None, refl, sym, ap, ◌∙◌, subst, inl, inr, ⊎_elim, arith, List}
 use Rattle.std.specs.Prelude.{◌==◌}
 use Rattle.std.proofs.lemmas.Bool.{eqb-true}
 use Rattle.fabric_terms.specs.declared.config.FabricConfig.{FabricConfig}
 use Rattle.fabric_terms.specs.declared.message.Body.{Body}
 use Rattle.fabric_terms.specs.declared.message.Body.TheVariants as body
 use Rattle.fabric_terms.specs.declared.message.Message.{Message}
+use Rattle.fabric_terms.specs.declared.record.Record.{Record}
 use Rattle.fabric_terms.specs.Reports.{Told, told_in, told_on}
 use Rattle.ring_points.specs.declared.who.Ruling.TheVariants.{Granted, Taken}
 use Rattle.ring_points.specs.declared.who.Who.{Who}
@@ -28,12 +29,12 @@ use Rattle.ring_rules.proofs.Rows.{accusation_kept-is, accusation_ruled-is}
 use Rattle.world_rules.specs.Arbiters.{ArbiterState, arbiter_step, arbiter_takes, accused_by, beside_did}
 use Rattle.world_rules.specs.Nodes.{boots_of}
 use Rattle.world_rules.specs.Uppers.{Upper, Did, idle}
-use Rattle.world_rules.specs.Worlds.{World, kept_of, arbiter_who, arbiter_acted}
+use Rattle.world_rules.specs.Worlds.{World, kept_of, posted, arbiter_who, arbiter_acted}
 use Rattle.world_rules.proofs.Rows.{arbiter_step-is}
 use Rattle.ring_safety.specs.Above.{StaysAbove, is_ring_frame}
 use Rattle.ring_safety.proofs.ActFollows.{Followed}
 use Rattle.ring_safety.proofs.ArbiterSteps.{kept_boots}
-use Rattle.ring_safety.proofs.Follows.{Follows, Known, shows_still, known_still, known_other, clock_still, is_accusation, none_passes, posted_cases}
+use Rattle.ring_safety.proofs.Follows.{Follows, Known, shows_still, known_still, known_other, clock_still, is_accusation, none_passes, posted_cases, first_instance}
 use Rattle.ring_safety.proofs.Kept.{boots_still, kept_here, kept_there, no_boots, no_accusations, accusations_append}
 use Rattle.ring_safety.proofs.Tables.{table_of, table_stays, two_arbiters}
 
@@ -64,7 +65,8 @@ module _ (t : Accusations) (x y v : Who) where
   abbrev found : Who → Option Who
   found z = first_accuser z t
 
-  after_kept : (a b : Option Who) → first_accuser y t ≡ b → updated found y (first_after (ruling_of a b x) b x) v ≡ first_accuser v (accusations_after t (first_kept x y a b))
+  after_kept : (a b : Option Who) → first_accuser y t ≡ b →
+      updated found y (first_after (ruling_of a b x) b x) v ≡ first_accuser v (accusations_after t (first_kept x y a b))
   after_kept None None h = go (same_who y v) refl
     where
       go : (d : Bool) → same_who y v ≡ d → cond d (Some x) (first_accuser v t) ≡ first_accuser v (t ++ (y, x) ∷ [])
@@ -95,26 +97,43 @@ pub record Rule {a : Upper} (c : FabricConfig) (w : World a) (m v : machine.Worl
   pub boots : boots_of d.records ≡ 0
   pub silent : d.told ≡ []
 
-rule_follows : {a : Upper} (c : FabricConfig) (w : World a) (t : Told) (m v : machine.World) (arbiter : ℕ) (d : Did (ArbiterState a)) → Follows c w t m → Rule c w m v arbiter d →
+rule_follows : {a : Upper} (c : FabricConfig) (w : World a) (t : Told) (m v : machine.World) (arbiter : ℕ) (d : Did (ArbiterState a)) →
+    Follows c w t m → Rule c w m v arbiter d →
     Follows c (arbiter_acted a w arbiter d).world (told_in (arbiter_acted a w arbiter d).entry t) v
-rule_follows {a = a} c w t m v arbiter d f e = subst (λ rs. Follows c (arbiter_acted a w arbiter d).world (told_on (arbiter_who arbiter) rs t) v) (sym e.silent) (record {
-  inv = e.inv;
-  time = e.time ∙ f.time;
-  starts = λ q. (λ i. e.starts i q) ∙ (f.starts q ∙ sym (boots_still w (arbiter_who arbiter) d.records d.sent e.boots q));
-  shows = λ q s h. shows_still c m v e.sent s.node.ring.me s.node.ring (λ i. e.instances i s.node.ring.me) (f.shows q s h);
-  clock = λ q s h stay. clock_still (m.instance s.node.ring.me) (v.instance s.node.ring.me) s.reading s.pairs (λ i. e.instances i s.node.ring.me) (f.clock q s h stay);
-  runs = λ x h. let r = f.runs x (sym (λ i. (e.instances i x).phase) ∙ h) in record { state = r.state; here = r.here; name = r.name; stays = r.stays };
-  tables = e.tables;
-  frames = λ g h. ⊎_elim (λ k. known_still c m v e.sent c.lease g (f.frames g k)) (λ k. subst (Known c.lease v.sent) (sym k.2) (e.says k.0 k.1)) (posted_cases (arbiter_who arbiter) d.sent w.frames g h);
-  placed = λ p. f.placed p ∙ (λ i. place_of (first_of (machine_of c)) (sym e.places i p));
-  moved = f.moved;
-  new = f.new;
-  below = λ x number h. subst (λ (z : Who → Instance). number < (z x).token.next_flight) (sym e.instances) (f.below x number h);
-  over = λ x h. subst (λ (z : Who → Instance). Dead (machine_of c) (z x)) (sym e.instances) (f.over x h);
-})
+rule_follows {a = a} c w t m v arbiter d f e =
+    subst (λ rs. Follows c (arbiter_acted a w arbiter d).world (told_on (arbiter_who arbiter) rs t) v) (sym e.silent) (record {
+      inv = e.inv;
+      time = e.time ∙ f.time;
+      starts = λ q. (λ i. e.starts i q) ∙ (f.starts q ∙ sym (boots_still w (arbiter_who arbiter) d.records d.sent e.boots q));
+      shows = λ q s h. let x : Who = s.node.ring.me in shows_still c m v e.sent x s.node.ring (same x) (f.shows q s h);
+      clock = λ q s h stay.
+          let x : Who = s.node.ring.me in
+          clock_still (m.instance x) (v.instance x) s.reading s.pairs (same x) (f.clock q s h stay);
+      runs = λ x h.
+          let r = f.runs x (sym (ap (λ (i : Instance). i.phase) (same x)) ∙ h) in
+          record { state = r.state; here = r.here; name = r.name; stays = r.stays };
+      tables = e.tables;
+      frames = known_frames;
+      placed = λ p. f.placed p ∙ (λ i. place_of (first_instance c) (sym e.places i p));
+      moved = f.moved;
+      new = f.new;
+      below = λ x number h. subst (λ (i : Instance). number < i.token.next_flight) (sym (same x)) (f.below x number h);
+      over = λ x h. subst (λ (i : Instance). Dead (machine_of c) i) (sym (same x)) (f.over x h);
+    })
+  where
+    same : (x : Who) → v.instance x ≡ m.instance x
+    same x = λ i. e.instances i x
 
-module _ (a : Upper) (c : FabricConfig) (w : World a) (t : Told) (m : machine.World) (f : Follows c w t m) (arbiter : ℕ) (g : Message) (s : ArbiterState a)
-    (sent_was : IsMember g w.frames) (kept : s.table ≡ table_of w (arbiter_actor arbiter)) where
+    known_frames : (g : Message) → IsMember g (posted (arbiter_who arbiter) d.sent w.frames) → Known c.lease v.sent g
+    known_frames g h =
+        ⊎_elim (λ k. known_still c m v e.sent c.lease g (f.frames g k)) (λ k. subst (Known c.lease v.sent) (sym k.2) (e.says k.0 k.1))
+        (posted_cases (arbiter_who arbiter) d.sent w.frames g h)
+
+module _ (a : Upper) (c : FabricConfig) (w : World a) (t : Told) (m : machine.World) (f : Follows c w t m) (arbiter : ℕ) (g : Message)
+    (s : ArbiterState a) (sent_was : IsMember g w.frames) (kept : s.table ≡ table_of w (arbiter_actor arbiter)) where
+  abbrev me : Who
+  me = arbiter_who arbiter
+
   -- what is no accusation changes nothing
   aside : (d : Did (ArbiterState a)) → d.told ≡ [] → boots_of d.records ≡ 0 → ((z : Accusations) → accusations_after z d.records ≡ z) →
       ((q : Who × Body) → IsMember q d.sent → is_ring_frame q.1 ≡ false) → Rule c w m m arbiter d
@@ -125,8 +144,9 @@ module _ (a : Upper) (c : FabricConfig) (w : World a) (t : Told) (m : machine.Wo
     instances = refl;
     places = refl;
     sent = λ e k. k;
-    tables = λ q victim. f.tables q victim ∙ ap (first_accuser victim) (sym (table_stays w (arbiter_who arbiter) d.records d.sent none (arbiter_actor q)));
-    says = λ q k. known_other c.lease m.sent (arbiter_who arbiter) q.0 q.1 (plain q k);
+    tables = λ q victim.
+        f.tables q victim ∙ ap (first_accuser victim) (sym (table_stays w me d.records d.sent none (arbiter_actor q)));
+    says = λ q k. known_other c.lease m.sent me q.0 q.1 (plain q k);
     boots = boots;
     silent = silent;
   }
@@ -139,102 +159,111 @@ module _ (a : Upper) (c : FabricConfig) (w : World a) (t : Told) (m : machine.Wo
       (λ q k. none_passes (λ (p : Who × Body). is_ring_frame p.1) u.sent q out.sends k)
 
   -- an accusation is answered on the machine
-  module _ (victim : Who) (accuses : g.body ≡ body.Accuse victim) where
+  module _ (y : Who) (accuses : g.body ≡ body.Accuse y) where
+    abbrev x : Who
+    x = g.from
+
     abbrev table : Accusations
     table = table_of w (arbiter_actor arbiter)
 
+    -- the machine's table
     abbrev tab : Who → Option Who
     tab = m.first_accuser arbiter
 
     abbrev v : machine.World
-    v = ruled m arbiter g.from victim
+    v = ruled m arbiter x y
+
+    abbrev records : List Record
+    records = accusation_kept s.table x y
 
     abbrev d : Did (ArbiterState a)
-    d = accused_by a s g.from victim (accusation_ruled s.table g.from victim) (accusation_kept s.table g.from victim)
+    d = accused_by a s x y (accusation_ruled s.table x y) records
+
+    abbrev table_then : ℕ → Accusations
+    table_then q = table_of (arbiter_acted a w arbiter d).world (arbiter_actor q)
 
     tabs : tab ≡ (λ z. first_accuser z table)
     tabs i z = f.tables arbiter z i
 
-    rules_same : accusation_ruled s.table g.from victim ≡ ruling_of (tab g.from) (tab victim) g.from
+    rules_same : accusation_ruled s.table x y ≡ ruling_of (tab x) (tab y) x
     rules_same =
-        ap (λ z. accusation_ruled z g.from victim) kept
-        ∙ (accusation_ruled-is table g.from victim
-        ∙ (same_ruling g.from (first_accuser g.from table) (first_accuser victim table)
-        ∙ (λ i. ruling_of (sym tabs i g.from) (sym tabs i victim) g.from)))
+        ap (λ z. accusation_ruled z x y) kept
+        ∙ (accusation_ruled-is table x y
+        ∙ (same_ruling x (first_accuser x table) (first_accuser y table) ∙ (λ i. ruling_of (sym tabs i x) (sym tabs i y) x)))
 
-    kept_then : table_of (arbiter_acted a w arbiter d).world (arbiter_actor arbiter) ≡ accusations_after table (first_kept g.from victim (first_accuser g.from table) (first_accuser victim table))
+    kept_then : table_then arbiter ≡ accusations_after table (first_kept x y (first_accuser x table) (first_accuser y table))
     kept_then =
-        ap (accusations_after []) (kept_here w (arbiter_who arbiter) (accusation_kept s.table g.from victim) d.sent)
-        ∙ (accusations_append [] (kept_of w (arbiter_actor arbiter)) (accusation_kept s.table g.from victim)
-        ∙ ap (accusations_after table) (ap (λ z. accusation_kept z g.from victim) kept ∙ accusation_kept-is table g.from victim))
+        ap (accusations_after []) (kept_here w me records d.sent)
+        ∙ (accusations_append [] (kept_of w (arbiter_actor arbiter)) records
+        ∙ ap (accusations_after table) (ap (λ z. accusation_kept z x y) kept ∙ accusation_kept-is table x y))
 
-    here : (z : Who) → updated tab victim (first_after (ruling_of (tab g.from) (tab victim) g.from) (tab victim) g.from) z ≡
-        first_accuser z (table_of (arbiter_acted a w arbiter d).world (arbiter_actor arbiter))
+    -- the machine's table after the answer
+    abbrev tab_then : (Who → Option Who) → Who → Option Who
+    tab_then o = updated o y (first_after (ruling_of (o x) (o y) x) (o y) x)
+
+    here : (z : Who) → tab_then tab z ≡ first_accuser z (table_then arbiter)
     here z =
-        (λ i. updated (tabs i) victim (first_after (ruling_of (tabs i g.from) (tabs i victim) g.from) (tabs i victim) g.from) z)
-        ∙ (after_kept table g.from victim z (first_accuser g.from table) (first_accuser victim table) refl ∙ ap (first_accuser z) (sym kept_then))
+        (λ i. tab_then (tabs i) z)
+        ∙ (after_kept table x y z (first_accuser x table) (first_accuser y table) refl ∙ ap (first_accuser z) (sym kept_then))
 
-    tables_then : (q : ℕ) (z : Who) → v.first_accuser q z ≡ first_accuser z (table_of (arbiter_acted a w arbiter d).world (arbiter_actor q))
+    tables_then : (q : ℕ) (z : Who) → v.first_accuser q z ≡ first_accuser z (table_then q)
     tables_then q z = go (arbiter == q) refl
       where
-        go : (b : Bool) → (arbiter == q) ≡ b →
-            cond b (updated tab victim (first_after (ruling_of (tab g.from) (tab victim) g.from) (tab victim) g.from)) (m.first_accuser q) z ≡
-            first_accuser z (table_of (arbiter_acted a w arbiter d).world (arbiter_actor q))
-        go true e = here z ∙ ap (λ k. first_accuser z (table_of (arbiter_acted a w arbiter d).world (arbiter_actor k))) (eqb-true arbiter q e)
+        go : (b : Bool) → (arbiter == q) ≡ b → cond b (tab_then tab) (m.first_accuser q) z ≡ first_accuser z (table_then q)
+        go true e = here z ∙ ap (λ k. first_accuser z (table_then k)) (eqb-true arbiter q e)
         go false e =
             f.tables q z
-            ∙ ap (λ k. first_accuser z (accusations_after [] k)) (sym (kept_there w (arbiter_who arbiter) (accusation_kept s.table g.from victim) d.sent (arbiter_actor q) (two_arbiters arbiter q e)))
+            ∙ ap (λ k. first_accuser z (accusations_after [] k)) (sym (kept_there w me records d.sent (arbiter_actor q) (two_arbiters arbiter q e)))
+
+    accused : IsMember (Accuse x y) m.sent
+    accused = subst (λ b. IsSent m.sent (frame_of c.lease x g.to b)) accuses (f.frames g sent_was).posted.image
+
+    known_answer : Known c.lease v.sent (record { from = me; to = x; body = body.Ruled y (accusation_ruled s.table x y) })
+    known_answer = record {
+      posted = record {
+        image = inl (λ i. Ruled (number i) x y (rules_same i));
+        rises = refl;
+        to_one = λ h. (f.frames g sent_was).by_instance (ap is_accusation accuses);
+      };
+      by_instance = λ h. absurd (cc (h));
+    }
+      where
+        number : (32768 + arbiter) - 32768 ≡ arbiter
+        number = omega arith
+
+    says : (q : Who × Body) → IsMember q d.sent → Known c.lease v.sent (record { from = me; to = q.0; body = q.1 })
+    says q (inl e) = subst (λ (z : Who × Body). Known c.lease v.sent (record { from = me; to = z.0; body = z.1 })) (sym e) known_answer
+    says q (inr k) = absurd k
 
     answered : events.IsSound (machine_of c) → Rule c w m v arbiter d
     answered sound = record {
-      inv = (event_done sound f.inv (Answers arbiter g.from victim) can).inv;
+      inv = (event_done sound f.inv (Answers arbiter x y) accused).inv;
       time = refl;
       starts = refl;
       instances = refl;
       places = refl;
       sent = λ e k. inr k;
       tables = tables_then;
-      says = λ q k. says q k;
-      boots = kept_boots s.table g.from victim;
+      says = says;
+      boots = kept_boots s.table x y;
       silent = refl;
     }
-      where
-        can : IsMember (Accuse g.from victim) m.sent
-        can = subst (λ b. IsSent m.sent (frame_of c.lease g.from g.to b)) accuses (f.frames g sent_was).posted.image
 
-        says : (q : Who × Body) → IsMember q d.sent → Known c.lease v.sent (record { from = arbiter_who arbiter; to = q.0; body = q.1 })
-        says q (inl e) = subst (λ (z : Who × Body). Known c.lease v.sent (record { from = arbiter_who arbiter; to = z.0; body = z.1 })) (sym e) (record {
-          posted = record {
-            image = inl (λ i. Ruled (number i) g.from victim (rules_same i));
-            rises = refl;
-            to_one = λ h. (f.frames g sent_was).by_instance (ap is_accusation accuses);
-          };
-          by_instance = λ h. absurd (cc (h));
-        })
-          where
-            number : (32768 + arbiter) - 32768 ≡ arbiter
-            number = omega arith
-        says q (inr k) = absurd k
+  abbrev FollowedAs : Did (ArbiterState a) → Type 0
+  FollowedAs d = Followed c (arbiter_acted a w arbiter d).world (told_in (arbiter_acted a w arbiter d).entry t)
 
-  pub rules_follow : StaysAbove a → events.IsSound (machine_of c) →
-      Followed c (arbiter_acted a w arbiter (arbiter_step a c arbiter g s)).world (told_in (arbiter_acted a w arbiter (arbiter_step a c arbiter g s)).entry t)
-  rules_follow stays sound =
-      subst (λ (d : Did (ArbiterState a)). Followed c (arbiter_acted a w arbiter d).world (told_in (arbiter_acted a w arbiter d).entry t)) (sym (arbiter_step-is a c arbiter g s))
-      (taken g.body refl (takes_frame arbiter g))
+  pub rules_follow : StaysAbove a → events.IsSound (machine_of c) → FollowedAs (arbiter_step a c arbiter g s)
+  rules_follow stays sound = subst FollowedAs (sym (arbiter_step-is a c arbiter g s)) (taken g.body refl (takes_frame arbiter g))
     where
-      beside_follows : Followed c (arbiter_acted a w arbiter (beside_did a s (a.beside_step c arbiter s.beside g))).world
-          (told_in (arbiter_acted a w arbiter (beside_did a s (a.beside_step c arbiter s.beside g))).entry t)
-      beside_follows = record { world = m; follows = rule_follows c w t m m arbiter (beside_did a s (a.beside_step c arbiter s.beside g)) f (beside stays) }
+      by : (v : machine.World) (d : Did (ArbiterState a)) → Rule c w m v arbiter d → FollowedAs d
+      by v d rule = record { world = v; follows = rule_follows c w t m v arbiter d f rule }
 
-      taken : (b : Body) → g.body ≡ b → (takes : Bool) →
-          Followed c (arbiter_acted a w arbiter (arbiter_takes a c arbiter g s b takes)).world (told_in (arbiter_acted a w arbiter (arbiter_takes a c arbiter g s b takes)).entry t)
-      taken b h false = record {
-        world = m;
-        follows = rule_follows c w t m m arbiter (idle s) f (aside (idle s) refl refl (λ z. refl) (λ q k. absurd k));
-      }
-      taken (body.Accuse victim) h true = record {
-        world = ruled m arbiter g.from victim;
-        follows = rule_follows c w t m (ruled m arbiter g.from victim) arbiter
-            (accused_by a s g.from victim (accusation_ruled s.table g.from victim) (accusation_kept s.table g.from victim)) f (answered victim h sound);
-      }
+      beside_follows : FollowedAs (beside_did a s (a.beside_step c arbiter s.beside g))
+      beside_follows = by m (beside_did a s (a.beside_step c arbiter s.beside g)) (beside stays)
+
+      taken : (b : Body) → g.body ≡ b → (takes : Bool) → FollowedAs (arbiter_takes a c arbiter g s b takes)
+      taken b h false = by m (idle s) (aside (idle s) refl refl (λ z. refl) (λ q k. absurd k))
+      taken (body.Accuse y) h true =
+          by (ruled m arbiter g.from y) (accused_by a s g.from y (accusation_ruled s.table g.from y) (accusation_kept s.table g.from y))
+          (answered y h sound)
       taken b h true = beside_follows

@@ -34,7 +34,7 @@ use Rattle.ring_safety.specs.Answers.{MajorityGranted, MajorityAnswered, answer_
 use Rattle.ring_safety.specs.Laws.{RingIsSafe, LeavesBeforeTakeOver, PlacesAreKept, AnswersExclude, OneHeir}
 use Rattle.ring_safety.proofs.ActFollows.{Followed}
 use Rattle.ring_safety.proofs.Followed.{followed}
-use Rattle.ring_safety.proofs.Follows.{Follows, sound_machine}
+use Rattle.ring_safety.proofs.Follows.{Follows, sound_machine, first_instance}
 use Rattle.ring_safety.proofs.Holders.{Lives, Seen, seen, lives, holds_there}
 use Rattle.ring_safety.proofs.Moves.{AllMoved, AllNew, has_given}
 use Rattle.ring_safety.proofs.Orderly.{orderly}
@@ -46,14 +46,16 @@ run_before a c zero h = refl
 run_before a c (suc ago) [] = refl
 run_before a c (suc ago) (e ∷ h) = run_before a c ago h
 
-valid_before : (a : Upper) (is_frame : List ℕ → Bool) (c : FabricConfig) (ago : ℕ) (h : History) → Valid a is_frame c h → Valid a is_frame c (drop ago h)
+valid_before : (a : Upper) (is_frame : List ℕ → Bool) (c : FabricConfig) (ago : ℕ) (h : History) → Valid a is_frame c h →
+    Valid a is_frame c (drop ago h)
 valid_before a is_frame c zero h valid = valid
 valid_before a is_frame c (suc ago) [] valid = valid
 valid_before a is_frame c (suc ago) (e ∷ h) valid = valid_before a is_frame c ago h valid.0
 
 -- each report of a list
 
-moved_at : (first : Who) (newer : ℕ) (t : Told) (x : Who) (r : Report) (before : Told) → AllMoved first t → drop newer t ≡ (x, r) ∷ before → TakesFrom x r (place_of first before)
+moved_at : (first : Who) (newer : ℕ) (t : Told) (x : Who) (r : Report) (before : Told) → AllMoved first t → drop newer t ≡ (x, r) ∷ before →
+    TakesFrom x r (place_of first before)
 moved_at first zero [] x r before all h = absurd (cc (h))
 moved_at first (suc newer) [] x r before all h = absurd (cc (h))
 moved_at first zero (e ∷ t) x r before all h =
@@ -62,7 +64,8 @@ moved_at first zero (e ∷ t) x r before all h =
     subst (λ (z : (Who × Report) × Told). TakesFrom z.0.0 z.0.1 (place_of first z.1)) (λ i. (head i, rest i)) all.0
 moved_at first (suc newer) (e ∷ t) x r before all h = moved_at first newer t x r before all.1 h
 
-new_at : (newer number : ℕ) (t : Told) (x : Who) (r : Report) (before : Told) → AllNew t → drop newer t ≡ (x, r) ∷ before → gave_number x number x r ≡ true → has_given x number before ≡ false
+new_at : (newer number : ℕ) (t : Told) (x : Who) (r : Report) (before : Told) → AllNew t → drop newer t ≡ (x, r) ∷ before →
+    gave_number x number x r ≡ true → has_given x number before ≡ false
 new_at zero number [] x r before all h = absurd (cc (h))
 new_at (suc newer) number [] x r before all h = absurd (cc (h))
 new_at zero number (e ∷ t) x r before all h =
@@ -80,7 +83,8 @@ module _ (a : Upper) (stays : StaysAbove a) (is_frame : List ℕ → Bool) (c : 
   after : (h : History) → Valid a is_frame c h → Followed c (world_after a c h) (told (run_of a c h))
   after h valid = followed a stays is_frame c (sound_machine c sound) h valid
 
-  holder : (h : History) → Valid a is_frame c h → (x : Who) (p : ℕ) → Holds (run_of a c h) x p → (m : machine.World) → Follows c (world_after a c h) (told (run_of a c h)) m →
+  holder : (h : History) → Valid a is_frame c h → (x : Who) (p : ℕ) → Holds (run_of a c h) x p → (m : machine.World) →
+      Follows c (world_after a c h) (told (run_of a c h)) m →
       machine.Holds (machine_of c) m x p
   holder h valid x p k m f = holds_there c (world_after a c h) (told (run_of a c h)) m x k.owned p f (seen a stays c h x k.owned k.reading k.runs k.own k.below) k.has
 
@@ -131,11 +135,12 @@ module _ (a : Upper) (stays : StaysAbove a) (is_frame : List ℕ → Bool) (c : 
           (in_ranges p o.ranges ≡ true → place_of (node_instance c.first 1) (told (run_of a c h)) p ≡ With x) ×
           (place_of (node_instance c.first 1) (told (run_of a c h)) p ≡ With x → in_ranges p o.ranges ≡ true)
       from_machine f live = (
-        λ has. f.placed p ∙ ap (moves.place_of (first_of (machine_of c))) (f.inv.owned x p live.live (live.owns p ∙ has)),
+        λ has. f.placed p ∙ ap (moves.place_of (first_instance c)) (f.inv.owned x p live.live (live.owns p ∙ has)),
         λ placed. sym (live.owns p) ∙ f.inv.exact x p live.live (with_x (m.world.place p) refl (sym (f.placed p) ∙ placed)),
       )
         where
-          with_x : (place : machine.Place) → m.world.place p ≡ place → moves.place_of (first_of (machine_of c)) place ≡ With x → m.world.place p ≡ machine.At x
+          with_x : (place : machine.Place) → m.world.place p ≡ place → moves.place_of (first_instance c) place ≡ With x →
+              m.world.place p ≡ machine.At x
           with_x (machine.At y) e g = let same : y ≡ x = cc (g) in e ∙ ap machine.At same
           with_x (machine.InFlight y z number) e g = absurd (cc (g))
           with_x machine.Outside e g = absurd (f.inv.inside p (a_point p lt) e)
@@ -153,14 +158,16 @@ module _ (a : Upper) (stays : StaysAbove a) (is_frame : List ℕ → Bool) (c : 
 
   -- the machine sent each answer
 
-  answer_sent : {w : World a} {t : Told} (m : machine.World) → Follows c w t m → (arbiter : ℕ) (x y : Who) (r : Ruling) → IsMember (answer_of arbiter x y r) w.frames →
+  answer_sent : {w : World a} {t : Told} (m : machine.World) → Follows c w t m → (arbiter : ℕ) (x y : Who) (r : Ruling) →
+      IsMember (answer_of arbiter x y r) w.frames →
       IsMember (Ruled arbiter x y r) m.sent
   answer_sent m f arbiter x y r k = subst (λ n. IsMember (Ruled n x y r) m.sent) number (f.frames (answer_of arbiter x y r) k).posted.image
     where
       number : (32768 + arbiter) - 32768 ≡ arbiter
       number = omega arith
 
-  answered : {w : World a} {t : Told} (m : machine.World) → Follows c w t m → (x y : Who) → MajorityAnswered c w.frames x y → AnsweredBy (machine_of c) m.sent x y
+  answered : {w : World a} {t : Told} (m : machine.World) → Follows c w t m → (x y : Who) → MajorityAnswered c w.frames x y →
+      AnsweredBy (machine_of c) m.sent x y
   answered m f x y k = record {
     by = k.by;
     answers = λ arbiter h.
@@ -168,10 +175,12 @@ module _ (a : Upper) (stays : StaysAbove a) (is_frame : List ℕ → Bool) (c : 
     most = k.most;
   }
 
-  granted : {w : World a} {t : Told} (m : machine.World) → Follows c w t m → (x y : Who) → MajorityGranted c w.frames x y → GrantedBy (machine_of c) m.sent x y
+  granted : {w : World a} {t : Told} (m : machine.World) → Follows c w t m → (x y : Who) → MajorityGranted c w.frames x y →
+      GrantedBy (machine_of c) m.sent x y
   granted m f x y k = record { by = k.by; answers = λ arbiter h. answer_sent m f arbiter x y Granted (k.answers arbiter h); most = k.most }
 
-  pub exclude : (h : History) → Valid a is_frame c h → (x y : Who) → MajorityAnswered c (world_after a c h).frames x y → MajorityAnswered c (world_after a c h).frames y x → ⊥
+  pub exclude : (h : History) → Valid a is_frame c h → (x y : Who) → MajorityAnswered c (world_after a c h).frames x y →
+      MajorityAnswered c (world_after a c h).frames y x → ⊥
   exclude h valid x y k l =
       let m = after h valid in
       no_crossing m.follows.inv x y (answered m.world m.follows x y k) (answered m.world m.follows y x l)

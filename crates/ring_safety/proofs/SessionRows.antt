@@ -39,17 +39,20 @@ module _ (m0 : Who) where
 
   -- a session is looked up
 
-  pub slot_says : (row : d.SessionRow) (i : ℕ) (o : Option Link) (w : Work) → ((i : ℕ) (l : Link) (st : LinkState) → Fine (row i l st w)) → Fine w → Fine (d.in_slot row i o w)
+  pub slot_says : (row : d.SessionRow) (i : ℕ) (o : Option Link) (w : Work) → ((i : ℕ) (l : Link) (st : LinkState) → Fine (row i l st w)) → Fine w →
+      Fine (d.in_slot row i o w)
   slot_says row i None w inside a = a
   slot_says row i (Some l) w inside a = inside i l l.state
 
-  pub found_says : (row : d.SessionRow) (none : Work → Work) (o : Option ℕ) (w : Work) → ((i : ℕ) (l : Link) (st : LinkState) → Fine (row i l st w)) → Fine (none w) → Fine w → Fine (d.in_found row none o w)
+  pub found_says : (row : d.SessionRow) (none : Work → Work) (o : Option ℕ) (w : Work) →
+      ((i : ℕ) (l : Link) (st : LinkState) → Fine (row i l st w)) → Fine (none w) → Fine w → Fine (d.in_found row none o w)
   found_says row none None w inside outside a = outside
   found_says row none (Some i) w inside outside a = slot_says row i _ w inside a
 
   -- handshakes
 
-  pub greet_says : (l : Link) (refused : Reason → Work → Work) (w : Work) → ((reason : Reason) → Fine (refused reason w)) → Fine w → Fine (h.greet l refused w)
+  pub greet_says : (l : Link) (refused : Reason → Work → Work) (w : Work) → ((reason : Reason) → Fine (refused reason w)) → Fine w →
+      Fine (h.greet l refused w)
   greet_says l refused w refuses a = unless (slot_where _ w.ring.slots)
     where
       free : (o : Option ℕ) → Fine (h.greet_free l refused w o)
@@ -67,7 +70,8 @@ module _ (m0 : Who) where
       free None = a
       free (Some i) = a
 
-  pub hello_says : (set : Settings) (now : ℕ) (from : Who) (theirs wire len : ℕ) (w : Work) → Fine w → Fine (h.hello_received set now from theirs wire len w)
+  pub hello_says : (set : Settings) (now : ℕ) (from : Who) (theirs wire len : ℕ) (w : Work) → Fine w →
+      Fine (h.hello_received set now from theirs wire len w)
   unfolding h.hello_received
   hello_says set now from theirs wire len w a = meets _
     where
@@ -137,7 +141,8 @@ module _ (m0 : Who) where
       granted true = frozen _ _
       granted false = a
 
-  pub renew_says : (from : Who) (theirs own stamp version got : ℕ) (want : Bool) (ranges : List Interval) (w : Work) → Fine w → Fine (n.renew_received from theirs own stamp version got want ranges w)
+  pub renew_says : (from : Who) (theirs own stamp version got : ℕ) (want : Bool) (ranges : List Interval) (w : Work) → Fine w →
+      Fine (n.renew_received from theirs own stamp version got want ranges w)
   unfolding n.renew_received
   renew_says from theirs own stamp version got want ranges w a = found_says (n.renew_seen stamp version got want ranges) (d.answer_unknown from theirs own) _ w inside a a
     where
@@ -161,7 +166,8 @@ module _ (m0 : Who) where
 
   -- flights
 
-  pub transfer_says : (from : Who) (theirs own number : ℕ) (part : List Interval) (w : Work) → Fine w → Fine (f.transfer_received from theirs own number part w)
+  pub transfer_says : (from : Who) (theirs own number : ℕ) (part : List Interval) (w : Work) → Fine w →
+      Fine (f.transfer_received from theirs own number part w)
   unfolding f.transfer_received
   transfer_says from theirs own number part w a = found_says (f.transfer_seen number part) (d.answer_unknown from theirs own) _ w inside a a
     where
@@ -214,9 +220,11 @@ module _ (m0 : Who) where
 
   -- rulings
 
-  pub ruling_says : (set : Settings) (now : ℕ) (from victim : Who) (ruling : Ruling) (w : Work) → Fine w → Fine (r.ruling_received set now from victim ruling w)
+  pub ruling_says : (set : Settings) (now : ℕ) (from victim : Who) (ruling : Ruling) (w : Work) → Fine w →
+      Fine (r.ruling_received set now from victim ruling w)
   unfolding r.ruling_received
-  ruling_says set now from victim ruling w a = found_says (r.ruling_seen set now (from.actor - arbiter_actor 0) ruling) (λ v. v) (slot_where (of_instance victim) w.ring.slots) w inside a a
+  ruling_says set now from victim ruling w a =
+      found_says (r.ruling_seen set now (from.actor - arbiter_actor 0) ruling) (λ v. v) (slot_where (of_instance victim) w.ring.slots) w inside a a
     where
       heir : (i : ℕ) (l : Link) (t : Bool) → Fine (r.made_heir set now i l w t)
       heir i l true = says_tell m0 (report.Discharged l.peer) w refl refl a

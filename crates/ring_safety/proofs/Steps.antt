@@ -80,14 +80,18 @@ fences_alike (Some m) (Some n) h = ap (λ v. Some v) (eqb-true m n h)
 fences_alike None (Some n) h = absurd (cc (h))
 fences_alike (Some m) None h = absurd (cc (h))
 
-own_told : (c : FabricConfig) (node : ℕ) (old new : Ring) → last_own (own_after (settings_of c node) old new) (Some (owned_by c old)) ≡ Some (owned_by c new)
+own_told : (c : FabricConfig) (node : ℕ) (old new : Ring) →
+    last_own (own_after (settings_of c node) old new) (Some (owned_by c old)) ≡ Some (owned_by c new)
 own_told c node old new = by_test (is_same_own (settings_of c node) old new) refl
   where
-    by_test : (b : Bool) → is_same_own (settings_of c node) old new ≡ b → last_own (own_unless (settings_of c node) new b) (Some (owned_by c old)) ≡ Some (owned_by c new)
+    by_test : (b : Bool) → is_same_own (settings_of c node) old new ≡ b →
+        last_own (own_unless (settings_of c node) new b) (Some (owned_by c old)) ≡ Some (owned_by c new)
     by_test false h = refl
     by_test true h =
-        let some = and_parts (same_ranges old.token.ranges new.token.ranges && same_fence (fence_of c.answer old.slots) (fence_of c.answer new.slots)) (is_left old.phase || not (is_left new.phase)) h in
-        let both = and_parts (same_ranges old.token.ranges new.token.ranges) (same_fence (fence_of c.answer old.slots) (fence_of c.answer new.slots)) some.0 in
+        let ranges : Bool = same_ranges old.token.ranges new.token.ranges in
+        let fence : Bool = same_fence (fence_of c.answer old.slots) (fence_of c.answer new.slots) in
+        let some = and_parts (ranges && fence) (is_left old.phase || not (is_left new.phase)) h in
+        let both = and_parts ranges fence some.0 in
         λ k. Some (record {
           ranges = ranges_alike old.token.ranges new.token.ranges both.0 k;
           fence = fences_alike (fence_of c.answer old.slots) (fence_of c.answer new.slots) both.1 k;
@@ -101,7 +105,8 @@ own_stays set old new = by_test (is_same_own set old new)
     by_test false = refl
 
 -- what runs above does nothing of the ring
-pub acts_out : (a : Upper) → StaysAbove a → (c : FabricConfig) (now : ℕ) (i : Input) (s : NodeState a) (new : Ring) → KeepsOut (above_acts a c now i s new)
+pub acts_out : (a : Upper) → StaysAbove a → (c : FabricConfig) (now : ℕ) (i : Input) (s : NodeState a) (new : Ring) →
+    KeepsOut (above_acts a c now i s new)
 acts_out a stays c now i s new = by_test _
   where
     by_test : (b : Bool) → KeepsOut (above_if a c now new s.above i b)
@@ -137,7 +142,8 @@ pub record Acted (c : FabricConfig) (old new : Ring) (records : List Record) (to
 pub acted_told : (c : FabricConfig) (node : ℕ) (old : Ring) (k : Work) (more : List Report) (records : List Record) → Stepped old k →
     list_any is_ring_report more ≡ false → list_any is_ring_record records ≡ false →
     Acted c old k.ring records (k.told ++ more ++ own_after (settings_of c node) old k.ring)
-acted_told c node old k more records step tells recs = with_last (own_after (settings_of c node) old k.ring) (own_told c node old k.ring) (own_stays (settings_of c node) old k.ring)
+acted_told c node old k more records step tells recs =
+    with_last (own_after (settings_of c node) old k.ring) (own_told c node old k.ring) (own_stays (settings_of c node) old k.ring)
   where
     with_last : (last : List Report) → last_own last (Some (owned_by c old)) ≡ Some (owned_by c k.ring) → list_any tells_leave last ≡ false →
         Acted c old k.ring records (k.told ++ more ++ last)
@@ -156,8 +162,12 @@ acted_told c node old k more records step tells recs = with_last (own_after (set
         silent : list_any tells_leave (k.told ++ more ++ last) ≡ list_any tells_leave k.told
         silent =
             list_any-append tells_leave (k.told ++ more) last
-            ∙ ((λ i. (list_any-append tells_leave k.told more ∙ ((λ j. list_any tells_leave k.told || others_stay more tells j) ∙ or_false (list_any tells_leave k.told))) i || stay i)
-            ∙ or_false (list_any tells_leave k.told))
+            ∙ ((λ i. rest i || stay i) ∙ or_false (list_any tells_leave k.told))
+          where
+            rest : list_any tells_leave (k.told ++ more) ≡ list_any tells_leave k.told
+            rest =
+                list_any-append tells_leave k.told more
+                ∙ ((λ i. list_any tells_leave k.told || others_stay more tells i) ∙ or_false (list_any tells_leave k.told))
 
 pub node_acted-told : (a : Upper) → StaysAbove a → (c : FabricConfig) (now : ℕ) (i : Input) (s : NodeState a) →
     Acted c s.ring (node_step a c now i s).state.ring (node_step a c now i s).records (node_step a c now i s).told
@@ -174,7 +184,8 @@ pub record Begun (c : FabricConfig) (me : Who) (new : Ring) (told : List Report)
   pub own : (before : Option Owned) → last_own told before ≡ Some (owned_by c new)
   pub leaves : list_any tells_leave told ≡ is_left new.phase
 
-pub started_as : (c : FabricConfig) (me : Who) (spent : Bool) → let k = node_started c me spent in (k.ring.me ≡ me) × (list_any tells_leave k.told ≡ is_left k.ring.phase)
+pub started_as : (c : FabricConfig) (me : Who) (spent : Bool) →
+    let k = node_started c me spent in (k.ring.me ≡ me) × (list_any tells_leave k.told ≡ is_left k.ring.phase)
 unfolding node_started
 started_as c me true = (refl, refl)
 started_as c me false = by_first (me.actor == c.first && me.instance == 1)
@@ -189,7 +200,8 @@ unfolding node_started
 started_spent c me true h = refl
 started_spent c me false h = absurd (cc (h))
 
-begun_told : (a : Upper) (c : FabricConfig) (me : Who) (records : List Record) (k : Work) → k.ring.me ≡ me → list_any tells_leave k.told ≡ is_left k.ring.phase →
+begun_told : (a : Upper) (c : FabricConfig) (me : Who) (records : List Record) (k : Work) → k.ring.me ≡ me →
+    list_any tells_leave k.told ≡ is_left k.ring.phase →
     let d = begun_as a c me records k in Begun c me d.state.ring d.told
 begun_told a c me records k name left = record {
   name = name;
@@ -215,19 +227,22 @@ begun_spent a c node records h =
 
 -- the records of a start
 
-pub begun_boots : (a : Upper) (c : FabricConfig) (node : ℕ) (records : List Record) → instance_begun records ≡ boots_of records + boots_of (node_begun a c node records).records
+pub begun_boots : (a : Upper) (c : FabricConfig) (node : ℕ) (records : List Record) →
+    instance_begun records ≡ boots_of records + boots_of (node_begun a c node records).records
 unfolding node_begun
 begun_boots a c node records = go (is_spent records) refl
   where
     go : (b : Bool) → is_spent records ≡ b → instance_begun records ≡ boots_of records + boots_of (boot_kept records)
     go true h = by_spent (is_spent records) h
       where
-        by_spent : (b : Bool) → b ≡ true → cond b (boots_of records) (boots_of records + 1) ≡ boots_of records + boots_of (cond b [] (Boot (instance_begun records) ∷ []))
+        by_spent : (b : Bool) → b ≡ true →
+            cond b (boots_of records) (boots_of records + 1) ≡ boots_of records + boots_of (cond b [] (Boot (instance_begun records) ∷ []))
         by_spent true e = omega arith
         by_spent false e = absurd (cc (e))
     go false h = by_spent (is_spent records) h
       where
-        by_spent : (b : Bool) → b ≡ false → cond b (boots_of records) (boots_of records + 1) ≡ boots_of records + boots_of (cond b [] (Boot (instance_begun records) ∷ []))
+        by_spent : (b : Bool) → b ≡ false →
+            cond b (boots_of records) (boots_of records + 1) ≡ boots_of records + boots_of (cond b [] (Boot (instance_begun records) ∷ []))
         by_spent false e = refl
         by_spent true e = absurd (cc (e))
 

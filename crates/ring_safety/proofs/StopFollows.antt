@@ -17,7 +17,6 @@ use Rattle.ring_machine.specs.Events.{Stops, in_phase}
 use Rattle.ring_machine.proofs.Histories.{EventDone, event_done}
 use Rattle.ring_machine.proofs.Whos.{test, same_who-true, same_who-false, same_who_from}
 use Rattle.ring_refines.specs.Images.{machine_of}
-use Rattle.ring_refines.specs.Moves.{places_of}
 use Rattle.ring_refines.specs.Shown.{ShowsAs}
 use Rattle.world_rules.specs.Arbiters.{ArbiterState}
 use Rattle.world_rules.specs.Events.{node_stops}
@@ -26,12 +25,13 @@ use Rattle.world_rules.specs.Uppers.{Upper}
 use Rattle.world_rules.specs.Worlds as real
 use Rattle.world_rules.specs.Worlds.{World, kept_of}
 use Rattle.ring_safety.proofs.ActFollows.{Followed, Numbered, named}
-use Rattle.ring_safety.proofs.Follows.{Follows, Runs, shows_still, clock_still}
+use Rattle.ring_safety.proofs.Follows.{Follows, Runs, shows_still, clock_still, first_instance, places_in, next_of}
 use Rattle.ring_safety.proofs.Kept.{without_cases, at_without_other}
 use Rattle.ring_safety.proofs.Moves.{SoFar, moves, none_moves, none_over, told_so_far, given_elsewhere, over_told, has_given}
 
 -- reports that move nothing are followed by the same world
-pub silent_follows : {a : Upper} (c : FabricConfig) (w : World a) (t : Told) (m : machine.World) (x : Who) (rs : List Report) → list_any moves rs ≡ false →
+pub silent_follows : {a : Upper} (c : FabricConfig) (w : World a) (t : Told) (m : machine.World) (x : Who) (rs : List Report) →
+    list_any moves rs ≡ false →
     Follows c w t m → Follows c w (told_on x rs t) m
 silent_follows c w t m x rs quiet f = record {
   inv = f.inv;
@@ -51,11 +51,11 @@ silent_follows c w t m x rs quiet f = record {
   over = λ v. over_told (machine_of c) m v x rs t (none_over (machine_of c) m rs quiet) (f.over v);
 }
   where
-    so_far : (y : Who) → SoFar (first_of (machine_of c)) y (told_on y rs t) (m.instance y).token.next_flight (places_of (first_of (machine_of c)) m)
+    so_far : (y : Who) → SoFar (first_instance c) y (told_on y rs t) (next_of m y) (places_in c m)
     so_far y =
-        told_so_far (first_of (machine_of c)) y rs t (m.instance y).token.next_flight (m.instance y).token.next_flight
-        (places_of (first_of (machine_of c)) m) (places_of (first_of (machine_of c)) m)
-        (none_moves y rs (m.instance y).token.next_flight (places_of (first_of (machine_of c)) m) quiet)
+        told_so_far (first_instance c) y rs t (next_of m y) (next_of m y)
+        (places_in c m) (places_in c m)
+        (none_moves y rs (next_of m y) (places_in c m) quiet)
         (record { placed = f.placed; moved = f.moved; new = f.new; below = f.below y })
 
 -- arbitrators that start or stop change nothing of it
@@ -77,21 +77,30 @@ arbiters_follow c w t m arbiters f = record {
   over = f.over;
 }
 
-module _ {a : Upper} (c : FabricConfig) (w : World a) (t : Told) (m : machine.World) (n : Numbered w) (f : Follows c w t m) (node : ℕ) (s : real.Running a)
-    (there : at node w.nodes ≡ Some s) where
+module _ {a : Upper} (c : FabricConfig) (w : World a) (t : Told) (m : machine.World) (n : Numbered w) (f : Follows c w t m) (node : ℕ)
+    (s : real.Running a) (there : at node w.nodes ≡ Some s) where
+  abbrev me : Who
+  me = s.node.ring.me
+
   abbrev gone : World a
   gone = record w { nodes = without node w.nodes }
 
   -- another runs on
-  runs_on : (x : Who) → (r : Runs w x) → (s.node.ring.me ≡ x → is_left s.node.ring.phase ≡ false → ⊥) → Runs gone x
-  runs_on x r apart = record { state = r.state; here = at_without_other node w.nodes x.actor (go (node == x.actor) refl) ∙ r.here; name = r.name; stays = r.stays }
+  runs_on : (x : Who) → Runs w x → (me ≡ x → is_left s.node.ring.phase ≡ false → ⊥) → Runs gone x
+  runs_on x r apart = record {
+    state = r.state;
+    here = at_without_other node w.nodes x.actor (go (node == x.actor) refl) ∙ r.here;
+    name = r.name;
+    stays = r.stays;
+  }
     where
       go : (b : Bool) → (node == x.actor) ≡ b → (node == x.actor) ≡ false
       go false e = e
       go true e =
           let here : at node w.nodes ≡ Some r.state = ap (λ q. at q w.nodes) (eqb-true node x.actor e) ∙ r.here in
           let same : s ≡ r.state = cc (there, here) in
-          absurd (apart (ap (λ (z : real.Running a). z.node.ring.me) same ∙ r.name) (ap (λ (z : real.Running a). is_left z.node.ring.phase) same ∙ r.stays))
+          absurd (apart (ap (λ (z : real.Running a). z.node.ring.me) same ∙ r.name)
+          (ap (λ (z : real.Running a). is_left z.node.ring.phase) same ∙ r.stays))
 
   -- one that has left stops
   left_stops : is_left s.node.ring.phase ≡ true → Follows c gone t m
@@ -112,51 +121,52 @@ module _ {a : Upper} (c : FabricConfig) (w : World a) (t : Told) (m : machine.Wo
   }
 
   -- one that has not stops on the machine
-  it_stops : events.IsSound (machine_of c) → (m.instance s.node.ring.me).phase ≡ Running → Follows c gone t (in_phase m s.node.ring.me machine.Stopped)
+
+  abbrev v : machine.World
+  v = in_phase m me machine.Stopped
+
+  abbrev stopped : Instance
+  stopped = record (m.instance me) { phase = machine.Stopped }
+
+  others : (x : Who) → same_who me x ≡ false → v.instance x ≡ m.instance x
+  others x h = ap (λ b. cond b stopped (m.instance x)) h
+
+  other : (q : ℕ) (r : real.Running a) → (node == q) ≡ false → at q w.nodes ≡ Some r → v.instance r.node.ring.me ≡ m.instance r.node.ring.me
+  other q r apart h = others r.node.ring.me (same_who_from me r.node.ring.me
+      (λ same. eqb-false node q apart (sym (named w n node s there) ∙ (ap (λ (z : Who). z.actor) same ∙ named w n q r h))))
+
+  not_running : (x : Who) → same_who me x ≡ true → (v.instance x).phase ≡ Running → ⊥
+  not_running x h g = let phase : (v.instance x).phase ≡ machine.Stopped = ap (λ b. (cond b stopped (m.instance x)).phase) h in cc (phase, g)
+
+  it_stops : events.IsSound (machine_of c) → (m.instance me).phase ≡ Running → Follows c gone t v
   it_stops sound running = record {
     inv = done.inv;
     time = f.time;
     starts = f.starts;
     shows = λ q r h.
         let g = without_cases node w.nodes q r h in
-        shows_still c m (in_phase m s.node.ring.me machine.Stopped) (λ e k. k) r.node.ring.me r.node.ring (others r.node.ring.me (other q r g.0 g.1)) (f.shows q r g.1);
+        shows_still c m v (λ e k. k) r.node.ring.me r.node.ring (other q r g.0 g.1) (f.shows q r g.1);
     clock = λ q r h stay.
         let g = without_cases node w.nodes q r h in
-        clock_still (m.instance r.node.ring.me) ((in_phase m s.node.ring.me machine.Stopped).instance r.node.ring.me) r.reading r.pairs (others r.node.ring.me (other q r g.0 g.1)) (f.clock q r g.1 stay);
-    runs = λ x. test (same_who s.node.ring.me x) (λ h g. absurd (stopped x h g))
-        (λ h g. runs_on x (f.runs x (sym (ap (λ (i : Instance). i.phase) (others x h)) ∙ g)) (λ same stay. same_who-false s.node.ring.me x h same));
+        clock_still (m.instance r.node.ring.me) (v.instance r.node.ring.me) r.reading r.pairs (other q r g.0 g.1) (f.clock q r g.1 stay);
+    runs = λ x. test (same_who me x) (λ h g. absurd (not_running x h g))
+        (λ h g. runs_on x (f.runs x (sym (ap (λ (i : Instance). i.phase) (others x h)) ∙ g)) (λ same stay. same_who-false me x h same));
     tables = f.tables;
     frames = f.frames;
     placed = f.placed;
     moved = f.moved;
     new = f.new;
     below = λ x number h. let lt = f.below x number h in let le = done.later.next_flights x in omega arith;
-    over = λ v h. done.later.dies v (f.over v h);
+    over = λ x h. done.later.dies x (f.over x h);
   }
     where
-      done : EventDone (machine_of c) m (in_phase m s.node.ring.me machine.Stopped)
-      done = event_done sound f.inv (Stops s.node.ring.me) (ap has_clock running)
+      done : EventDone (machine_of c) m v
+      done = event_done sound f.inv (Stops me) (ap has_clock running)
 
-      others : (x : Who) → same_who s.node.ring.me x ≡ false → (in_phase m s.node.ring.me machine.Stopped).instance x ≡ m.instance x
-      others x h = ap (λ b. cond b (record (m.instance s.node.ring.me) { phase = machine.Stopped }) (m.instance x)) h
-
-      other : (q : ℕ) (r : real.Running a) → (node == q) ≡ false → at q w.nodes ≡ Some r → same_who s.node.ring.me r.node.ring.me ≡ false
-      other q r apart h =
-          same_who_from s.node.ring.me r.node.ring.me
-          (λ same. eqb-false node q apart (sym (named w n node s there) ∙ (ap (λ (z : Who). z.actor) same ∙ named w n q r h)))
-
-      stopped : (x : Who) → same_who s.node.ring.me x ≡ true → ((in_phase m s.node.ring.me machine.Stopped).instance x).phase ≡ Running → ⊥
-      stopped x h g =
-          let phase : ((in_phase m s.node.ring.me machine.Stopped).instance x).phase ≡ machine.Stopped =
-          ap (λ b. (cond b (record (m.instance s.node.ring.me) { phase = machine.Stopped }) (m.instance x)).phase) h in
-          cc (phase, g)
-
-  pub stops_follow : events.IsSound (machine_of c) → Followed c (node_stops a w node (Some s)).world (told_in (node_stops a w node (Some s)).entry t)
+  pub stops_follow : events.IsSound (machine_of c) →
+      Followed c (node_stops a w node (Some s)).world (told_in (node_stops a w node (Some s)).entry t)
   stops_follow sound = go (is_left s.node.ring.phase) refl (f.shows node s there)
     where
-      go : (b : Bool) → is_left s.node.ring.phase ≡ b → ShowsAs c m s.node.ring.me s.node.ring b → Followed c gone (told_on s.node.ring.me (Stopped ∷ []) t)
-      go true h shows = record { world = m; follows = silent_follows c gone t m s.node.ring.me (Stopped ∷ []) refl (left_stops h) }
-      go false h shows = record {
-        world = in_phase m s.node.ring.me machine.Stopped;
-        follows = silent_follows c gone t (in_phase m s.node.ring.me machine.Stopped) s.node.ring.me (Stopped ∷ []) refl (it_stops sound shows.running);
-      }
+      go : (b : Bool) → is_left s.node.ring.phase ≡ b → ShowsAs c m me s.node.ring b → Followed c gone (told_on me (Stopped ∷ []) t)
+      go true h shows = record { world = m; follows = silent_follows c gone t m me (Stopped ∷ []) refl (left_stops h) }
+      go false h shows = record { world = v; follows = silent_follows c gone t v me (Stopped ∷ []) refl (it_stops sound shows.running) }

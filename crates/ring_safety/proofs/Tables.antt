@@ -55,7 +55,8 @@ two_arbiters m q h = go (arbiter_actor m == arbiter_actor q) refl
     go true e = absurd (eqb-false m q h (let same = eqb-true (arbiter_actor m) (arbiter_actor q) e in omega arith))
 
 -- a configured arbitrator's actor is that of its number
-pub actor_of_number : {a : Upper} (c : FabricConfig) (w : World a) (actor : ℕ) → may_start c w actor None ≡ true → arbiter_actor (arbiter_number actor) ≡ actor
+pub actor_of_number : {a : Upper} (c : FabricConfig) (w : World a) (actor : ℕ) → may_start c w actor None ≡ true →
+    arbiter_actor (arbiter_number actor) ≡ actor
 actor_of_number c w actor h =
     let both = and_parts (nat_lt (arbiter_actor 0) actor && nat_le actor (arbiter_actor (length c.arbiters))) (not (arbiter_runs w actor)) h in
     let parts = and_parts (nat_lt (arbiter_actor 0) actor) (nat_le actor (arbiter_actor (length c.arbiters))) both.0 in
@@ -106,7 +107,8 @@ module _ (a : Upper) (stays : StaysAbove a) (c : FabricConfig) (w : World a) (t 
     rules = λ arbiter f s h m to. rules_tabled arbiter s (arbiter_step a c arbiter f s) h (arbiter_stepped a stays c arbiter f s);
   }
 
-pub tabled : (a : Upper) → StaysAbove a → (is_frame : List ℕ → Bool) (c : FabricConfig) (h : History) → Valid a is_frame c h → Tabled (world_after a c h)
+pub tabled : (a : Upper) → StaysAbove a → (is_frame : List ℕ → Bool) (c : FabricConfig) (h : History) → Valid a is_frame c h →
+    Tabled (world_after a c h)
 tabled a stays is_frame c [] valid = λ arbiter s there. absurd (cc (there))
 tabled a stays is_frame c (e ∷ h) valid =
     by_cases a c (world_after a c h) e.1 (λ st. Tabled st.world)

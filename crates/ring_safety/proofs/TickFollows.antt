@@ -63,7 +63,8 @@ has_reading (r ∷ rs) (e ∷ es) q s h there =
     let same : r.0 ≡ e.0 = eqb-true r.0 e.0 parts.0 in
     go same (e.0 == q) refl there (has_reading rs es q s parts.1)
   where
-    go : r.0 ≡ e.0 → (b : Bool) → (e.0 == q) ≡ b → cond b (Some e.1) (at q es) ≡ Some s → (at q es ≡ Some s → (v : ℕ) × (at q rs ≡ Some v) × IsMember (q, v) rs) →
+    go : r.0 ≡ e.0 → (b : Bool) → (e.0 == q) ≡ b → cond b (Some e.1) (at q es) ≡ Some s →
+        (at q es ≡ Some s → (v : ℕ) × (at q rs ≡ Some v) × IsMember (q, v) rs) →
         (v : ℕ) × (cond (r.0 == q) (Some r.1) (at q rs) ≡ Some v) × IsMember (q, v) (r ∷ rs)
     go same true g h again =
         let at_q : r.0 ≡ q = same ∙ eqb-true e.0 q g in
@@ -74,7 +75,8 @@ has_reading (r ∷ rs) (e ∷ es) q s h there =
 
 module _ {a : Upper} (c : FabricConfig) (w : World a) where
   -- each reading fits
-  each_fits : (time : ℕ) (rs : List (ℕ × ℕ)) → readings_fit c w time rs ≡ true → (q v : ℕ) → IsMember (q, v) rs → fits_pairs c time v (at q w.nodes) ≡ true
+  each_fits : (time : ℕ) (rs : List (ℕ × ℕ)) → readings_fit c w time rs ≡ true → (q v : ℕ) → IsMember (q, v) rs →
+      fits_pairs c time v (at q w.nodes) ≡ true
   each_fits time [] h q v k = absurd k
   each_fits time (r ∷ rs) h q v (inl e) =
       let parts = and_parts (fits_pairs c time r.1 (at r.0 w.nodes)) (readings_fit c w time rs) h in
@@ -84,7 +86,8 @@ module _ {a : Upper} (c : FabricConfig) (w : World a) where
       each_fits time rs parts.1 q v k
 
   -- the node's new reading fits
-  new_fits : (time : ℕ) (rs : List (ℕ × ℕ)) → are_of rs w.nodes ≡ true → readings_fit c w time rs ≡ true → (q : ℕ) (s : real.Running a) → at q w.nodes ≡ Some s →
+  new_fits : (time : ℕ) (rs : List (ℕ × ℕ)) → are_of rs w.nodes ≡ true → readings_fit c w time rs ≡ true → (q : ℕ) (s : real.Running a) →
+      at q w.nodes ≡ Some s →
       FitsAll c.bound s.pairs (time, unwrap_or (at q rs) s.reading)
   new_fits time rs all fit q s there =
       let r = has_reading rs w.nodes q s all there in
@@ -108,7 +111,8 @@ ticked_at {a = a} time rs (e ∷ es) q s h = go (e.0 == q) refl h (ticked_at tim
         ∙ (λ i. Some (shows {a = a} time (unwrap_or (at (eqb-true e.0 q g i) rs) (same i).reading) (same i)))
     go false g h again = ap (λ b. cond b (Some (ticked {a = a} time rs e).1) (at q (map (ticked {a = a} time rs) es))) g ∙ again h
 
-ticked_from : {a : Upper} (time : ℕ) (rs : List (ℕ × ℕ)) (es : List (ℕ × real.Running a)) (q : ℕ) (s : real.Running a) → at q (map (ticked {a = a} time rs) es) ≡ Some s →
+ticked_from : {a : Upper} (time : ℕ) (rs : List (ℕ × ℕ)) (es : List (ℕ × real.Running a)) (q : ℕ) (s : real.Running a) →
+    at q (map (ticked {a = a} time rs) es) ≡ Some s →
     (r : real.Running a) × (at q es ≡ Some r) × (s ≡ shows {a = a} time (unwrap_or (at q rs) r.reading) r)
 ticked_from {a = a} time rs es q s h = go (at q es) refl
   where
@@ -121,14 +125,26 @@ ticked_from {a = a} time rs es q s h = go (at q es) refl
         by_key true k g again = absurd (cc (g))
         by_key false k g again = ap (λ b. cond b (Some (ticked {a = a} time rs e).1) (at q (map (ticked {a = a} time rs) es))) k ∙ again g
 
-    go : (o : Option (real.Running a)) → at q es ≡ o → (r : real.Running a) × (at q es ≡ Some r) × (s ≡ shows {a = a} time (unwrap_or (at q rs) r.reading) r)
+    go : (o : Option (real.Running a)) → at q es ≡ o →
+        (r : real.Running a) × (at q es ≡ Some r) × (s ≡ shows {a = a} time (unwrap_or (at q rs) r.reading) r)
     go None g = let gone = none es g in absurd (cc (h, gone))
     go (Some r) g = let after = ticked_at time rs es q r g in (r, g, let same : s ≡ shows {a = a} time (unwrap_or (at q rs) r.reading) r = cc (h, after) in same)
 
-module _ (a : Upper) (c : FabricConfig) (w : World a) (t : Told) (m : machine.World) (n : Numbered w) (f : Follows c w t m) (advance : ℕ) (rs : List (ℕ × ℕ))
-    (all : are_of rs w.nodes ≡ true) (fit : readings_fit c w (w.time + advance) rs ≡ true) where
+module _ (a : Upper) (c : FabricConfig) (w : World a) (t : Told) (m : machine.World) (n : Numbered w) (f : Follows c w t m) (advance : ℕ)
+    (rs : List (ℕ × ℕ)) (all : are_of rs w.nodes ≡ true) (fit : readings_fit c w (w.time + advance) rs ≡ true) where
+  abbrev time : ℕ
+  time = w.time + advance
+
   abbrev after : World a
-  after = (ticks a w (w.time + advance) rs).world
+  after = (ticks a w time rs).world
+
+  -- the new reading of the node under a number, and the node with it
+
+  abbrev reading_at : ℕ → real.Running a → ℕ
+  reading_at q s = unwrap_or (at q rs) s.reading
+
+  abbrev then : ℕ → real.Running a → real.Running a
+  then q s = shows {a = a} time (reading_at q s) s
 
   -- what each instance's clock shows
   abbrev now : Who → ℕ
@@ -137,86 +153,89 @@ module _ (a : Upper) (c : FabricConfig) (w : World a) (t : Told) (m : machine.Wo
   abbrev v : machine.World
   v = passed m advance now
 
-  now_at : (x : Who) (s : real.Running a) → at x.actor after.nodes ≡ Some s → now x ≡ s.reading
-  now_at x s h = ap (λ o. reading_in {a = a} o) h
+  now_is : (x : Who) (s : real.Running a) → at x.actor w.nodes ≡ Some s → now x ≡ reading_at x.actor s
+  now_is x s there = ap (λ o. reading_in {a = a} o) (ticked_at time rs w.nodes x.actor s there)
 
-  time_is : m.time + advance ≡ w.time + advance
+  time_is : m.time + advance ≡ time
   time_is = ap (λ z. z + advance) f.time
 
   can : (x : Who) → (m.instance x).phase ≡ Running → FitsAll c.bound (m.instance x).pairs (m.time + advance, now x)
   can x running =
       let r = f.runs x running in
       let clock = subst (λ y. ShowsClock (m.instance y) r.state.reading r.state.pairs) r.name (f.clock x.actor r.state r.here r.stays) in
-      let reads : now x ≡ unwrap_or (at x.actor rs) r.state.reading = now_at x (shows {a = a} (w.time + advance) (unwrap_or (at x.actor rs) r.state.reading) r.state) (ticked_at (w.time + advance) rs w.nodes x.actor r.state r.here) in
+      let reads = now_is x r.state r.here in
       subst (λ (z : List Pair × ℕ × ℕ). FitsAll c.bound z.0 (z.1, z.2)) (λ i. (sym clock.read i, sym time_is i, sym reads i))
-      (new_fits c w (w.time + advance) rs all fit x.actor r.state r.here)
+      (new_fits c w time rs all fit x.actor r.state r.here)
 
-  module _ (sound : events.IsSound (machine_of c)) where
-    done : EventDone (machine_of c) m v
-    done = event_done sound f.inv (Ticks advance now) can
+  -- an instance of the machine after the tick, where it has a clock or has none
 
-    shows_on : (x : Who) (r : Ring) → Shows c m x r → Shows c v x r
-    shows_on x r h = go (is_left r.phase) h
-      where
-        go : (b : Bool) → ShowsAs c m x r b → ShowsAs c v x r b
-        go true s = record {
-          me = s.me;
-          ranges = s.ranges;
-          freeze = s.freeze;
-          slots = s.slots;
-          stands_still = λ runs. s.stands_still (sym (ticked_phase (m.instance x) (m.time + advance) (now x) (has_clock (m.instance x).phase)) ∙ runs);
-        }
-        go false s = ticked_shows c x m.sent (m.instance x) r (m.time + advance) (now x) (has_clock (m.instance x).phase) s
+  same_phase : (x : Who) → (v.instance x).phase ≡ (m.instance x).phase
+  same_phase x = ticked_phase (m.instance x) (m.time + advance) (now x) (has_clock (m.instance x).phase)
 
-    running : (x : Who) (r : Ring) → is_left r.phase ≡ false → Shows c m x r → (m.instance x).phase ≡ Running
-    running x r stay h = go (is_left r.phase) stay h
-      where
-        go : (b : Bool) → b ≡ false → ShowsAs c m x r b → (m.instance x).phase ≡ Running
-        go false e s = s.running
-        go true e s = absurd (cc (e))
+  shows_on : (x : Who) (r : Ring) → Shows c m x r → Shows c v x r
+  shows_on x r h = go (is_left r.phase) h
+    where
+      go : (b : Bool) → ShowsAs c m x r b → ShowsAs c v x r b
+      go true s = record {
+        me = s.me;
+        ranges = s.ranges;
+        freeze = s.freeze;
+        slots = s.slots;
+        stands_still = λ runs. s.stands_still (sym (same_phase x) ∙ runs);
+      }
+      go false s = ticked_shows c x m.sent (m.instance x) r (m.time + advance) (now x) (has_clock (m.instance x).phase) s
 
-    clock_on : (q : ℕ) (r : real.Running a) → at q w.nodes ≡ Some r → is_left r.node.ring.phase ≡ false →
-        ShowsClock (v.instance r.node.ring.me) (unwrap_or (at q rs) r.reading) ((w.time + advance, unwrap_or (at q rs) r.reading) ∷ r.pairs)
-    clock_on q r there stay =
-        let x : Who = r.node.ring.me in
-        let old = f.clock q r there stay in
-        let at_x : at x.actor after.nodes ≡ Some (shows {a = a} (w.time + advance) (unwrap_or (at q rs) r.reading) r) =
-        subst (λ z. at z after.nodes ≡ Some (shows {a = a} (w.time + advance) (unwrap_or (at q rs) r.reading) r)) (sym (named w n q r there)) (ticked_at (w.time + advance) rs w.nodes q r there) in
-        let reads : now x ≡ unwrap_or (at q rs) r.reading = now_at x (shows {a = a} (w.time + advance) (unwrap_or (at q rs) r.reading) r) at_x in
-        let clocked : has_clock (m.instance x).phase ≡ true = ap has_clock (running x r.node.ring stay (f.shows q r there)) in
-        subst (λ b. ShowsClock (events.ticked (m.instance x) (m.time + advance) (now x) b) (unwrap_or (at q rs) r.reading) ((w.time + advance, unwrap_or (at q rs) r.reading) ∷ r.pairs)) (sym clocked)
-        (record { reads = reads; read = λ i. (time_is i, reads i) ∷ old.read i })
+  running : (x : Who) (r : Ring) → is_left r.phase ≡ false → Shows c m x r → (m.instance x).phase ≡ Running
+  running x r stay h = go (is_left r.phase) stay h
+    where
+      go : (b : Bool) → b ≡ false → ShowsAs c m x r b → (m.instance x).phase ≡ Running
+      go false e s = s.running
+      go true e s = absurd (cc (e))
 
-    runs_on : (x : Who) → (v.instance x).phase ≡ Running → Runs after x
-    runs_on x h =
-        let r = f.runs x (sym (ticked_phase (m.instance x) (m.time + advance) (now x) (has_clock (m.instance x).phase)) ∙ h) in
-        record {
-          state = shows {a = a} (w.time + advance) (unwrap_or (at x.actor rs) r.state.reading) r.state;
-          here = ticked_at (w.time + advance) rs w.nodes x.actor r.state r.here;
-          name = r.name;
-          stays = r.stays;
-        }
+  clock_on : (q : ℕ) (r : real.Running a) → at q w.nodes ≡ Some r → is_left r.node.ring.phase ≡ false →
+      ShowsClock (v.instance r.node.ring.me) (reading_at q r) ((time, reading_at q r) ∷ r.pairs)
+  clock_on q r there stay =
+      let x : Who = r.node.ring.me in
+      let old = f.clock q r there stay in
+      let number : q ≡ x.actor = sym (named w n q r there) in
+      let reads : now x ≡ reading_at q r =
+      now_is x r (ap (λ z. at z w.nodes) (sym number) ∙ there) ∙ ap (λ z. reading_at z r) (sym number) in
+      let clocked : has_clock (m.instance x).phase ≡ true = ap has_clock (running x r.node.ring stay (f.shows q r there)) in
+      subst
+      (λ b. ShowsClock (events.ticked (m.instance x) (m.time + advance) (now x) b) (reading_at q r) ((time, reading_at q r) ∷ r.pairs))
+      (sym clocked) (record { reads = reads; read = λ i. (time_is i, reads i) ∷ old.read i })
 
-    pub ticks_follow : Followed c (ticks a w (w.time + advance) rs).world (told_in (ticks a w (w.time + advance) rs).entry t)
-    ticks_follow = record {
-      world = v;
-      follows = record {
-        inv = done.inv;
-        time = time_is;
-        starts = f.starts;
-        shows = λ q s h.
-            let r = ticked_from (w.time + advance) rs w.nodes q s h in
-            subst (λ (z : real.Running a). Shows c v z.node.ring.me z.node.ring) (sym r.2) (shows_on r.0.node.ring.me r.0.node.ring (f.shows q r.0 r.1));
-        clock = λ q s h.
-            let r = ticked_from (w.time + advance) rs w.nodes q s h in
-            subst (λ (z : real.Running a). is_left z.node.ring.phase ≡ false → ShowsClock (v.instance z.node.ring.me) z.reading z.pairs) (sym r.2) (clock_on q r.0 r.1);
-        runs = runs_on;
-        tables = f.tables;
-        frames = f.frames;
-        placed = f.placed;
-        moved = f.moved;
-        new = f.new;
-        below = λ x number h. let lt = f.below x number h in let le = done.later.next_flights x in omega arith;
-        over = λ y h. done.later.dies y (f.over y h);
-      };
-    }
+  runs_on : (x : Who) → (v.instance x).phase ≡ Running → Runs after x
+  runs_on x h =
+      let r = f.runs x (sym (same_phase x) ∙ h) in
+      record { state = then x.actor r.state; here = ticked_at time rs w.nodes x.actor r.state r.here; name = r.name; stays = r.stays }
+
+  pub ticks_follow : events.IsSound (machine_of c) → Followed c (ticks a w time rs).world (told_in (ticks a w time rs).entry t)
+  ticks_follow sound = record {
+    world = v;
+    follows = record {
+      inv = done.inv;
+      time = time_is;
+      starts = f.starts;
+      shows = λ q s h.
+          let r = ticked_from time rs w.nodes q s h in
+          subst (λ (z : real.Running a). Shows c v z.node.ring.me z.node.ring) (sym r.2)
+          (shows_on r.0.node.ring.me r.0.node.ring (f.shows q r.0 r.1));
+      clock = λ q s h.
+          let r = ticked_from time rs w.nodes q s h in
+          subst
+          (λ (z : real.Running a). is_left z.node.ring.phase ≡ false → ShowsClock (v.instance z.node.ring.me) z.reading z.pairs) (sym r.2)
+          (clock_on q r.0 r.1);
+      runs = runs_on;
+      tables = f.tables;
+      frames = f.frames;
+      placed = f.placed;
+      moved = f.moved;
+      new = f.new;
+      below = λ x number h. let lt = f.below x number h in let le = done.later.next_flights x in omega arith;
+      over = λ y h. done.later.dies y (f.over y h);
+    };
+  }
+    where
+      done : EventDone (machine_of c) m v
+      done = event_done sound f.inv (Ticks advance now) can
