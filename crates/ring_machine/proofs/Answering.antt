@@ -191,6 +191,7 @@ module _ {c : Settings} {w : World} (inv : Invariant c w) (a : ℕ) (x y : Who) 
     exact = inv.exact;
     unborn_place = inv.unborn_place;
     whole_ring = inv.whole_ring;
+    inside = inv.inside;
     not_started = inv.not_started;
     no_zeroth = inv.no_zeroth;
     blank = inv.blank;

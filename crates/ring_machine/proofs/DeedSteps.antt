@@ -1,12 +1,15 @@
 -- Each deed that may be done does its duty, so the invariant is kept, and its instance stays live.
-use Rattle.std.proofs.Common.{◌≡◌, ℕ, false, refl, ap, ◌∙◌}
+use Rattle.std.proofs.Common.{◌≡◌, ℕ, Bool, true, false, cond, refl, ap, ◌∙◌}
 use Rattle.ring_points.specs.declared.who.Who.{Who}
 use Rattle.ring_points.specs.Whos.{same_who}
 use Rattle.ring_machine.specs.Ends.{End, end_of}
-use Rattle.ring_machine.specs.World.{Settings, Instance, World, Live, slot}
+use Rattle.ring_machine.specs.Points.{Points}
+use Rattle.ring_machine.specs.Slots.{Slot}
+use Rattle.ring_machine.specs.Tokens.{Token}
+use Rattle.ring_machine.specs.World.{Settings, Instance, World, Place, At, InFlight, Outside, Live, slot}
 use Rattle.ring_machine.specs.Deeds.{SlotDeed, HelloAgain, HelloDropped, HelloDenied, OfferAgain, OfferTaken, TakeAgain, TakeHeard, RenewSent, RenewHeard, AckHeard, PartFrozen, PartGiven, FlightAgain, FlightTaken, FlightReturned, PartingBegun, GoneAgain, GoneHeard, UnknownDenied, PeerAccused, AccuseAgain, MajorityAnswered, MajorityGranted, SessionDropped, TakenOver, Deed, HelloBegun, OfferBegun, InSlot}
 use Rattle.ring_machine.specs.Guards.{MayInSlot, May}
-use Rattle.ring_machine.specs.Effects.{Outcome, effect, done, stepped}
+use Rattle.ring_machine.specs.Effects.{Outcome, effect, moved, done, stepped}
 use Rattle.ring_machine.specs.Events.{IsSound}
 use Rattle.ring_machine.specs.Invariant.{Invariant}
 use Rattle.ring_machine.proofs.Later.{Later, later_refl, later_trans}
@@ -54,6 +57,23 @@ module _ {c : Settings} {w : World} {e : End} (sound : IsSound c) (a : Acting c 
   slot_duty SessionDropped may = session_dropped_duty a may
   slot_duty (TakenOver part) may = taken_over_duty sound.drift a may.0 may.1 part may.2
 
+-- a deed takes no point out of the ring
+
+moved_inside : (points : Points) (to : Place) (place : ℕ → Place) (p : ℕ) → (to ≡ Outside → ⊥) → moved points to place p ≡ Outside → place p ≡ Outside
+moved_inside points to place p inside h = go (points p) h
+  where
+    go : (b : Bool) → cond b to (place p) ≡ Outside → place p ≡ Outside
+    go true e = absurd (inside e)
+    go false e = e
+
+slot_inside : (c : Settings) (e : End) (now : ℕ) (s : Slot) (token : Token) (place : ℕ → Place) (deed : SlotDeed) (p : ℕ) →
+    (effect c e now s token place deed).place p ≡ Outside → place p ≡ Outside
+slot_inside c e now s token place (PartGiven freeze) p h = moved_inside freeze.part (InFlight e s.far token.next_flight) place p (λ i. cc (i)) h
+slot_inside c e now s token place (FlightTaken number part) p h = moved_inside part (At e.who) place p (λ i. cc (i)) h
+slot_inside c e now s token place (FlightReturned flight got bound) p h = moved_inside flight.part (At e.who) place p (λ i. cc (i)) h
+slot_inside c e now s token place (TakenOver part) p h = moved_inside part (At e.who) place p (λ i. cc (i)) h
+slot_inside c e now s token place deed p h = h
+
 -- what a deed of x leaves as it was in the world w
 pub record Rest (w : World) (x : Who) (v : World) : Type 0 where
   pub time : v.time ≡ w.time
@@ -88,17 +108,18 @@ pub deed_done : {c : Settings} {w : World} → IsSound c → Invariant c w → (
     May c w x deed → DeedsDone c w x (done c w x deed)
 deed_done {w = w} sound inv x live (HelloBegun node len) may =
     let e = end_of x (w.instance x).next_session in
-    duty_done {e = e} (record { inv = inv; live = live; duty = hello_begun_duty (record { inv = inv; live = live }) refl node len })
+    duty_done {e = e} (record { inv = inv; live = live; duty = hello_begun_duty (record { inv = inv; live = live }) refl node len; inside = λ p h. h })
 deed_done {w = w} sound inv x live (OfferBegun from proposed len) may =
     let e = end_of x (w.instance x).next_session in
     duty_done {e = e} (record {
       inv = inv;
       live = live;
       duty = offer_begun_duty (record { inv = inv; live = live }) sound.answer refl from proposed len may.0 may.1 may.2 may.3;
+      inside = λ p h. h;
     })
-deed_done {w = w} sound inv x live (InSlot number deed) may =
+deed_done {c = c} {w = w} sound inv x live (InSlot number deed) may =
     let e = end_of x number in
-    duty_done {e = e} (record { inv = inv; live = live; duty = slot_duty sound (record { inv = inv; live = live }) deed may })
+    duty_done {e = e} (record { inv = inv; live = live; duty = slot_duty sound (record { inv = inv; live = live }) deed may; inside = slot_inside c e (w.instance x).reading (slot w e) (w.instance x).token w.place deed })
 
 -- no deed
 pub none_done : {c : Settings} {w : World} → Invariant c w → (x : Who) → Live c (w.instance x) → DeedsDone c w x w

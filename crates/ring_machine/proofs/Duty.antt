@@ -9,7 +9,7 @@ use Rattle.ring_machine.specs.Ends.{End}
 use Rattle.ring_machine.specs.Slots.{Slot, Flight, Asking, Bound, Parting, Heir, Parted, HasClaim, guards, is_used, is_settled, is_engaged, is_active, is_willing}
 use Rattle.ring_machine.specs.Tokens.{Token, Freeze}
 use Rattle.ring_machine.specs.Frames.{Frame, Hello, Offer, Take, Renew, RenewAck, Transfer, Gone, Accuse, Ruled}
-use Rattle.ring_machine.specs.World.{Settings, World, Unborn, Place, At, InFlight, Live, Dead, slot}
+use Rattle.ring_machine.specs.World.{Settings, World, Unborn, Place, At, Outside, InFlight, Live, Dead, slot}
 use Rattle.ring_machine.specs.Effects.{Outcome}
 use Rattle.ring_machine.specs.Sessions.{Tied, BothTied, Touched, Untouched, IsEmpty, Quiet, Closed, ClosedTo}
 use Rattle.ring_machine.specs.Claims.{Barred, Claim}
@@ -168,3 +168,5 @@ pub record Deeded (c : Settings) (w : World) (e : End) (next : ℕ) (out : Outco
   pub inv : Invariant c w
   pub live : Live c (w.instance e.who)
   pub duty : Duty c w e next out
+  -- no point leaves the ring
+  pub inside : (p : ℕ) → out.place p ≡ Outside → w.place p ≡ Outside

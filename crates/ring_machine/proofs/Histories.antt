@@ -39,6 +39,7 @@ module _ (c : Settings) where
     unborn_place = λ x p h.
         first_place p (λ o. o ≡ At x → (x ≡ first_of c) × (is_point p ≡ true)) (λ i j. let same : first_of c ≡ x = cc in (sym same, i))
         (λ i j. absurd (cc (j)));
+    inside = λ p h. first_place p (λ o. o ≡ Outside → ⊥) (λ i j. cc (j)) (λ i j. cc (h, i));
     whole_ring = λ p h q. first_place p (λ o. o ≡ At (first_of c)) (λ i. refl) (λ i. absurd (cc (q, i)));
     not_started = λ x h. refl;
     no_zeroth = λ x h. refl;

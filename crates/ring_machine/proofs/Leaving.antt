@@ -51,6 +51,7 @@ module _ {c : Settings} {w : World} (inv : Invariant c w) (x : Who) (phase : Pha
         instance_cases (λ y i. (p : ℕ) → i.phase ≡ Unborn → w.place p ≡ At y → (y ≡ first_of c) × (is_point p ≡ true))
         (λ p h. absurd (not_unborn h)) inv.unborn_place;
     whole_ring = inv.whole_ring;
+    inside = inv.inside;
     not_started = instance_cases (λ y i. w.starts y.actor < y.instance → i.phase ≡ Unborn) (λ h. absurd (born (inv.not_started x h))) inv.not_started;
     no_zeroth = instance_cases (λ y i. y.instance ≡ 0 → i.phase ≡ Unborn) (λ h. absurd (born (inv.no_zeroth x h))) inv.no_zeroth;
     blank = instance_cases (λ y i. i.phase ≡ Unborn → i ≡ unborn) (λ h. absurd (not_unborn h)) inv.blank;

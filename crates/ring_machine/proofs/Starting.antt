@@ -83,6 +83,7 @@ module _ {c : Settings} {w : World} (inv : Invariant c w) (node reading : ℕ) w
     unborn_place =
         instance_cases (λ y i j. (p : ℕ) → j.phase ≡ Unborn → w.place p ≡ At y → (y ≡ first_of c) × (is_point p ≡ true))
         (λ p h. absurd (cc (h))) inv.unborn_place;
+    inside = inv.inside;
     whole_ring = λ p h q. let rises = starts_rise c.first in inv.whole_ring p (omega arith) q;
     not_started =
         instance_cases (λ y i j. starts y.actor < y.instance → j.phase ≡ Unborn) (λ h. absurd (counted_here h))

@@ -36,6 +36,7 @@ module _ {c : Settings} {w : World} {e : End} {next : ℕ} {out : Outcome} (d : 
             instance_cases d (λ y i. i.phase ≡ Unborn → out.place p ≡ At y → (y ≡ first_of c) × (is_point p ≡ true))
             (λ h. absurd (born_here h)) (λ y n h i. d.inv.unborn_place y p h (place.gets_none y p n i)) y;
         whole_ring = λ p h q. place.keeps_unborn (first_of c) p (d.inv.not_started (first_of c) (omega arith)) (d.inv.whole_ring p h q);
+        inside = λ p h q. d.inv.inside p h (d.inside p q);
         not_started = instance_cases d (λ y i. w.starts y.actor < y.instance → i.phase ≡ Unborn) (d.inv.not_started e.who) (λ y n. d.inv.not_started y);
         no_zeroth = instance_cases d (λ y i. y.instance ≡ 0 → i.phase ≡ Unborn) (d.inv.no_zeroth e.who) (λ y n. d.inv.no_zeroth y);
         blank = instance_cases d (λ y i. i.phase ≡ Unborn → i ≡ unborn) (λ h. absurd (born_here h)) (λ y n. d.inv.blank y);

@@ -64,6 +64,7 @@ module _ {c : Settings} {w : World} (inv : Invariant c w) (advance : ℕ) (readi
         clock_cases (λ y i. (p : ℕ) → i.phase ≡ Unborn → w.place p ≡ At y → (y ≡ first_of c) × (is_point p ≡ true))
         (λ y h. inv.unborn_place y) (λ y h. inv.unborn_place y);
     whole_ring = inv.whole_ring;
+    inside = inv.inside;
     not_started = clock_cases (λ y i. w.starts y.actor < y.instance → i.phase ≡ Unborn) (λ y h. inv.not_started y) (λ y h. inv.not_started y);
     no_zeroth = clock_cases (λ y i. y.instance ≡ 0 → i.phase ≡ Unborn) (λ y h. inv.no_zeroth y) (λ y h. inv.no_zeroth y);
     blank = clock_cases (λ y i. i.phase ≡ Unborn → i ≡ unborn) (λ y h k. absurd (cc (h, k))) (λ y h. inv.blank y);

@@ -8,7 +8,7 @@ use Rattle.ring_machine.specs.Slots.{Flight, is_active}
 use Rattle.ring_machine.specs.Tokens.{Freeze}
 use Rattle.ring_machine.specs.Frames.{Frame}
 use Rattle.drift_clock.specs.Within.{Within}
-use Rattle.ring_machine.specs.World.{Settings, World, Unborn, Running, At, InFlight, Live, slot, first_of, unborn}
+use Rattle.ring_machine.specs.World.{Settings, World, Unborn, Running, At, InFlight, Outside, Live, slot, first_of, unborn}
 use Rattle.ring_machine.specs.Sessions.{BothTied}
 use Rattle.ring_machine.specs.Claims.{Claim, Backed}
 use Rattle.ring_machine.specs.SoundSlots.{SoundSlot}
@@ -22,6 +22,8 @@ pub record Invariant (c : Settings) (w : World) : Type 0 where
   -- of those that have not started, only the first node's first instance has points: the whole ring, as long as it has not started
   pub unborn_place : (x : Who) (p : ℕ) → (w.instance x).phase ≡ Unborn → w.place p ≡ At x → (x ≡ first_of c) × (is_point p ≡ true)
   pub whole_ring : (p : ℕ) → w.starts c.first ≡ 0 → is_point p ≡ true → w.place p ≡ At (first_of c)
+  -- every point of the ring is at an instance, or on its way
+  pub inside : (p : ℕ) → is_point p ≡ true → w.place p ≡ Outside → ⊥
   -- instances above the count of starts have not started
   pub not_started : (x : Who) → w.starts x.actor < x.instance → (w.instance x).phase ≡ Unborn
   -- instances are counted from 1

@@ -1,0 +1,28 @@
+-- What arbitrators have answered to accusers, by the frames that were sent.
+use Rattle.std.specs.Prelude.{◌≡◌, ℕ, Bool, true, List, ◌⊎◌}
+use Rattle.fabric_terms.specs.declared.config.FabricConfig.{FabricConfig}
+use Rattle.fabric_terms.specs.declared.message.Body.TheVariants.{Ruled}
+use Rattle.fabric_terms.specs.declared.message.Message.{Message}
+use Rattle.ring_points.specs.declared.who.Ruling.{Ruling}
+use Rattle.ring_points.specs.declared.who.Ruling.TheVariants.{Granted, Taken}
+use Rattle.ring_points.specs.declared.who.Who.{Who}
+use Rattle.ring_machine.specs.Arbitration.{is_majority}
+use Rattle.ring_machine.specs.Members.{IsMember}
+use Rattle.ring_refines.specs.Images.{machine_of}
+use Rattle.world_rules.specs.Worlds.{arbiter_who}
+
+-- this arbitrator's answer to the accuser of the victim
+abbrev pub answer_of : ℕ → Who → Who → Ruling → Message
+answer_of arbiter accuser victim ruling = record { from = arbiter_who arbiter; to = accuser; body = Ruled victim ruling }
+
+-- a majority of the configured arbitrators granted x's accusation of y
+pub record MajorityGranted (c : FabricConfig) (frames : List Message) (x y : Who) : Type 0 where
+  pub by : ℕ → Bool
+  pub answers : (arbiter : ℕ) → by arbiter ≡ true → IsMember (answer_of arbiter x y Granted) frames
+  pub most : is_majority (machine_of c) by ≡ true
+
+-- a majority of them answered x about y, and none of these refused
+pub record MajorityAnswered (c : FabricConfig) (frames : List Message) (x y : Who) : Type 0 where
+  pub by : ℕ → Bool
+  pub answers : (arbiter : ℕ) → by arbiter ≡ true → IsMember (answer_of arbiter x y Granted) frames ⊎ IsMember (answer_of arbiter x y Taken) frames
+  pub most : is_majority (machine_of c) by ≡ true

@@ -1,0 +1,65 @@
+-- What the laws of this crate say, of whatever runs above the ring.
+use Rattle.std.specs.Prelude.{◌≡◌, ℕ, Bool, List, [], Some}
+use Rattle.fabric_terms.specs.declared.config.FabricConfig.{FabricConfig}
+use Rattle.fabric_terms.specs.Places.{PlaceKept, has_left}
+use Rattle.fabric_terms.specs.Reports.{told}
+use Rattle.fabric_terms.specs.Runs.{RingSafe, own_of}
+use Rattle.fabric_terms.specs.Sound.{IsSound}
+use Rattle.fabric_terms.specs.TakeOvers.{TakenAfterLeave}
+use Rattle.join_phases.specs.Phases.{is_left}
+use Rattle.ring_rules.specs.Arbiters.{accusations_after}
+use Rattle.ring_points.specs.declared.who.Who.{Who}
+use Rattle.ring_points.specs.Whos.{arbiter_actor, node_instance}
+use Rattle.world_rules.specs.Arbiters.{ArbiterState}
+use Rattle.world_rules.specs.Maps.{at}
+use Rattle.world_rules.specs.Runs.{History, world_after, run_of}
+use Rattle.world_rules.specs.Schedules.{Valid}
+use Rattle.world_rules.specs.Uppers.{Upper}
+use Rattle.world_rules.specs.Worlds.{Running, kept_of}
+use Rattle.ring_safety.specs.Answers.{MajorityGranted, MajorityAnswered}
+use Rattle.ring_safety.specs.Held.{owned_by}
+
+-- what a running instance told last is what its ring holds
+abbrev pub LastOwnIsHeld : Upper → Type 0
+LastOwnIsHeld a =
+    (c : FabricConfig) (h : History) (node : ℕ) (s : Running a) → at node (world_after a c h).nodes ≡ Some s →
+    own_of s.node.ring.me (run_of a c h) ≡ Some (owned_by c s.node.ring)
+
+-- a running instance has told its leave exactly if it has left
+abbrev pub LeaveIsTold : Upper → Type 0
+LeaveIsTold a =
+    (c : FabricConfig) (h : History) (node : ℕ) (s : Running a) → at node (world_after a c h).nodes ≡ Some s →
+    has_left s.node.ring.me (told (run_of a c h)) ≡ is_left s.node.ring.phase
+
+-- a running arbitrator's table is that of its synced records
+abbrev pub TableIsKept : Upper → Type 0
+TableIsKept a =
+    (is_frame : List ℕ → Bool) (c : FabricConfig) (h : History) → Valid a is_frame c h → (arbiter : ℕ) (s : ArbiterState a) → at arbiter (world_after a c h).arbiters ≡ Some s →
+    s.table ≡ accusations_after [] (kept_of (world_after a c h) (arbiter_actor arbiter))
+
+-- it holds of every valid history of every sound configuration
+abbrev pub OverValidRuns : Upper → (FabricConfig → History → Type 0) → Type 0
+OverValidRuns a Holds = (is_frame : List ℕ → Bool) (c : FabricConfig) (h : History) → IsSound c → Valid a is_frame c h → Holds c h
+
+-- at no moment do two instances hold one point
+abbrev pub RingIsSafe : Upper → Type 0
+RingIsSafe a = OverValidRuns a (λ c h. RingSafe (run_of a c h))
+
+-- who is told to be taken over holds nothing from then on
+abbrev pub LeavesBeforeTakeOver : Upper → Type 0
+LeavesBeforeTakeOver a = OverValidRuns a (λ c h. TakenAfterLeave (run_of a c h))
+
+-- points stay where they are told to be
+abbrev pub PlacesAreKept : Upper → Type 0
+PlacesAreKept a = OverValidRuns a (λ c h. PlaceKept (node_instance c.first 1) (run_of a c h))
+
+-- no majority answered x about y while one answered y about x
+abbrev pub AnswersExclude : Upper → Type 0
+AnswersExclude a =
+    OverValidRuns a (λ c h. (x y : Who) → MajorityAnswered c (world_after a c h).frames x y → MajorityAnswered c (world_after a c h).frames y x → ⊥)
+
+-- one instance at most has a majority's grant about another
+abbrev pub OneHeir : Upper → Type 0
+OneHeir a =
+    OverValidRuns a
+    (λ c h. (x y victim : Who) → MajorityGranted c (world_after a c h).frames x victim → MajorityGranted c (world_after a c h).frames y victim → x ≡ y)

@@ -1,0 +1,55 @@
+ghost use Rattle.ring_safety.specs.Laws.{AnswersExclude, LastOwnIsHeld, LeaveIsTold, LeavesBeforeTakeOver, OneHeir, PlacesAreKept, RingIsSafe, TableIsKept};
+ghost use Rattle.ring_safety.specs.Nothing.{nothing};
+
+use crate::above::{Above, Nothing};
+
+/// In every run, the last ranges and fence that a running instance told are those of its ring.
+pub fn last_own_is_held<A: Above>()
+    ensures { LastOwnIsHeld A.upper }
+{}
+
+/// In every run, a running instance has told that it left exactly if it has left.
+pub fn leave_is_told<A: Above>()
+    ensures { LeaveIsTold A.upper }
+{}
+
+/// In every valid run, a running arbitrator's table is that of its synced records.
+pub fn table_is_kept<A: Above>()
+    ensures { TableIsKept A.upper }
+{}
+
+/// At no moment of a valid run of a sound configuration do two instances hold one point, by what they told and what
+/// their clocks show.
+pub fn ring_is_safe<A: Above>()
+    ensures { RingIsSafe A.upper }
+{}
+
+/// From the moment on at which an instance tells that it took over from another, that other holds nothing.
+pub fn leaves_before_take_over<A: Above>()
+    ensures { LeavesBeforeTakeOver A.upper }
+{}
+
+/// Points stay where they are told to be: what a live instance owns is exactly what is placed with it, each move takes
+/// its points from where they are, and no instance uses a flight's number twice. All points begin with instance 1 of
+/// the first node.
+pub fn places_are_kept<A: Above>()
+    ensures { PlacesAreKept A.upper }
+{}
+
+/// Exclusion: never have a majority of the arbitrators sent answers to x about y, and a majority to y about x, where an
+/// answer is Granted or Taken.
+pub fn answers_exclude<A: Above>()
+    ensures { AnswersExclude A.upper }
+{}
+
+/// Uniqueness: never have two instances been sent a majority's Granted about one instance.
+pub fn one_heir_at_most<A: Above>()
+    ensures { OneHeir A.upper }
+{}
+
+/// The ring is safe where nothing runs above it.
+pub fn ring_is_safe_with_nothing_above()
+    ensures { RingIsSafe nothing }
+{
+    ring_is_safe::<Nothing>()
+}
