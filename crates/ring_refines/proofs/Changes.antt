@@ -1,19 +1,24 @@
 -- A table of which one place changes, against the slots of which one number changes.
-use Rattle.std.proofs.Common.{◌≡◌, ℕ, ◌<◌, ◌≤◌, true, List, length, Option, Some, None, ◌⊎◌, refl, sym, ap, ◌∙◌, subst, inl, inr, ⊎_elim, arith}
+use Rattle.std.proofs.Common.{◌≡◌, ℕ, ◌<◌, ◌≤◌, ◌||◌, Bool, true, false, List, length, Option, Some, None, ◌⊎◌, refl, sym, ◌∙◌, subst, inl, inr, ⊎_elim, arith}
 use Rattle.std.specs.Prelude.{slice_set}
+use Rattle.std.proofs.lemmas.Bool.{both_ways}
 use Rattle.ring_points.specs.declared.who.Who.{Who}
 use Rattle.fabric_terms.specs.declared.config.FabricConfig.{FabricConfig}
 use Rattle.ring_rules.specs.declared.link.Link.{Link}
+use Rattle.ring_rules.specs.declared.link.LinkState.{LinkState}
+use Rattle.ring_rules.specs.declared.link.LinkState.TheVariants as state
 use Rattle.ring_rules.specs.Rings.{Slots}
-use Rattle.ring_rules.specs.Slots.{slot_at, is_hello, bars_link}
+use Rattle.ring_rules.specs.Slots.{slot_at, guards, is_hello, bars_link}
 use Rattle.ring_machine.specs.Members.{IsMember}
 use Rattle.ring_machine.specs.Ends.{replaced}
-use Rattle.ring_machine.specs.Slots.{Slot}
+use Rattle.ring_machine.specs.Slots as machine
+use Rattle.ring_machine.specs.Slots.{Slot, State, Unused, Abandoned, Parted, Ended}
 use Rattle.ring_machine.specs.Frames.{Frame}
 use Rattle.ring_machine.proofs.Whos.{replaced_cases}
-use Rattle.ring_refines.specs.Images.{slot_of}
+use Rattle.ring_refines.specs.Images.{state_of, slot_of}
 use Rattle.ring_refines.specs.Tables.{is_over, SoundTally, SoundLink, Has, ShowsSlots}
-use Rattle.ring_refines.proofs.Places.{used_within, set_cases, set_same, set_other}
+use Rattle.ring_refines.proofs.Places.{set_cases, set_same, set_other}
+use Rattle.arbiter_quorum.specs.Tallies.{Tally}
 
 -- beside the link at place i no greeting meets a link that bars it
 pub record StandsAlone (slots : Slots) (i : ℕ) (k : Link) : Type 0 where
@@ -33,7 +38,7 @@ pub data NewAt (c : FabricConfig) (x : Who) (sent : List Frame) (slots : Slots) 
   stays : (k : Link) → o ≡ Some k → Stays c x sent slots i n next t k → NewAt c x sent slots i n next t o
   goes : o ≡ None → is_over t.state ≡ true → NewAt c x sent slots i n next t o
 
-pub tally_later : (c : FabricConfig) (x victim : Who) (sent more : List Frame) (t : Rattle.arbiter_quorum.specs.Tallies.Tally) →
+pub tally_later : (c : FabricConfig) (x victim : Who) (sent more : List Frame) (t : Tally) →
     ((g : Frame) → IsMember g sent → IsMember g more) → SoundTally c x victim sent t → SoundTally c x victim more t
 tally_later c x victim sent more t later h = record { arbitrators = h.arbitrators; counted = h.counted; each = λ a ruling m. later _ (h.each a ruling m) }
 
@@ -46,8 +51,45 @@ sound_later c x sent more l later h = record {
   tally = λ s. tally_later c x l.peer sent more l.tally later (h.tally s);
 }
 
-module _ {c : FabricConfig} {x : Who} {sent : List Frame} {slots : Slots} {next : ℕ} {f : ℕ → Slot} (h : ShowsSlots c x sent slots next f) where
+-- a link guards as its slot does
+pub guards_shown : (s : LinkState) → machine.guards (state_of s) ≡ true → guards s ≡ true
+guards_shown state.Hello h = absurd (cc (h))
+guards_shown state.Offered h = refl
+guards_shown state.Bound h = refl
+guards_shown state.Parting h = refl
+guards_shown state.Accused h = refl
+guards_shown state.Discharged h = absurd (cc (h))
+guards_shown state.Heir h = absurd (cc (h))
 
+-- a state that is over passes
+abbrev pub over_states : (State → Bool) → Bool
+over_states test = test Unused || (test Abandoned || (test Parted || test Ended))
+
+or_none : (a b : Bool) → a || b ≡ false → (a ≡ false) × (b ≡ false)
+or_none true b h = absurd (cc (h))
+or_none false b h = (refl, h)
+
+-- no state that is over passes
+over_idle : (test : State → Bool) → over_states test ≡ false → (s : State) → is_over s ≡ true → test s ≡ true → ⊥
+over_idle test none s = go s
+  where
+    one : (test Unused ≡ false) × ((test Abandoned || (test Parted || test Ended)) ≡ false)
+    one = or_none (test Unused) (test Abandoned || (test Parted || test Ended)) none
+
+    two : (test Abandoned ≡ false) × ((test Parted || test Ended) ≡ false)
+    two = or_none (test Abandoned) (test Parted || test Ended) one.1
+
+    three : (test Parted ≡ false) × (test Ended ≡ false)
+    three = or_none (test Parted) (test Ended) two.1
+
+    go : (s : State) → is_over s ≡ true → test s ≡ true → ⊥
+    go Unused h = both_ways (test Unused) one.0
+    go Abandoned h = both_ways (test Abandoned) two.0
+    go Parted h = both_ways (test Parted) three.0
+    go Ended h = both_ways (test Ended) three.1
+    go s h = absurd (cc (h))
+
+module _ {c : FabricConfig} {x : Who} {sent : List Frame} {slots : Slots} {next : ℕ} {f : ℕ → Slot} (h : ShowsSlots c x sent slots next f) where
   -- more was sent
   pub shows_later : (more : List Frame) → ((g : Frame) → IsMember g sent → IsMember g more) → ShowsSlots c x more slots next f
   shows_later more later = record {
@@ -106,6 +148,20 @@ module _ {c : FabricConfig} {x : Who} {sent : List Frame} {slots : Slots} {next 
         at = set_other slots i o g.place (λ e. ne (sym (old g.link (subst (λ (j : ℕ). slot_at j slots ≡ Some g.link) (sym e) g.at)) ∙ g.numbered)) ∙ g.at;
         numbered = g.numbered;
       })
+
+  -- the slot of a number that the table has
+  pub kept_at : (number : ℕ) → (e : Has slots number) → f number ≡ slot_of e.link
+  kept_at number e = subst (λ (n : ℕ). f n ≡ slot_of e.link) e.numbered (h.kept e.place e.link e.at)
+
+  -- what holds of each open slot in the table holds of each open slot
+  pub open_shown : (open_in : State → Bool) → over_states open_in ≡ false → (P : Slot → Type 0) →
+      ((i : ℕ) (l : Link) → slot_at i slots ≡ Some l → open_in (state_of l.state) ≡ true → P (slot_of l)) → (number : ℕ) → open_in (f number).state ≡ true → P (f number)
+  open_shown open_in idle P shown number is = ⊎_elim (λ e. absurd (over_idle open_in idle (f number).state e is)) (λ e. there e) (h.over number)
+    where
+      there : Has slots number → P (f number)
+      there e =
+          let kept = kept_at number e in
+          subst P (sym kept) (shown e.place e.link e.at (subst (λ (s : Slot). open_in s.state ≡ true) kept is))
 
   -- the number of a place is of no other place
   pub only_at : (i : ℕ) (l : Link) → slot_at i slots ≡ Some l → (j : ℕ) (k : Link) → slot_at j slots ≡ Some k → k.mine ≡ l.mine → i ≡ j

@@ -1,23 +1,20 @@
 -- What an operator commands: link, part, give.
-use Rattle.std.proofs.Common.{◌≡◌, ℕ, ◌==◌, ◌&&◌, ◌||◌, Bool, true, false, List, [], ◌∷◌, ◌++◌, Option, Some, None, refl, sym, ap, subst, inl}
+use Rattle.std.proofs.Common.{◌≡◌, ℕ, ◌==◌, ◌||◌, Bool, true, false, List, [], ◌∷◌, ◌++◌, Option, Some, None, refl, sym, ap, subst, inl}
 use Rattle.std.specs.Prelude.{is_some}
-use Rattle.std.proofs.lemmas.Bool.{and_parts, both_ways}
+use Rattle.std.proofs.lemmas.Bool.{and_parts}
 use Rattle.ring_points.specs.declared.interval.Interval.{Interval}
-use Rattle.ring_points.specs.declared.who.Flight as points
 use Rattle.ring_points.specs.declared.who.Who.{Who}
 use Rattle.fabric_terms.specs.declared.config.FabricConfig.{FabricConfig}
 use Rattle.fabric_terms.specs.declared.message.Body.TheVariants as body
 use Rattle.fabric_terms.specs.declared.report.Verb.TheVariants as verb
-use Rattle.fabric_terms.specs.declared.report.Reason.TheVariants as reason
 use Rattle.join_phases.specs.Phases.{is_routing}
-use Rattle.token_core.specs.Tokens.{Freeze}
 use Rattle.ring_route.specs.Routes.{point_of}
 use Rattle.ring_rules.specs.declared.link.Link.{Link}
 use Rattle.ring_rules.specs.declared.link.LinkState.{LinkState}
 use Rattle.ring_rules.specs.declared.link.LinkState.TheVariants as state
 use Rattle.ring_rules.specs.Commands.{link_commanded, part_unless, part_at, part_seen, part_commanded, part_to_give, give_unless, give_part, give_at, give_seen, give_if, give_commanded}
 use Rattle.ring_rules.specs.Links.{parting_link, has_flight}
-use Rattle.ring_rules.specs.Renewals.{near_part, owns_none, may_freeze}
+use Rattle.ring_rules.specs.Renewals.{owns_none, may_freeze}
 use Rattle.ring_rules.specs.Rings.{Work, settings_of}
 use Rattle.ring_rules.specs.Slots.{slot_at, slot_where, is_bound, may_part, bars_link, of_node}
 use Rattle.ring_rules.specs.Deeds.{refuse}
@@ -28,9 +25,8 @@ use Rattle.ring_machine.specs.Frames.{Gone}
 use Rattle.ring_machine.specs.World.{World}
 use Rattle.ring_machine.specs.Deeds.{PartingBegun}
 use Rattle.ring_machine.specs.Events.{IsSound}
-use Rattle.ring_machine.proofs.Lists.{IsMember-append_right}
 use Rattle.ring_refines.specs.Images.{machine_of, state_of, flight_of, slot_of}
-use Rattle.ring_refines.proofs.Places.{found_at}
+use Rattle.ring_refines.proofs.Places.{none_is, found_at}
 use Rattle.ring_refines.proofs.Changes.{stays, stays_alone}
 use Rattle.ring_refines.proofs.Ranges.{Rises, nearer_part_rises}
 use Rattle.ring_refines.proofs.Telling.{all_said_both}
@@ -39,14 +35,6 @@ use Rattle.ring_refines.proofs.Greetings.{greet_going}
 use Rattle.ring_refines.proofs.Quiet.{refuses}
 use Rattle.ring_refines.proofs.Renewals.{freeze_going}
 use Rattle.ring_refines.proofs.TokenRows.{undoes}
-
-no_flight : (o : Option points.Flight) → is_some o ≡ false → o ≡ None
-no_flight None h = refl
-no_flight (Some f) h = absurd (cc (h))
-
-no_freeze : (o : Option Freeze) → is_some o ≡ false → o ≡ None
-no_freeze None h = refl
-no_freeze (Some z) h = absurd (cc (h))
 
 none_of_two : (a b : Bool) → a || b ≡ false → a ≡ false
 none_of_two true b h = absurd (cc (h))
@@ -67,7 +55,7 @@ module _ {c : FabricConfig} {m : World} {x : Who} {now : ℕ} {w : Work} (sound 
   parts : (i : ℕ) (l : Link) → slot_at i w.ring.slots ≡ Some l → may_part l.state ≡ true → (q : Bool) → has_flight l ≡ q → Going c m x now (part_unless i l w q)
   parts i l at may true e = refuses sound g _ _
   parts i l at may false e =
-      undoes sound g i l at PartingBegun (willing l.state may, ap flight_of (no_flight l.flight e)) w.ring.token g.shows.rises refl (slot_of k) (Some k)
+      undoes sound g i l at PartingBegun (willing l.state may, ap flight_of (none_is l.flight e)) w.ring.token g.shows.rises refl (slot_of k) (Some k)
       (Gone (end_of x l.mine) (end_of l.peer l.yours) l.got true ∷ []) g.after.place refl
       (stays k refl (record {
         numbered = refl;
@@ -112,7 +100,7 @@ module _ {c : FabricConfig} {m : World} {x : Who} {now : ℕ} {w : Work} (sound 
       go false e true fit = refuses sound g _ _
       go false e false false = refuses sound g _ _
       go false e false true =
-          freeze_going sound g i l at is (no_freeze w.ring.token.freeze (none_of_two (is_some w.ring.token.freeze) (has_flight l) e)) part rises
+          freeze_going sound g i l at is (none_is w.ring.token.freeze (none_of_two (is_some w.ring.token.freeze) (has_flight l) e)) part rises
 
   pub give_going : (all : Bool) (node : ℕ) → Going c m x now (give_commanded all node w)
   give_going all node = subst (λ (u : Work). Going c m x now u) (sym (give_commanded-is all node w)) (if_routing (is_routing w.ring.phase))

@@ -1,5 +1,5 @@
 -- How points move, and how a session ends: a Transfer is heard, and a Gone.
-use Rattle.std.proofs.Common.{◌≡◌, ℕ, ◌+◌, ◌<◌, ◌==◌, ◌&&◌, nat_le, nat_lt, Bool, true, false, cond, List, [], ◌∷◌, ◌++◌, Option, Some, None, ◌⊎◌, refl, sym, ap, ◌∙◌, subst, inl, inr, ⊎_elim}
+use Rattle.std.proofs.Common.{◌≡◌, ℕ, ◌<◌, ◌==◌, ◌&&◌, nat_le, nat_lt, Bool, true, false, List, [], ◌∷◌, ◌++◌, Option, Some, None, refl, sym, ap, ◌∙◌, subst, inl}
 use Rattle.std.specs.Prelude.{slice_set}
 use Rattle.std.proofs.lemmas.Bool.{eqb-true, eq-eqb, ltb-true, leb-false, and_parts, and_from, both_ways}
 use Rattle.ring_points.specs.declared.interval.Interval.{Interval}
@@ -8,48 +8,44 @@ use Rattle.ring_points.specs.declared.who.Who.{Who}
 use Rattle.fabric_terms.specs.declared.config.FabricConfig.{FabricConfig}
 use Rattle.fabric_terms.specs.declared.message.Body.{Body}
 use Rattle.fabric_terms.specs.declared.message.Body.TheVariants as body
-use Rattle.fabric_terms.specs.declared.report.Report.{Report}
 use Rattle.fabric_terms.specs.declared.report.Report.TheVariants as report
-use Rattle.fabric_terms.specs.Places.{Place, place_after}
-use Rattle.join_phases.specs.Phases.{holding_phase}
-use Rattle.token_core.specs.Tokens.{Freeze, gained, can_gain}
+use Rattle.fabric_terms.specs.Places.{Place}
+use Rattle.token_core.specs.Tokens.{gained, can_gain}
 use Rattle.ring_rules.specs.declared.link.Link.{Link}
 use Rattle.ring_rules.specs.declared.link.LinkState.{LinkState}
 use Rattle.ring_rules.specs.declared.link.LinkState.TheVariants as state
 use Rattle.ring_rules.specs.Links.{flight_part}
 use Rattle.ring_rules.specs.Rings.{Work}
 use Rattle.ring_rules.specs.Slots.{slot_at, slot_where, is_hello, greets_by, of_session}
-use Rattle.ring_rules.specs.Deeds.{answer_unknown, drop_slot}
-use Rattle.ring_rules.specs.Flights.{take_flight, transfer_seen, transfer_received, answer_if, close, flight_returned, flight_settled, gone_heard, gone_seen, gone_unknown, gone_greeting, gone_elsewhere, gone_received}
+use Rattle.ring_rules.specs.Deeds.{answer_unknown, drop_slot, undone}
+use Rattle.ring_rules.specs.Flights.{take_flight, transfer_seen, transfer_received, close, flight_returned, flight_settled, gone_heard, gone_seen, gone_unknown, gone_greeting, gone_elsewhere, gone_received}
 use Rattle.ring_rules.proofs.Rows.{transfer_received-is, gone_received-is}
 use Rattle.ring_machine.specs.Members.{IsMember}
-use Rattle.ring_machine.specs.Ends.{End, end_of}
-use Rattle.ring_machine.specs.Slots.{Slot, Flight, Asking, Abandoned, is_used, stands}
+use Rattle.ring_machine.specs.Ends.{end_of}
+use Rattle.ring_machine.specs.Slots.{Flight, Asking, Abandoned, stands, Bound}
 use Rattle.ring_machine.specs.Frames.{Frame, Transfer, Gone}
 use Rattle.ring_machine.specs.Frames as frames
 use Rattle.ring_machine.specs.World as world
 use Rattle.ring_machine.specs.World.{World, slot}
 use Rattle.ring_machine.specs.Deeds.{FlightTaken, FlightReturned, GoneHeard, HelloDenied}
-use Rattle.ring_machine.specs.Effects.{Outcome, outcome, effect, moved, parted}
-use Rattle.ring_machine.specs.Effects as effects
+use Rattle.ring_machine.specs.Effects.{outcome, moved, parted}
 use Rattle.ring_machine.specs.Events.{IsSound}
 use Rattle.ring_machine.specs.SoundFrames.{SoundTransfer, SoundGone}
-use Rattle.ring_machine.proofs.Lists.{IsMember-append_right}
 use Rattle.ring_machine.specs.Tokens as machine
 use Rattle.ring_refines.specs.Images.{machine_of, state_of, points_of, flight_of, freeze_of, slot_of, token_of}
-use Rattle.ring_refines.specs.Tables.{is_wronged, Has}
-use Rattle.ring_refines.specs.Moves.{place_of, places_of, MovedBy, AreOver}
+use Rattle.ring_refines.specs.Tables.{is_wronged}
+use Rattle.ring_refines.specs.Moves.{places_of, MovedBy}
 use Rattle.ring_refines.specs.Refined.{AllSaid}
-use Rattle.ring_refines.proofs.Places.{found_at, none_at, used_within}
-use Rattle.ring_refines.proofs.Changes.{stays, goes, stays_alone, sound_later}
+use Rattle.ring_refines.proofs.Places.{found_at, none_at}
+use Rattle.ring_refines.proofs.Changes.{stays, goes, stays_alone}
 use Rattle.ring_refines.proofs.Freezes.{freeze_put, frozen_put}
 use Rattle.ring_refines.proofs.Ranges.{Rises, gained_is, gained_rises}
 use Rattle.ring_refines.proofs.Telling.{moved_and, over_and, all_said_both}
-use Rattle.ring_refines.proofs.Going.{Going, Makes, slot_deed}
-use Rattle.ring_refines.proofs.SlotRows.{holding_stays, nothing_besides, Besides, drops, in_its_session}
+use Rattle.ring_refines.proofs.Going.{Going, slot_deed}
+use Rattle.ring_refines.proofs.SlotRows.{one_said, holding_stays, nothing_besides, drops, in_its_session}
 use Rattle.ring_refines.proofs.Saying.{tied_used, tied_asks, gone_again_going}
 use Rattle.ring_refines.proofs.TokenRows.{moved_is, flying_is, moves, undoes}
-use Rattle.ring_refines.proofs.Unknown.{unknown_going}
+use Rattle.ring_refines.proofs.Unknown.{hello_is, asking_held, unknown_going}
 
 module _ {c : FabricConfig} {m : World} {x : Who} {now : ℕ} {w : Work} (sound : IsSound (machine_of c)) (g : Going c m x now w) where
   abbrev v : World
@@ -98,7 +94,7 @@ module _ {c : FabricConfig} {m : World} {x : Who} {now : ℕ} {w : Work} (sound 
       newer : l.got < number
       newer = ltb-true l.got number (and_parts (nat_lt l.got number) (can_gain w.ring.token part) e).0
 
-      may : (state_of l.state ≡ Rattle.ring_machine.specs.Slots.Bound) × IsMember (Transfer (end_of l.peer l.yours) (end_of x l.mine) number (points_of part)) v.sent × (l.got < number)
+      may : (state_of l.state ≡ Bound) × IsMember (Transfer (end_of l.peer l.yours) (end_of x l.mine) number (points_of part)) v.sent × (l.got < number)
       may = (ap state_of is, came, newer)
 
   pub transfer_going : (from : Who) (theirs own number : ℕ) (part : List Interval) → (IsMember from w.ring.accused → ⊥) → Rises part →
@@ -139,15 +135,21 @@ module _ {c : FabricConfig} {m : World} {x : Who} {now : ℕ} {w : Work} (sound 
   closed i l got bound at standing came = shape bound (ends bound came)
     where
       ends : (bound : Bool) → IsMember (Gone (end_of l.peer l.yours) (end_of x l.mine) got bound) v.sent →
-          Going c m x now (record { ring = record w.ring { slots = slice_set w.ring.slots i None; token = Rattle.ring_rules.specs.Deeds.undone i w.ring.token };
-          sent = answers bound l.peer l.mine l.yours l.got w.sent; told = w.told })
+          Going c m x now (record {
+            ring = record w.ring { slots = slice_set w.ring.slots i None; token = undone i w.ring.token };
+            sent = answers bound l.peer l.mine l.yours l.got w.sent;
+            told = w.told;
+          })
       ends bound came =
           undoes sound g i l at (GoneHeard got bound) (standing, came) w.ring.token g.shows.rises refl (parted (slot_of l)) None
           (frames.answer_if bound (Gone (end_of x l.mine) (end_of l.peer l.yours) l.got false)) v.place refl (goes refl refl) w.ring.accused (λ y h. h)
           (λ h. absurd (cc (h))) (answers bound l.peer l.mine l.yours l.got w.sent) (answers_said bound l.peer l.mine l.yours l.got) w.told (λ k P h. h) (λ h. h)
 
-      shape : (bound : Bool) → Going c m x now (record { ring = record w.ring { slots = slice_set w.ring.slots i None; token = Rattle.ring_rules.specs.Deeds.undone i w.ring.token };
-          sent = answers bound l.peer l.mine l.yours l.got w.sent; told = w.told }) → Going c m x now (close i l bound w)
+      shape : (bound : Bool) → Going c m x now (record {
+        ring = record w.ring { slots = slice_set w.ring.slots i None; token = undone i w.ring.token };
+        sent = answers bound l.peer l.mine l.yours l.got w.sent;
+        told = w.told;
+      }) → Going c m x now (close i l bound w)
       shape true h = h
       shape false h = h
 
@@ -165,14 +167,14 @@ module _ {c : FabricConfig} {m : World} {x : Who} {now : ℕ} {w : Work} (sound 
 
       work : Bool → Work
       work bound = record {
-        ring = record w.ring { slots = slice_set w.ring.slots i None; token = Rattle.ring_rules.specs.Deeds.undone i (gained w.ring.token f.part) };
+        ring = record w.ring { slots = slice_set w.ring.slots i None; token = undone i (gained w.ring.token f.part) };
         sent = answers bound l.peer l.mine l.yours l.got w.sent;
         told = w.told ++ report.Returned l.peer f.number f.part ∷ [];
       }
 
       ends : (bound : Bool) → IsMember (Gone (end_of l.peer l.yours) (end_of x l.mine) got bound) v.sent →
           Going c m x now (record {
-            ring = record w.ring { slots = slice_set w.ring.slots i None; token = Rattle.ring_rules.specs.Deeds.undone i (gained w.ring.token f.part) };
+            ring = record w.ring { slots = slice_set w.ring.slots i None; token = undone i (gained w.ring.token f.part) };
             sent = answers bound l.peer l.mine l.yours l.got w.sent;
             told = w.told ++ report.Returned l.peer f.number f.part ∷ [];
           })
@@ -195,10 +197,10 @@ module _ {c : FabricConfig} {m : World} {x : Who} {now : ℕ} {w : Work} (sound 
           (λ h. over_and (machine_of c) v w.told (report.Returned l.peer f.number f.part) h tt)
 
       shape : (bound : Bool) → Going c m x now (record {
-            ring = record w.ring { slots = slice_set w.ring.slots i None; token = Rattle.ring_rules.specs.Deeds.undone i (gained w.ring.token f.part) };
-            sent = answers bound l.peer l.mine l.yours l.got w.sent;
-            told = w.told ++ report.Returned l.peer f.number f.part ∷ [];
-          }) → Going c m x now (flight_returned i l f bound w true)
+        ring = record w.ring { slots = slice_set w.ring.slots i None; token = undone i (gained w.ring.token f.part) };
+        sent = answers bound l.peer l.mine l.yours l.got w.sent;
+        told = w.told ++ report.Returned l.peer f.number f.part ∷ [];
+      }) → Going c m x now (flight_returned i l f bound w true)
       shape true h = h
       shape false h = h
 
@@ -233,18 +235,10 @@ module _ {c : FabricConfig} {m : World} {x : Who} {now : ℕ} {w : Work} (sound 
 
       -- it would be the greeting that is found
       asks : slot_where (greets_by own) w.ring.slots ≡ None → (slot v (end_of x own)).state ≡ Asking → ⊥
-      asks none a = ⊎_elim (λ h. let b = a in cc (h, b)) (λ e. there e) (g.shows.slots.over own)
-        where
-          there : Has w.ring.slots own → ⊥
-          there e = by_state e.link.state refl
-            where
-              kept : slot v (end_of x own) ≡ slot_of e.link
-              kept = subst (λ (n : ℕ). (v.instance x).slots n ≡ slot_of e.link) e.numbered (g.shows.slots.kept e.place e.link e.at)
-
-              by_state : (s : LinkState) → e.link.state ≡ s → ⊥
-              by_state state.Hello h = both_ways _ (none_at (greets_by own) w.ring.slots none e.place e.link e.at)
-                  (and_from (e.link.mine == own) (is_hello e.link.state) (eq-eqb e.link.mine own e.numbered) (ap is_hello h))
-              by_state s h = let b = ap (λ (s : Slot). s.state) kept in let d = ap state_of h in cc (a, b, d)
+      asks none a =
+          let e = asking_held g own a in
+          both_ways _ (none_at (greets_by own) w.ring.slots none e.place e.link e.at)
+          (and_from (e.link.mine == own) (is_hello e.link.state) (eq-eqb e.link.mine own e.numbered) (ap is_hello e.greets))
 
       unknown : slot_where (of_session from own theirs) w.ring.slots ≡ None → slot_where (greets_by own) w.ring.slots ≡ None → (q : Bool) → bound ≡ q →
           Going c m x now (gone_unknown from theirs own q w)
@@ -265,12 +259,8 @@ module _ {c : FabricConfig} {m : World} {x : Who} {now : ℕ} {w : Work} (sound 
           (λ j. outcome (record (slot_of l) { state = Abandoned }) (token_of w.ring.slots w.ring.token)
           (frames.answer_if (e j) (Gone (end_of x l.mine) (end_of from theirs) 0 false)) v.place) refl
           (λ h. cc (h, is)) (λ h. absurd (cc (h))) _ _ _
-          (record {
-            stays = g.stays;
-            sends = λ h. all_said_both c.lease _ x w.sent _ h (record { image = inl refl; rises = refl; no_ruling = refl }, tt);
-            leads = λ n P h. h;
-            over = λ h. h;
-          })
+          (one_said sound g (Gone (end_of x l.mine) (end_of from theirs) 0 false) from (body.Gone l.mine theirs 0 false)
+          (record { image = inl refl; rises = refl; no_ruling = refl }) w.ring.phase g.stays)
 
       elsewhere : slot_where (of_session from own theirs) w.ring.slots ≡ None → (o : Option ℕ) → slot_where (greets_by own) w.ring.slots ≡ o →
           Going c m x now (gone_greeting from theirs own bound w o)
@@ -283,8 +273,4 @@ module _ {c : FabricConfig} {m : World} {x : Who} {now : ℕ} {w : Work} (sound 
               let a = and_parts (l.mine == own) (is_hello l.state) t in
               let n : l.mine ≡ own = eqb-true l.mine own a.0 in
               subst (λ (n : ℕ). Going c m x now (gone_unknown from theirs n bound (drop_slot i w))) n
-              (denied i l at (greets l.state a.1) (subst (λ (n : ℕ). IsMember (Gone (end_of from theirs) (end_of x n) got bound) v.sent) (sym n) came) bound refl)
-            where
-              greets : (s : LinkState) → is_hello s ≡ true → s ≡ state.Hello
-              greets state.Hello h = refl
-              greets s h = absurd (cc (h))
+              (denied i l at (hello_is l.state a.1) (subst (λ (n : ℕ). IsMember (Gone (end_of from theirs) (end_of x n) got bound) v.sent) (sym n) came) bound refl)

@@ -1,13 +1,11 @@
 -- A freeze against its image, when a place of the table changes.
-use Rattle.std.proofs.Common.{◌≡◌, ◌≢◌, ℕ, ◌+◌, ◌<◌, Bool, true, false, cond, ◌==◌, List, length, Option, Some, None, refl, sym, ap, ◌∙◌, subst, arith}
+use Rattle.std.proofs.Common.{◌≡◌, ℕ, ◌+◌, ◌<◌, Bool, true, false, cond, ◌==◌, length, Option, Some, None, refl, sym, ap, ◌∙◌, subst}
 use Rattle.std.specs.Prelude.{slice_set}
 use Rattle.std.proofs.lemmas.Bool.{eqb-true, eq-eqb, eqb-false, both_ways}
-use Rattle.ring_points.specs.declared.interval.Interval.{Interval}
 use Rattle.token_core.specs.Tokens as token
 use Rattle.token_core.specs.Tokens.{Freeze}
 use Rattle.ring_rules.specs.Deeds as rows
 use Rattle.ring_rules.specs.declared.link.Link.{Link}
-use Rattle.ring_rules.specs.declared.link.LinkState.{LinkState}
 use Rattle.ring_rules.specs.declared.link.LinkState.TheVariants as state
 use Rattle.ring_rules.specs.Rings.{Slots}
 use Rattle.ring_rules.specs.Slots.{slot_at}
@@ -15,7 +13,7 @@ use Rattle.ring_machine.specs.Tokens as machine
 use Rattle.ring_machine.proofs.Whos.{test}
 use Rattle.ring_refines.specs.Images.{points_of, number_of, freeze_of, token_of}
 use Rattle.ring_refines.specs.Shown.{IsFrozenFor}
-use Rattle.ring_refines.proofs.Places.{used_within, set_cases, set_same, set_other}
+use Rattle.ring_refines.proofs.Places.{used_within, set_cases, set_other}
 
 -- the place of a freeze has its number as before
 pub freeze_kept : (slots now : Slots) (o : Option Freeze) →
@@ -61,7 +59,9 @@ module _ (slots : Slots) (i : ℕ) (l : Link) (at : slot_at i slots ≡ Some l) 
   module _ (once : (j : ℕ) (k : Link) → slot_at j slots ≡ Some k → k.mine ≡ l.mine → i ≡ j) where
     pub undone_is : (p : Option Link) (t : token.Token) (o : Option Freeze) → ((z : Freeze) → o ≡ Some z → IsFrozenFor slots z.slot) → t.freeze ≡ o →
         token_of (slice_set slots i p) (rows.undone_at i t o) ≡ machine.undone l.mine (token_of slots t) (freeze_of slots o)
-    undone_is p t None frozen e = λ j. record { ranges = points_of t.ranges; version = t.version; freeze = (ap (freeze_of (slice_set slots i p)) e ∙ sym (ap (freeze_of slots) e)) j; next_flight = t.next_flight }
+    undone_is p t None frozen e =
+        let none = ap (freeze_of (slice_set slots i p)) e ∙ sym (ap (freeze_of slots) e) in
+        λ j. record { ranges = points_of t.ranges; version = t.version; freeze = none j; next_flight = t.next_flight }
     undone_is p t (Some z) frozen e = test (z.slot == i) here there
       where
         is : IsFrozenFor slots z.slot
@@ -87,7 +87,8 @@ module _ (slots : Slots) (i : ℕ) (l : Link) (at : slot_at i slots ≡ Some l) 
         there h =
             let other : z.slot ≡ i → ⊥ = eqb-false z.slot i h in
             let number_other : number_of (slot_at z.slot slots) == l.mine ≡ false =
-            test (number_of (slot_at z.slot slots) == l.mine) (λ k. absurd (other (sym (once z.slot is.link is.at (sym number ∙ eqb-true (number_of (slot_at z.slot slots)) l.mine k))))) (λ k. k) in
+            test (number_of (slot_at z.slot slots) == l.mine)
+            (λ k. absurd (other (sym (once z.slot is.link is.at (sym number ∙ eqb-true (number_of (slot_at z.slot slots)) l.mine k))))) (λ k. k) in
             by_tests (z.slot == i) (number_of (slot_at z.slot slots) == l.mine) (h ∙ sym number_other)
             (λ n. subst (λ (o : Option Freeze). freeze_of (slice_set slots i p) o ≡ freeze_of slots o) (sym e)
             (freeze_other p (Some z) (λ y k m. other (let same : z ≡ y = cc (k) in ap (λ (y : Freeze). y.slot) same ∙ sym m))))

@@ -1,9 +1,8 @@
 -- A step on its way, as long as its node has not left: the machine's world that shows it, and what a deed makes of both.
-use Rattle.std.proofs.Common.{◌≡◌, ℕ, ◌+◌, ◌<◌, ◌≤◌, true, false, List, [], ◌∷◌, ◌++◌, length, Option, Some, None, refl, sym, ap, ◌∙◌, subst, arith}
+use Rattle.std.proofs.Common.{◌≡◌, ℕ, ◌<◌, ◌≤◌, true, false, List, [], ◌∷◌, ◌++◌, length, Option, Some, None, refl, sym, ap, ◌∙◌, subst, arith}
 use Rattle.std.specs.Prelude.{slice_set}
 use Rattle.std.proofs.lemmas.List.{set-get_or}
 use Rattle.ring_points.specs.declared.who.Who.{Who}
-use Rattle.ring_points.specs.Whos.{same_who}
 use Rattle.fabric_terms.specs.declared.config.FabricConfig.{FabricConfig}
 use Rattle.fabric_terms.specs.declared.message.Body.{Body}
 use Rattle.fabric_terms.specs.Places.{Place}
@@ -20,7 +19,7 @@ use Rattle.ring_machine.specs.Slots.{Slot}
 use Rattle.ring_machine.specs.Tokens as machine
 use Rattle.ring_machine.specs.Frames.{Frame}
 use Rattle.ring_machine.specs.World.{Settings, Instance, World, Live, Dead, first_of, slot}
-use Rattle.ring_machine.specs.Deeds.{SlotDeed, Deed, InSlot}
+use Rattle.ring_machine.specs.Deeds.{SlotDeed, InSlot}
 use Rattle.ring_machine.specs.Guards.{MayInSlot}
 use Rattle.ring_machine.specs.Effects.{Outcome, outcome, effect, changed, stepped, done}
 use Rattle.ring_machine.specs.Events.{IsSound}
@@ -34,7 +33,7 @@ use Rattle.ring_refines.specs.Shown.{IsFrozenFor, ShowsInstance}
 use Rattle.ring_refines.specs.Moves.{place_of, places_of, MovedBy, AreOver}
 use Rattle.ring_refines.specs.Refined.{Said, AllSaid, Beside}
 use Rattle.ring_refines.proofs.Places.{used_within}
-use Rattle.ring_refines.proofs.Changes.{NewAt, Stays, StandsAlone, stays, slots_changed, shows_later, only_at, same_link, stays_alone}
+use Rattle.ring_refines.proofs.Changes.{NewAt, stays, slots_changed, shows_later, only_at, same_link, stays_alone}
 use Rattle.ring_refines.proofs.Telling.{over_later, all_said_later, all_said_both}
 
 -- x, at the reading now and below its fence, in a world that shows the work so far; the step began in the world m

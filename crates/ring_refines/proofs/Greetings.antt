@@ -1,40 +1,39 @@
 -- How a link begins: a node is greeted, and a Hello is heard.
-use Rattle.std.proofs.Common.{◌≡◌, ℕ, ◌+◌, ◌<◌, ◌≤◌, ◌==◌, ◌&&◌, nat_lt, min, Bool, true, false, List, [], ◌∷◌, ◌++◌, length, Option, Some, None, refl, sym, ap, ◌∙◌, subst, inl, inr, arith}
-use Rattle.std.specs.Prelude.{slice_set}
+use Rattle.std.proofs.Common.{◌≡◌, ℕ, ◌+◌, ◌<◌, ◌≤◌, ◌==◌, nat_lt, Bool, true, false, List, [], ◌∷◌, length, Option, Some, None, refl, sym, ap, ◌∙◌, subst, inl}
 use Rattle.std.proofs.lemmas.Bool.{eqb-true, eq-eqb, and_parts, and_from, both_ways}
 use Rattle.ring_points.specs.declared.who.Who.{Who}
-use Rattle.ring_points.specs.Whos.{same_who, node_instance}
+use Rattle.ring_points.specs.Whos.{same_who}
 use Rattle.fabric_terms.specs.declared.config.FabricConfig.{FabricConfig}
 use Rattle.fabric_terms.specs.declared.report.Reason.{Reason}
 use Rattle.fabric_terms.specs.declared.report.Reason.TheVariants as reason
 use Rattle.ring_rules.specs.declared.link.Link.{Link}
 use Rattle.ring_rules.specs.declared.link.LinkState.{LinkState}
 use Rattle.ring_rules.specs.declared.link.LinkState.TheVariants as state
-use Rattle.ring_rules.specs.Rings.{Slots, Work, settings_of}
+use Rattle.ring_rules.specs.Rings.{Work, settings_of}
 use Rattle.ring_rules.specs.Slots.{slot_at, slot_where, is_free, is_hello, bars_link, of_instance, of_node}
-use Rattle.ring_rules.specs.Links.{greeting_link, offered_link, hello_by, offer_by}
-use Rattle.ring_rules.specs.Deeds.{drop_slot}
-use Rattle.ring_rules.specs.Handshakes.{greet, greet_unless, greet_free, greet_plainly, hello_accepted, accept_free, hello_crossed, hello_of_node, offer_same, offer_again, hello_repeated, hello_of_instance, hello_meets, hello_received}
+use Rattle.ring_rules.specs.Links.{greeting_link, offered_link, hello_by, offer_by, offer_body}
+use Rattle.ring_rules.specs.Deeds.{drop_slot, send}
+use Rattle.ring_rules.specs.Handshakes.{greet, greet_unless, greet_free, greet_plainly, hello_accepted, accept_free, hello_crossed, hello_of_node, offer_same, offer_again, hello_repeated, hello_of_instance, hello_received}
 use Rattle.ring_machine.specs.Members.{IsMember}
-use Rattle.ring_machine.specs.Ends.{End, end_of}
-use Rattle.ring_machine.specs.Slots.{Slot, Abandoned, is_active}
+use Rattle.ring_machine.specs.Ends.{end_of}
+use Rattle.ring_machine.specs.Slots.{Abandoned}
 use Rattle.ring_machine.specs.Tokens as machine
 use Rattle.ring_machine.specs.Frames.{Frame, Hello, Offer}
-use Rattle.ring_machine.specs.World.{Instance, World}
+use Rattle.ring_machine.specs.World.{World}
 use Rattle.ring_machine.specs.Deeds.{HelloBegun, OfferBegun, HelloDropped, OfferAgain}
 use Rattle.ring_machine.specs.Guards.{May}
-use Rattle.ring_machine.specs.Effects.{Outcome, outcome, hello_begun, offer_begun, stepped, done}
+use Rattle.ring_machine.specs.Effects.{outcome, hello_begun, offer_begun, stepped, done}
 use Rattle.ring_machine.specs.Events.{IsSound}
 use Rattle.ring_machine.proofs.DeedSteps.{DeedsDone, deed_done}
 use Rattle.ring_machine.proofs.Whos.{same_who-refl}
 use Rattle.ring_rules.proofs.Rows.{hello_received-is}
-use Rattle.ring_refines.specs.Images.{machine_of, slot_of, token_of}
-use Rattle.ring_refines.specs.Tables.{is_proposing, SoundLink}
+use Rattle.ring_refines.specs.Images.{machine_of, slot_of, token_of, state_of}
+use Rattle.ring_refines.specs.Tables.{is_proposing}
 use Rattle.ring_refines.specs.Refined.{Said}
-use Rattle.ring_refines.proofs.Places.{found_at, none_at, set_cases, set_same, set_other, used_within}
-use Rattle.ring_refines.proofs.Changes.{StandsAlone}
+use Rattle.ring_refines.proofs.Places.{found_at, none_at, set_cases, used_within}
 use Rattle.ring_refines.proofs.Telling.{all_said_both}
 use Rattle.ring_refines.proofs.Going.{Going, says}
+use Rattle.ring_refines.proofs.Unknown.{hello_is}
 use Rattle.ring_refines.proofs.SlotRows.{begins, drops, alone_of, nothing_besides}
 
 free_is : (o : Option Link) → is_free o ≡ true → o ≡ None
@@ -104,9 +103,6 @@ module _ {c : FabricConfig} {m : World} {x : Who} {now : ℕ} {w : Work} (sound 
       ((r : Reason) → Going c m x now (refused r w)) → Going c m x now (greet (greeting_link (settings_of c node) now w.ring at_node wire len) refused w)
   greet_going at_node wire len length_is refused fails = go (slot_where (of_node bars_link at_node) w.ring.slots) refl
     where
-      k : Link
-      k = greeting_link (settings_of c node) now w.ring at_node wire len
-
       in_free : slot_where (of_node bars_link at_node) w.ring.slots ≡ None → (o : Option ℕ) → slot_where is_free w.ring.slots ≡ o →
           Going c m x now (greet_free (greeting_link (settings_of c node) now w.ring at_node wire len) refused w o)
       in_free none None e = fails reason.Full
@@ -131,9 +127,6 @@ module _ {c : FabricConfig} {m : World} {x : Who} {now : ℕ} {w : Work} (sound 
   accepted k from theirs wire proposed len k_is length_is came shorter other none none_greets =
       subst (λ (k : Link). Going c m x now (hello_accepted k w)) (sym k_is) (in_free (slot_where is_free w.ring.slots) refl)
     where
-      l0 : Link
-      l0 = offered_link (settings_of c node) now w.ring from theirs wire len
-
       shown : done (machine_of c) v x (OfferBegun (end_of from theirs) proposed len) ≡
           stepped v (end_of x w.ring.next_session) (w.ring.next_session + 1)
           (outcome (slot_of (offered_link (settings_of c node) now w.ring from theirs wire len)) tok
@@ -154,25 +147,29 @@ module _ {c : FabricConfig} {m : World} {x : Who} {now : ℕ} {w : Work} (sound 
           (subst (λ (z : World). DeedsDone (machine_of c) v x z) shown (deed_done sound g.inv x g.live (OfferBegun (end_of from theirs) proposed len) may))
           refl (record { held = refl; part = refl; length = λ p q. length_is q; tally = λ h. absurd (cc (h)) })
           (record { greets = λ h j l at b e. absurd (cc (h)); bars = λ h j l at b e. absurd (none_greets j l at b e) }) refl _
-          (λ h. all_said_both c.lease _ x w.sent _ h
-          (offer_said c.lease (Offer (end_of x w.ring.next_session) (end_of from theirs) len ∷ v.sent) x
-          (offered_link (settings_of c node) now w.ring from theirs wire len) (wire == 2) length_is (inl refl), tt))
+          (λ h. all_said_both c.lease _ x w.sent _ h (
+            offer_said c.lease (Offer (end_of x w.ring.next_session) (end_of from theirs) len ∷ v.sent) x
+                (offered_link (settings_of c node) now w.ring from theirs wire len) (wire == 2) length_is (inl refl),
+            tt,
+          ))
 
 module _ {c : FabricConfig} {m : World} {x : Who} {now : ℕ} {w : Work} (sound : IsSound (machine_of c)) (node : ℕ) (g : Going c m x now w) where
   -- a Hello that x gave up
   pub hello_dropped : (i : ℕ) (l : Link) → slot_at i w.ring.slots ≡ Some l → l.state ≡ state.Hello → Going c m x now (drop_slot i w)
   hello_dropped i l at is =
-      drops sound g i l at HelloDropped (ap Rattle.ring_refines.specs.Images.state_of is) (record (slot_of l) { state = Abandoned }) [] refl refl
+      drops sound g i l at HelloDropped (ap state_of is) (record (slot_of l) { state = Abandoned }) [] refl refl
       (λ h. cc (h, is)) (λ h. absurd (cc (h))) w.ring.phase w.sent w.told (nothing_besides sound g [])
 
   -- an Offer is said again
   pub offer_again_going : (i : ℕ) (l : Link) → slot_at i w.ring.slots ≡ Some l → l.state ≡ state.Offered →
-      Going c m x now (Rattle.ring_rules.specs.Deeds.send l.peer (Rattle.ring_rules.specs.Links.offer_body l) w)
+      Going c m x now (send l.peer (offer_body l) w)
   offer_again_going i l at is =
-      says sound g i l at OfferAgain (ap Rattle.ring_refines.specs.Images.state_of is) (Offer (end_of x l.mine) (end_of l.peer l.yours) l.len ∷ []) refl
-      ((l.peer, Rattle.ring_rules.specs.Links.offer_body l) ∷ [])
-      (offer_said c.lease (Offer (end_of x l.mine) (end_of l.peer l.yours) l.len ∷ g.after.sent) x l (l.wire == 2)
-      (λ q. (g.shows.slots.sound i l at).length (ap is_proposing is) q) (inl refl), tt)
+      says sound g i l at OfferAgain (ap state_of is) (Offer (end_of x l.mine) (end_of l.peer l.yours) l.len ∷ []) refl
+      ((l.peer, offer_body l) ∷ []) (
+        offer_said c.lease (Offer (end_of x l.mine) (end_of l.peer l.yours) l.len ∷ g.after.sent) x l (l.wire == 2)
+            (λ q. (g.shows.slots.sound i l at).length (ap is_proposing is) q) (inl refl),
+        tt,
+      )
 
   pub hello_going : (from : Who) (theirs wire proposed len : ℕ) → (wire == 2 ≡ false → len ≡ c.lease) →
       IsMember (Hello (end_of from theirs) x.actor proposed) m.sent → len ≤ proposed → same_who x from ≡ false →
@@ -225,11 +222,7 @@ module _ {c : FabricConfig} {m : World} {x : Who} {now : ℕ} {w : Work} (sound 
           there None at t = absurd (cc (t))
           there (Some l) at t =
               let a = and_parts (l.peer.actor == from.actor) (is_hello l.state) t in
-              crossed none i l at (greets l.state a.1) (eqb-true l.peer.actor from.actor a.0) (nat_lt w.ring.me.actor from.actor)
-            where
-              greets : (s : LinkState) → is_hello s ≡ true → s ≡ state.Hello
-              greets state.Hello h = refl
-              greets s h = absurd (cc (h))
+              crossed none i l at (hello_is l.state a.1) (eqb-true l.peer.actor from.actor a.0) (nat_lt w.ring.me.actor from.actor)
 
       by_instance : (o : Option ℕ) → slot_where (of_instance from) w.ring.slots ≡ o →
           Going c m x now (hello_of_instance (offered_link (settings_of c node) now w.ring from theirs wire len) w o)

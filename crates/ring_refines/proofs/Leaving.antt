@@ -1,30 +1,26 @@
 -- A node that leaves, and what a row comes to: it goes on, or it has left.
-use Rattle.std.proofs.Common.{◌≡◌, ℕ, ◌<◌, Bool, true, false, List, [], ◌∷◌, ◌++◌, Option, Some, None, ◌⊎◌, refl, sym, ap, ◌∙◌, subst, inl, inr}
-use Rattle.std.proofs.lemmas.Bool.{both_ways}
+use Rattle.std.proofs.Common.{◌≡◌, ℕ, Bool, true, false, [], ◌∷◌, ◌++◌, refl, sym, ap, ◌∙◌, subst}
 use Rattle.ring_points.specs.declared.who.Who.{Who}
-use Rattle.ring_points.specs.Whos.{same_who}
 use Rattle.fabric_terms.specs.declared.config.FabricConfig.{FabricConfig}
 use Rattle.fabric_terms.specs.declared.report.Report.TheVariants as report
 use Rattle.fabric_terms.specs.declared.report.Why.{Why}
 use Rattle.fabric_terms.specs.declared.report.Why.TheVariants.{Counters}
-use Rattle.fabric_terms.specs.Places.{Place}
 use Rattle.join_phases.specs.Phases.{is_left}
-use Rattle.ring_rules.specs.Rings.{Ring, Work}
+use Rattle.ring_rules.specs.Rings.{Work}
 use Rattle.ring_rules.specs.Deeds.{leave, then_if, then_unless_left, has_numbers, counted_if, counted}
-use Rattle.ring_machine.specs.Members.{IsMember}
-use Rattle.ring_machine.specs.Frames.{Frame}
 use Rattle.ring_machine.specs.World as world
 use Rattle.ring_machine.specs.World.{Instance, World, Phase, Left, Dead}
 use Rattle.ring_machine.specs.Events.{IsSound, Leaves, in_phase}
 use Rattle.ring_machine.specs.Invariant.{Invariant}
-use Rattle.ring_machine.proofs.Histories.{event_done}
+use Rattle.ring_machine.proofs.Histories.{event_done, EventDone}
 use Rattle.ring_machine.proofs.Whos.{same_who-false, updated_cases}
-use Rattle.ring_refines.specs.Images.{machine_of, token_of}
-use Rattle.ring_refines.specs.Shown.{Shows, ShowsAs, ShowsInstance}
+use Rattle.ring_refines.specs.Images.{machine_of}
+use Rattle.ring_refines.specs.Shown.{ShowsAs, ShowsInstance}
 use Rattle.ring_refines.specs.Moves.{places_of, MovedBy, AreOver}
 use Rattle.ring_refines.specs.Refined.{AllSaid, Beside, Refined}
 use Rattle.ring_refines.proofs.Telling.{moved_and, over_and, over_later}
 use Rattle.ring_refines.proofs.Going.{Going, beside_then}
+use Rattle.ring_machine.specs.Tokens.{Token}
 
 module _ {c : FabricConfig} {m : World} {x : Who} {now : ℕ} {w : Work} (sound : IsSound (machine_of c)) (g : Going c m x now w) where
   abbrev v : World
@@ -44,7 +40,7 @@ module _ {c : FabricConfig} {m : World} {x : Who} {now : ℕ} {w : Work} (sound 
     shows = subst (λ (b : Bool). ShowsAs c v x w.ring b) (sym g.stays) g.shows;
     sent = g.sent;
     moved = subst (λ (n : ℕ). MovedBy x w.told (m.instance x).token.next_flight (places_of first m) n (places_of first v))
-        (sym (ap (λ (t : Rattle.ring_machine.specs.Tokens.Token). t.next_flight) g.shows.token)) g.moved;
+        (sym (ap (λ (t : Token). t.next_flight) g.shows.token)) g.moved;
     over = g.over;
   }
 
@@ -65,6 +61,9 @@ pub going_stands : {c : FabricConfig} {m : World} {x : Who} {now : ℕ} {w : Wor
 going_stands g = record { after = g.after; inv = g.inv; beside = g.beside; dies = g.dies; shows = g.shows; sent = g.sent; moved = g.moved; over = g.over }
 
 module _ {c : FabricConfig} {m : World} {x : Who} {w : Work} (sound : IsSound (machine_of c)) (s : Standing c m x w) where
+  abbrev first_one : Who
+  first_one = world.first_of (machine_of c)
+
   -- it leaves
   pub leave_refined : (why : Why) → Refined c m x (leave why w)
   leave_refined why = record {
@@ -89,9 +88,10 @@ module _ {c : FabricConfig} {m : World} {x : Who} {w : Work} (sound : IsSound (m
       stands_still = λ h. let p = ap (λ (i : Instance). i.phase) own in cc (p, h);
     };
     sent = s.sent;
-    moved = subst (λ (n : ℕ). MovedBy x (w.told ++ report.LeftRing why ∷ []) (m.instance x).token.next_flight (places_of (world.first_of (machine_of c)) m) n (places_of (world.first_of (machine_of c)) s.after))
-        (sym (ap (λ (i : Instance). i.token.next_flight) own ∙ ap (λ (t : Rattle.ring_machine.specs.Tokens.Token). t.next_flight) s.shows.token))
-        (moved_and x w.told (m.instance x).token.next_flight w.ring.token.next_flight (places_of (world.first_of (machine_of c)) m) (places_of (world.first_of (machine_of c)) s.after) (report.LeftRing why) s.moved tt tt);
+    moved = subst (λ (n : ℕ). MovedBy x (w.told ++ report.LeftRing why ∷ []) (m.instance x).token.next_flight (places_of first_one m) n (places_of first_one s.after))
+        (sym (ap (λ (i : Instance). i.token.next_flight) own ∙ ap (λ (t : Token). t.next_flight) s.shows.token))
+        (moved_and x w.told (m.instance x).token.next_flight w.ring.token.next_flight (places_of first_one m) (places_of first_one s.after)
+        (report.LeftRing why) s.moved tt tt);
     over = over_and (machine_of c) u w.told (report.LeftRing why) (over_later (machine_of c) s.after u w.told (λ y h. done.later.dies y h) s.over) tt;
   }
     where
@@ -105,7 +105,7 @@ module _ {c : FabricConfig} {m : World} {x : Who} {w : Work} (sound : IsSound (m
       own = updated_cases (λ i. i ≡ record (s.after.instance x) { phase = Left }) s.after.instance x x (record (s.after.instance x) { phase = Left }) (λ e. refl)
           (λ a. absurd (same_who-false x x a refl))
 
-      done : Rattle.ring_machine.proofs.Histories.EventDone (machine_of c) s.after (in_phase s.after x Left)
+      done : EventDone (machine_of c) s.after (in_phase s.after x Left)
       done = event_done sound s.inv (Leaves x) s.shows.running
 
 -- what a row comes to

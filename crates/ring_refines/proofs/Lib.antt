@@ -17,6 +17,11 @@ pub mod Commands
 pub mod Tallies
 pub mod Leaving
 pub mod Accusing
+pub mod Rulings
+pub mod Heirs
+pub mod Giving
 pub mod Firing
+pub mod Frames
+pub mod Beginnings
 pub mod Steps
 pub mod Starting

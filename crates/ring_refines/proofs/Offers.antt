@@ -1,23 +1,23 @@
 -- How a link is bound: an Offer is heard, and a Take.
-use Rattle.std.proofs.Common.{◌≡◌, ℕ, ◌==◌, ◌&&◌, true, false, List, [], ◌∷◌, ◌++◌, Option, Some, None, refl, sym, ap, ◌∙◌, subst, inl}
+use Rattle.std.proofs.Common.{◌≡◌, ℕ, ◌==◌, ◌&&◌, true, [], ◌∷◌, Option, Some, None, refl, sym, ap, ◌∙◌, subst, inl}
 use Rattle.std.proofs.lemmas.Bool.{eqb-true, eq-eqb, and_parts, and_from, both_ways}
 use Rattle.ring_points.specs.declared.who.Who.{Who}
 use Rattle.fabric_terms.specs.declared.config.FabricConfig.{FabricConfig}
-use Rattle.fabric_terms.specs.declared.message.Body.TheVariants as body
 use Rattle.join_phases.specs.Phases.{bound_phase}
+use Rattle.fabric_terms.specs.declared.message.Body.TheVariants as body
 use Rattle.ring_rules.specs.declared.link.Link.{Link}
 use Rattle.ring_rules.specs.declared.link.LinkState.{LinkState}
 use Rattle.ring_rules.specs.declared.link.LinkState.TheVariants as state
 use Rattle.ring_rules.specs.Links.{bound_link}
 use Rattle.ring_rules.specs.Rings.{Work}
-use Rattle.ring_rules.specs.Slots.{slot_at, slot_where, is_hello, bars_link, of_session, greets_node_by}
+use Rattle.ring_rules.specs.Slots.{slot_at, slot_where, is_hello, bars_link, greets_node_by}
 use Rattle.ring_rules.specs.Deeds.{put_slot, answer_unknown}
 use Rattle.ring_rules.specs.Handshakes.{offer_taken, offer_repeated, offer_seen, offer_received, take_seen, take_received}
 use Rattle.ring_rules.proofs.Rows.{offer_received-is, take_received-is}
 use Rattle.ring_machine.specs.Members.{IsMember}
 use Rattle.ring_machine.specs.Ends.{End, end_of}
 use Rattle.ring_machine.specs.Slots.{Slot, Asking, is_active, is_used}
-use Rattle.ring_machine.specs.Frames.{Frame, Offer, Take}
+use Rattle.ring_machine.specs.Frames.{Offer, Take}
 use Rattle.ring_machine.specs.World.{World, slot}
 use Rattle.ring_machine.specs.Deeds.{OfferTaken, TakeHeard}
 use Rattle.ring_machine.specs.Events.{IsSound}
@@ -25,15 +25,14 @@ use Rattle.ring_machine.specs.Sessions.{BothTied}
 use Rattle.ring_machine.specs.SoundFrames.{SoundOffer}
 use Rattle.ring_machine.specs.SoundSlots.{AsksFor}
 use Rattle.ring_machine.proofs.Askers.{to_asker}
-use Rattle.ring_refines.specs.Images.{machine_of, state_of, slot_of}
-use Rattle.ring_refines.specs.Tables.{is_wronged, Has}
+use Rattle.ring_refines.specs.Images.{machine_of, state_of}
+use Rattle.ring_refines.specs.Tables.{is_wronged}
 use Rattle.ring_refines.proofs.Places.{found_at, none_at, set_same, used_within}
 use Rattle.ring_refines.proofs.Changes.{stays_alone}
-use Rattle.ring_refines.proofs.Telling.{all_said_both}
 use Rattle.ring_refines.proofs.Going.{Going}
-use Rattle.ring_refines.proofs.SlotRows.{bound_stays, Besides, nothing_besides, puts, wronged, alone_of, in_its_session}
+use Rattle.ring_refines.proofs.SlotRows.{one_said, bound_stays, nothing_besides, puts, wronged, alone_of, in_its_session}
 use Rattle.ring_refines.proofs.Saying.{tied_used, tied_asks, phase_going, take_again_going, gone_again_going, renew_going}
-use Rattle.ring_refines.proofs.Unknown.{unknown_going}
+use Rattle.ring_refines.proofs.Unknown.{hello_is, asking_held, unknown_going}
 
 module _ {c : FabricConfig} {m : World} {x : Who} {now : ℕ} {w : Work} (sound : IsSound (machine_of c)) (g : Going c m x now w) where
   abbrev v : World
@@ -48,12 +47,8 @@ module _ {c : FabricConfig} {m : World} {x : Who} {now : ℕ} {w : Work} (sound 
       (Take (end_of x l.mine) (end_of from theirs) ∷ []) refl refl
       (let s = g.shows.slots.sound i l at in record { held = s.held; part = s.part; length = λ p. absurd (cc (p)); tally = λ h. absurd (cc (h)) })
       (stays_alone g.shows.slots i l k at (sym actor) (λ h. absurd (cc (h))) (λ h. ap bars_link is)) (λ h. refl) (λ h. absurd (cc (h))) _ _ _
-      (record {
-        stays = bound_stays w.ring.phase g.stays;
-        sends = λ h. all_said_both c.lease _ x w.sent _ h (record { image = inl refl; rises = refl; no_ruling = refl }, tt);
-        leads = λ n P h. h;
-        over = λ h. h;
-      })
+      (one_said sound g (Take (end_of x l.mine) (end_of from theirs)) from (body.Take l.mine theirs) (record { image = inl refl; rises = refl; no_ruling = refl })
+      (bound_phase w.ring.phase) (bound_stays w.ring.phase g.stays))
     where
       k : Link
       k = bound_link now l from theirs len
@@ -102,26 +97,15 @@ module _ {c : FabricConfig} {m : World} {x : Who} {now : ℕ} {w : Work} (sound 
 
       -- it would be the greeting that is found
       asks : slot_where (greets_node_by from.actor own) w.ring.slots ≡ None → (slot v (end_of x own)).state ≡ Asking → ⊥
-      asks none a = Rattle.std.proofs.Common.⊎_elim (λ h. let b = a in cc (h, b)) (λ e. there e) (g.shows.slots.over own)
-        where
-          there : Has w.ring.slots own → ⊥
-          there e = by_state e.link.state refl
-            where
-              kept : slot v (end_of x own) ≡ slot_of e.link
-              kept = subst (λ (n : ℕ). (v.instance x).slots n ≡ slot_of e.link) e.numbered (g.shows.slots.kept e.place e.link e.at)
-
-              asked : AsksFor (slot v (end_of x own)) from.actor len
-              asked = to_asker g.inv (Offer (end_of from theirs) (end_of x own) len) came (end_of from theirs) (end_of x own) refl a
-
-              node : e.link.peer.actor ≡ from.actor
-              node = sym (ap (λ (s : Slot). s.far.who.actor) kept) ∙ asked.node_is
-
-              by_state : (s : LinkState) → e.link.state ≡ s → ⊥
-              by_state state.Hello h = both_ways _ (none_at (greets_node_by from.actor own) w.ring.slots none e.place e.link e.at)
-                  (and_from (e.link.peer.actor == from.actor && e.link.mine == own) (is_hello e.link.state)
-                  (and_from (e.link.peer.actor == from.actor) (e.link.mine == own) (eq-eqb e.link.peer.actor from.actor node) (eq-eqb e.link.mine own e.numbered))
-                  (ap is_hello h))
-              by_state s h = let b = ap (λ (s : Slot). s.state) kept in let d = ap state_of h in cc (a, b, d)
+      asks none a =
+          let e = asking_held g own a in
+          let asked : AsksFor (slot v (end_of x own)) from.actor len =
+          to_asker g.inv (Offer (end_of from theirs) (end_of x own) len) came (end_of from theirs) (end_of x own) refl a in
+          let node : e.link.peer.actor ≡ from.actor = sym (ap (λ (s : Slot). s.far.who.actor) e.kept) ∙ asked.node_is in
+          both_ways _ (none_at (greets_node_by from.actor own) w.ring.slots none e.place e.link e.at)
+          (and_from (e.link.peer.actor == from.actor && e.link.mine == own) (is_hello e.link.state)
+          (and_from (e.link.peer.actor == from.actor) (e.link.mine == own) (eq-eqb e.link.peer.actor from.actor node) (eq-eqb e.link.mine own e.numbered))
+          (ap is_hello e.greets))
 
       known : (i : ℕ) (l : Link) → slot_at i w.ring.slots ≡ Some l → IsMember (Offer (end_of l.peer l.yours) (end_of x l.mine) len) v.sent →
           (s : LinkState) → l.state ≡ s → Going c m x now (offer_repeated i l s w)
@@ -138,12 +122,8 @@ module _ {c : FabricConfig} {m : World} {x : Who} {now : ℕ} {w : Work} (sound 
               let a = and_parts (l.peer.actor == from.actor && l.mine == own) (is_hello l.state) t in
               let b = and_parts (l.peer.actor == from.actor) (l.mine == own) a.0 in
               let n : l.mine ≡ own = eqb-true l.mine own b.1 in
-              taken from theirs len i l at (greets l.state a.1) (eqb-true l.peer.actor from.actor b.0) trusted
+              taken from theirs len i l at (hello_is l.state a.1) (eqb-true l.peer.actor from.actor b.0) trusted
               (subst (λ (n : ℕ). IsMember (Offer (end_of from theirs) (end_of x n) len) v.sent) (sym n) came)
-            where
-              greets : (s : LinkState) → is_hello s ≡ true → s ≡ state.Hello
-              greets state.Hello h = refl
-              greets s h = absurd (cc (h))
       go None e =
           in_its_session sound g from theirs own offer_repeated (answer_unknown from theirs own) (λ f e. IsMember (Offer f e len) v.sent) came known
           (λ none. unknown_going sound g from theirs own (Offer (end_of from theirs) (end_of x own) len) came refl used (asks e) trusted none)

@@ -1,10 +1,9 @@
 -- The places of a table: which one a test finds, and what each holds after a change.
-use Rattle.std.proofs.Common.{◌≡◌, ℕ, zero, suc, ◌+◌, ◌<◌, Bool, true, false, cond, List, [], ◌∷◌, length, Option, Some, None, ◌⊎◌, refl, sym, ap, ◌∙◌, subst, ⊎_elim, arith}
-use Rattle.std.specs.Prelude.{slice_set}
+use Rattle.std.proofs.Common.{◌≡◌, ℕ, zero, suc, ◌+◌, ◌<◌, Bool, true, false, cond, [], ◌∷◌, length, Option, Some, None, refl, sym, subst, ⊎_elim, arith}
+use Rattle.std.specs.Prelude.{slice_set, is_some}
 use Rattle.std.specs.List.{position_from, list_all}
 use Rattle.std.proofs.lemmas.Bool.{cases_eq, and_parts}
-use Rattle.std.proofs.lemmas.List.{get_or-set_same, get_or-set_other, set-get_or}
-use Rattle.ring_machine.proofs.Whos.{test}
+use Rattle.std.proofs.lemmas.List.{get_or-set_same, get_or-set_other}
 use Rattle.ring_rules.specs.declared.link.Link.{Link}
 use Rattle.ring_rules.specs.Rings.{Slots}
 use Rattle.ring_rules.specs.Slots.{slot_at, slot_where}
@@ -77,3 +76,7 @@ set_same slots i o lt = get_or-set_same slots i o None lt
 
 pub set_other : (slots : Slots) (i : ℕ) (o : Option Link) (j : ℕ) → (i ≡ j → ⊥) → slot_at j (slice_set slots i o) ≡ slot_at j slots
 set_other slots i o j n = get_or-set_other slots i j o None (λ e. n (sym e))
+
+pub none_is : {A : Type 0} (o : Option A) → is_some o ≡ false → o ≡ None
+none_is None h = refl
+none_is (Some a) h = absurd (cc (h))

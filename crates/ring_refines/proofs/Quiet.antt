@@ -1,10 +1,9 @@
 -- What the machine does not see: reports that move nothing, messages that it does not know, and the rest of a ring.
-use Rattle.std.proofs.Common.{◌≡◌, ℕ, Bool, true, false, List, [], ◌∷◌, ◌++◌, Option, Some, None, refl, sym, subst}
+use Rattle.std.proofs.Common.{◌≡◌, ℕ, Bool, true, false, [], ◌∷◌, ◌++◌, Option, Some, None, refl, sym, subst}
 use Rattle.ring_points.specs.declared.point.Point.{Point}
 use Rattle.ring_points.specs.declared.who.Who.{Who}
 use Rattle.ring_points.specs.Whos.{node_instance}
 use Rattle.fabric_terms.specs.declared.config.FabricConfig.{FabricConfig}
-use Rattle.fabric_terms.specs.declared.message.Body.{Body}
 use Rattle.fabric_terms.specs.declared.message.Body.TheVariants as body
 use Rattle.fabric_terms.specs.declared.report.Reason.{Reason}
 use Rattle.fabric_terms.specs.declared.report.Report.{Report}
@@ -16,8 +15,8 @@ use Rattle.ring_route.specs.Routes.{Routes}
 use Rattle.ring_route.specs.declared.hop.Hop.{Hop}
 use Rattle.ring_route.specs.declared.hop.Hop.TheVariants as hop
 use Rattle.ring_rules.specs.Commands.{seek_place, join_unless, join_commanded}
-use Rattle.ring_rules.specs.Deeds.{on_ring, send, tell, refuse}
-use Rattle.ring_rules.specs.Rings.{Ring, Work, settings_of}
+use Rattle.ring_rules.specs.Deeds.{send, tell, refuse}
+use Rattle.ring_rules.specs.Rings.{Work, settings_of}
 use Rattle.ring_rules.specs.Seeks.{hop_from, find_by, find_commanded, seek_on, seek_received, greet_holder, found_received, seeks_own}
 use Rattle.ring_rules.proofs.Rows.{join_commanded-is, find_commanded-is, seek_received-is, found_received-is}
 use Rattle.ring_machine.specs.World as world
@@ -25,7 +24,6 @@ use Rattle.ring_machine.specs.World.{World}
 use Rattle.ring_machine.specs.Events.{IsSound}
 use Rattle.ring_refines.specs.Images.{machine_of}
 use Rattle.ring_refines.specs.Moves.{places_of, next_after, IsNext, IsOver, MovedBy}
-use Rattle.ring_refines.specs.Refined.{Said}
 use Rattle.ring_refines.proofs.Telling.{moved_and, over_and}
 use Rattle.ring_refines.proofs.Going.{Going, sends}
 use Rattle.ring_refines.proofs.Greetings.{greet_plainly_going}

@@ -1,9 +1,8 @@
 -- Lists of intervals as sets of points: what a token's calls do to its image.
-use Rattle.std.proofs.Common.{◌≡◌, ℕ, ◌+◌, ◌-◌, ◌/◌, ◌%◌, ◌^◌, ◌<◌, ◌≤◌, Bool, true, false, cond, nat_le, nat_lt, List, [], ◌∷◌, ◌++◌, Option, Some, None, IsTrue, refl, sym, ap, ◌∙◌, arith}
-use Rattle.std.proofs.lemmas.Bool.{cases_lt}
+use Rattle.std.proofs.Common.{◌≡◌, ℕ, ◌+◌, ◌-◌, ◌/◌, ◌%◌, ◌^◌, ◌<◌, ◌≤◌, Bool, true, false, cond, nat_le, nat_lt, List, ◌++◌, Option, Some, None, IsTrue, refl, ap, ◌∙◌, arith}
 use Rattle.std.proofs.lemmas.Bool.Decides.{nat_tests}
 use Rattle.ring_points.specs.declared.interval.Interval.{Interval}
-use Rattle.ring_points.specs.Ranges.{in_ranges, rises_from}
+use Rattle.ring_points.specs.Ranges.{rises_from}
 use Rattle.ring_points.specs.Distances.{ahead_of}
 use Rattle.ring_points.specs.Sets.{span, arc, nearer_from, nearer_arc, union_of, minus_of, meet_of, nearer_part_of}
 use Rattle.ring_points.proofs.Cuts.{in_ranges-minus_of, rises_from-minus_of}

@@ -1,8 +1,7 @@
 -- How a link lives: a Renew is heard and acknowledged, and what it wants is frozen; a RenewAck is heard.
-use Rattle.std.proofs.Common.{◌≡◌, ℕ, ◌+◌, ◌<◌, ◌≤◌, nat_le, nat_lt, not, ◌&&◌, Bool, true, false, cond, List, [], ◌∷◌, ◌++◌, Option, Some, None, refl, sym, ap, ◌∙◌, subst, inl}
+use Rattle.std.proofs.Common.{◌≡◌, ℕ, ◌+◌, nat_le, nat_lt, not, ◌&&◌, Bool, true, false, cond, List, [], ◌∷◌, Option, Some, None, refl, sym, ap, ◌∙◌, subst, inl}
 use Rattle.std.specs.Prelude.{is_some}
 use Rattle.std.proofs.lemmas.Bool.{and_parts, not-true, both_ways}
-use Rattle.std.proofs.lemmas.List.{set-get_or}
 use Rattle.ring_points.specs.declared.interval.Interval.{Interval}
 use Rattle.ring_points.specs.declared.who.Flight as points
 use Rattle.ring_points.specs.declared.who.Who.{Who}
@@ -16,16 +15,15 @@ use Rattle.ring_rules.specs.declared.link.LinkState.{LinkState}
 use Rattle.ring_rules.specs.declared.link.LinkState.TheVariants as state
 use Rattle.ring_rules.specs.Links.{acknowledged, confirmed, confirmed_if, recorded_if, renewed, has_flight, flight_part}
 use Rattle.ring_rules.specs.Rings.{Work}
-use Rattle.ring_rules.specs.Slots.{slot_at, slot_where, bars_link}
-use Rattle.ring_rules.specs.Deeds.{put_slot, send, set_token, set_phase, answer_unknown}
-use Rattle.ring_rules.specs.Renewals.{near_part, owns_none, may_freeze, freeze_if, freeze_part, grant_if, grant_wanted, renew_heard, renew_seen, renew_received, ack_seen, ack_received}
+use Rattle.ring_rules.specs.Slots.{slot_at, bars_link}
+use Rattle.ring_rules.specs.Deeds.{put_slot, set_token, answer_unknown}
+use Rattle.ring_rules.specs.Renewals.{near_part, freeze_if, grant_if, grant_wanted, renew_heard, renew_seen, renew_received, ack_seen, ack_received}
 use Rattle.ring_rules.proofs.Rows.{renew_received-is, ack_received-is}
 use Rattle.ring_machine.specs.Members.{IsMember}
-use Rattle.ring_machine.specs.Ends.{End, end_of}
-use Rattle.ring_machine.specs.Points.{Points, meet}
-use Rattle.ring_machine.specs.Slots.{Slot, Flight, is_willing, stands}
-use Rattle.ring_machine.specs.Tokens as machine
-use Rattle.ring_machine.specs.Frames.{Frame, Renew, RenewAck}
+use Rattle.ring_machine.specs.Ends.{end_of}
+use Rattle.ring_machine.specs.Points.{meet}
+use Rattle.ring_machine.specs.Slots.{is_willing, stands, Bound}
+use Rattle.ring_machine.specs.Frames.{Renew, RenewAck}
 use Rattle.ring_machine.specs.World.{World}
 use Rattle.ring_machine.specs.Deeds.{RenewHeard, AckHeard, PartFrozen}
 use Rattle.ring_machine.specs.Effects as effects
@@ -33,12 +31,11 @@ use Rattle.ring_machine.specs.Events.{IsSound}
 use Rattle.ring_machine.specs.SoundFrames.{SoundRenew}
 use Rattle.ring_refines.specs.Images.{machine_of, state_of, points_of, flight_of, number_of, freeze_of, slot_of, token_of}
 use Rattle.ring_refines.specs.Tables.{is_wronged, SoundLink}
-use Rattle.ring_refines.proofs.Places.{set_same, used_within}
+use Rattle.ring_refines.proofs.Places.{none_is, set_same, used_within}
 use Rattle.ring_refines.proofs.Changes.{stays_alone}
 use Rattle.ring_refines.proofs.Ranges.{Rises, frozen_is, frozen_rises, nearer_part_rises}
-use Rattle.ring_refines.proofs.Telling.{all_said_both}
-use Rattle.ring_refines.proofs.Going.{Going, Makes, slot_deed, same_slots, kept_new}
-use Rattle.ring_refines.proofs.SlotRows.{bound_stays, nothing_besides, puts, wronged, in_its_session}
+use Rattle.ring_refines.proofs.Going.{Going, slot_deed, same_slots, kept_new}
+use Rattle.ring_refines.proofs.SlotRows.{one_said, bound_stays, nothing_besides, puts, wronged, in_its_session}
 use Rattle.ring_refines.proofs.Saying.{tied_used, tied_asks, phase_going, gone_again_going}
 use Rattle.ring_refines.proofs.Unknown.{unknown_going}
 
@@ -99,10 +96,6 @@ module _ {c : FabricConfig} {m : World} {x : Who} {now : ℕ} {w : Work} (sound 
           slot_of_freeze None = 0
           slot_of_freeze (Some z) = z.slot
 
-  none_is : (o : Option Freeze) → is_some o ≡ false → o ≡ None
-  none_is None h = refl
-  none_is (Some z) h = absurd (cc (h))
-
   -- what the peer wants is frozen, where that is allowed
   pub grant_going : (i : ℕ) (l : Link) (want : Bool) → slot_at i w.ring.slots ≡ Some l → l.state ≡ state.Bound → Going c m x now (grant_wanted i l want w)
   grant_going i l want at is = granted (want && is_routing w.ring.phase && not (is_some w.ring.token.freeze) && not (has_flight l)) refl
@@ -129,53 +122,34 @@ module _ {c : FabricConfig} {m : World} {x : Who} {now : ℕ} {w : Work} (sound 
       Going c m x now (renew_heard i (renewed l version got ranges) stamp version want w)
   renew_of i l stamp version got want ranges at willing bars rises came = go (nat_lt l.held_version version) refl
     where
-      frame : Frame
-      frame = RenewAck (end_of x l.mine) (end_of l.peer l.yours) stamp version
-
       s : SoundLink c x g.after.sent l
       s = g.shows.slots.sound i l at
 
-      out : Slot → effects.Outcome
-      out t = effects.outcome t (token_of w.ring.slots w.ring.token) (RenewAck (end_of x l.mine) (end_of l.peer l.yours) stamp version ∷ []) g.after.place
+      -- the link k, whose slot is that after the Renew, takes the place of l
+      heard : (k : Link) → k.peer ≡ l.peer → k.mine ≡ l.mine → k.yours ≡ l.yours → k.state ≡ state.Bound → Rises k.held → Rises (flight_part k.flight) →
+          effects.renewed (slot_of l) version got (points_of ranges) (nat_lt l.held_version version) ≡ slot_of k →
+          Going c m x now (renew_heard i k stamp version want w)
+      heard k peer mine yours is held part shown =
+          let put = puts sound g i l at (RenewHeard stamp version got (points_of ranges)) (willing, g.beside.sent _ came) k
+          (RenewAck (end_of x l.mine) (end_of l.peer l.yours) stamp version ∷ [])
+          (λ j. effects.outcome (shown j) (token_of w.ring.slots w.ring.token) (RenewAck (end_of x l.mine) (end_of l.peer l.yours) stamp version ∷ []) g.after.place)
+          mine (record { held = held; part = part; length = λ p. absurd (cc (is, p)); tally = λ h. absurd (cc (is, h)) })
+          (stays_alone g.shows.slots i l k at (ap (λ (y : Who). y.actor) peer) (λ h. absurd (cc (is, h))) (λ h. bars)) (λ h. is) (λ h. absurd (cc (is, h))) _ _ _
+          (one_said sound g (RenewAck (end_of x l.mine) (end_of l.peer l.yours) stamp version) k.peer (body.RenewAck k.mine k.yours stamp version)
+          (record { image = inl (λ j. RenewAck (end_of x (mine j)) (end_of (peer j) (yours j)) stamp version); rises = refl; no_ruling = refl }) w.ring.phase g.stays) in
+          grant_going sound put i k want (set_same w.ring.slots i (Some k) (used_within w.ring.slots i l at)) is
 
-      flies : flight_of (confirmed l.flight got) ≡ effects.unconfirmed got (flight_of l.flight)
-      flies = confirmed_is l.flight got
+      flies : effects.unconfirmed got (flight_of l.flight) ≡ flight_of (confirmed l.flight got)
+      flies = sym (confirmed_is l.flight got)
 
       go : (q : Bool) → nat_lt l.held_version version ≡ q → Going c m x now (renew_heard i (renewed_by l version got ranges q) stamp version want w)
       go true e =
-          let k : Link = renewed_by l version got ranges true in
-          let heard : Going c m x now (send k.peer (body.RenewAck k.mine k.yours stamp version) (put_slot i k w)) =
-          puts sound g i l at (RenewHeard stamp version got (points_of ranges)) (willing, g.beside.sent _ came) k (RenewAck (end_of x l.mine) (end_of l.peer l.yours) stamp version ∷ [])
-          ((λ j. effects.outcome (effects.renewed (slot_of l) version got (points_of ranges) (e j)) (token_of w.ring.slots w.ring.token)
-          (RenewAck (end_of x l.mine) (end_of l.peer l.yours) stamp version ∷ []) g.after.place) ∙
-          (λ j. effects.outcome (record (slot_of l) { state = Rattle.ring_machine.specs.Slots.Bound; held = points_of ranges; held_version = version; flight = sym flies j })
-          (token_of w.ring.slots w.ring.token) (RenewAck (end_of x l.mine) (end_of l.peer l.yours) stamp version ∷ []) g.after.place))
-          refl (record { held = rises; part = confirmed_rises l.flight got s.part; length = λ p. absurd (cc (p)); tally = λ h. absurd (cc (h)) })
-          (stays_alone g.shows.slots i l k at refl (λ h. absurd (cc (h))) (λ h. bars)) (λ h. refl) (λ h. absurd (cc (h))) _ _ _
-          (record {
-            stays = g.stays;
-            sends = λ h. all_said_both c.lease _ x w.sent _ h (record { image = inl refl; rises = refl; no_ruling = refl }, tt);
-            leads = λ n P h. h;
-            over = λ h. h;
-          }) in
-          grant_going sound heard i k want (set_same w.ring.slots i (Some k) (used_within w.ring.slots i l at)) refl
+          heard (renewed_by l version got ranges true) refl refl refl refl rises (confirmed_rises l.flight got s.part)
+          ((λ j. effects.renewed (slot_of l) version got (points_of ranges) (e j)) ∙
+          (λ j. record (slot_of l) { state = Bound; held = points_of ranges; held_version = version; flight = flies j }))
       go false e =
-          let k : Link = renewed_by l version got ranges false in
-          let heard : Going c m x now (send k.peer (body.RenewAck k.mine k.yours stamp version) (put_slot i k w)) =
-          puts sound g i l at (RenewHeard stamp version got (points_of ranges)) (willing, g.beside.sent _ came) k (RenewAck (end_of x l.mine) (end_of l.peer l.yours) stamp version ∷ [])
-          ((λ j. effects.outcome (effects.renewed (slot_of l) version got (points_of ranges) (e j)) (token_of w.ring.slots w.ring.token)
-          (RenewAck (end_of x l.mine) (end_of l.peer l.yours) stamp version ∷ []) g.after.place) ∙
-          (λ j. effects.outcome (record (slot_of l) { state = Rattle.ring_machine.specs.Slots.Bound; flight = sym flies j })
-          (token_of w.ring.slots w.ring.token) (RenewAck (end_of x l.mine) (end_of l.peer l.yours) stamp version ∷ []) g.after.place))
-          refl (record { held = s.held; part = confirmed_rises l.flight got s.part; length = λ p. absurd (cc (p)); tally = λ h. absurd (cc (h)) })
-          (stays_alone g.shows.slots i l k at refl (λ h. absurd (cc (h))) (λ h. bars)) (λ h. refl) (λ h. absurd (cc (h))) _ _ _
-          (record {
-            stays = g.stays;
-            sends = λ h. all_said_both c.lease _ x w.sent _ h (record { image = inl refl; rises = refl; no_ruling = refl }, tt);
-            leads = λ n P h. h;
-            over = λ h. h;
-          }) in
-          grant_going sound heard i k want (set_same w.ring.slots i (Some k) (used_within w.ring.slots i l at)) refl
+          heard (renewed_by l version got ranges false) refl refl refl refl s.held (confirmed_rises l.flight got s.part)
+          ((λ j. effects.renewed (slot_of l) version got (points_of ranges) (e j)) ∙ (λ j. record (slot_of l) { state = Bound; flight = flies j }))
 
 module _ {c : FabricConfig} {m : World} {x : Who} {now : ℕ} {w : Work} (sound : IsSound (machine_of c)) (g : Going c m x now w) where
   pub renew_received_going : (from : Who) (theirs own stamp version got : ℕ) (want : Bool) (ranges : List Interval) → (IsMember from w.ring.accused → ⊥) → Rises ranges →

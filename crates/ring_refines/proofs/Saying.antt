@@ -1,22 +1,17 @@
 -- What a session says again, and changes of a ring that the machine does not see.
-use Rattle.std.proofs.Common.{◌≡◌, ℕ, true, false, List, [], ◌∷◌, ◌++◌, Option, Some, None, refl, sym, ap, subst, inl}
+use Rattle.std.proofs.Common.{◌≡◌, ℕ, true, false, [], ◌∷◌, Option, Some, refl, ap, subst, inl}
 use Rattle.ring_points.specs.declared.who.Who.{Who}
 use Rattle.ring_points.specs.declared.who.Flight as points
 use Rattle.fabric_terms.specs.declared.config.FabricConfig.{FabricConfig}
 use Rattle.fabric_terms.specs.declared.message.Body.TheVariants as body
-use Rattle.fabric_terms.specs.declared.report.Report.{Report}
-use Rattle.fabric_terms.specs.Places.{Place, TakesFrom, place_after}
 use Rattle.join_phases.specs.declared.phases.Phase.{Phase}
 use Rattle.join_phases.specs.Phases.{is_left}
-use Rattle.token_core.specs.Tokens.{announced}
 use Rattle.ring_rules.specs.declared.link.Link.{Link}
-use Rattle.ring_rules.specs.declared.link.LinkState.{LinkState}
 use Rattle.ring_rules.specs.declared.link.LinkState.TheVariants as state
-use Rattle.ring_rules.specs.Links.{renew_body, transfer_body, hello_body}
-use Rattle.ring_rules.specs.Rings.{Ring, Work}
+use Rattle.ring_rules.specs.Links.{renew_body, transfer_body, hello_body, flight_part}
+use Rattle.ring_rules.specs.Rings.{Work}
 use Rattle.ring_rules.specs.Slots.{slot_at}
-use Rattle.ring_rules.specs.Deeds.{send, set_phase, on_ring, say_gone}
-use Rattle.ring_machine.specs.Members.{IsMember}
+use Rattle.ring_rules.specs.Deeds.{send, set_phase, say_gone}
 use Rattle.ring_machine.specs.Ends.{End, end_of}
 use Rattle.ring_machine.specs.Points.{Points}
 use Rattle.ring_machine.specs.Slots.{Asking, is_used, is_engaged}
@@ -27,11 +22,11 @@ use Rattle.ring_machine.specs.Events.{IsSound}
 use Rattle.ring_machine.specs.Sessions.{Tied}
 use Rattle.ring_machine.proofs.States.{implied}
 use Rattle.ring_refines.specs.Images.{machine_of, state_of, points_of, flight_of, token_of}
-use Rattle.ring_refines.specs.Moves.{next_after, IsNext}
 use Rattle.ring_refines.specs.Tables.{is_proposing}
-use Rattle.ring_refines.proofs.Ranges.{announced_is, announced_rises}
+use Rattle.ring_refines.proofs.Ranges.{announced_is, announced_rises, Rises}
 use Rattle.ring_refines.proofs.Greetings.{hello_said}
 use Rattle.ring_refines.proofs.Going.{Going, says}
+use Rattle.ring_machine.specs.Tokens as machine
 
 -- an end that has a session is used, and asks no more
 pub tied_used : (v : World) (e f : End) → Tied v e f → is_used (slot v e).state ≡ true
@@ -85,23 +80,27 @@ module _ {c : FabricConfig} {m : World} {x : Who} {now : ℕ} {w : Work} (sound 
       Going c m x now (send l.peer (transfer_body l f) w)
   flight_again_going i l at is f flies =
       says sound g i l at (FlightAgain (record { number = f.number; part = points_of f.part })) (ap state_of is, ap flight_of flies)
-      (Transfer (end_of x l.mine) (end_of l.peer l.yours) f.number (points_of f.part) ∷ []) refl ((l.peer, transfer_body l f) ∷ [])
-      (record {
-        image = inl refl;
-        rises = subst (λ (o : Option points.Flight). Rattle.ring_refines.proofs.Ranges.Rises (Rattle.ring_rules.specs.Links.flight_part o)) flies (g.shows.slots.sound i l at).part;
-        no_ruling = refl;
-      }, tt)
+      (Transfer (end_of x l.mine) (end_of l.peer l.yours) f.number (points_of f.part) ∷ []) refl ((l.peer, transfer_body l f) ∷ []) (
+        record {
+          image = inl refl;
+          rises = subst (λ (o : Option points.Flight). Rises (flight_part o)) flies (g.shows.slots.sound i l at).part;
+          no_ruling = refl;
+        },
+        tt,
+      )
 
   -- what is owned and not frozen is announced
   pub renew_going : (i : ℕ) (l : Link) → slot_at i w.ring.slots ≡ Some l → l.state ≡ state.Bound → Going c m x now (send l.peer (renew_body now l w.ring) w)
   renew_going i l at is =
-      says sound g i l at RenewSent (ap state_of is) (frame (Rattle.ring_machine.specs.Tokens.announced (token_of w.ring.slots w.ring.token)) ∷ []) refl
-      ((l.peer, renew_body now l w.ring) ∷ [])
-      (record {
-        image = inl (ap frame (announced_is w.ring.slots w.ring.token g.shows.rises));
-        rises = announced_rises w.ring.slots w.ring.token g.shows.rises;
-        no_ruling = refl;
-      }, tt)
+      says sound g i l at RenewSent (ap state_of is) (frame (machine.announced (token_of w.ring.slots w.ring.token)) ∷ []) refl
+      ((l.peer, renew_body now l w.ring) ∷ []) (
+        record {
+          image = inl (ap frame (announced_is w.ring.slots w.ring.token g.shows.rises));
+          rises = announced_rises w.ring.slots w.ring.token g.shows.rises;
+          no_ruling = refl;
+        },
+        tt,
+      )
     where
       frame : Points → Frame
       frame points = Renew (end_of x l.mine) (end_of l.peer l.yours) now w.ring.token.version l.got points

@@ -1,12 +1,11 @@
 -- Deeds of one slot that leave token and places: its link changes, or goes; and the sessions that a frame can meet.
-use Rattle.std.proofs.Common.{◌≡◌, ℕ, ◌+◌, ◌<◌, ◌≤◌, ◌==◌, ◌&&◌, Bool, true, false, List, [], ◌∷◌, ◌++◌, length, Option, Some, None, ◌⊎◌, refl, sym, ap, ◌∙◌, subst, ⊎_elim, arith}
+use Rattle.std.proofs.Common.{◌≡◌, ℕ, ◌+◌, ◌<◌, ◌==◌, ◌&&◌, true, false, List, [], ◌∷◌, ◌++◌, length, Option, Some, None, refl, sym, ap, ◌∙◌, subst, arith}
 use Rattle.std.specs.Prelude.{slice_set}
-use Rattle.std.proofs.lemmas.Bool.{eqb-true, eq-eqb, and_parts, and_from, both_ways}
+use Rattle.std.proofs.lemmas.Bool.{eqb-true, and_parts, both_ways}
 use Rattle.ring_points.specs.declared.who.Who.{Who}
 use Rattle.ring_points.specs.Whos.{same_who}
 use Rattle.fabric_terms.specs.declared.config.FabricConfig.{FabricConfig}
 use Rattle.fabric_terms.specs.declared.message.Body.{Body}
-use Rattle.fabric_terms.specs.declared.message.Body.TheVariants as body
 use Rattle.fabric_terms.specs.declared.report.Report.{Report}
 use Rattle.fabric_terms.specs.Places.{Place}
 use Rattle.join_phases.specs.declared.phases.Phase.{Phase}
@@ -16,28 +15,28 @@ use Rattle.token_core.specs.Tokens.{Freeze}
 use Rattle.ring_rules.specs.declared.link.Link.{Link}
 use Rattle.ring_rules.specs.declared.link.LinkState.{LinkState}
 use Rattle.ring_rules.specs.declared.link.LinkState.TheVariants as state
-use Rattle.ring_rules.specs.Rings.{Slots, Work}
+use Rattle.ring_rules.specs.Rings.{Work}
 use Rattle.ring_rules.specs.Slots.{slot_at, slot_where, of_session}
 use Rattle.ring_rules.specs.Deeds.{SessionRow, in_slot, in_found, in_session}
 use Rattle.ring_machine.specs.Members.{IsMember}
 use Rattle.ring_machine.specs.Ends.{End, end_of}
-use Rattle.ring_machine.specs.Slots.{Slot, State, Unused, Abandoned, Parted, Ended, is_active}
+use Rattle.ring_machine.specs.Slots.{Slot, is_active}
 use Rattle.ring_machine.specs.Frames.{Frame}
-use Rattle.ring_machine.specs.World.{Instance, World, first_of, slot}
+use Rattle.ring_machine.specs.World.{World, first_of}
 use Rattle.ring_machine.specs.Deeds.{SlotDeed}
 use Rattle.ring_machine.specs.Guards.{MayInSlot, IsAlone}
 use Rattle.ring_machine.specs.Effects.{Outcome, outcome, effect, stepped}
 use Rattle.ring_machine.specs.Events.{IsSound}
 use Rattle.ring_machine.proofs.DeedSteps.{DeedsDone}
 use Rattle.ring_machine.proofs.Lists.{IsMember-append_right}
-use Rattle.ring_machine.proofs.Whos.{same_who-true, same_who-refl}
-use Rattle.ring_refines.specs.Images.{machine_of, state_of, slot_of, token_of}
-use Rattle.ring_refines.specs.Tables.{is_over, is_wronged, SoundLink, Has, ShowsSlots}
-use Rattle.ring_refines.specs.Shown.{IsFrozenFor, ShowsInstance}
+use Rattle.ring_machine.proofs.Whos.{same_who-true}
+use Rattle.ring_refines.specs.Images.{machine_of, state_of, slot_of, token_of, number_of, freeze_of}
+use Rattle.ring_refines.specs.Tables.{is_over, is_wronged, SoundLink}
 use Rattle.ring_refines.specs.Moves.{places_of, MovedBy, AreOver}
 use Rattle.ring_refines.specs.Refined.{Said, AllSaid}
-use Rattle.ring_refines.proofs.Places.{used_within, found_at, none_at}
-use Rattle.ring_refines.proofs.Changes.{StandsAlone, stays, goes, sound_later}
+use Rattle.ring_refines.proofs.Places.{found_at, set_other}
+use Rattle.ring_refines.proofs.Telling.{all_said_both}
+use Rattle.ring_refines.proofs.Changes.{open_shown, StandsAlone, stays, goes, sound_later}
 use Rattle.ring_refines.proofs.Freezes.{freeze_put, frozen_put, not_frozen, freeze_other, frozen_other, freeze_kept}
 use Rattle.ring_refines.proofs.Going.{Going, Makes, slot_deed, deed_going}
 
@@ -70,6 +69,16 @@ module _ {c : FabricConfig} {m : World} {x : Who} {now : ℕ} {w : Work} (sound 
 
   pub nothing_besides : (frames : List Frame) → Besides frames w.ring.phase w.sent w.told
   nothing_besides frames = record { stays = g.stays; sends = λ h. h; leads = λ k P h. h; over = λ h. h }
+
+  -- one message more, whose image is sent with the deed
+  pub one_said : (frame : Frame) (to : Who) (b : Body) → Said c.lease (frame ∷ v.sent) x to b → (p : Phase) → is_left p ≡ false →
+      Besides (frame ∷ []) p (w.sent ++ (to, b) ∷ []) w.told
+  one_said frame to b said p on_ring = record {
+    stays = on_ring;
+    sends = λ h. all_said_both c.lease (frame ∷ v.sent) x w.sent ((to, b) ∷ []) h (said, tt);
+    leads = λ k P h. h;
+    over = λ h. h;
+  }
 
   -- the work with another link at a place
   abbrev pub with_slot : ℕ → Option Link → Phase → List (Who × Body) → List Report → Work
@@ -169,7 +178,7 @@ module _ {c : FabricConfig} {m : World} {x : Who} {now : ℕ} {w : Work} (sound 
         rises = g.shows.rises;
         frozen = λ z h. let f = g.shows.frozen z h in record {
           link = f.link;
-          at = other (Some k) z.slot (apart z h) ∙ f.at;
+          at = set_other w.ring.slots i (Some k) z.slot (apart z h) ∙ f.at;
           bound = f.bound;
         };
         accuses = λ y h. h;
@@ -185,32 +194,16 @@ module _ {c : FabricConfig} {m : World} {x : Who} {now : ℕ} {w : Work} (sound 
           let there : slot_at i w.ring.slots ≡ Some f.link = subst (λ (j : ℕ). slot_at j w.ring.slots ≡ Some f.link) (sym e) f.at in
           cc (there, free)
 
-      other : (o : Option Link) (j : ℕ) → (i ≡ j → ⊥) → slot_at j (slice_set w.ring.slots i o) ≡ slot_at j w.ring.slots
-      other o j n = Rattle.ring_refines.proofs.Places.set_other w.ring.slots i o j n
-
-      freeze_elsewhere : Rattle.ring_refines.specs.Images.freeze_of (slice_set w.ring.slots i (Some k)) w.ring.token.freeze ≡
-          Rattle.ring_refines.specs.Images.freeze_of w.ring.slots w.ring.token.freeze
+      freeze_elsewhere : freeze_of (slice_set w.ring.slots i (Some k)) w.ring.token.freeze ≡
+          freeze_of w.ring.slots w.ring.token.freeze
       freeze_elsewhere = freeze_kept w.ring.slots (slice_set w.ring.slots i (Some k)) w.ring.token.freeze
-          (λ z h. ap Rattle.ring_refines.specs.Images.number_of (other (Some k) z.slot (apart z h)))
+          (λ z h. ap number_of (set_other w.ring.slots i (Some k) z.slot (apart z h)))
 
   -- no open session is with y, where no link of the table has one
   pub alone_of : (y : Who) → ((i : ℕ) (l : Link) → slot_at i w.ring.slots ≡ Some l → is_active (state_of l.state) ≡ true → l.peer ≡ y → ⊥) →
       IsAlone y (v.instance x).slots
-  alone_of y none number active far = ⊎_elim
-      (λ h. calm ((v.instance x).slots number).state h active) (λ e. there e) (g.shows.slots.over number)
-    where
-      calm : (s : State) → is_over s ≡ true → is_active s ≡ true → ⊥
-      calm Unused h a = cc (a)
-      calm Abandoned h a = cc (a)
-      calm Parted h a = cc (a)
-      calm Ended h a = cc (a)
-      calm s h a = cc (h)
-
-      there : Has w.ring.slots number → ⊥
-      there e =
-          let kept : (v.instance x).slots number ≡ slot_of e.link =
-          subst (λ (n : ℕ). (v.instance x).slots n ≡ slot_of e.link) e.numbered (g.shows.slots.kept e.place e.link e.at) in
-          none e.place e.link e.at (subst (λ (s : Slot). is_active s.state ≡ true) kept active) (subst (λ (s : Slot). s.far.who ≡ y) kept far)
+  alone_of y none =
+      open_shown g.shows.slots is_active refl (λ s. s.far.who ≡ y → ⊥) (λ i l at active far. none i l at active far)
 
   -- what a frame does in its session, and where there is none
   pub in_its_session : (from : Who) (theirs own : ℕ) (row : SessionRow) (none : Work → Work) (P : End → End → Type 0) → P (end_of from theirs) (end_of x own) →

@@ -1,6 +1,5 @@
 -- The ring of a node that starts shows its new instance.
-use Rattle.std.proofs.Common.{◌≡◌, ℕ, ◌+◌, ◌-◌, ◌^◌, ◌<◌, ◌==◌, ◌&&◌, nat_le, nat_lt, Bool, true, false, List, [], Option, Some, None, ◌⊎◌, refl, sym, ap, ◌∙◌, subst, inl, arith}
-use Rattle.std.specs.List.{list_all}
+use Rattle.std.proofs.Common.{◌≡◌, ℕ, ◌^◌, ◌==◌, ◌&&◌, nat_lt, Bool, true, false, List, [], Some, refl, sym, ◌∙◌, subst, inl, arith}
 use Rattle.std.proofs.lemmas.Bool.Decides.{nat_tests}
 use Rattle.ring_points.specs.declared.interval.Interval.{Interval}
 use Rattle.ring_points.specs.declared.who.Who.{Who}
@@ -8,18 +7,18 @@ use Rattle.ring_points.specs.Ranges.{in_ranges, whole_ring}
 use Rattle.ring_points.specs.Whos.{same_who}
 use Rattle.fabric_terms.specs.declared.config.FabricConfig.{FabricConfig}
 use Rattle.join_phases.specs.declared.phases.Phase.{Phase}
-use Rattle.join_phases.specs.Phases.{is_left, seeking, routing}
+use Rattle.join_phases.specs.Phases.{seeking, routing}
 use Rattle.ring_rules.specs.declared.link.Link.{Link}
-use Rattle.ring_rules.specs.Rings.{no_slots}
+use Rattle.ring_rules.specs.Rings.{no_slots, Work}
 use Rattle.ring_rules.specs.Slots.{slot_at, is_free}
-use Rattle.ring_rules.specs.Starts.{new_ring, start_first, node_started}
+use Rattle.ring_rules.specs.Starts.{new_ring, start_first}
 use Rattle.ring_rules.proofs.Rows.{node_started-is}
 use Rattle.ring_machine.specs.Points.{Points, is_point}
 use Rattle.ring_machine.specs.Frames.{Frame}
-use Rattle.ring_machine.specs.World.{Instance, World, first_of, born}
+use Rattle.ring_machine.specs.World.{Instance, first_of, born}
 use Rattle.ring_machine.specs.Events.{next_instance, started}
 use Rattle.ring_machine.proofs.Whos.{same_who-false, updated_cases}
-use Rattle.ring_refines.specs.Images.{machine_of, points_of, token_of}
+use Rattle.ring_refines.specs.Images.{machine_of, points_of}
 use Rattle.ring_refines.specs.Shown.{Shows, ShowsInstance}
 use Rattle.ring_refines.specs.Laws.{StartIsShown, SpentIsLeft}
 use Rattle.ring_refines.proofs.Places.{all_at}
@@ -62,7 +61,7 @@ module _ (c : FabricConfig) (time reading : ℕ) (x : Who) (sent : List Frame) w
 
 pub start_is_shown_lem : StartIsShown
 start_is_shown_lem c node reading m =
-    subst (λ (u : Rattle.ring_rules.specs.Rings.Work). Shows c (started (machine_of c) m node reading) (next_instance m node) u.ring)
+    subst (λ (u : Work). Shows c (started (machine_of c) m node reading) (next_instance m node) u.ring)
     (sym (node_started-is c (next_instance m node) false))
     (go ((next_instance m node).actor == c.first && (next_instance m node).instance == 1) refl)
   where
@@ -79,5 +78,5 @@ start_is_shown_lem c node reading m =
 
 pub spent_is_left_lem : SpentIsLeft
 spent_is_left_lem c m x still =
-    subst (λ (u : Rattle.ring_rules.specs.Rings.Work). Shows c m x u.ring) (sym (node_started-is c x true))
+    subst (λ (u : Work). Shows c m x u.ring) (sym (node_started-is c x true))
     (record { me = refl; ranges = refl; freeze = refl; slots = refl; stands_still = still })

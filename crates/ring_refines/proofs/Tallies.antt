@@ -1,15 +1,14 @@
 -- What a tally counts is a majority of the machine's answers.
-use Rattle.std.proofs.Common.{◌≡◌, ℕ, ◌+◌, ◌*◌, ◌<◌, ◌≤◌, ◌==◌, ◌&&◌, ◌||◌, nat_le, nat_lt, not, Bool, true, false, cond, List, [], ◌∷◌, ◌++◌, length, IsTrue, ◌⊎◌, refl, sym, ap, ◌∙◌, subst, inl, inr, ⊎_elim, arith}
+use Rattle.std.proofs.Common.{◌≡◌, ℕ, ◌+◌, ◌*◌, ◌<◌, ◌≤◌, ◌==◌, ◌&&◌, ◌||◌, nat_le, not, Bool, true, false, cond, List, [], ◌∷◌, ◌++◌, length, IsTrue, refl, sym, ap, ◌∙◌, subst, inl, inr, ⊎_elim, arith}
 use Rattle.std.specs.Prelude.{count_by}
-use Rattle.std.specs.List.{list_any}
-use Rattle.std.proofs.lemmas.Bool.{eqb-true, eq-eqb, leb-true, ltb-true, and_parts, not-true, both_ways}
+use Rattle.std.proofs.lemmas.Bool.{eqb-true, leb-true, ltb-true, and_parts, not-true}
 use Rattle.std.proofs.lemmas.List.Sums.{sum_by-cons}
 use Rattle.ring_points.specs.declared.who.Ruling.{Ruling}
 use Rattle.ring_points.specs.declared.who.Ruling.TheVariants.{Granted, Taken, Refused}
 use Rattle.ring_points.specs.declared.who.Who.{Who}
 use Rattle.fabric_terms.specs.declared.config.FabricConfig.{FabricConfig}
 use Rattle.arbiter_quorum.specs.Counted.{are_counted}
-use Rattle.arbiter_quorum.specs.Tallies.{Tally, is_majority, has_answered, with_answer, noted, is_granted, is_refused, count_of, is_heir, is_discharged, is_lost, verdict_of}
+use Rattle.arbiter_quorum.specs.Tallies.{Tally, is_majority, has_answered, noted, is_granted, is_refused, count_of, is_heir, is_discharged, is_lost, verdict_of}
 use Rattle.arbiter_quorum.specs.declared.verdict.Verdict.{Verdict}
 use Rattle.arbiter_quorum.specs.declared.verdict.Verdict.TheVariants as verdict
 use Rattle.arbiter_quorum.proofs.Majorities.{are_counted-push}
@@ -20,7 +19,6 @@ use Rattle.ring_machine.specs.Arbitration as machine
 use Rattle.ring_machine.specs.Arbitration.{GrantedBy, AnsweredBy, Answered}
 use Rattle.ring_machine.proofs.Counts.{is_in, AreArbiters, is_majority-list}
 use Rattle.ring_machine.proofs.Lists.{IsMember-append_cases}
-use Rattle.ring_machine.proofs.Whos.{test}
 use Rattle.ring_refines.specs.Images.{machine_of}
 use Rattle.ring_refines.specs.Tables.{SoundTally}
 

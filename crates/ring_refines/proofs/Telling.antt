@@ -1,5 +1,5 @@
 -- What a step has told and sent, with one more.
-use Rattle.std.proofs.Common.{◌≡◌, ℕ, List, [], ◌∷◌, ◌++◌, refl, sym, ap, ◌∙◌, subst}
+use Rattle.std.proofs.Common.{ℕ, List, [], ◌∷◌, ◌++◌, sym, ap, subst}
 use Rattle.ring_points.specs.declared.who.Who.{Who}
 use Rattle.fabric_terms.specs.declared.message.Body.{Body}
 use Rattle.fabric_terms.specs.declared.report.Report.{Report}
@@ -19,7 +19,7 @@ pub moved_and : (x : Who) (rs : List Report) (n m : ℕ) (P Q : ℕ → Place) (
 moved_and x [] n m P Q r h from next = (
   subst (λ (Z : ℕ → Place). TakesFrom x r Z) (sym h.1) from,
   subst (λ (k : ℕ). IsNext r k) (sym h.0) next,
-  (ap (next_after r) h.0, λ j p. place_after x r p (h.1 j p))
+  (ap (next_after r) h.0, λ j p. place_after x r p (h.1 j p)),
 )
 moved_and x (s ∷ rs) n m P Q r h from next = (h.0, h.1, moved_and x rs (next_after s n) m (λ p. place_after x s p (P p)) Q r h.2 from next)
 

@@ -1,5 +1,5 @@
 -- Deeds of one slot that change the token or move points.
-use Rattle.std.proofs.Common.{◌≡◌, ℕ, ◌+◌, ◌<◌, ◌==◌, Bool, true, false, cond, List, [], ◌∷◌, ◌++◌, Option, Some, None, ◌⊎◌, refl, sym, ap, ◌∙◌, subst, inl, inr, ⊎_elim}
+use Rattle.std.proofs.Common.{◌≡◌, ℕ, ◌==◌, Bool, true, false, cond, List, ◌++◌, Option, Some, None, refl, sym, ap, ◌∙◌, subst}
 use Rattle.std.specs.Prelude.{slice_set}
 use Rattle.ring_points.specs.declared.interval.Interval.{Interval}
 use Rattle.ring_points.specs.Ranges.{in_ranges}
@@ -7,16 +7,13 @@ use Rattle.ring_points.specs.declared.who.Who.{Who}
 use Rattle.fabric_terms.specs.declared.config.FabricConfig.{FabricConfig}
 use Rattle.fabric_terms.specs.declared.message.Body.{Body}
 use Rattle.fabric_terms.specs.declared.report.Report.{Report}
-use Rattle.fabric_terms.specs.declared.report.Report.TheVariants as report
-use Rattle.fabric_terms.specs.Places.{Place, With, Flying, moved_to, place_after, TakesFrom}
-use Rattle.join_phases.specs.declared.phases.Phase.{Phase}
-use Rattle.join_phases.specs.Phases.{is_left}
+use Rattle.fabric_terms.specs.Places.{Place, Flying, moved_to}
 use Rattle.token_core.specs.Tokens as token
 use Rattle.token_core.specs.Tokens.{Freeze}
 use Rattle.token_core.specs.Laws.{IsRising}
 use Rattle.ring_rules.specs.Deeds as rows
 use Rattle.ring_rules.specs.declared.link.Link.{Link}
-use Rattle.ring_rules.specs.Rings.{Ring, Work}
+use Rattle.ring_rules.specs.Rings.{Work}
 use Rattle.ring_rules.specs.Slots.{slot_at}
 use Rattle.ring_machine.specs.Members.{IsMember}
 use Rattle.ring_machine.specs.Ends.{End, end_of}
@@ -27,7 +24,7 @@ use Rattle.ring_machine.specs.World as world
 use Rattle.ring_machine.specs.World.{World, Settings, slot}
 use Rattle.ring_machine.specs.Deeds.{SlotDeed, InSlot}
 use Rattle.ring_machine.specs.Guards.{MayInSlot}
-use Rattle.ring_machine.specs.Effects.{Outcome, outcome, effect, moved, done}
+use Rattle.ring_machine.specs.Effects.{Outcome, outcome, effect, moved}
 use Rattle.ring_machine.specs.Events.{IsSound, Does, after}
 use Rattle.ring_machine.specs.Laws.{MovesInSlot, IsFlight}
 use Rattle.ring_machine.proofs.LawProofs.{moves_in_slot}
@@ -38,7 +35,6 @@ use Rattle.ring_refines.specs.Moves.{place_of, places_of, MovedBy, AreOver}
 use Rattle.ring_refines.specs.Refined.{AllSaid}
 use Rattle.ring_refines.proofs.Changes.{NewAt, only_at}
 use Rattle.ring_refines.proofs.Freezes.{undone_is, undone_frozen}
-use Rattle.ring_refines.proofs.Ranges.{Rises}
 use Rattle.ring_refines.proofs.Going.{Going, Makes, slot_deed}
 
 -- points that the machine moves are told to be moved

@@ -1,40 +1,77 @@
 -- A frame of a session that the table does not have is answered by Gone.
-use Rattle.std.proofs.Common.{◌≡◌, ℕ, ◌==◌, ◌&&◌, true, false, List, [], ◌∷◌, ◌++◌, Option, Some, None, ◌⊎◌, refl, sym, ap, ◌∙◌, subst, inl, inr, ⊎_elim}
+use Rattle.std.proofs.Common.{◌≡◌, ℕ, ◌==◌, ◌&&◌, true, false, [], ◌∷◌, Some, None, refl, sym, ap, ◌∙◌, subst, inl, inr, ⊎_elim}
 use Rattle.std.proofs.lemmas.Bool.{eq-eqb, and_from, both_ways}
 use Rattle.ring_points.specs.declared.who.Who.{Who}
 use Rattle.ring_points.specs.Whos.{same_who}
 use Rattle.fabric_terms.specs.declared.config.FabricConfig.{FabricConfig}
 use Rattle.fabric_terms.specs.declared.message.Body.TheVariants as body
-use Rattle.ring_rules.specs.declared.link.Link.{Link}
 use Rattle.ring_rules.specs.declared.link.LinkState.{LinkState}
 use Rattle.ring_rules.specs.declared.link.LinkState.TheVariants as state
-use Rattle.ring_rules.specs.Rings.{Work}
-use Rattle.ring_rules.specs.Slots.{slot_at, slot_where, of_session}
+use Rattle.ring_rules.specs.Rings.{Slots, Work}
+use Rattle.ring_rules.specs.declared.link.Link.{Link}
+use Rattle.ring_rules.specs.Slots.{is_hello, slot_at, slot_where, of_session}
 use Rattle.ring_rules.specs.Deeds.{answer_unknown}
 use Rattle.ring_machine.specs.Members.{IsMember}
 use Rattle.ring_machine.specs.Ends.{End, end_of, replaced}
-use Rattle.ring_machine.specs.Slots.{Slot, State, Unused, Asking, Abandoned, Parted, Ended, is_used, is_settled, is_engaged}
+use Rattle.ring_machine.specs.Slots.{Slot, State, Unused, Asking, Abandoned, Parted, Ended, is_used, is_settled}
 use Rattle.ring_machine.specs.Frames.{Frame, Gone, ends_of}
-use Rattle.ring_machine.specs.World.{Instance, World, Unborn, slot, unborn}
+use Rattle.ring_machine.specs.World.{Instance, World, slot, unborn}
 use Rattle.ring_machine.specs.Deeds.{UnknownDenied, InSlot}
 use Rattle.ring_machine.specs.Guards.{Came, IsUnknown, other_session, abandoned, parted}
-use Rattle.ring_machine.specs.Effects.{outcome, changed, stepped}
+use Rattle.ring_machine.specs.Effects.{outcome, stepped}
 use Rattle.ring_machine.specs.Events.{IsSound}
 use Rattle.ring_machine.proofs.DeedSteps.{DeedsDone, deed_done}
-use Rattle.ring_machine.proofs.Lists.{IsMember-append_right}
 use Rattle.ring_machine.proofs.Whos.{same_who-refl, replaced_cases}
 use Rattle.ring_refines.specs.Images.{machine_of, state_of, slot_of}
 use Rattle.ring_refines.specs.Tables.{is_over, Has}
 use Rattle.ring_refines.specs.Shown.{ShowsInstance}
-use Rattle.ring_refines.specs.Refined.{Beside}
 use Rattle.ring_refines.proofs.Places.{none_at}
-use Rattle.ring_refines.proofs.Changes.{shows_later}
+use Rattle.ring_refines.proofs.Changes.{kept_at, shows_later}
 use Rattle.ring_refines.proofs.Telling.{over_later, all_said_later, all_said_both}
 use Rattle.ring_refines.proofs.Going.{Going, own_stepped, beside_then, beside_done}
 
 -- a function with the value that it has
 replaced_same : (f : ℕ → Slot) (n : ℕ) → replaced f n (f n) ≡ f
 replaced_same f n = λ j k. replaced_cases (λ s. s ≡ f k) f n k (f n) (λ e. ap f e) (λ e. refl) j
+
+pub hello_is : (s : LinkState) → is_hello s ≡ true → s ≡ state.Hello
+hello_is state.Hello h = refl
+hello_is s h = absurd (cc (h))
+
+asking_is : (s : LinkState) → state_of s ≡ Asking → s ≡ state.Hello
+asking_is state.Hello h = refl
+asking_is state.Offered h = absurd (cc (h))
+asking_is state.Bound h = absurd (cc (h))
+asking_is state.Parting h = absurd (cc (h))
+asking_is state.Accused h = absurd (cc (h))
+asking_is state.Discharged h = absurd (cc (h))
+asking_is state.Heir h = absurd (cc (h))
+
+-- the table has the link of this number, which greets
+pub record Greeting (slots : Slots) (number : ℕ) (s : Slot) : Type 0 where
+  pub place : ℕ
+  pub link : Link
+  pub at : slot_at place slots ≡ Some link
+  pub numbered : link.mine ≡ number
+  pub greets : link.state ≡ state.Hello
+  pub kept : s ≡ slot_of link
+
+-- a slot that asks is in the table
+pub asking_held : {c : FabricConfig} {m : World} {x : Who} {now : ℕ} {w : Work} → (g : Going c m x now w) → (number : ℕ) →
+    (slot g.after (end_of x number)).state ≡ Asking → Greeting w.ring.slots number (slot g.after (end_of x number))
+asking_held {x = x} {w = w} g number a = ⊎_elim (λ h. absurd (let b = a in cc (h, b))) (λ e. there e) (g.shows.slots.over number)
+  where
+    there : Has w.ring.slots number → Greeting w.ring.slots number (slot g.after (end_of x number))
+    there e =
+        let kept = kept_at g.shows.slots number e in
+        record {
+          place = e.place;
+          link = e.link;
+          at = e.at;
+          numbered = e.numbered;
+          greets = asking_is e.link.state (sym (ap (λ (s : Slot). s.state) kept) ∙ a);
+          kept = kept;
+        }
 
 module _ {c : FabricConfig} {m : World} {x : Who} {now : ℕ} {w : Work} (sound : IsSound (machine_of c)) (g : Going c m x now w) where
   abbrev v : World
@@ -101,7 +138,7 @@ module _ {c : FabricConfig} {m : World} {x : Who} {now : ℕ} {w : Work} (sound 
       there e = other_session (settled e.link.state refl) (λ f. both_ways _ fails (passes (sym (ap (λ (s : Slot). s.far) kept) ∙ f)))
         where
           kept : slot v (end_of x own) ≡ slot_of e.link
-          kept = subst (λ (n : ℕ). (v.instance x).slots n ≡ slot_of e.link) e.numbered (g.shows.slots.kept e.place e.link e.at)
+          kept = kept_at g.shows.slots own e
 
           state_is : (slot v (end_of x own)).state ≡ state_of e.link.state
           state_is = ap (λ (s : Slot). s.state) kept

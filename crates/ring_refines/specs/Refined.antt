@@ -1,5 +1,5 @@
 -- What a step of x is on the machine.
-use Rattle.std.specs.Prelude.{◌≡◌, ℕ, Bool, true, false, List, [], ◌∷◌, IsTrue}
+use Rattle.std.specs.Prelude.{◌≡◌, ℕ, false, List, [], ◌∷◌, IsTrue}
 use Rattle.ring_points.specs.declared.who.Who.{Who}
 use Rattle.ring_points.specs.Ranges.{rises_from}
 use Rattle.ring_points.specs.Whos.{same_who}
