@@ -34,8 +34,8 @@ LeaveIsTold a =
 -- a running arbitrator's table is that of its synced records
 abbrev pub TableIsKept : Upper → Type 0
 TableIsKept a =
-    (is_frame : List ℕ → Bool) (c : FabricConfig) (h : History) → Valid a is_frame c h → (arbiter : ℕ) (s : ArbiterState a) → at arbiter (world_after a c h).arbiters ≡ Some s →
-    s.table ≡ accusations_after [] (kept_of (world_after a c h) (arbiter_actor arbiter))
+    (is_frame : List ℕ → Bool) (c : FabricConfig) (h : History) → Valid a is_frame c h → (arbiter : ℕ) (s : ArbiterState a) →
+    at arbiter (world_after a c h).arbiters ≡ Some s → s.table ≡ accusations_after [] (kept_of (world_after a c h) (arbiter_actor arbiter))
 
 -- it holds of every valid history of every sound configuration
 abbrev pub OverValidRuns : Upper → (FabricConfig → History → Type 0) → Type 0
@@ -56,7 +56,8 @@ PlacesAreKept a = OverValidRuns a (λ c h. PlaceKept (node_instance c.first 1) (
 -- no majority answered x about y while one answered y about x
 abbrev pub AnswersExclude : Upper → Type 0
 AnswersExclude a =
-    OverValidRuns a (λ c h. (x y : Who) → MajorityAnswered c (world_after a c h).frames x y → MajorityAnswered c (world_after a c h).frames y x → ⊥)
+    OverValidRuns a
+    (λ c h. (x y : Who) → MajorityAnswered c (world_after a c h).frames x y → MajorityAnswered c (world_after a c h).frames y x → ⊥)
 
 -- one instance at most has a majority's grant about another
 abbrev pub OneHeir : Upper → Type 0
