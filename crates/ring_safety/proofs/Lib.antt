@@ -7,6 +7,7 @@ pub mod Kept
 pub mod Steps
 pub mod ArbiterSteps
 pub mod Orderly
+pub mod Growth
 pub mod Tables
 pub mod Moves
 pub mod Follows

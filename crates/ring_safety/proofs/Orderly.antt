@@ -25,7 +25,7 @@ use Rattle.world_rules.specs.Uppers.{Upper, Did}
 use Rattle.world_rules.specs.Worlds.{World, Running, Stepped, quiet, kept_of, node_acted, arbiter_acted, arbiter_who}
 use Rattle.ring_safety.specs.Above.{StaysAbove}
 use Rattle.ring_safety.specs.Held.{owned_by}
-use Rattle.ring_safety.specs.Laws.{LastOwnIsHeld, LeaveIsTold}
+use Rattle.ring_safety.specs.Laws.{InstancesAreCounted, LastOwnIsHeld, LeaveIsTold}
 use Rattle.ring_safety.proofs.Happens.{Cases, by_cases}
 use Rattle.ring_safety.proofs.Kept.{put_cases, without_cases, kept_here, kept_there, boots_append, boots_still, no_boots}
 use Rattle.ring_safety.proofs.Said.{or_false}
@@ -275,3 +275,6 @@ last_own_is_held_lem a stays c h node s there = (orderly a c stays h).own node s
 
 pub leave_is_told_lem : (a : Upper) → StaysAbove a → LeaveIsTold a
 leave_is_told_lem a stays c h node s there = (orderly a c stays h).left node s there
+
+pub instances_are_counted_lem : (a : Upper) → StaysAbove a → InstancesAreCounted a
+instances_are_counted_lem a stays c h node s there = (orderly a c stays h).name node s there

@@ -1,4 +1,4 @@
-ghost use Rattle.ring_safety.specs.Laws.{AnswersExclude, LastOwnIsHeld, LeaveIsTold, LeavesBeforeTakeOver, OneHeir, PlacesAreKept, RingIsSafe, TableIsKept};
+ghost use Rattle.ring_safety.specs.Laws.{AnswersExclude, ClocksAreOfRunning, InstancesAreCounted, LastOwnIsHeld, LeaveIsTold, LeavesBeforeTakeOver, OneHeir, PlacesAreKept, RecordsGrow, RingIsSafe, TableIsKept};
 ghost use Rattle.ring_safety.specs.Nothing.{nothing};
 
 use crate::above::{Above, Nothing};
@@ -11,6 +11,21 @@ pub fn last_own_is_held<A: Above>()
 /// In every run, a running instance has told that it left exactly if it has left.
 pub fn leave_is_told<A: Above>()
     ensures { LeaveIsTold A.upper }
+{}
+
+/// In every run, the clocks are those of the running instances, each with its present reading.
+pub fn clocks_are_of_running<A: Above>()
+    ensures { ClocksAreOfRunning A.upper }
+{}
+
+/// In every run, who runs under a node's number is the instance of the number of its recorded starts.
+pub fn instances_are_counted<A: Above>()
+    ensures { InstancesAreCounted A.upper }
+{}
+
+/// In every run, an actor's synced records only grow, at their end.
+pub fn records_grow<A: Above>()
+    ensures { RecordsGrow A.upper }
 {}
 
 /// In every valid run, a running arbitrator's table is that of its synced records.

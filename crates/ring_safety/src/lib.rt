@@ -12,6 +12,7 @@ mod laws;
 
 pub use above::{Above, Nothing};
 pub use laws::{
-    answers_exclude, last_own_is_held, leave_is_told, leaves_before_take_over, one_heir_at_most,
-    places_are_kept, ring_is_safe, ring_is_safe_with_nothing_above, table_is_kept,
+    answers_exclude, clocks_are_of_running, instances_are_counted, last_own_is_held, leave_is_told,
+    leaves_before_take_over, one_heir_at_most, places_are_kept, records_grow, ring_is_safe,
+    ring_is_safe_with_nothing_above, table_is_kept,
 };
