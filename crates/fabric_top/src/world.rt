@@ -199,6 +199,7 @@ impl World {
         ensures config { self.new.config ≡ self.old.config }
         ensures events { OnOk result (self.new.events ≡ self.old.events + 1) }
         ensures answers { (w : model.World) → Stands self.old w → Answers self.old self.new w (Event.Start node (Some reading)) result }
+        ensures refused { IfErr result (λ e. e ≢ EventRefusal.OutOfMemory → self.new ≡ self.old) }
     {
         if !is_configured(&self.config, node) {
             return Err(EventRefusal::NoSuch);
@@ -243,6 +244,7 @@ impl World {
         ensures config { self.new.config ≡ self.old.config }
         ensures events { OnOk result (self.new.events ≡ self.old.events + 1) }
         ensures answers { (w : model.World) → Stands self.old w → Answers self.old self.new w (Event.Stop node) result }
+        ensures refused { OnErr result (self.new ≡ self.old) }
     {
         let at = match position_of(&self.running, node) {
             Some(i) => i,
@@ -268,6 +270,7 @@ impl World {
         ensures config { self.new.config ≡ self.old.config }
         ensures events { OnOk result (self.new.events ≡ self.old.events + 1) }
         ensures answers { (w : model.World) → Stands self.old w → AnswersTick self.old self.new w (Event.Tick advance readings.now) result }
+        ensures refused { OnErr result (self.new ≡ self.old) }
     {
         if !self.names_all(readings) {
             return Err(EventRefusal::NoSuch);
@@ -296,6 +299,7 @@ impl World {
         ensures config { self.new.config ≡ self.old.config }
         ensures events { OnOk result (self.new.events ≡ self.old.events + 1) }
         ensures answers { (w : model.World) → Stands self.old w → Answers self.old self.new w event.now result }
+        ensures refused { IfErr result (λ e. e ≢ EventRefusal.OutOfMemory → self.new ≡ self.old) }
     {
         match event {
             Event::Start {
