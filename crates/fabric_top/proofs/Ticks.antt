@@ -1,11 +1,12 @@
 -- A tick, reading by reading.
-use Rattle.std.proofs.Common.{◌≡◌, ℕ, suc, ◌+◌, ◌≤◌, ◌<◌, Bool, true, false, ◌&&◌, eqb, List, [], ◌∷◌, ◌++◌, length, drop, get_or, arith, refl, ap, sym, subst, ◌∙◌, add-one, drop-cons}
+use Rattle.std.proofs.Common.{◌≡◌, ℕ, zero, suc, ◌+◌, ◌≤◌, ◌<◌, Bool, true, false, ◌&&◌, eqb, List, [], ◌∷◌, ◌++◌, length, drop, get_or, arith, refl, ap, sym, subst, ◌∙◌, add-one, drop-cons}
 use Rattle.std.proofs.lemmas.List.{append_assoc, append-nil, drop_all}
 use Rattle.std.proofs.lemmas.Bool.Decides.{nat_tests}
 use Rattle.drift_clock.specs.declared.bound.Bound.{Bound}
 use Rattle.drift_clock.specs.Within.{Pair, FitsAll, fits_all}
 use Rattle.drift_clock.proofs.Decided.{fits_decided}
-use Rattle.fabric_top.proofs.Running.{stand_push}
+use Rattle.std.specs.Prelude.{slice_set}
+use Rattle.fabric_top.proofs.Running.{stand-length, stand_at}
 use Rattle.fabric_top.specs.declared.world.Running.{Running as Code}
 use Rattle.fabric_top.specs.Stands.{AllStand, StandsFor}
 use Rattle.fabric_top.specs.Worlds.{Running, names_all, all_fit, ticked, shown}
@@ -30,9 +31,6 @@ names_next rs xs i r x h k = at_both names_all rs xs i r x h k
 pub fit_next : (b : Bound) (t : ℕ) (rs : List (ℕ × ℕ)) (xs : List Running) (i : ℕ) (r : ℕ × ℕ) (x : Running) → i < length rs → i < length xs → all_fit b t (drop i rs) (drop i xs) ≡ (fits_all b (get_or xs i x).pairs (t, (get_or rs i r).1) && all_fit b t (drop (i + 1) rs) (drop (i + 1) xs))
 fit_next b t rs xs i r x h k = at_both (all_fit b t) rs xs i r x h k
 
-pub ticked_next : (t : ℕ) (rs : List (ℕ × ℕ)) (xs : List Running) (i : ℕ) (r : ℕ × ℕ) (x : Running) → i < length rs → i < length xs → ticked t (drop i rs) (drop i xs) ≡ shown t (get_or rs i r).1 (get_or xs i x) ∷ ticked t (drop (i + 1) rs) (drop (i + 1) xs)
-ticked_next t rs xs i r x h k = at_both (ticked t) rs xs i r x h k
-
 pub names_differ : (rs : List (ℕ × ℕ)) (xs : List Running) → (length rs ≡ length xs → ⊥) → names_all rs xs ≡ false
 names_differ rs xs ne = at_value (names_all rs xs) refl
   where
@@ -52,19 +50,15 @@ unequal a b h = grind (arith, nat_tests)
 pub names_end : (rs : List (ℕ × ℕ)) (xs : List Running) (i : ℕ) → length rs ≤ i → length xs ≤ i → true ≡ names_all (drop i rs) (drop i xs)
 names_end rs xs i h k = rw (drop_all i rs h, drop_all i xs k) refl
 
--- what the first i readings have made
-pub record ShownSoFar (b : Bound) (t : ℕ) (rs : List (ℕ × ℕ)) (xs : List Running) (i : ℕ) (next : List Code) : Type 0 where
-  pub made : List Running
-  pub stand : AllStand b t next made
-  pub rest : made ++ ticked t (drop i rs) (drop i xs) ≡ ticked t rs xs
-  pub fit : all_fit b t (drop i rs) (drop i xs) ≡ all_fit b t rs xs
+-- the test says yes where the fact holds, and no where it fails
+pub fits_again : (b b' : Bound) (pairs : List Pair) (now : Pair) → b ≡ b' → fits_all b' pairs now ≡ true → FitsAll b pairs now
+fits_again b b' pairs now e h = subst (λ q. FitsAll q pairs now) (sym e) ((fits_decided b' pairs now).0 h)
 
--- the test says no where the fact fails, and yes where it holds
 pub refused : (b b' : Bound) (pairs : List Pair) (now : Pair) → b ≡ b' → (FitsAll b pairs now → ⊥) → fits_all b' pairs now ≡ false
 refused b b' pairs now e fails = at_value (fits_all b' pairs now) refl
   where
     at_value : (v : Bool) → fits_all b' pairs now ≡ v → fits_all b' pairs now ≡ false
-    at_value true h = absurd (fails (subst (λ q. FitsAll q pairs now) (sym e) ((fits_decided b' pairs now).0 h)))
+    at_value true h = absurd (fails (fits_again b b' pairs now e h))
     at_value false h = h
 
 pub accepted : (b b' : Bound) (pairs : List Pair) (now : Pair) → b ≡ b' → FitsAll b pairs now → fits_all b' pairs now ≡ true
@@ -73,19 +67,50 @@ accepted b b' pairs now e fits = (fits_decided b' pairs now).1 (subst (λ q. Fit
 pub fit_stop : (b : Bound) (t : ℕ) (rs : List (ℕ × ℕ)) (xs : List Running) (i : ℕ) (r : ℕ × ℕ) (x : Running) → i < length rs → i < length xs → fits_all b (get_or xs i x).pairs (t, (get_or rs i r).1) ≡ false → all_fit b t (drop i rs) (drop i xs) ≡ false
 fit_stop b t rs xs i r x h k e = fit_next b t rs xs i r x h k ∙ ap (λ v. v && all_fit b t (drop (i + 1) rs) (drop (i + 1) xs)) e
 
--- one more reading is shown
-pub shown_more : (b : Bound) (t : ℕ) (rs : List (ℕ × ℕ)) (xs : List Running) (i : ℕ) (next more : List Code) (value : Code) (r : ℕ × ℕ) (x : Running) → i < length rs → i < length xs → more ≡ next ++ value ∷ [] → StandsFor b t value (shown t (get_or rs i r).1 (get_or xs i x)) → fits_all b (get_or xs i x).pairs (t, (get_or rs i r).1) ≡ true → ShownSoFar b t rs xs i next → ShownSoFar b t rs xs (i + 1) more
-shown_more b t rs xs i next more value r x h k pushed one fits so =
-    let new : Running = shown t (get_or rs i r).1 (get_or xs i x) in
-    record {
-      made = so.made ++ new ∷ [];
-      stand = subst (λ (m : List Code). AllStand b t m (so.made ++ new ∷ [])) (sym pushed) (stand_push b t next so.made value new so.stand one);
-      rest = append_assoc so.made (new ∷ []) (ticked t (drop (i + 1) rs) (drop (i + 1) xs)) ∙ (ap (λ m. so.made ++ m) (sym (ticked_next t rs xs i r x h k)) ∙ so.rest);
-      fit = sym (fit_next b t rs xs i r x h k ∙ ap (λ v. v && all_fit b t (drop (i + 1) rs) (drop (i + 1) xs)) fits) ∙ so.fit;
-    }
+pub fit_go : (b : Bound) (t : ℕ) (rs : List (ℕ × ℕ)) (xs : List Running) (i : ℕ) (r : ℕ × ℕ) (x : Running) → i < length rs → i < length xs → fits_all b (get_or xs i x).pairs (t, (get_or rs i r).1) ≡ true → all_fit b t (drop (i + 1) rs) (drop (i + 1) xs) ≡ all_fit b t (drop i rs) (drop i xs)
+fit_go b t rs xs i r x h k e = sym (fit_next b t rs xs i r x h k ∙ ap (λ v. v && all_fit b t (drop (i + 1) rs) (drop (i + 1) xs)) e)
 
-pub shown_all : (b : Bound) (t : ℕ) (rs : List (ℕ × ℕ)) (xs : List Running) (i : ℕ) (next : List Code) → length rs ≤ i → ShownSoFar b t rs xs i next → AllStand b t next (ticked t rs xs) × (all_fit b t rs xs ≡ true)
-shown_all b t rs xs i next h so =
-    let none : drop i rs ≡ [] = drop_all i rs h in
-    let all : so.made ≡ ticked t rs xs = sym (append-nil so.made) ∙ (ap (λ m. so.made ++ ticked t m (drop i xs)) (sym none) ∙ so.rest) in
-    (subst (λ (m : List Running). AllStand b t next m) all so.stand, sym so.fit ∙ ap (λ m. all_fit b t m (drop i xs)) none)
+pub fit_end : (b : Bound) (t : ℕ) (rs : List (ℕ × ℕ)) (xs : List Running) (i : ℕ) → length rs ≤ i → true ≡ all_fit b t (drop i rs) (drop i xs)
+fit_end b t rs xs i h = rw (drop_all i rs h) refl
+
+both : (a b : Bool) → (a && b) ≡ true → (a ≡ true) × (b ≡ true)
+both true b e = (refl, e)
+both false b e = cc
+
+pub fit_here : (b : Bound) (t : ℕ) (rs : List (ℕ × ℕ)) (xs : List Running) (i : ℕ) (r : ℕ × ℕ) (x : Running) → all_fit b t rs xs ≡ true → i < length rs → i < length xs → fits_all b (get_or xs i x).pairs (t, (get_or rs i r).1) ≡ true
+fit_here b t [] xs i r x e h k = absurd (omega arith)
+fit_here b t (q ∷ rs) [] i r x e h k = absurd (omega arith)
+fit_here b t (q ∷ rs) (y ∷ xs) zero r x e h k = (both (fits_all b y.pairs (t, q.1)) (all_fit b t rs xs) e).0
+fit_here b t (q ∷ rs) (y ∷ xs) (suc i) r x e h k = fit_here b t rs xs i r x (both (fits_all b y.pairs (t, q.1)) (all_fit b t rs xs) e).1 (omega arith) (omega arith)
+
+-- the first i of the running instances show their readings
+abbrev pub shown_first : ℕ → ℕ → List (ℕ × ℕ) → List Running → List Running
+shown_first t zero rs xs = xs
+shown_first t (suc i) [] xs = xs
+shown_first t (suc i) (r ∷ rs) [] = []
+shown_first t (suc i) (r ∷ rs) (x ∷ xs) = shown t r.1 x ∷ shown_first t i rs xs
+
+first_here : (b : Bound) (t i : ℕ) (now : List Code) (rs : List (ℕ × ℕ)) (xs : List Running) (a : Code) (x : Running) → AllStand b t now (shown_first t i rs xs) → i < length xs → StandsFor b t (get_or now i a) (get_or xs i x)
+first_here b t zero now rs xs a x h k = stand_at b t now xs zero a x h (omega (arith, stand-length b t now xs h))
+first_here b t (suc i) now [] xs a x h k = stand_at b t now xs (suc i) a x h (omega (arith, stand-length b t now xs h))
+first_here b t (suc i) now (r ∷ rs) [] a x h k = absurd (omega arith)
+first_here b t (suc i) [] (r ∷ rs) (y ∷ xs) a x h k = absurd h
+first_here b t (suc i) (q ∷ now) (r ∷ rs) (y ∷ xs) a x h k = first_here b t i now rs xs a x h.1 (omega arith)
+
+-- the running instance at place i, before it shows its reading
+pub first_at : (b : Bound) (t i : ℕ) (now : List Code) (rs : List (ℕ × ℕ)) (xs : List Running) (a : Code) (x : Running) → AllStand b t now (shown_first t i rs xs) → i < length xs → a ≡ get_or now i a → StandsFor b t a (get_or xs i x)
+first_at b t i now rs xs a x h k e = subst (λ (q : Code). StandsFor b t q (get_or xs i x)) (sym e) (first_here b t i now rs xs a x h k)
+
+pub first_next : (b : Bound) (t i : ℕ) (now : List Code) (rs : List (ℕ × ℕ)) (xs : List Running) (v : Code) (r : ℕ × ℕ) (x : Running) → AllStand b t now (shown_first t i rs xs) → i < length rs → i < length xs → StandsFor b t v (shown t (get_or rs i r).1 (get_or xs i x)) → AllStand b t (slice_set now i v) (shown_first t (suc i) rs xs)
+first_next b t i now [] xs v r x h k l one = absurd (omega arith)
+first_next b t i now (q ∷ rs) [] v r x h k l one = absurd (omega arith)
+first_next b t zero [] (q ∷ rs) (y ∷ xs) v r x h k l one = absurd h
+first_next b t zero (a ∷ now) (q ∷ rs) (y ∷ xs) v r x h k l one = (one, h.1)
+first_next b t (suc i) [] (q ∷ rs) (y ∷ xs) v r x h k l one = absurd h
+first_next b t (suc i) (a ∷ now) (q ∷ rs) (y ∷ xs) v r x h k l one = (h.0, first_next b t i now rs xs v r x h.1 (omega arith) (omega arith) one)
+
+pub first_done : (t : ℕ) (rs : List (ℕ × ℕ)) (xs : List Running) → length rs ≡ length xs → shown_first t (length rs) rs xs ≡ ticked t rs xs
+first_done t [] [] e = refl
+first_done t [] (x ∷ xs) e = absurd (omega arith)
+first_done t (r ∷ rs) [] e = absurd (omega arith)
+first_done t (r ∷ rs) (x ∷ xs) e = ap (λ m. shown t r.1 x ∷ m) (first_done t rs xs (omega arith))

@@ -69,6 +69,11 @@ abbrev pub Answers : World → World → model.World → Event → Result (Optio
 Answers old new w event (Ok acted) = Accepts old w event × Does new w event acted
 Answers old new w event (Err refusal) = Refuses refusal old w event
 
+-- what a tick is answered
+abbrev pub AnswersTick : {A : Type 0} → World → World → model.World → Event → Result A EventRefusal → Type 0
+AnswersTick old new w event (Ok _) = Accepts old w event × Does new w event None
+AnswersTick old new w event (Err refusal) = Refuses refusal old w event
+
 -- the numbers of an event that the world takes: a start of a node, a stop, or a tick
 abbrev pub FitsHere : Event → Type 0
 FitsHere (Start n reading) = IfSome reading (λ r. r ≤ 10 ^ 15)

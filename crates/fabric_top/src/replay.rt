@@ -1,10 +1,10 @@
 // The lines of a schedule, one after another, and what is written of them.
-ghost use Rattle.std.specs.Prelude.{◌≡◌, ◌<◌, ◌≤◌, ◌+◌, ◌++◌, OnOk, ◌^◌, ◌∷◌, [], ℕ, Some, None, IsTrue, IfOk, IfSome, length};
+ghost use Rattle.std.specs.Prelude.{◌≡◌, ◌<◌, ◌≤◌, ◌+◌, ◌++◌, OnOk, ◌^◌, ◌∷◌, [], ℕ, List, Some, None, IsTrue, IfOk, IfSome, length};
 ghost use Rattle.fabric_terms.specs.declared.config.FabricConfig.{FabricConfig as Configuration};
-ghost use Rattle.sched_text.specs.Lines.{lines_of};
+ghost use Rattle.sched_text.specs.Lines.{event_of, lines_of};
 ghost use Rattle.fabric_top.specs.Worlds.{History, world_after, is_run, is_there, is_within, has_room};
-ghost use Rattle.fabric_top.specs.Stands.{FitsHere};
-ghost use Rattle.fabric_top.specs.Schedule.{is_ignored, most_lines, line_verdict, refusal_at, unless_there};
+ghost use Rattle.fabric_top.specs.Stands.{FitsHere, IsWorld};
+ghost use Rattle.fabric_top.specs.Schedule.{is_ignored, most_lines, line_verdict, event_verdict, refusal_at, unless_there};
 ghost use Rattle.fabric_terms.specs.Sound.{IsSound};
 ghost use Rattle.fabric_top.specs.Output.{places_where, end_line, fault_line, IsAnswer};
 ghost use Rattle.fabric_top.specs.Codes.{status_of};
@@ -18,7 +18,7 @@ use crate::status::Refusal;
 use crate::world::{EventRefusal, World};
 use fabric_config::{ConfigError, read_config};
 use fabric_terms::{Event, FabricConfig, Head, OutOfMemory};
-use sched_text::{print_report, read_event};
+use sched_text::{TickReadings, print_report, read_event, read_tick};
 use std::alloc::Global;
 
 /// How many bytes a line may have.
@@ -70,7 +70,6 @@ fn refusal_of(refusal: EventRefusal, number: u64) -> Option<Refusal>
 /// Takes an event, and writes what is told of it. Gives how it is refused, if it is.
 fn take_event(
     world: &mut World,
-    alloc: Global,
     number: u64,
     event: &Event,
     text: &mut Vec<u8>,
@@ -80,7 +79,7 @@ fn take_event(
     requires fits { FitsHere event.now }
     ensures { (c : Configuration) (h : History) → At world.old text.old.items c h → IfOk result (λ refused. Follows c h number (unless_there number event.now (is_there c (world_after c h) event.now) (is_within c (world_after c h) event.now) (has_room (world_after c h) (length h) event.now)) refused world.new text.new.items) }
 {
-    match world.apply(alloc, event) {
+    match world.apply(event) {
         Ok(None) => Ok(None),
         Ok(Some(acted)) => {
             let head = Head {
@@ -101,13 +100,56 @@ fn take_event(
     }
 }
 
-/// Takes a line, and writes what is told of it. Gives how it is refused, if it is.
+/// Takes a tick, of which nothing is told. Gives how it is refused, if it is.
+fn take_tick(
+    world: &mut World,
+    number: u64,
+    advance: u64,
+    readings: &[(u16, u64)],
+) -> Result<Option<Refusal>, OutOfMemory>
+    requires world { IsWorld world.old }
+    requires fits { FitsHere (Event.Tick advance readings.now) }
+    ensures { (c : Configuration) (h : History) (text : List ℕ) → At world.old text c h → IfOk result (λ refused. let e = Event.Tick advance readings.now in Follows c h number (unless_there number e (is_there c (world_after c h) e) (is_within c (world_after c h) e) (has_room (world_after c h) (length h) e)) refused world.new text) }
+{
+    match world.tick(advance, readings) {
+        Ok(()) => Ok(None),
+        Err(refusal) => match refusal_of(refusal, number) {
+            Some(refusal) => Ok(Some(refusal)),
+            None => Err(OutOfMemory),
+        },
+    }
+}
+
+/// Takes a line of another event.
+#[tactic(auto, unfolding(crate::specs::Schedule::line_verdict))]
+fn take_other(
+    world: &mut World,
+    number: u64,
+    line: &[u8],
+    text: &mut Vec<u8>,
+) -> Result<Option<Refusal>, OutOfMemory>
+    requires { IsAlong world.old text.old.items }
+    ensures { (c : Configuration) (h : History) → At world.old text.old.items c h → IfOk result (λ refused. Follows c h number (event_verdict c (world_after c h) (length h) number (event_of line.now)) refused world.new text.new.items) }
+{
+    match read_event(line) {
+        Err(_) => Ok(Some(Refusal::BadLine(number))),
+        Ok(event) => {
+            if !is_run(&event) {
+                return Ok(Some(Refusal::BadLine(number)));
+            }
+            take_event(world, number, &event, text)
+        }
+    }
+}
+
+/// Takes a line, and writes what is told of it. Gives how it is refused, if it is. The list of readings
+/// serves each line, so that a tick is taken in place.
 #[tactic(auto, unfolding(crate::specs::Schedule::line_verdict))]
 fn take_line(
     world: &mut World,
-    alloc: Global,
     number: u64,
     line: &[u8],
+    readings: &mut TickReadings,
     text: &mut Vec<u8>,
 ) -> Result<Option<Refusal>, OutOfMemory>
     requires { IsAlong world.old text.old.items }
@@ -119,14 +161,10 @@ fn take_line(
     if is_ignored(line) {
         return Ok(None);
     }
-    match read_event(line) {
+    match read_tick(line, readings) {
         Err(_) => Ok(Some(Refusal::BadLine(number))),
-        Ok(event) => {
-            if !is_run(&event) {
-                return Ok(Some(Refusal::BadLine(number)));
-            }
-            take_event(world, alloc, number, &event, text)
-        }
+        Ok(Some(advance)) => take_tick(world, number, advance, readings.as_slice()),
+        Ok(None) => take_other(world, number, line, text),
     }
 }
 
@@ -155,11 +193,12 @@ fn take_lines(alloc: Global, config: FabricConfig, bytes: &[u8]) -> Result<Answe
 {
     let mut world = World::new(alloc, config);
     let mut text = Vec::new(alloc);
+    let mut readings = TickReadings::new();
     let mut rest = bytes;
     let mut number: u64 = 2;
     while !rest.is_empty() {
         let (line, after) = cut_line(rest);
-        match take_line(&mut world, alloc, number, line, &mut text) {
+        match take_line(&mut world, number, line, &mut readings, &mut text) {
             Ok(None) => {}
             Ok(Some(refusal)) => return refused_after(alloc, text, refusal),
             Err(_) => return Err(OutOfMemory),

@@ -29,19 +29,7 @@ fn source_of(alloc: Global, first: &str, lines: &str, fail: Vec<u64>) -> Result<
 }
 
 /// What is left of the first line, the lines behind it, the exit status, and what is written.
-const SCHEDULES: [(&str, &str, u8, &str); 22] = [
-    (
-        ONE,
-        "\nstart 1 0\n",
-        0,
-        "2 0 1.1 0 own 0000000000000000-ffffffffffffffff -\nend 1 0\n",
-    ),
-    (
-        ONE,
-        "\nstart 1 0",
-        0,
-        "2 0 1.1 0 own 0000000000000000-ffffffffffffffff -\nend 1 0\n",
-    ),
+const SCHEDULES: [(&str, &str, u8, &str); 11] = [
     (
         ONE,
         "",
@@ -50,15 +38,15 @@ const SCHEDULES: [(&str, &str, u8, &str); 22] = [
     ),
     (
         ONE,
-        "\nstart 1 0\nstop 1\nstart 1 0\n",
+        "\n\n# a comment\nstart 1 7",
         0,
-        "2 0 1.1 0 own 0000000000000000-ffffffffffffffff -\n3 0 1.1 0 stopped\n4 0 1.2 0 own - -\nunheld 1.1 0000000000000000-ffffffffffffffff\nend 3 0\n",
+        "4 0 1.1 7 own 0000000000000000-ffffffffffffffff -\nend 1 0\n",
     ),
     (
         ONE,
-        "\n\n# a comment\nstart 1 7\n",
+        "\nstart 1 0\nstop 1\nstart 1 0\n",
         0,
-        "4 0 1.1 7 own 0000000000000000-ffffffffffffffff -\nend 1 0\n",
+        "2 0 1.1 0 own 0000000000000000-ffffffffffffffff -\n3 0 1.1 0 stopped\n4 0 1.2 0 own - -\nunheld 1.1 0000000000000000-ffffffffffffffff\nend 3 0\n",
     ),
     (
         TWO,
@@ -68,31 +56,7 @@ const SCHEDULES: [(&str, &str, u8, &str); 22] = [
     ),
     (
         ONE,
-        "\nstart 1 0\ntick 1000 1:1011\n",
-        0,
-        "2 0 1.1 0 own 0000000000000000-ffffffffffffffff -\nend 2 0\n",
-    ),
-    (
-        ONE,
-        "\nstart 1 0\ntick 1000 1:989\n",
-        0,
-        "2 0 1.1 0 own 0000000000000000-ffffffffffffffff -\nend 2 0\n",
-    ),
-    (
-        ONE,
-        "\nstart 1 0\ntick 1000 1:1012\n",
-        7,
-        "2 0 1.1 0 own 0000000000000000-ffffffffffffffff -\nfault drift 3\n",
-    ),
-    (
-        ONE,
-        "\nstart 1 0\ntick 1000 1:988\n",
-        7,
-        "2 0 1.1 0 own 0000000000000000-ffffffffffffffff -\nfault drift 3\n",
-    ),
-    (
-        ONE,
-        "\nstart 1 0\ntick 100 1:102\ntick 100 1:204\n",
+        "\nstart 1 0\ntick 1000 1:1011\ntick 1000 1:2022\n",
         7,
         "2 0 1.1 0 own 0000000000000000-ffffffffffffffff -\nfault drift 4\n",
     ),
@@ -102,9 +66,8 @@ const SCHEDULES: [(&str, &str, u8, &str); 22] = [
         8,
         "2 0 1.1 0 own 0000000000000000-ffffffffffffffff -\nfault nosuch 3\n",
     ),
-    (ONE, "\nstop 1\n", 8, "fault nosuch 2\n"),
+    (ONE, "\ntick 1 \n", 6, "fault line 2\n"),
     (ONE, "\nstart 1000 0\n", 6, "fault line 2\n"),
-    (ONE, "\nstart 1 01\n", 6, "fault line 2\n"),
     (
         ONE,
         "\ntick 1000000000000000\ntick 1\n",
@@ -112,30 +75,11 @@ const SCHEDULES: [(&str, &str, u8, &str); 22] = [
         "fault large 3\n",
     ),
     ("", "", 5, "fault config not json\n"),
-    ("{\"first\":1", "", 5, "fault config not json\n"),
     (
         "{\"answer\":1,\"lease\":5}",
         "",
         5,
         "fault config range lease 5\n",
-    ),
-    (
-        "{\"lease\":3000,\"answer\":1000,\"grain\":1}",
-        "",
-        5,
-        "fault config missing drift\n",
-    ),
-    (
-        "{\"lease\":3000,\"answer\":1000,\"drift\":200,\"grain\":1}",
-        "",
-        5,
-        "fault config range drift 200\n",
-    ),
-    (
-        "{\"lease\":3000,\"answer\":1000,\"drift\":10,\"grain\":1,\"nodes\":[{\"node\":1,\"point\":\"0000000000000000\"},{\"node\":1,\"point\":\"0000000000000001\"}]}",
-        "",
-        5,
-        "fault config repeated 1\n",
     ),
 ];
 

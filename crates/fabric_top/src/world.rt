@@ -2,11 +2,11 @@
 ghost use Rattle.std.specs.Prelude.{◌==◌, ◌&&◌, ◌-◌, ◌^◌, if◌then◌else◌, nat_lt, All, ◌≡◌, ◌+◌, ◌≤◌, ◌<◌, ◌↔◌, ℕ, true, false, List, length, position, find, Some, None, IsTrue, IsOk, IfOk, OnOk, OnErr, IfErr, IsErrOf, IfSome, OnSome, slice_index, ◌≢◌};
 ghost use Rattle.fabric_top.specs.Worlds.{is_there, is_within, has_room, most_events, most_time, is_configured, first_ranges, first_world, is_run, names_all, all_fit, ticked};
 ghost use Rattle.std.specs.List.{position_or_len, list_any};
-ghost use Rattle.fabric_top.specs.Stands.{AllStand, Stands, IsWorld, Does, Answers, FitsHere, boots_kept};
+ghost use Rattle.fabric_top.specs.Stands.{AllStand, Stands, IsWorld, Does, Answers, AnswersTick, FitsHere, boots_kept};
 ghost use Rattle.fabric_top.specs.Worlds as model;
 
 use drift_clock::{Drift, MAX_READING, MAX_TRUE_TIME};
-use fabric_terms::{Event, FabricConfig, Readings, Report};
+use fabric_terms::{Event, FabricConfig, Report};
 use ring_points::{RangeSet, Who};
 use std::alloc::Global;
 use std::collections::BTreeMap;
@@ -153,36 +153,44 @@ impl World {
         true
     }
 
-    #[tactic(auto, using(crate::proofs::Ticks::shown_all))]
-    /// The running instances with their next readings, where each clock stays within its bound.
-    fn shown(
-        &self,
-        alloc: Global,
-        readings: &[(u16, u64)],
-        time: u64,
-    ) -> Result<Vec<Running>, EventRefusal>
+    /// Whether each clock stays within its bound at its next reading.
+    fn fit(&self, readings: &[(u16, u64)], time: u64) -> bool
         requires world { IsWorld self.now }
         requires later { self.now.time ≤ time }
         requires time { time ≤ MAX_TRUE_TIME }
         requires readings { All (λ r. r.1 ≤ MAX_READING) readings.now }
         requires length { length readings.now ≡ length self.now.running.items }
-        ensures ok { (w : model.World) → Stands self.now w → IfOk result (λ v. AllStand self.now.config.bound time v.items (ticked time readings.now w.running)) }
-        ensures fit { (w : model.World) → Stands self.now w → OnOk result (all_fit self.now.config.bound time readings.now w.running ≡ true) }
-        ensures err { (w : model.World) → Stands self.now w → IfErr result (λ e. e ≢ EventRefusal.OutOfMemory → (e ≡ EventRefusal.DriftBroken) × (all_fit self.now.config.bound time readings.now w.running ≡ false)) }
+        ensures { (w : model.World) → Stands self.now w → result ≡ all_fit self.now.config.bound time readings.now w.running }
     {
-        let mut next = Vec::new(alloc);
+        for i in 0..readings.len() {
+            let mut drift = self.running[i].drift;
+            match drift.admit(time, readings[i].1) {
+                Ok(()) => {}
+                Err(_) => return false,
+            }
+        }
+        true
+    }
+
+    /// Each running instance shows its next reading.
+    fn show(&mut self, readings: &[(u16, u64)], time: u64)
+        requires world { IsWorld self.old }
+        requires later { self.old.time ≤ time }
+        requires time { time ≤ MAX_TRUE_TIME }
+        requires readings { All (λ r. r.1 ≤ MAX_READING) readings.now }
+        requires length { length readings.now ≡ length self.old.running.items }
+        requires fit { (w : model.World) → Stands self.old w → all_fit self.old.config.bound time readings.now w.running ≡ true }
+        ensures others { self.new ≡ record self.old { running = self.new.running } }
+        ensures shown { (w : model.World) → Stands self.old w → AllStand self.old.config.bound time self.new.running.items (ticked time readings.now w.running) }
+    {
         for i in 0..readings.len() {
             let mut r = self.running[i];
             match r.drift.admit(time, readings[i].1) {
                 Ok(()) => r.reading = readings[i].1,
-                Err(_) => return Err(EventRefusal::DriftBroken),
+                Err(_) => unreachable!(),
             }
-            match next.push(r) {
-                Ok(()) => {}
-                Err(_) => return Err(EventRefusal::OutOfMemory),
-            }
+            self.running[i] = r;
         }
-        Ok(next)
     }
 
     fn start(&mut self, node: u16, reading: u64) -> Result<Option<Acted>, EventRefusal>
@@ -191,6 +199,7 @@ impl World {
         ensures config { self.new.config ≡ self.old.config }
         ensures events { OnOk result (self.new.events ≡ self.old.events + 1) }
         ensures answers { (w : model.World) → Stands self.old w → Answers self.old self.new w (Event.Start node (Some reading)) result }
+        ensures refused { IfErr result (λ e. e ≢ EventRefusal.OutOfMemory → self.new ≡ self.old) }
     {
         if !is_configured(&self.config, node) {
             return Err(EventRefusal::NoSuch);
@@ -235,6 +244,7 @@ impl World {
         ensures config { self.new.config ≡ self.old.config }
         ensures events { OnOk result (self.new.events ≡ self.old.events + 1) }
         ensures answers { (w : model.World) → Stands self.old w → Answers self.old self.new w (Event.Stop node) result }
+        ensures refused { OnErr result (self.new ≡ self.old) }
     {
         let at = match position_of(&self.running, node) {
             Some(i) => i,
@@ -252,47 +262,44 @@ impl World {
         }))
     }
 
-    fn tick(
-        &mut self,
-        alloc: Global,
-        advance: u64,
-        readings: &Readings,
-    ) -> Result<Option<Acted>, EventRefusal>
+    /// Takes a tick: what `apply` does of it. A refused tick changes nothing.
+    pub fn tick(&mut self, advance: u64, readings: &[(u16, u64)]) -> Result<(), EventRefusal>
         requires world { IsWorld self.old }
         requires advance { advance ≤ 10 ^ 15 }
         requires readings { All (λ r. r.1 ≤ MAX_READING) readings.now }
         ensures config { self.new.config ≡ self.old.config }
         ensures events { OnOk result (self.new.events ≡ self.old.events + 1) }
-        ensures answers { (w : model.World) → Stands self.old w → Answers self.old self.new w (Event.Tick advance readings.now) result }
+        ensures answers { (w : model.World) → Stands self.old w → AnswersTick self.old self.new w (Event.Tick advance readings.now) result }
+        ensures refused { OnErr result (self.new ≡ self.old) }
     {
-        if !self.names_all(readings.as_slice()) {
+        if !self.names_all(readings) {
             return Err(EventRefusal::NoSuch);
         }
         let time = self.time + advance;
-        let next = match self.shown(alloc, readings.as_slice(), time) {
-            Ok(next) => next,
-            Err(refusal) => return Err(refusal),
-        };
+        if !self.fit(readings, time) {
+            return Err(EventRefusal::DriftBroken);
+        }
         if self.events >= MOST_EVENTS {
             return Err(EventRefusal::TooLarge);
         }
         if time > MOST_TIME {
             return Err(EventRefusal::TooLarge);
         }
-        self.running = next;
+        self.show(readings, time);
         self.time = time;
         self.events += 1;
-        Ok(None)
+        Ok(())
     }
 
     /// Takes one event. A refused event changes nothing, but for want of memory.
-    pub fn apply(&mut self, alloc: Global, event: &Event) -> Result<Option<Acted>, EventRefusal>
+    pub fn apply(&mut self, event: &Event) -> Result<Option<Acted>, EventRefusal>
         requires world { IsWorld self.old }
         requires run { IsTrue (is_run event.now) }
         requires fits { FitsHere event.now }
         ensures config { self.new.config ≡ self.old.config }
         ensures events { OnOk result (self.new.events ≡ self.old.events + 1) }
         ensures answers { (w : model.World) → Stands self.old w → Answers self.old self.new w event.now result }
+        ensures refused { IfErr result (λ e. e ≢ EventRefusal.OutOfMemory → self.new ≡ self.old) }
     {
         match event {
             Event::Start {
@@ -300,7 +307,12 @@ impl World {
                 reading: Some(reading),
             } => self.start(*actor, *reading),
             Event::Stop { actor } => self.stop(*actor),
-            Event::Tick { advance, readings } => self.tick(alloc, *advance, readings),
+            Event::Tick { advance, readings } => {
+                match self.tick(*advance, readings.as_slice()) {
+                    Ok(()) => Ok(None),
+                    Err(refusal) => Err(refusal),
+                }
+            }
             _ => Err(EventRefusal::NoSuch),
         }
     }

@@ -10,7 +10,7 @@ use Rattle.sched_text.specs.Numbers.{IsNumber, IsNode, IsArbiter, IsActor, numbe
 use Rattle.sched_text.specs.Commands.{FitsCommand, command_text}
 use Rattle.sched_text.specs.Lines.{IsJunk, AreReadings, Fits, event_text, event_of, arbiter_start, node_start, start_of, tick_of, readings_of, reading_text, junk_bytes_of, do_of, junk_of, ReadIsSpelled, SpelledIsRead}
 use Rattle.sched_text.proofs.Lists.{joined_is}
-use Rattle.sched_text.proofs.FieldLaws.{IsRest, IsSpelled, last_is, behind_again, behind_other, apart, sized_is, refit, found_behind, found_nothing, headed_found, followed_found, followed_again, made_found, made_again}
+use Rattle.sched_text.proofs.FieldLaws.{word_found, IsRest, IsSpelled, last_is, behind_again, behind_other, apart, sized_is, refit, found_behind, found_nothing, headed_found, followed_found, followed_again, made_found, made_again}
 use Rattle.sched_text.proofs.NumberLaws.{count_is, node_is, last_node_is, arbiter_is, actor_is, actor_text_arbiter, arbiter_number}
 use Rattle.sched_text.proofs.DigitLaws.{bytes_are, length-bytes_text}
 use Rattle.sched_text.proofs.CommandLaws.{command_is}
@@ -109,6 +109,9 @@ at_stop words = refl
 at_tick : (words : List ℕ) → event_of (codes "tick " ++ words) ≡ tick_of words
 unfolding event_of after_word
 at_tick words = refl
+
+pub tick_line : (line words : List ℕ) → after_word (codes "tick ") line ≡ Some words → event_of line ≡ tick_of words
+tick_line line words e = ap event_of (word_found (codes "tick ") line words e) ∙ at_tick words
 
 at_fire : (words : List ℕ) → event_of (codes "fire " ++ words) ≡ made Fire (last node_at) words
 unfolding event_of after_word

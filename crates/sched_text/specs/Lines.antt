@@ -1,9 +1,10 @@
 -- The lines of a schedule: what is read as an event, and how an event is spelled.
-use Rattle.std.specs.Prelude.{◌≡◌, ℕ, zero, suc, ◌≤◌, List, [], ◌∷◌, ◌++◌, length, map, Option, Some, None, All, codes, decimal, ◌==◌, if◌then◌else◌}
+use Rattle.std.specs.Prelude.{◌≡◌, ℕ, zero, suc, ◌≤◌, List, [], ◌∷◌, ◌++◌, length, map, Option, Some, None, Result, Ok, Err, IsSome, All, codes, decimal, ◌==◌, if◌then◌else◌}
 use Rattle.fabric_terms.specs.declared.event.Event.{Event}
 use Rattle.fabric_terms.specs.declared.event.Event.TheVariants.{Start, Stop, Tick, Fire, Give, Do, Junk}
 use Rattle.sched_text.specs.Fields.{◌>>=◌, Field, after_word, last, made, followed, pair_at, behind, nothing, sized}
 use Rattle.sched_text.specs.Numbers.{IsNumber, IsNode, IsArbiter, IsActor, count_at, node_at, arbiter_at, actor_at}
+use Rattle.sched_text.specs.declared.bad_line.BadLine.{BadLine}
 use Rattle.sched_text.specs.Digits.{IsByte, bytes_of}
 use Rattle.sched_text.specs.Commands.{FitsCommand, command_of, command_text}
 use Rattle.sched_text.specs.Texts.{spaced, actor_text, bytes_text}
@@ -69,6 +70,12 @@ event_of =
     )
     )
     )
+
+-- what a reader of ticks gives of a line, and the list that it leaves: None where the line begins otherwise
+abbrev pub ReadsTick : List ℕ → List (ℕ × ℕ) → Result (Option ℕ) BadLine → Type 0
+ReadsTick line readings (Ok (Some advance)) = event_of line ≡ Some (Tick advance readings)
+ReadsTick line readings (Ok None) = (after_word (codes "tick ") line ≡ None) × (readings ≡ [])
+ReadsTick line readings (Err _) = IsSome (after_word (codes "tick ") line) × (event_of line ≡ None) × (readings ≡ [])
 
 -- How an event is spelled. Words are separated by one blank.
 

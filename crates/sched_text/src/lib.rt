@@ -30,3 +30,4 @@ pub use fabric_terms::{
 pub use number::{last_number, number_in};
 pub use report::{print_report, print_sent};
 pub use text::{push_bytes, push_number, push_ranges, push_who};
+pub use tick::{TickReadings, read_tick};

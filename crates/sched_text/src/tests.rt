@@ -1,6 +1,6 @@
 use crate::{
-    Command, Event, Head, OutOfMemory, Reason, Report, Verb, print_report, print_sent, push_ranges,
-    read_command, read_event,
+    Command, Event, Head, OutOfMemory, Reason, Report, TickReadings, Verb, print_report,
+    print_sent, push_ranges, read_command, read_event, read_tick,
 };
 use fabric_terms::{Partitions, Why};
 use ring_points::{Epoch, Interval, Point, RangeSet, Who};
@@ -35,162 +35,75 @@ fn expect_words(
 }
 
 #[test]
-fn ring_reports(rt: HostRuntime) -> Result<(), OutOfMemory> {
-    let peer = node(2, 1);
-    let ring = RangeSet::whole();
-    let none = RangeSet::new();
+fn reports(rt: HostRuntime) -> Result<(), OutOfMemory> {
     let alloc = rt.alloc();
-    let own = Report::Own(ring.copy(), Some(4000));
-    expect_words(
-        &rt,
-        alloc,
-        &own,
-        "own 0000000000000000-ffffffffffffffff 4000",
-    )?;
-    expect_words(&rt, alloc, &Report::Own(none, None), "own - -")?;
-    expect_words(&rt, alloc, &Report::Accused(peer), "accused 2.1")?;
-    expect_words(&rt, alloc, &Report::Discharged(peer), "discharged 2.1")?;
-    expect_words(&rt, alloc, &Report::Heir(peer, 7183), "heir 2.1 7183")?;
-    expect_words(&rt, alloc, &Report::Stopped, "stopped")?;
+    let peer = node(2, 1);
     let key = Point(0x8000_0000_0000_0000);
-    expect_words(
-        &rt,
-        alloc,
-        &Report::Found(key, peer),
-        "found 8000000000000000 2.1",
-    )?;
-    expect_words(
-        &rt,
-        alloc,
-        &Report::Nowhere(key),
-        "nowhere 8000000000000000",
-    )?;
-    Ok(())
-}
-
-#[test]
-fn reports_of_flights(rt: HostRuntime) -> Result<(), OutOfMemory> {
-    let peer = node(2, 1);
-    let alloc = rt.alloc();
-    let over = Report::TookOver(peer, RangeSet::whole());
-    expect_words(
-        &rt,
-        alloc,
-        &over,
-        "tookover 2.1 0000000000000000-ffffffffffffffff",
-    )?;
-    let gave = Report::Gave(peer, 1, RangeSet::whole());
-    expect_words(
-        &rt,
-        alloc,
-        &gave,
-        "gave 2.1 1 0000000000000000-ffffffffffffffff",
-    )?;
-    let took = Report::Took(peer, 1, RangeSet::whole());
-    expect_words(
-        &rt,
-        alloc,
-        &took,
-        "took 2.1 1 0000000000000000-ffffffffffffffff",
-    )?;
-    let returned = Report::Returned(peer, 1, RangeSet::whole());
-    expect_words(
-        &rt,
-        alloc,
-        &returned,
-        "returned 2.1 1 0000000000000000-ffffffffffffffff",
-    )
-}
-
-#[test]
-fn leaves(rt: HostRuntime) -> Result<(), OutOfMemory> {
-    for (why, words) in [
-        (Why::Fence, "left fence"),
-        (Why::Lost, "left lost"),
-        (Why::Counters, "left counters"),
-        (Why::AccusedFull, "left accused"),
-    ] {
-        expect_words(&rt, rt.alloc(), &Report::LeftRing(why), words)?;
-    }
-    Ok(())
-}
-
-#[test]
-fn partition_reports(rt: HostRuntime) -> Result<(), OutOfMemory> {
     let epoch = Epoch {
         data_loss: 0,
         configuration: 1,
     };
-    let alloc = rt.alloc();
-    expect_words(&rt, alloc, &Report::Promised(1, epoch), "promised 1 0.1")?;
-    expect_words(&rt, alloc, &Report::Adopted(1, epoch, 3), "adopted 1 0.1 3")?;
-    expect_words(
-        &rt,
-        alloc,
-        &Report::Accepted(1, epoch, 1),
-        "accepted 1 0.1 1",
-    )?;
-    expect_words(&rt, alloc, &Report::IsPrimary(1, epoch), "primary 1 0.1")?;
-    expect_words(
-        &rt,
-        alloc,
-        &Report::Committed(1, epoch, 1),
-        "committed 1 0.1 1",
-    )?;
-    expect_words(
-        &rt,
-        alloc,
-        &Report::Configured(1, epoch),
-        "configured 1 0.1",
-    )?;
-    expect_words(
-        &rt,
-        alloc,
-        &Report::Superseded(1, epoch),
-        "superseded 1 0.1",
-    )?;
-    let two = Report::UnitList(Partitions::new(vec![in alloc; 1u16, 65535]?));
-    expect_words(&rt, alloc, &two, "units 1,65535")?;
-    let none = Report::UnitList(Partitions::new(Vec::new(alloc)));
-    expect_words(&rt, alloc, &none, "units -")
-}
-
-#[test]
-fn refused_commands(rt: HostRuntime) -> Result<(), OutOfMemory> {
-    for (verb, words) in [
-        (Verb::Link, "refused link full"),
-        (Verb::Part, "refused part full"),
-        (Verb::Give, "refused give full"),
-        (Verb::Join, "refused join full"),
-        (Verb::Create, "refused create full"),
-        (Verb::Swap, "refused swap full"),
-        (Verb::Heal, "refused heal full"),
-        (Verb::Lose, "refused lose full"),
-        (Verb::Write, "refused write full"),
-    ] {
-        expect_words(&rt, rt.alloc(), &Report::Refused(verb, Reason::Full), words)?;
+    let two = Partitions::new(vec![in alloc; 1u16, 65535]?);
+    let table = [
+        (
+            Report::Own(RangeSet::whole(), Some(4000)),
+            "own 0000000000000000-ffffffffffffffff 4000",
+        ),
+        (Report::Own(RangeSet::new(), None), "own - -"),
+        (Report::Accused(peer), "accused 2.1"),
+        (Report::Discharged(peer), "discharged 2.1"),
+        (Report::Heir(peer, 7183), "heir 2.1 7183"),
+        (Report::Stopped, "stopped"),
+        (Report::Found(key, peer), "found 8000000000000000 2.1"),
+        (Report::Nowhere(key), "nowhere 8000000000000000"),
+        (
+            Report::TookOver(peer, RangeSet::whole()),
+            "tookover 2.1 0000000000000000-ffffffffffffffff",
+        ),
+        (Report::Gave(peer, 1, RangeSet::new()), "gave 2.1 1 -"),
+        (Report::Took(peer, 1, RangeSet::new()), "took 2.1 1 -"),
+        (
+            Report::Returned(peer, 1, RangeSet::new()),
+            "returned 2.1 1 -",
+        ),
+        (Report::LeftRing(Why::Fence), "left fence"),
+        (Report::LeftRing(Why::Lost), "left lost"),
+        (Report::LeftRing(Why::Counters), "left counters"),
+        (Report::LeftRing(Why::AccusedFull), "left accused"),
+        (Report::Promised(1, epoch), "promised 1 0.1"),
+        (Report::Adopted(1, epoch, 3), "adopted 1 0.1 3"),
+        (Report::Accepted(1, epoch, 1), "accepted 1 0.1 1"),
+        (Report::IsPrimary(1, epoch), "primary 1 0.1"),
+        (Report::Committed(1, epoch, 1), "committed 1 0.1 1"),
+        (Report::Configured(1, epoch), "configured 1 0.1"),
+        (Report::Superseded(1, epoch), "superseded 1 0.1"),
+        (Report::UnitList(two), "units 1,65535"),
+    ];
+    for (report, words) in table {
+        expect_words(&rt, alloc, &report, words)?;
     }
     Ok(())
 }
 
 #[test]
-fn reasons(rt: HostRuntime) -> Result<(), OutOfMemory> {
-    for (reason, words) in [
-        (Reason::NotRouting, "refused give notrouting"),
-        (Reason::Linked, "refused give linked"),
-        (Reason::NotLinked, "refused give notlinked"),
-        (Reason::Busy, "refused give busy"),
-        (Reason::TooMany, "refused give toomany"),
-        (Reason::Empty, "refused give empty"),
-        (Reason::NotManager, "refused give notmanager"),
-        (Reason::Exists, "refused give exists"),
-        (Reason::NoUnit, "refused give nounit"),
-        (Reason::NotMember, "refused give notmember"),
-        (Reason::NotPrimary, "refused give notprimary"),
-        (Reason::Counters, "refused give counters"),
-        (Reason::TooFew(2), "refused give toofew 2"),
+fn refusals(rt: HostRuntime) -> Result<(), OutOfMemory> {
+    for (verb, reason, words) in [
+        (Verb::Link, Reason::Full, "refused link full"),
+        (Verb::Part, Reason::NotLinked, "refused part notlinked"),
+        (Verb::Give, Reason::TooMany, "refused give toomany"),
+        (Verb::Give, Reason::Empty, "refused give empty"),
+        (Verb::Join, Reason::Linked, "refused join linked"),
+        (Verb::Create, Reason::Exists, "refused create exists"),
+        (Verb::Create, Reason::TooFew(2), "refused create toofew 2"),
+        (Verb::Swap, Reason::NotMember, "refused swap notmember"),
+        (Verb::Heal, Reason::NotManager, "refused heal notmanager"),
+        (Verb::Heal, Reason::Busy, "refused heal busy"),
+        (Verb::Lose, Reason::NoUnit, "refused lose nounit"),
+        (Verb::Lose, Reason::Counters, "refused lose counters"),
+        (Verb::Write, Reason::NotPrimary, "refused write notprimary"),
+        (Verb::Write, Reason::NotRouting, "refused write notrouting"),
     ] {
-        expect_words(&rt, rt.alloc(), &Report::Refused(Verb::Give, reason), words)?;
+        expect_words(&rt, rt.alloc(), &Report::Refused(verb, reason), words)?;
     }
     Ok(())
 }
@@ -237,7 +150,7 @@ fn ranges(rt: HostRuntime) -> Result<(), Fail> {
 }
 
 #[test]
-fn starts_stops_fires_and_gives(rt: HostRuntime) {
+fn starts_and_stops(rt: HostRuntime) {
     assert!(rt;
         matches!(
             read_event(b"start 1 0"),
@@ -256,34 +169,30 @@ fn starts_stops_fires_and_gives(rt: HostRuntime) {
             })
         )
     );
-    assert!(rt; matches!(read_event(b"stop 999"), Ok(Event::Stop { actor: 999 })));
     assert!(rt; matches!(read_event(b"stop a1"), Ok(Event::Stop { actor: 32769 })));
-    assert!(rt; matches!(read_event(b"fire 2"), Ok(Event::Fire { node: 2 })));
-    assert!(rt; matches!(read_event(b"give 0"), Ok(Event::Give { frame: 0 })));
-    let last = read_event(b"give 1000000000000000");
-    assert!(rt;
-        matches!(
-            last,
-            Ok(Event::Give {
-                frame: 1_000_000_000_000_000
-            })
-        )
-    );
 }
 
 #[test]
-fn ticks(rt: HostRuntime) -> Result<(), Fail> {
-    let Ok(Event::Tick { advance, readings }) = read_event(b"tick 4082 1:7182 2:0") else {
-        return Err("no tick".into());
-    };
-    assert_eq!(rt; advance, 4082);
-    assert_eq!(rt; readings.as_slice(), [(1, 7182), (2, 0)].as_slice());
-    let Ok(Event::Tick { advance, readings }) = read_event(b"tick 0") else {
-        return Err("no tick".into());
-    };
-    assert_eq!(rt; advance, 0);
-    assert!(rt; readings.as_slice().is_empty());
-    Ok(())
+fn ticks(rt: HostRuntime) {
+    let mut list = TickReadings::new();
+    let wanted = [(1, 7182), (2, 0)];
+    assert!(rt;
+        match read_event(b"tick 4082 1:7182 2:0") {
+            Ok(
+                Event::Tick {
+                    advance: 4082,
+                    readings
+                }
+            ) => readings.as_slice() == wanted.as_slice(),
+            _ => false,
+        }
+    );
+    assert_eq!(rt; read_tick(b"tick 5 3:1", &mut list), Ok(Some(5)));
+    assert_eq!(rt;
+        read_tick(b"tick 4082 1:7182 2:0", &mut list),
+        Ok(Some(4082))
+    );
+    assert_eq!(rt; list.as_slice(), wanted.as_slice());
 }
 
 #[test]
@@ -296,48 +205,29 @@ fn junk(rt: HostRuntime) -> Result<(), Fail> {
     Ok(())
 }
 
+/// Lines that are read, between bars.
+const LINES: &str = "\
+stop 999|fire 2|give 0|give 1000000000000000|tick 0|do 2 link 1|do 2 part 7|do 2 give 7 near|\
+do 2 give 7 all|do 2 join 7|do 2 find 80000000000000af|do 2 create 1 1|do 2 swap 65535 2|\
+do 2 heal 0 7|do 2 lose 1 999|do 2 units 0000000000000000-ffffffffffffffff";
+
 #[test]
-fn commands_of_the_ring(rt: HostRuntime) {
-    let told = read_event(b"do 2 link 1");
-    assert!(rt;
-        matches!(
-            told,
-            Ok(Event::Do {
-                node: 2,
-                command: Command::Link(1)
-            })
-        )
-    );
-    assert!(rt;
-        matches!(
-            read_command(b"link 1 for 1000"),
-            Ok(Command::LinkFor(1, 1000))
-        )
-    );
-    assert!(rt; matches!(read_command(b"part 7"), Ok(Command::Part(7))));
-    assert!(rt; matches!(read_command(b"give 7 near"), Ok(Command::GiveNear(7))));
-    assert!(rt; matches!(read_command(b"give 7 all"), Ok(Command::GiveAll(7))));
-    assert!(rt; matches!(read_command(b"join 7"), Ok(Command::Join(7))));
-    let point = read_command(b"find 80000000000000af");
-    assert!(rt; matches!(point, Ok(Command::Find(Point(0x8000_0000_0000_00af)))));
+fn lines(rt: HostRuntime) {
+    for line in LINES.split('|') {
+        assert!(rt; read_event(line.as_bytes()).is_ok(), "{line}");
+    }
 }
 
 #[test]
-fn commands_to_partitions(rt: HostRuntime) -> Result<(), Fail> {
-    assert!(rt; matches!(read_command(b"create 1 1"), Ok(Command::Create(1, 1))));
-    assert!(rt; matches!(read_command(b"swap 65535 2"), Ok(Command::Swap(65535, 2))));
-    assert!(rt; matches!(read_command(b"heal 0 7"), Ok(Command::Heal(0, 7))));
-    assert!(rt; matches!(read_command(b"lose 1 999"), Ok(Command::Lose(1, 999))));
-    let Ok(Command::Write(1, text)) = read_command(b"write 1  hello ~ ") else {
-        return Err("no write".into());
-    };
-    assert_eq!(rt; text.as_slice(), b" hello ~ ".as_slice());
-    let Ok(Command::Units(part)) = read_command(b"units 0000000000000000-ffffffffffffffff") else {
-        return Err("no units".into());
-    };
-    assert_eq!(rt; part.lo, 0);
-    assert_eq!(rt; part.hi, u64::MAX);
-    Ok(())
+fn commands(rt: HostRuntime) {
+    let command = read_command(b"link 1 for 1000");
+    assert!(rt; matches!(command, Ok(Command::LinkFor(1, 1000))));
+    assert!(rt;
+        match read_command(b"write 1  hello ~ ") {
+            Ok(Command::Write(1, text)) => text.as_slice() == b" hello ~ ".as_slice(),
+            _ => false,
+        }
+    );
 }
 
 /// What is no line, between bars.

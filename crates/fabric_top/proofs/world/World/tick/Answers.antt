@@ -1,6 +1,8 @@
-use Rattle.std.proofs.Common.{◌≡◌, ◌≢◌, ℕ, ◌+◌, arith, sym, ap, subst, ◌∙◌, true, false, List}
+use Rattle.std.proofs.Common.{◌≡◌, ◌≢◌, ℕ, ◌+◌, arith, sym, ap, subst, ◌∙◌, refl, true, false, None}
 use Rattle.fabric_top.specs.Worlds as model
-use Rattle.fabric_top.specs.Stands.{AllStand}
+use Rattle.fabric_terms.specs.declared.event.Event.TheVariants.{Tick}
+use Rattle.fabric_top.specs.Stands.{Does}
+use Rattle.fabric_top.specs.declared.world.World.{World}
 use Rattle.fabric_top.specs.declared.world.EventRefusal.TheVariants.{DriftBroken, OutOfMemory}
 use Rattle.fabric_top.proofs.Steps.{tick_there, tick_within, tick_full, tick_late, tick_room, tick_done, tick_refused}
 use Rattle.fabric_top.proofs.world.World.tick.Goals as goal
@@ -10,17 +12,16 @@ returns-then-not-names_all-clause-answers c w s =
     let e : model.names_all c.args.readings.now w.running ≡ false = cc (c.if-not-names_all.ensures.names w s) in
     tick_there c.args.self.now.config w c.args.advance c.args.readings.now ∙ e
 
-pub returns-in-Err-clause-answers : goal.returns-in-Err-clause-answers
-returns-in-Err-clause-answers c w s =
+pub returns-then-not-fit-clause-answers : goal.returns-then-not-fit-clause-answers
+returns-then-not-fit-clause-answers c w s =
     let named : model.names_all c.args.readings.now w.running ≡ true = cc (c.if-not-names_all.ensures.names w s) in
-    let h : c.in-Err.refusal ≢ OutOfMemory → (c.in-Err.refusal ≡ DriftBroken) × (model.all_fit c.args.self.now.config.bound (c.args.self.now.time + c.args.advance) c.args.readings.now w.running ≡ false) =
-    subst (λ (rs : List (ℕ × ℕ)). c.in-Err.refusal ≢ OutOfMemory → (c.in-Err.refusal ≡ DriftBroken) × (model.all_fit c.args.self.now.config.bound (c.args.self.now.time + c.args.advance) rs w.running ≡ false)) c.as_slice-2.ensures (c.in-Err.ensures.err w s) in
-    tick_refused c.in-Err.refusal c.args.self.now w c.args.advance c.args.readings.now s named h
+    let broken : model.all_fit c.args.self.now.config.bound (c.args.self.now.time + c.args.advance) c.args.readings.now w.running ≡ false = cc (c.if-not-fit.ensures w s) in
+    tick_refused DriftBroken c.args.self.now w c.args.advance c.args.readings.now s named (λ _. (refl, broken))
 
 pub returns-then-self-ge-MOST_EVENTS-clause-answers : goal.returns-then-self-ge-MOST_EVENTS-clause-answers
 returns-then-self-ge-MOST_EVENTS-clause-answers c w s =
     let named : model.names_all c.args.readings.now w.running ≡ true = cc (c.if-not-names_all.ensures.names w s) in
-    let fit : model.all_fit c.args.self.now.config.bound (c.args.self.now.time + c.args.advance) c.args.readings.now w.running ≡ true = cc (c.in-Ok.ensures.fit w s) in (
+    let fit : model.all_fit c.args.self.now.config.bound (c.args.self.now.time + c.args.advance) c.args.readings.now w.running ≡ true = cc (c.if-not-fit.ensures w s) in (
       tick_there c.args.self.now.config w c.args.advance c.args.readings.now ∙ named,
       tick_within c.args.self.now.config w c.args.advance c.args.readings.now ∙ (ap (λ t. model.all_fit c.args.self.now.config.bound (t + c.args.advance) c.args.readings.now w.running) (sym s.time) ∙ fit),
       tick_full w c.args.self.now.events c.args.advance c.args.readings.now (omega arith),
@@ -29,7 +30,7 @@ returns-then-self-ge-MOST_EVENTS-clause-answers c w s =
 pub returns-then-time-gt-MOST_TIME-clause-answers : goal.returns-then-time-gt-MOST_TIME-clause-answers
 returns-then-time-gt-MOST_TIME-clause-answers c w s =
     let named : model.names_all c.args.readings.now w.running ≡ true = cc (c.if-not-names_all.ensures.names w s) in
-    let fit : model.all_fit c.args.self.now.config.bound (c.args.self.now.time + c.args.advance) c.args.readings.now w.running ≡ true = cc (c.in-Ok.ensures.fit w s) in (
+    let fit : model.all_fit c.args.self.now.config.bound (c.args.self.now.time + c.args.advance) c.args.readings.now w.running ≡ true = cc (c.if-not-fit.ensures w s) in (
       tick_there c.args.self.now.config w c.args.advance c.args.readings.now ∙ named,
       tick_within c.args.self.now.config w c.args.advance c.args.readings.now ∙ (ap (λ t. model.all_fit c.args.self.now.config.bound (t + c.args.advance) c.args.readings.now w.running) (sym s.time) ∙ fit),
       tick_late w c.args.self.now.events c.args.advance c.args.readings.now (omega (arith, s.time)),
@@ -38,11 +39,12 @@ returns-then-time-gt-MOST_TIME-clause-answers c w s =
 pub returns-clause-answers : goal.returns-clause-answers
 returns-clause-answers c w s =
     let named : model.names_all c.args.readings.now w.running ≡ true = cc (c.if-not-names_all.ensures.names w s) in
-    let fit : model.all_fit c.args.self.now.config.bound (c.args.self.now.time + c.args.advance) c.args.readings.now w.running ≡ true = cc (c.in-Ok.ensures.fit w s) in (
+    let fit : model.all_fit c.args.self.now.config.bound (c.args.self.now.time + c.args.advance) c.args.readings.now w.running ≡ true = cc (c.if-not-fit.ensures w s) in (
       (
         tick_there c.args.self.now.config w c.args.advance c.args.readings.now ∙ named,
         tick_within c.args.self.now.config w c.args.advance c.args.readings.now ∙ (ap (λ t. model.all_fit c.args.self.now.config.bound (t + c.args.advance) c.args.readings.now w.running) (sym s.time) ∙ fit),
         tick_room w c.args.self.now.events c.args.advance c.args.readings.now (omega arith) (omega (arith, s.time)),
       ),
-      tick_done c.args.self.now w c.args.advance c.args.readings.now c.in-Ok.next s (omega arith) (omega arith) (subst (λ (rs : List (ℕ × ℕ)). AllStand c.args.self.now.config.bound (c.args.self.now.time + c.args.advance) c.in-Ok.next.items (model.ticked (c.args.self.now.time + c.args.advance) rs w.running)) c.as_slice-2.ensures (c.in-Ok.ensures.ok w s)),
+      subst (λ (a : World). Does (record a { time = c.args.self.now.time + c.args.advance; events = a.events + 1 }) w (Tick c.args.advance c.args.readings.now) None) (sym c.show.ensures.others)
+          (tick_done c.args.self.now w c.args.advance c.args.readings.now c.show.new.self.running s (omega arith) (omega arith) (c.show.ensures.shown w s)),
     )
