@@ -1,4 +1,4 @@
-use Rattle.std.proofs.Common.{◌≡◌, refl, sym, subst, ◌∙◌, Option, Some, rules, List, ℕ}
+use Rattle.std.proofs.Common.{sym, subst, ◌∙◌, Option, Some, rules, List, ℕ}
 use Rattle.std.specs.Option.{IsSome}
 use Rattle.sched_text.proofs.LineLaws.{tick_line}
 use Rattle.sched_text.proofs.tick.read_tick.Goals as goal

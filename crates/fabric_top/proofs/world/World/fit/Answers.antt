@@ -1,4 +1,4 @@
-use Rattle.std.proofs.Common.{◌≡◌, ℕ, true, false, [], length, get_or, arith, refl, sym, ◌∙◌}
+use Rattle.std.proofs.Common.{◌≡◌, true, false, [], length, get_or, arith, refl, sym, ◌∙◌}
 use Rattle.fabric_top.specs.Worlds as model
 use Rattle.fabric_top.proofs.Running.{stand-length, stand_here}
 use Rattle.fabric_top.proofs.Ticks.{refused, accepted, fit_stop, fit_go, fit_end}

@@ -1,9 +1,9 @@
-use Rattle.std.proofs.Common.{◌≡◌, ◌≢◌, ℕ, ◌+◌, arith, sym, ap, subst, ◌∙◌, refl, true, false, None}
+use Rattle.std.proofs.Common.{◌≡◌, ◌+◌, arith, sym, ap, subst, ◌∙◌, refl, true, false, None}
 use Rattle.fabric_top.specs.Worlds as model
 use Rattle.fabric_terms.specs.declared.event.Event.TheVariants.{Tick}
 use Rattle.fabric_top.specs.Stands.{Does}
 use Rattle.fabric_top.specs.declared.world.World.{World}
-use Rattle.fabric_top.specs.declared.world.EventRefusal.TheVariants.{DriftBroken, OutOfMemory}
+use Rattle.fabric_top.specs.declared.world.EventRefusal.TheVariants.{DriftBroken}
 use Rattle.fabric_top.proofs.Steps.{tick_there, tick_within, tick_full, tick_late, tick_room, tick_done, tick_refused}
 use Rattle.fabric_top.proofs.world.World.tick.Goals as goal
 
