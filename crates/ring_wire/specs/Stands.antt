@@ -1,5 +1,5 @@
 -- Where a field stands among some bytes.
-use Rattle.std.specs.Prelude.{◌≡◌, ℕ, ◌+◌, ◌≤◌, Bool, List, ◌++◌, length, drop, ⊥, Option, Some, None, IsTrue}
+use Rattle.std.specs.Prelude.{◌≡◌, ℕ, ◌+◌, ◌≤◌, Bool, List, ◌++◌, length, drop, Option, Some, None, IsTrue}
 
 -- the text stands from one place to another
 pub record StandsAt (text bytes : List ℕ) (at end : ℕ) : Type 0 where

@@ -10,7 +10,7 @@ use crate::read::rulings::read_ruling;
 use fabric_terms::Body;
 use ring_points::Point;
 
-#[tactic(auto, unfolding(crate::specs::Searches::seek_of))]
+#[tactic(auto, unfolding(crate::specs::Searches::seek_of, crate::specs::Readers::point_at))]
 fn seek(bytes: &[u8], body: &mut Body) -> Result<(), NotFrame>
     ensures { Fills result body.new (seek_of bytes.now) }
 {
@@ -26,7 +26,7 @@ fn seek(bytes: &[u8], body: &mut Body) -> Result<(), NotFrame>
     Ok(())
 }
 
-#[tactic(auto, unfolding(crate::specs::Searches::found_of))]
+#[tactic(auto, unfolding(crate::specs::Searches::found_of, crate::specs::Readers::point_at))]
 fn found(bytes: &[u8], body: &mut Body) -> Result<(), NotFrame>
     ensures { Fills result body.new (found_of bytes.now) }
 {

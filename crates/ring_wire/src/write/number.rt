@@ -23,7 +23,7 @@ pub fn put_u16(into: &mut [u8; FRAME_LIMIT], at: usize, n: u16) -> usize
     ensures wrote { Puts (number_bytes 2 n) into.old at into.new result }
     ensures end { result ≡ at + 2 }
 {
-    BigEndian::write_u16(&mut into[at..], n);
+    BigEndian::write_u16(&mut into[at..at + 2], n);
     at + 2
 }
 
@@ -33,7 +33,7 @@ pub fn put_u32(into: &mut [u8; FRAME_LIMIT], at: usize, n: u32) -> usize
     ensures wrote { Puts (number_bytes 4 n) into.old at into.new result }
     ensures end { result ≡ at + 4 }
 {
-    BigEndian::write_u32(&mut into[at..], n);
+    BigEndian::write_u32(&mut into[at..at + 4], n);
     at + 4
 }
 
@@ -43,7 +43,7 @@ pub fn put_u64(into: &mut [u8; FRAME_LIMIT], at: usize, n: u64) -> usize
     ensures wrote { Puts (number_bytes 8 n) into.old at into.new result }
     ensures end { result ≡ at + 8 }
 {
-    BigEndian::write_u64(&mut into[at..], n);
+    BigEndian::write_u64(&mut into[at..at + 8], n);
     at + 8
 }
 

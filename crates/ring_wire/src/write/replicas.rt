@@ -23,11 +23,11 @@ pub fn put_replica(into: &mut [u8; FRAME_LIMIT], at: usize, body: &Body) -> usiz
         Body::Promised {
             partition,
             epoch,
-            at,
+            at: adopted,
             last,
         } => {
             let at = put_unit(into, at, *partition, *epoch);
-            let at = put_epoch(into, at, *at);
+            let at = put_epoch(into, at, *adopted);
             put_u32(into, at, *last)
         }
         Body::Sync {
