@@ -1,4 +1,4 @@
-use Rattle.std.proofs.Common.{rules}
+use Rattle.std.proofs.Common.{rules, ⊎_elim}
 use Rattle.ring_wire.proofs.Puts.{puts_more}
 use Rattle.ring_wire.proofs.write.partitions.put_partition.Goals as goal
 
@@ -9,4 +9,5 @@ pub returns-in-Voted : goal.returns-in-Voted
 returns-in-Voted c = rw c.in-Voted.is (search (rules, puts_more))
 
 pub returns-in-NoPrepare : goal.returns-in-NoPrepare
-returns-in-NoPrepare c = rw c.in-NoPrepare.is (search (rules, puts_more))
+returns-in-NoPrepare c =
+    ⊎_elim (λ e. rw e (search (rules, puts_more))) (⊎_elim (λ e. rw e (search (rules, puts_more))) (λ e. rw e (search (rules, puts_more)))) c.in-NoPrepare.is

@@ -1,4 +1,4 @@
-use Rattle.std.proofs.Common.{rules}
+use Rattle.std.proofs.Common.{rules, ⊎_elim}
 use Rattle.ring_wire.proofs.Puts.{puts_more}
 use Rattle.ring_wire.proofs.write.replicas.put_replica.Goals as goal
 
@@ -21,4 +21,5 @@ pub returns-in-Older : goal.returns-in-Older
 returns-in-Older c = rw c.in-Older.is (search (rules, puts_more))
 
 pub returns-in-Adopted : goal.returns-in-Adopted
-returns-in-Adopted c = rw c.in-Adopted.is (search (rules, puts_more))
+returns-in-Adopted c =
+    ⊎_elim (λ e. rw e (search (rules, puts_more))) (λ e. rw e (search (rules, puts_more))) c.in-Adopted.is
