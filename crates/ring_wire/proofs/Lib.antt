@@ -1,1 +1,4 @@
 pub mod Puts
+pub mod Times
+pub mod Numbers
+pub mod Reads

@@ -1,6 +1,7 @@
 // Epochs, configurations and texts of partitions at the front of some bytes, and what follows them.
 
-ghost use Rattle.std.specs.Prelude.{◌≡◌, ◌≤◌, IfOk, length};
+ghost use Rattle.std.specs.Prelude.{◌≡◌, ◌≤◌, ◌==◌};
+ghost use Rattle.std.specs.List.{list_any};
 ghost use Rattle.ring_wire.specs.Fields.{rises_above, has_members};
 ghost use Rattle.ring_wire.specs.Readers.{Gives, number_at, times, list_at, epoch_at, unit_at, config_at, done_at, payload_at};
 
@@ -82,11 +83,17 @@ fn rises(members: &[u16]) -> bool
     true
 }
 
+fn is_among(node: u16, members: &[u16]) -> bool
+    ensures { result ≡ list_any (λ n. n == node) members.now }
+{
+    members.iter().any(|n| *n == node)
+}
+
 fn has_members(config: &Config) -> bool
     ensures { result ≡ has_members config.now }
 {
     let members = config.members.as_slice();
-    rises(members) && members.iter().any(|node| *node == config.primary)
+    rises(members) && is_among(config.primary, members)
 }
 
 /// A configuration: its members are nodes, rising, and the primary is among them.
