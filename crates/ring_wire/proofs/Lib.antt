@@ -1,4 +1,14 @@
 pub mod Puts
 pub mod Times
 pub mod Numbers
-pub mod Reads
+pub mod Forms
+pub mod FieldLaws
+pub mod Standing
+pub mod BodyForms
+pub mod ReplicasLaws
+pub mod PartitionsLaws
+pub mod RulingsLaws
+pub mod SearchesLaws
+pub mod LinksLaws
+pub mod FrameLaws
+pub mod Decoded

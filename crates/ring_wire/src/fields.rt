@@ -6,15 +6,18 @@ ghost use Rattle.ring_wire.specs.Stands.{ReadsAt, ReadsSized};
 ghost use Rattle.ring_wire.specs.Texts.{who_bytes, epoch_bytes, ranges_bytes, config_bytes};
 
 use crate::read::actor::who_at;
-use crate::read::ranges::intervals_at;
+use crate::read::ranges::ranges_at;
 use crate::read::unit::{config_at, epoch_at};
-use ring_points::{Config, Epoch, Interval, MAX_INTERVALS, RangeSet, Who};
+use ring_points::{Config, Epoch, RangeSet, Who};
 
 /// The epoch that stands at the place, in 8 bytes. It is `None` exactly where no whole one stands there.
 pub fn read_epoch(bytes: &[u8], at: usize) -> Option<Epoch>
     ensures { ReadsSized is_epoch epoch_bytes 8 bytes.now at result }
 {
-    match epoch_at(bytes.get(at..)?) {
+    if bytes.len() < at {
+        return None;
+    }
+    match epoch_at(&bytes[at..]) {
         Ok((epoch, _)) => Some(epoch),
         Err(_) => None,
     }
@@ -24,7 +27,10 @@ pub fn read_epoch(bytes: &[u8], at: usize) -> Option<Epoch>
 pub fn read_who(bytes: &[u8], at: usize) -> Option<Who>
     ensures { ReadsSized is_who who_bytes 6 bytes.now at result }
 {
-    match who_at(bytes.get(at..)?) {
+    if bytes.len() < at {
+        return None;
+    }
+    match who_at(&bytes[at..]) {
         Ok((who, _)) => Some(who),
         Err(_) => None,
     }
@@ -35,12 +41,11 @@ pub fn read_who(bytes: &[u8], at: usize) -> Option<Who>
 pub fn read_ranges(bytes: &[u8], at: usize) -> Option<(RangeSet, usize)>
     ensures { ReadsAt is_proper ranges_bytes bytes.now at result }
 {
-    let mut places = [Interval { lo: 0, hi: 0 }; MAX_INTERVALS];
-    match intervals_at(&mut places, bytes.get(at..)?) {
-        Ok((count, rest)) => {
-            let ranges = RangeSet::from_pairs(&places[..count])?;
-            Some((ranges, bytes.len() - rest.len()))
-        }
+    if bytes.len() < at {
+        return None;
+    }
+    match ranges_at(&bytes[at..]) {
+        Ok((ranges, rest)) => Some((ranges, bytes.len() - rest.len())),
         Err(_) => None,
     }
 }
@@ -50,7 +55,10 @@ pub fn read_ranges(bytes: &[u8], at: usize) -> Option<(RangeSet, usize)>
 pub fn read_config_field(bytes: &[u8], at: usize) -> Option<(Config, usize)>
     ensures { ReadsAt is_config config_bytes bytes.now at result }
 {
-    match config_at(bytes.get(at..)?) {
+    if bytes.len() < at {
+        return None;
+    }
+    match config_at(&bytes[at..]) {
         Ok((config, rest)) => Some((config, bytes.len() - rest.len())),
         Err(_) => None,
     }

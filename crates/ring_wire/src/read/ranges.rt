@@ -1,11 +1,11 @@
 // The intervals of a range set at the front of some bytes, and what follows them.
 
 ghost use Rattle.std.specs.Prelude.{◌≡◌, ◌≤◌, ◌<◌, length, take, IfOk};
-ghost use Rattle.ring_wire.specs.Readers.{Gives, interval_at, times, intervals_at};
+ghost use Rattle.ring_wire.specs.Readers.{Gives, interval_at, times, intervals_at, ranges_at};
 
 use crate::not_frame::NotFrame;
 use crate::read::number::{u8_at, u64_at};
-use ring_points::{Interval, MAX_INTERVALS};
+use ring_points::{Interval, MAX_INTERVALS, RangeSet};
 
 #[tactic(auto, unfolding(crate::specs::Readers::interval_at))]
 fn interval_at(bytes: &[u8]) -> Result<(Interval, &[u8]), NotFrame>
@@ -45,4 +45,16 @@ pub fn intervals_at<'a>(
     }
     let rest = fill(&mut places[..count], rest)?;
     Ok((count, rest))
+}
+
+/// A range set. (A body with ranges is read without this call, which would copy them once more.)
+pub fn ranges_at(bytes: &[u8]) -> Result<(RangeSet, &[u8]), NotFrame>
+    ensures { Gives (λ x. (x.0, x.1.now)) result (ranges_at bytes.now) }
+{
+    let mut places = [Interval { lo: 0, hi: 0 }; MAX_INTERVALS];
+    let (count, rest) = intervals_at(&mut places, bytes)?;
+    match RangeSet::from_pairs(&places[..count]) {
+        Some(ranges) => Ok((ranges, rest)),
+        None => Err(NotFrame),
+    }
 }

@@ -90,7 +90,6 @@ unfolding byte_at one_byte
 byte_is = record { found = found; again = λ x rest h. refl; }
   where
     found : (bytes : List ℕ) (x : ℕ × List ℕ) → AreBytes bytes → byte_at bytes ≡ Some x → IsTrue true × (bytes ≡ one_byte x.0 ++ x.1)
-    unfolding byte_at one_byte
     found [] x h e = cc
     found (b ∷ bs) x h e = let P : ℕ × List ℕ → Type 0 = λ z. IsTrue true × (b ∷ bs ≡ z.0 ∷ z.1) in subst P (some_same (b, bs) x e) (refl, refl)
 
@@ -119,7 +118,6 @@ unfolding times
 times_is {A} {field} {s} {spell} law n = record { found = found n; again = λ xs rest h. again n xs rest (and_parts (length xs == n) (list_all s xs) h); }
   where
     found : (n : ℕ) (bytes : List ℕ) (x : List A × List ℕ) → AreBytes bytes → times n field bytes ≡ Some x → IsTrue ((length x.0 == n) && list_all s x.0) × (bytes ≡ flat_map spell x.0 ++ x.1)
-    unfolding times
     found zero bytes x h e =
         let P : List A × List ℕ → Type 0 = λ z. IsTrue ((length z.0 == 0) && list_all s z.0) × (bytes ≡ flat_map spell z.0 ++ z.1) in
         subst P (some_same ([], bytes) x e) (refl, refl)
@@ -135,7 +133,6 @@ times_is {A} {field} {s} {spell} law n = record { found = found n; again = λ xs
           f.1 ∙ (ap (λ r. spell a.0.0 ++ r) g.1 ∙ sym (append_assoc (spell a.0.0) (flat_map spell b.0.0) b.0.1)),
         )
     again : (n : ℕ) (xs : List A) (rest : List ℕ) → IsTrue (length xs == n) × IsTrue (list_all s xs) → times n field (flat_map spell xs ++ rest) ≡ Some (xs, rest)
-    unfolding times
     again zero [] rest h = refl
     again zero (x ∷ xs) rest h = let l = eqb-true (length (x ∷ xs)) 0 h.0 in absurd (omega arith)
     again (suc n) [] rest h = let l = eqb-true 0 (suc n) h.0 in absurd (omega arith)
