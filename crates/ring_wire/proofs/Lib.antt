@@ -12,3 +12,4 @@ pub mod SearchesLaws
 pub mod LinksLaws
 pub mod FrameLaws
 pub mod Decoded
+pub mod Lengths
