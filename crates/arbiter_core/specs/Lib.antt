@@ -1,4 +1,2 @@
-pub mod Keys
-pub mod Views
 pub mod Arbiters
 pub mod Laws

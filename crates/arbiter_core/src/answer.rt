@@ -1,4 +1,7 @@
-use fabric_terms::{Body, Record};
+ghost use Rattle.std.specs.Prelude.{◌≡◌};
+ghost use Rattle.arbiter_core.specs.declared.answer.ArbiterError.TheVariants.{OutOfMemory as NoMemory};
+
+use fabric_terms::{Body, OutOfMemory, Record};
 use ring_points::Who;
 
 /// What an arbitrator does about a message.
@@ -21,4 +24,12 @@ pub enum ArbiterError {
     OutOfMemory,
     /// The 1,000,001st entry would be made: the arbitrator can keep no more.
     TableFull,
+}
+
+impl From<OutOfMemory> for ArbiterError {
+    ghost from_gives = { λ _ refusal. refusal ≡ NoMemory };
+
+    fn from(_refused: OutOfMemory) -> ArbiterError {
+        ArbiterError::OutOfMemory
+    }
 }

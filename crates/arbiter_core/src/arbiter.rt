@@ -3,10 +3,9 @@ ghost use Rattle.ring_points.specs.Whos.{same_who};
 ghost use Rattle.ring_rules.specs.Arbiters.{first_accuser, accusation_ruled, takes_frame};
 ghost use Rattle.arbiter_core.specs.Arbiters.{Answers, Gives, keep_call, accuse_call, frame_call, is_new, is_once, remember_call, restore_call};
 
-use crate::accused::Accused;
 use crate::answer::{Answer, ArbiterError};
 use fabric_terms::{Body, Message, Record};
-use indexmap::IndexMap;
+use keep_log::FirstAccusers;
 use ring_points::{Ruling, Who};
 use std::alloc::Global;
 use std::marker::Model;
@@ -22,21 +21,18 @@ const ARBITRATORS: u16 = 32768;
 pub struct Arbiter {
     /// From 1.
     number: u16,
-    table: IndexMap<Accused, Who>,
+    table: FirstAccusers,
 }
 
 impl Model for Arbiter {
-    ghost use Rattle.std.specs.Prelude.{◌≤◌};
-    ghost use Rattle.indexmap.specs.IndexMap.{index_map_len};
+    ghost use Rattle.std.specs.Prelude.{◌≤◌, length};
     ghost use Rattle.arbiter_core.specs.Arbiters.{Arbiter};
 
     ghost Value = { Arbiter };
 
-    ghost use Rattle.arbiter_core.specs.Views.{seen};
+    ghost view = { λ a. record { number = a.number; accusations = a.table } };
 
-    ghost view = { seen };
-
-    ghost invariant = { λ a. index_map_len a.table ≤ 1000000 };
+    ghost invariant = { λ a. length a.table ≤ 1000000 };
 }
 
 fn same_who(v: Who, w: Who) -> bool
@@ -52,20 +48,18 @@ impl Arbiter {
     {
         Arbiter {
             number,
-            table: IndexMap::new(alloc),
+            table: FirstAccusers::new(alloc),
         }
     }
 
     /// The first accuser of an instance, if it is accused here.
-    #[tactic(auto, using(crate::proofs::Tables::as_accusations))]
     pub fn first_accuser(&self, victim: Who) -> Option<Who>
         ensures { result ≡ first_accuser victim self.now.accusations }
     {
-        self.table.get(&Accused::new(victim)).copied()
+        self.table.get(victim)
     }
 
     /// Keeps the first accuser of a victim.
-    #[tactic(auto, using(crate::proofs::Tables::as_accusations))]
     fn keep(&mut self, victim: Who, first: Who) -> Result<(), ArbiterError>
         requires { first_accuser victim self.old.accusations ≡ None }
         ensures { Answers (keep_call victim first self.old) self.old self.new result }
@@ -73,10 +67,8 @@ impl Arbiter {
         if self.table.len() >= MOST_ENTRIES {
             return Err(ArbiterError::TableFull);
         }
-        match self.table.insert(Accused::new(victim), first) {
-            Ok(_) => Ok(()),
-            Err(_) => Err(ArbiterError::OutOfMemory),
-        }
+        self.table.insert(victim, first)?;
+        Ok(())
     }
 
     /// Keeps what a record says.

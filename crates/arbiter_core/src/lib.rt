@@ -8,7 +8,6 @@
 //! nothing.
 #![tactic(auto)]
 
-mod accused;
 mod answer;
 mod arbiter;
 mod laws;
@@ -17,5 +16,5 @@ mod tests;
 
 pub use answer::{Answer, ArbiterError};
 pub use arbiter::{Arbiter, MOST_ENTRIES};
-pub use fabric_terms::Record;
+pub use keep_log::Record;
 pub use laws::{the_same_question_gets_the_same_ruling, what_is_recorded_is_new};

@@ -2,7 +2,7 @@
 use Rattle.std.specs.Prelude.{ℕ, List, [], ◌∷◌}
 use Rattle.ring_points.specs.declared.who.Who.{Who}
 use Rattle.ring_rules.specs.Arbiters.{Accusations}
-use Rattle.arbiter_core.specs.declared.accused.Accused.{Accused}
+use Rattle.keep_log.specs.declared.accused.Accused.{Accused}
 
 abbrev pub key_of : Who → Accused
 key_of w = record { actor = w.actor; instance = w.instance }
