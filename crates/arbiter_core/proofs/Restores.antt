@@ -9,7 +9,8 @@ use Rattle.fabric_terms.specs.declared.record.Record.TheVariants.{AccusedBy}
 use Rattle.arbiter_core.specs.declared.answer.ArbiterError.{ArbiterError}
 use Rattle.arbiter_core.specs.declared.answer.ArbiterError.TheVariants.{TableFull}
 use Rattle.ring_rules.specs.Arbiters.{Accusations, first_accuser, accused_after, accusations_after}
-use Rattle.arbiter_core.specs.Arbiters.{Arbiter, Outcome, most_entries, keep_where_full, keep_call, remember_call, is_new, is_once, restored, restore_call}
+use Rattle.keep_log.specs.Places.{is_new, is_once}
+use Rattle.arbiter_core.specs.Arbiters.{Arbiter, Outcome, most_entries, keep_where_full, keep_call, remember_call, restored, restore_call}
 
 -- these records have been read, and the rest are to be read
 pub record IsRestoring (own : ℕ) (records rest : List Record) (a : Arbiter) : Type 0 where

@@ -6,7 +6,7 @@ use Rattle.ring_points.specs.declared.who.Who.{Who}
 use Rattle.ring_points.specs.Whos.{same_who}
 use Rattle.ring_rules.specs.Arbiters.{Accusations, first_accuser, first_kept, ruling_by, accusation_ruled, accusations_after}
 use Rattle.ring_rules.proofs.Rows.{accusation_ruled-is, accusation_kept-is}
-use Rattle.arbiter_core.specs.Arbiters.{is_once}
+use Rattle.keep_log.specs.Places.{is_once}
 use Rattle.arbiter_core.specs.Laws.{RecordingOnce, RulingAgain}
 
 same_itself : (w : Who) → same_who w w ≡ true

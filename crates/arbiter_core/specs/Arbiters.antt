@@ -69,16 +69,6 @@ abbrev pub Answers : {A : Type 0} → Outcome A → Arbiter → Arbiter → Resu
 Answers defined old new (Ok answer) = defined ≡ (Ok answer, new)
 Answers defined old new (Err e) = (new ≡ old) × (e ≢ OutOfMemory → defined ≡ (Err e, old))
 
--- a record of a victim is its first
-abbrev pub is_new : Accusations → Record → Bool
-is_new table (AccusedBy victim first) = not (is_some (first_accuser victim table))
-is_new table _ = true
-
--- after this table, each victim has one record
-abbrev pub is_once : Accusations → List Record → Bool
-is_once table [] = true
-is_once table (r ∷ rs) = is_new table r && is_once (accused_after table r) rs
-
 -- the arbitrator that made these records
 abbrev pub restored : ℕ → List Record → Arbiter
 restored number records = record { number = number; accusations = accusations_after [] records }

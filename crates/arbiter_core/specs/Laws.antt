@@ -3,7 +3,7 @@ use Rattle.std.specs.Prelude.{◌≡◌, true, false}
 use Rattle.ring_points.specs.declared.who.Who.{Who}
 use Rattle.ring_points.specs.Whos.{same_who}
 use Rattle.ring_rules.specs.Arbiters.{Accusations, accusation_kept, accusation_ruled, accusations_after}
-use Rattle.arbiter_core.specs.Arbiters.{is_once}
+use Rattle.keep_log.specs.Places.{is_once}
 
 -- what is recorded of an accusation is the first record of its victim
 abbrev pub RecordingOnce : Type 0

@@ -1,7 +1,8 @@
 ghost use Rattle.std.specs.Prelude.{◌≡◌, [], true, Some, None};
 ghost use Rattle.ring_points.specs.Whos.{same_who};
 ghost use Rattle.ring_rules.specs.Arbiters.{first_accuser, accusation_ruled, takes_frame};
-ghost use Rattle.arbiter_core.specs.Arbiters.{Answers, Gives, keep_call, accuse_call, frame_call, is_new, is_once, remember_call, restore_call};
+ghost use Rattle.keep_log.specs.Places.{is_new, is_once};
+ghost use Rattle.arbiter_core.specs.Arbiters.{Answers, Gives, keep_call, accuse_call, frame_call, remember_call, restore_call};
 
 use crate::answer::{Answer, ArbiterError};
 use fabric_terms::{Body, Message, Record};

@@ -9,6 +9,20 @@
 
 mod accused;
 mod accusers;
+mod encode;
+mod kept;
+mod kept_error;
+mod laws;
+mod read;
+#[cfg(test)]
+mod tests;
 
 pub use accusers::FirstAccusers;
+pub use encode::{RECORD_LIMIT, encode_record};
 pub use fabric_terms::Record;
+pub use kept::{Kept, Records};
+pub use kept_error::KeptError;
+pub use laws::{
+    a_list_amounts_to_one_thing, a_spelling_is_of_one_record, every_front_of_a_good_list_is_good,
+};
+pub use read::read_records;
