@@ -1,0 +1,130 @@
+ghost use Rattle.std.specs.Prelude.{◌≤◌};
+
+use crate::{Answer, Arbiter, Record};
+use fabric_terms::{Body, Message};
+use ring_points::{Ruling, Who};
+use std::process::Abort;
+use std::test::Fail;
+
+fn node(actor: u16) -> Who {
+    Who { actor, instance: 1 }
+}
+
+fn arbitrator(number: u16) -> Who
+    requires { number ≤ 9 }
+{
+    Who {
+        actor: 32768 + number,
+        instance: 0,
+    }
+}
+
+fn accusation(accuser: Who, to: Who, victim: Who) -> Message {
+    Message {
+        from: accuser,
+        to,
+        body: Body::Accuse { victim },
+    }
+}
+
+// What arbitrator 1 rules, and whom it records as the first accuser.
+fn ruled(
+    rt: &impl Abort,
+    arbiter: &mut Arbiter,
+    accuser: u16,
+    victim: u16,
+) -> (Ruling, Option<Who>) {
+    let question = accusation(node(accuser), arbitrator(1), node(victim));
+    match arbiter.on_frame(&question) {
+        Ok(
+            Answer::Reply {
+                kept,
+                to,
+                body: Body::Ruled {
+                    victim: about,
+                    ruling,
+                },
+            },
+        ) => {
+            assert_eq!(rt; (to, about), (node(accuser), node(victim)));
+            match kept {
+                Some(Record::AccusedBy { victim: of, first }) => {
+                    assert_eq!(rt; of, node(victim));
+                    (ruling, Some(first))
+                }
+                _ => (ruling, None),
+            }
+        }
+        _ => panic!(rt; "no ruling"),
+    }
+}
+
+#[test]
+fn rules_the_same_after_a_restart(rt: HostRuntime) -> Result<(), Fail> {
+    let mut arbiter = Arbiter::new(rt.alloc(), 1);
+    assert_eq!(rt;
+        ruled(&rt, &mut arbiter, 1, 2),
+        (Ruling::Granted, Some(node(1)))
+    );
+    assert_eq!(rt; arbiter.first_accuser(node(2)), Some(node(1)));
+    let records = [Record::AccusedBy {
+        victim: node(2),
+        first: node(1),
+    }];
+    let mut restored = Arbiter::restore(rt.alloc(), 1, &records)?;
+    assert_eq!(rt; restored.first_accuser(node(1)), None);
+    for (accuser, victim, ruling) in [
+        (1, 2, Ruling::Granted),
+        (3, 2, Ruling::Taken),
+        (2, 1, Ruling::Refused),
+        (2, 3, Ruling::Refused),
+    ] {
+        assert_eq!(rt; ruled(&rt, &mut arbiter, accuser, victim), (ruling, None));
+        assert_eq!(rt;
+            ruled(&rt, &mut restored, accuser, victim),
+            (ruling, None),
+            "{victim} by {accuser}"
+        );
+    }
+    Ok(())
+}
+
+#[test]
+fn answers_no_other_message(rt: HostRuntime) -> Result<(), Fail> {
+    let mut arbiter = Arbiter::new(rt.alloc(), 1);
+    let hello = Message {
+        from: node(1),
+        to: arbitrator(1),
+        body: Body::Hello { mine: 1 },
+    };
+    for message in [
+        accusation(node(1), arbitrator(2), node(2)),
+        accusation(arbitrator(2), arbitrator(1), node(2)),
+        accusation(node(1), node(3), node(2)),
+        hello,
+    ] {
+        assert!(rt; matches!(arbiter.on_frame(&message), Ok(Answer::Nothing)));
+    }
+    assert_eq!(rt; arbiter.first_accuser(node(2)), None);
+    Ok(())
+}
+
+// The same question again, where the first was refused for want of memory: it left nothing behind.
+#[test]
+fn want_of_memory_records_nothing(rt: HostRuntime) -> Result<(), Fail> {
+    let mut arbiter = Arbiter::new(rt.alloc(), 1);
+    for victim in 2..40 {
+        if arbiter
+            .on_frame(&accusation(node(1), arbitrator(1), node(victim)))
+            .is_err()
+        {
+            assert_eq!(rt; arbiter.first_accuser(node(victim)), None);
+            assert_eq!(rt;
+                ruled(&rt, &mut arbiter, 1, victim),
+                (Ruling::Granted, Some(node(1)))
+            );
+        }
+        assert_eq!(rt; ruled(&rt, &mut arbiter, 99, victim), (Ruling::Taken, None));
+    }
+    Ok(())
+}

@@ -1,0 +1,13 @@
+use Rattle.std.proofs.Common.{◌≡◌, ◌+◌, length, arith}
+use Rattle.ring_wire.specs.Texts.{one_byte}
+use Rattle.ring_wire.proofs.Puts.{puts_more, puts_front}
+use Rattle.keep_log.proofs.encode.encode_record.Goals as goal
+
+pub returns-in-Boot-clause-written : goal.returns-in-Boot-clause-written
+unfolding one_byte
+returns-in-Boot-clause-written c = rw c.in-Boot.is (puts_front (puts_more c.put_u8-at.ensures.wrote c.put_u32.ensures.wrote))
+
+pub returns-in-AccusedBy-clause-written : goal.returns-in-AccusedBy-clause-written
+unfolding one_byte
+returns-in-AccusedBy-clause-written c =
+    rw c.in-AccusedBy.is (puts_front (puts_more c.put_u8-at-in-AccusedBy.ensures.wrote (puts_more c.put_who-at.ensures.wrote c.put_who.ensures.wrote)))

@@ -1,0 +1,5 @@
+pub mod Keys
+pub mod Spellings
+pub mod Places
+pub mod Outcomes
+pub mod Laws

@@ -1,0 +1,28 @@
+//! What an actor keeps, as bytes: records, one spelling each, and what a list of them amounts to.
+//!
+//! Each record is synced before anything that the actor says rests on it, so a restarted actor is made of its records
+//! alone. This crate says which bytes are a record, writes and reads them, and says of a whole list at which record it
+//! is good no more. A node's list has its boots, an arbitrator's the first accuser of each victim. The crate stands on
+//! the fields of frames. It promises that what is written is read as the same record, that a list is read exactly where
+//! each record stands in its place, and that every front of a good list is a good list.
+#![tactic(auto)]
+
+mod accused;
+mod accusers;
+mod encode;
+mod kept;
+mod kept_error;
+mod laws;
+mod read;
+#[cfg(test)]
+mod tests;
+
+pub use accusers::FirstAccusers;
+pub use encode::{RECORD_LIMIT, encode_record};
+pub use fabric_terms::Record;
+pub use kept::{Kept, Records};
+pub use kept_error::KeptError;
+pub use laws::{
+    a_list_amounts_to_one_thing, a_spelling_is_of_one_record, every_front_of_a_good_list_is_good,
+};
+pub use read::read_records;

@@ -1,0 +1,13 @@
+-- What a reader that gives the message of a frame says of the frame.
+use Rattle.std.proofs.Common.{◌≡◌, ◌≢◌, List, ℕ, Some, None, Ok, Err, Result, sym, ap, subst, ◌∙◌}
+use Rattle.std.specs.Prelude.{IsTrue, MatchResult}
+use Rattle.fabric_terms.specs.declared.message.Message.{Message}
+use Rattle.ring_wire.specs.Frames.{is_sound, spelling}
+use Rattle.ring_wire.specs.Readers.{Gives}
+use Rattle.ring_wire.specs.Kinds.{message_of}
+use Rattle.ring_wire.proofs.Numbers.{AreBytes}
+use Rattle.ring_wire.proofs.FrameLaws.{message_found, message_again}
+
+pub decoded : {E : Type 0} (frame : List ℕ) (read : Result Message E) → AreBytes frame → Gives (λ m. m) read (message_of frame) → MatchResult read (λ m. IsTrue (is_sound m) × (spelling m ≡ frame)) (λ _. (m : Message) → IsTrue (is_sound m) → spelling m ≢ frame)
+decoded frame (Ok m) h e = message_found frame m h e
+decoded {E} frame (Err x) h e = λ m sound same. let g = message_again m sound in let f = ap message_of same in cc

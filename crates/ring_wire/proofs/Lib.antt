@@ -1,0 +1,15 @@
+pub mod Puts
+pub mod Times
+pub mod Numbers
+pub mod Forms
+pub mod FieldLaws
+pub mod Standing
+pub mod BodyForms
+pub mod ReplicasLaws
+pub mod PartitionsLaws
+pub mod RulingsLaws
+pub mod SearchesLaws
+pub mod LinksLaws
+pub mod FrameLaws
+pub mod Decoded
+pub mod Lengths

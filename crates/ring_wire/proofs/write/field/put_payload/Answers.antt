@@ -1,0 +1,9 @@
+use Rattle.std.proofs.Common.{rules, ap}
+use Rattle.std.proofs.Common.{length}
+use Rattle.ring_wire.specs.Texts.{payload_bytes}
+use Rattle.ring_wire.proofs.Puts.{puts_more}
+use Rattle.ring_wire.proofs.write.field.put_payload.Goals as goal
+
+pub returns : goal.returns
+unfolding payload_bytes
+returns c = rw (← c.as_slice-bytes.ensures) (puts_more c.put_u16-at.ensures.wrote c.put_bytes.ensures)

@@ -1,0 +1,139 @@
+-- What a frame is: which messages are in the grammar, and how each is spelled.
+use Rattle.std.specs.Prelude.{ℕ, ◌≡◌, ◌≤◌, Bool, true, false, ◌&&◌, List, [], ◌∷◌, ◌++◌, length, Option, Some, None, IsTrue}
+use Rattle.fabric_terms.specs.declared.message.Message.{Message}
+use Rattle.fabric_terms.specs.declared.message.Body.{Body}
+use Rattle.fabric_terms.specs.declared.message.Body.TheVariants.{Hello, HelloFor, Offer, OfferFor, Take, Renew, RenewAck, Transfer, Gone, Seek, Found, Accuse, Ruled, Claim, Kept, Prepare, Prepared, NoPrepare, Vote, Voted, NoVote, DoneAsk, DoneKept, NoDone, Promise, Promised, Sync, Fetch, Piece, Adopted, Activate, Activated, Append, Appended, Older}
+use Rattle.ring_points.specs.declared.unit.Epoch.{Epoch}
+use Rattle.ring_points.specs.declared.unit.Config.{Config}
+use Rattle.ring_points.specs.declared.interval.Interval.{Interval}
+use Rattle.ring_points.specs.Ranges.{is_proper}
+use Rattle.ring_wire.specs.Fields.{is_session, is_unit, is_done, is_part, is_short, is_word, is_long, is_counted, is_stamp, is_lease, is_last, is_hops, is_round, is_node, is_who, is_sender, is_addressee, is_epoch, same_unit, is_config, is_payload}
+use Rattle.ring_wire.specs.Texts.{number_bytes, one_byte, who_bytes, epoch_bytes, ranges_bytes, unit_bytes, config_bytes, payload_bytes, flag_bytes, ruling_bytes, done_bytes, session_bytes}
+
+-- the numbers, lists and texts of a body are in their ranges
+abbrev pub is_sound_body : Body → Bool
+is_sound_body (Hello mine) = is_counted mine
+is_sound_body (HelloFor mine length) = is_counted mine && is_lease length
+is_sound_body (Offer mine yours) = is_session mine yours
+is_sound_body (OfferFor mine yours length) = is_session mine yours && is_lease length
+is_sound_body (Take mine yours) = is_session mine yours
+is_sound_body (Renew mine yours stamp version got want ranges) = is_session mine yours && is_stamp stamp && is_word version && is_word got && is_proper ranges
+is_sound_body (RenewAck mine yours stamp version) = is_session mine yours && is_stamp stamp && is_word version
+is_sound_body (Transfer mine yours flight ranges) = is_session mine yours && is_counted flight && is_part ranges
+is_sound_body (Gone mine yours got bound) = is_session mine yours && is_word got
+is_sound_body (Seek origin key hops) = is_who origin && is_long key.0 && is_hops hops
+is_sound_body (Found key holder) = is_long key.0 && is_who holder
+is_sound_body (Accuse victim) = is_who victim
+is_sound_body (Ruled victim ruling) = is_who victim
+is_sound_body (Claim victim round) = is_who victim && is_round round
+is_sound_body (Kept victim round claimer) = is_who victim && is_round round && is_who claimer
+is_sound_body (Prepare partition epoch) = is_unit partition epoch
+is_sound_body (Prepared partition epoch config) = is_unit partition epoch && is_done config
+is_sound_body (NoPrepare partition epoch kept) = is_unit partition epoch && is_epoch kept
+is_sound_body (Vote config) = is_config config
+is_sound_body (Voted partition epoch kept) = is_unit partition epoch && is_config kept && same_unit partition epoch kept
+is_sound_body (NoVote partition epoch kept) = is_unit partition epoch && is_epoch kept
+is_sound_body (DoneAsk config) = is_config config
+is_sound_body (DoneKept partition epoch) = is_unit partition epoch
+is_sound_body (NoDone partition epoch kept) = is_unit partition epoch && is_epoch kept
+is_sound_body (Promise partition epoch) = is_unit partition epoch
+is_sound_body (Promised partition epoch at last) = is_unit partition epoch && is_epoch at && is_last last
+is_sound_body (Sync partition epoch origin last) = is_unit partition epoch && is_node origin && is_last last
+is_sound_body (Fetch partition epoch lsn) = is_unit partition epoch && is_word lsn
+is_sound_body (Piece partition epoch lsn entry_epoch text) = is_unit partition epoch && is_word lsn && is_epoch entry_epoch && is_payload text
+is_sound_body (Adopted partition epoch last) = is_unit partition epoch && is_word last
+is_sound_body (Activate config) = is_config config
+is_sound_body (Activated partition epoch) = is_unit partition epoch
+is_sound_body (Append partition epoch lsn text) = is_unit partition epoch && is_word lsn && is_payload text
+is_sound_body (Appended partition epoch last) = is_unit partition epoch && is_word last
+is_sound_body (Older partition epoch kept) = is_unit partition epoch && is_epoch kept
+
+-- the message goes from an actor to an actor, and says something in the grammar
+abbrev pub is_sound : Message → Bool
+is_sound m = is_sender m.from && is_addressee m.to && is_sound_body m.body
+
+-- leases of their own length have the version 2
+abbrev pub version_of : Body → ℕ
+version_of (HelloFor mine length) = 2
+version_of (OfferFor mine yours length) = 2
+version_of _ = 1
+
+abbrev pub kind_of : Body → ℕ
+kind_of (Hello mine) = 1
+kind_of (HelloFor mine length) = 1
+kind_of (Offer mine yours) = 2
+kind_of (OfferFor mine yours length) = 2
+kind_of (Take mine yours) = 3
+kind_of (Renew mine yours stamp version got want ranges) = 4
+kind_of (RenewAck mine yours stamp version) = 5
+kind_of (Transfer mine yours flight ranges) = 6
+kind_of (Gone mine yours got bound) = 7
+kind_of (Seek origin key hops) = 8
+kind_of (Found key holder) = 9
+kind_of (Accuse victim) = 16
+kind_of (Ruled victim ruling) = 17
+kind_of (Claim victim round) = 18
+kind_of (Kept victim round claimer) = 19
+kind_of (Prepare partition epoch) = 32
+kind_of (Prepared partition epoch config) = 33
+kind_of (NoPrepare partition epoch kept) = 34
+kind_of (Vote config) = 35
+kind_of (Voted partition epoch kept) = 36
+kind_of (NoVote partition epoch kept) = 37
+kind_of (DoneAsk config) = 38
+kind_of (DoneKept partition epoch) = 39
+kind_of (NoDone partition epoch kept) = 40
+kind_of (Promise partition epoch) = 48
+kind_of (Promised partition epoch at last) = 49
+kind_of (Sync partition epoch origin last) = 50
+kind_of (Fetch partition epoch lsn) = 51
+kind_of (Piece partition epoch lsn entry_epoch text) = 52
+kind_of (Adopted partition epoch last) = 53
+kind_of (Activate config) = 54
+kind_of (Activated partition epoch) = 55
+kind_of (Append partition epoch lsn text) = 56
+kind_of (Appended partition epoch last) = 57
+kind_of (Older partition epoch kept) = 58
+
+-- the fields of a body, one after the other
+abbrev pub body_bytes : Body → List ℕ
+body_bytes (Hello mine) = number_bytes 4 mine
+body_bytes (HelloFor mine length) = number_bytes 4 mine ++ number_bytes 8 length
+body_bytes (Offer mine yours) = session_bytes mine yours
+body_bytes (OfferFor mine yours length) = session_bytes mine yours ++ number_bytes 8 length
+body_bytes (Take mine yours) = session_bytes mine yours
+body_bytes (Renew mine yours stamp version got want ranges) = session_bytes mine yours ++ number_bytes 8 stamp ++ number_bytes 4 version ++ number_bytes 4 got ++ flag_bytes want ++ ranges_bytes ranges
+body_bytes (RenewAck mine yours stamp version) = session_bytes mine yours ++ number_bytes 8 stamp ++ number_bytes 4 version
+body_bytes (Transfer mine yours flight ranges) = session_bytes mine yours ++ number_bytes 4 flight ++ ranges_bytes ranges
+body_bytes (Gone mine yours got bound) = session_bytes mine yours ++ number_bytes 4 got ++ flag_bytes bound
+body_bytes (Seek origin key hops) = who_bytes origin ++ number_bytes 8 key.0 ++ one_byte hops
+body_bytes (Found key holder) = number_bytes 8 key.0 ++ who_bytes holder
+body_bytes (Accuse victim) = who_bytes victim
+body_bytes (Ruled victim ruling) = who_bytes victim ++ ruling_bytes ruling
+body_bytes (Claim victim round) = who_bytes victim ++ one_byte round
+body_bytes (Kept victim round claimer) = who_bytes victim ++ one_byte round ++ who_bytes claimer
+body_bytes (Prepare partition epoch) = unit_bytes partition epoch
+body_bytes (Prepared partition epoch config) = unit_bytes partition epoch ++ done_bytes config
+body_bytes (NoPrepare partition epoch kept) = unit_bytes partition epoch ++ epoch_bytes kept
+body_bytes (Vote config) = config_bytes config
+body_bytes (Voted partition epoch kept) = unit_bytes partition epoch ++ config_bytes kept
+body_bytes (NoVote partition epoch kept) = unit_bytes partition epoch ++ epoch_bytes kept
+body_bytes (DoneAsk config) = config_bytes config
+body_bytes (DoneKept partition epoch) = unit_bytes partition epoch
+body_bytes (NoDone partition epoch kept) = unit_bytes partition epoch ++ epoch_bytes kept
+body_bytes (Promise partition epoch) = unit_bytes partition epoch
+body_bytes (Promised partition epoch at last) = unit_bytes partition epoch ++ epoch_bytes at ++ number_bytes 4 last
+body_bytes (Sync partition epoch origin last) = unit_bytes partition epoch ++ number_bytes 2 origin ++ number_bytes 4 last
+body_bytes (Fetch partition epoch lsn) = unit_bytes partition epoch ++ number_bytes 4 lsn
+body_bytes (Piece partition epoch lsn entry_epoch text) = unit_bytes partition epoch ++ number_bytes 4 lsn ++ epoch_bytes entry_epoch ++ payload_bytes text
+body_bytes (Adopted partition epoch last) = unit_bytes partition epoch ++ number_bytes 4 last
+body_bytes (Activate config) = config_bytes config
+body_bytes (Activated partition epoch) = unit_bytes partition epoch
+body_bytes (Append partition epoch lsn text) = unit_bytes partition epoch ++ number_bytes 4 lsn ++ payload_bytes text
+body_bytes (Appended partition epoch last) = unit_bytes partition epoch ++ number_bytes 4 last
+body_bytes (Older partition epoch kept) = unit_bytes partition epoch ++ epoch_bytes kept
+
+-- a message as a frame: 53 in hexadecimal, the version, the kind, from whom, to whom, and the fields of the body
+abbrev pub spelling : Message → List ℕ
+spelling m =
+    (83 ∷ version_of m.body ∷ kind_of m.body ∷ []) ++ who_bytes m.from ++ who_bytes m.to ++ body_bytes m.body

@@ -1,0 +1,93 @@
+// How frames are read.
+
+ghost use Rattle.std.specs.Prelude.{◌≡◌, ◌≢◌, IsTrue, MatchResult};
+ghost use Rattle.fabric_terms.specs.declared.message.Message.{Message};
+ghost use Rattle.ring_wire.specs.Frames.{is_sound, spelling};
+ghost use Rattle.ring_wire.specs.Readers.{Gives, Fills};
+ghost use Rattle.ring_wire.specs.Kinds.{head_at, body_of, message_of};
+
+pub mod actor;
+mod links;
+pub mod number;
+mod partitions;
+pub mod ranges;
+mod replicas;
+mod rulings;
+mod searches;
+pub mod unit;
+
+use crate::not_frame::NotFrame;
+use actor::{addressee_at, sender_at};
+use fabric_terms::{Body, Message};
+use links::{read_lease, read_link};
+use number::u8_at;
+use ring_points::Who;
+
+/// The first byte of every frame.
+const FIRST_BYTE: u8 = 0x53;
+
+/// What stands before the body of a frame.
+#[derive(Clone, Copy)]
+pub struct Head {
+    version: u8,
+    kind: u8,
+    from: Who,
+    to: Who,
+}
+
+#[tactic(auto, unfolding(crate::specs::Kinds::head_at))]
+fn head_at(bytes: &[u8]) -> Result<(Head, &[u8]), NotFrame>
+    ensures { Gives (λ x. (x.0, x.1.now)) result (head_at bytes.now) }
+{
+    let (first, rest) = u8_at(bytes)?;
+    if first != FIRST_BYTE {
+        return Err(NotFrame);
+    }
+    let (version, rest) = u8_at(rest)?;
+    let (kind, rest) = u8_at(rest)?;
+    let (from, rest) = sender_at(rest)?;
+    let (to, rest) = addressee_at(rest)?;
+    Ok((
+        Head {
+            version,
+            kind,
+            from,
+            to,
+        },
+        rest,
+    ))
+}
+
+// The body, to the end of the bytes. A refusal may leave any body.
+#[tactic(auto, unfolding(crate::specs::Kinds::body_of))]
+fn read_body(head: Head, bytes: &[u8], body: &mut Body) -> Result<(), NotFrame>
+    ensures { Fills result body.new (body_of head.version head.kind bytes.now) }
+{
+    match head.version {
+        1 => read_link(head.kind, bytes, body),
+        2 => read_lease(head.kind, bytes, body),
+        _ => Err(NotFrame),
+    }
+}
+
+#[tactic(auto, unfolding(crate::specs::Kinds::message_of))]
+fn read_message(frame: &[u8]) -> Result<Message, NotFrame>
+    ensures { Gives (λ x. x) result (message_of frame.now) }
+{
+    let (head, rest) = head_at(frame)?;
+    let mut body = Body::Hello { mine: 0 };
+    read_body(head, rest, &mut body)?;
+    Ok(Message {
+        from: head.from,
+        to: head.to,
+        body,
+    })
+}
+
+/// The message that these bytes spell. NotFrame comes exactly where they spell none.
+pub fn decode(frame: &[u8]) -> Result<Message, NotFrame>
+    ensures { MatchResult result (λ m. IsTrue (is_sound m) × (spelling m ≡ frame.now))
+        (λ _. (m : Message) → IsTrue (is_sound m) → spelling m ≢ frame.now) }
+{
+    read_message(frame)
+}

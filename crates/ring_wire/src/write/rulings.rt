@@ -1,0 +1,41 @@
+// Accusations, rulings and claims: the fields of the bodies, written from a place on.
+
+ghost use Rattle.std.specs.Prelude.{◌≡◌, ◌≤◌, ◌+◌, IsTrue};
+ghost use Rattle.ring_wire.specs.Frames.{is_sound_body, kind_of, body_bytes};
+ghost use Rattle.ring_wire.specs.Writers.{Puts};
+
+use crate::write::FRAME_LIMIT;
+use crate::write::field::{put_ruling, put_who};
+use crate::write::number::put_u8;
+use fabric_terms::Body;
+
+/// A body of a kind from 16 to 19. Gives the place after it.
+pub fn put_ruling_body(into: &mut [u8; FRAME_LIMIT], at: usize, body: &Body) -> usize
+    requires room { at + 600 ≤ 1200 }
+    requires sound { IsTrue (is_sound_body body.now) }
+    requires low { 16 ≤ kind_of body.now }
+    requires high { kind_of body.now ≤ 31 }
+    ensures { Puts (body_bytes body.now) into.old at into.new result }
+{
+    match body {
+        Body::Accuse { victim } => put_who(into, at, *victim),
+        Body::Ruled { victim, ruling } => {
+            let at = put_who(into, at, *victim);
+            put_ruling(into, at, *ruling)
+        }
+        Body::Claim { victim, round } => {
+            let at = put_who(into, at, *victim);
+            put_u8(into, at, *round)
+        }
+        Body::Kept {
+            victim,
+            round,
+            claimer,
+        } => {
+            let at = put_who(into, at, *victim);
+            let at = put_u8(into, at, *round);
+            put_who(into, at, *claimer)
+        }
+        _ => unreachable!(),
+    }
+}
