@@ -87,7 +87,7 @@ made_is {A} {B} {field} {s} {spell} law make parts there back = record {
 
 pub byte_is : IsField byte_at any one_byte
 unfolding byte_at one_byte
-byte_is = record { found = found; again = λ x rest h. refl; }
+byte_is = record { found = found; again = λ x rest h. refl }
   where
     found : (bytes : List ℕ) (x : ℕ × List ℕ) → AreBytes bytes → byte_at bytes ≡ Some x → IsTrue true × (bytes ≡ one_byte x.0 ++ x.1)
     found [] x h e = cc
@@ -115,7 +115,7 @@ number_is n = record {
 -- as many fields as there are
 pub times_is : {A : Type 0} {field : List ℕ → Field A} {s : A → Bool} {spell : A → List ℕ} → IsField field s spell → (n : ℕ) → IsField (times n field) (λ xs. (length xs == n) && list_all s xs) (flat_map spell)
 unfolding times
-times_is {A} {field} {s} {spell} law n = record { found = found n; again = λ xs rest h. again n xs rest (and_parts (length xs == n) (list_all s xs) h); }
+times_is {A} {field} {s} {spell} law n = record { found = found n; again = λ xs rest h. again n xs rest (and_parts (length xs == n) (list_all s xs) h) }
   where
     found : (n : ℕ) (bytes : List ℕ) (x : List A × List ℕ) → AreBytes bytes → times n field bytes ≡ Some x → IsTrue ((length x.0 == n) && list_all s x.0) × (bytes ≡ flat_map spell x.0 ++ x.1)
     found zero bytes x h e =
@@ -132,6 +132,7 @@ times_is {A} {field} {s} {spell} law n = record { found = found n; again = λ xs
           and_from (length (a.0.0 ∷ b.0.0) == suc n) (s a.0.0 && list_all s b.0.0) (eq-eqb (length (a.0.0 ∷ b.0.0)) (suc n) (let l = eqb-true (length b.0.0) n q.0 in omega arith)) (and_from (s a.0.0) (list_all s b.0.0) f.0 q.1),
           f.1 ∙ (ap (λ r. spell a.0.0 ++ r) g.1 ∙ sym (append_assoc (spell a.0.0) (flat_map spell b.0.0) b.0.1)),
         )
+
     again : (n : ℕ) (xs : List A) (rest : List ℕ) → IsTrue (length xs == n) × IsTrue (list_all s xs) → times n field (flat_map spell xs ++ rest) ≡ Some (xs, rest)
     again zero [] rest h = refl
     again zero (x ∷ xs) rest h = let l = eqb-true (length (x ∷ xs)) 0 h.0 in absurd (omega arith)

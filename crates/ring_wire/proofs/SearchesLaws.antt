@@ -22,7 +22,7 @@ use Rattle.ring_wire.proofs.RulingsLaws.{rulings_found}
 
 seek_found : Finds 1 8 seek_of
 unfolding seek_of
-seek_found = kind_found {make = (λ x. Seek x.0.0 x.0.1 x.1)} (pair_is (pair_is who_is point_is) hops_is) (record { version_is = λ x. refl; kind_is = λ x. refl; sound = λ x h. h; spelled = λ x. refl; })
+seek_found = kind_found {make = (λ x. Seek x.0.0 x.0.1 x.1)} (pair_is (pair_is who_is point_is) hops_is) (record { version_is = λ x. refl; kind_is = λ x. refl; sound = λ x h. h; spelled = λ x. refl })
 
 pub seek_again : (origin : Who) (key : Point) (hops : ℕ) → IsTrue (is_sound_body (Seek origin key hops)) → seek_of (body_bytes (Seek origin key hops)) ≡ Some (Seek origin key hops)
 unfolding seek_of
@@ -30,7 +30,7 @@ seek_again origin key hops h = kind_again (pair_is (pair_is who_is point_is) hop
 
 found_found : Finds 1 9 found_of
 unfolding found_of
-found_found = kind_found {make = (λ x. Found x.0 x.1)} (pair_is point_is who_is) (record { version_is = λ x. refl; kind_is = λ x. refl; sound = λ x h. h; spelled = λ x. refl; })
+found_found = kind_found {make = (λ x. Found x.0 x.1)} (pair_is point_is who_is) (record { version_is = λ x. refl; kind_is = λ x. refl; sound = λ x h. h; spelled = λ x. refl })
 
 pub found_again : (key : Point) (holder : Who) → IsTrue (is_sound_body (Found key holder)) → found_of (body_bytes (Found key holder)) ≡ Some (Found key holder)
 unfolding found_of
