@@ -1,20 +1,17 @@
 -- The law of each field of a frame.
-use Rattle.std.proofs.Common.{◌≡◌, ℕ, ◌+◌, ◌^◌, ◌<◌, ◌≤◌, Bool, true, false, cond, ◌&&◌, ◌||◌, nat_le, nat_lt, ◌⊎◌, ⊎_elim, List, [], ◌∷◌, ◌++◌, length, take, drop, Option, Some, None, refl, ap, sym, subst, ◌∙◌, arith, length-append}
+use Rattle.std.proofs.Common.{◌≡◌, ℕ, ◌+◌, ◌^◌, ◌<◌, ◌≤◌, Bool, true, false, cond, ◌&&◌, ◌||◌, nat_le, nat_lt, ⊎_elim, List, [], ◌∷◌, ◌++◌, length, take, drop, Option, Some, None, refl, ap, sym, subst, ◌∙◌, arith, length-append}
 use Rattle.std.specs.Prelude.{IsTrue, ◌==◌}
 use Rattle.std.specs.List.{list_all, list_any}
 use Rattle.std.proofs.lemmas.List.{append_assoc, take-append-drop, drop_at, take_at, length-take-le}
-use Rattle.std.proofs.lemmas.Bool.Decides.{nat_tests}
-use Rattle.std.proofs.lemmas.Bool.{leb-true, le-leb, lt-ltb, ltb-true, eq-eqb, eqb-true, eqb-false, and_parts, and_from, or_cases}
-use Rattle.ring_points.specs.declared.point.Point.{Point}
+use Rattle.std.proofs.lemmas.Bool.{leb-true, le-leb, lt-ltb, ltb-true, eqb-true, eqb-false, and_parts, and_from, or_cases}
 use Rattle.ring_points.specs.declared.who.Who.{Who}
 use Rattle.ring_points.specs.declared.who.Ruling.{Ruling}
 use Rattle.ring_points.specs.declared.who.Ruling.TheVariants.{Granted, Taken, Refused}
-use Rattle.ring_points.specs.declared.unit.Epoch.{Epoch}
 use Rattle.ring_points.specs.declared.unit.Config.{Config}
 use Rattle.ring_points.specs.declared.interval.Interval.{Interval}
 use Rattle.ring_points.specs.Ranges.{is_proper, rises_from, fits}
 use Rattle.ring_wire.specs.Fields.{is_short, is_word, is_long, is_counted, is_session, is_stamp, is_lease, is_last, is_hops, is_round, is_node, is_who, is_arbiter, is_sender, is_addressee, is_some, is_part, is_epoch, is_unit, rises_above, has_members, is_config, is_done, is_payload}
-use Rattle.ring_wire.specs.Readers.{◌>>=◌, Field, such, pair, made, number_at, byte_at, bytes_at, times, list_at, word_at, counted_at, last_at, stamp_at, lease_at, node_at, hops_at, round_at, flag_at, ruling_of, ruling_at, point_at, session_at, actor_at, is_numbered, who_at, sender_at, addressee_at, epoch_at, unit_at, interval_at, intervals_at, ranges_at, part_at, config_from, config_at, done_at, payload_at}
+use Rattle.ring_wire.specs.Readers.{◌>>=◌, Field, such, pair, made, number_at, byte_at, bytes_at, list_at, word_at, counted_at, last_at, stamp_at, lease_at, node_at, hops_at, round_at, flag_at, ruling_of, ruling_at, point_at, session_at, actor_at, is_numbered, who_at, sender_at, addressee_at, epoch_at, unit_at, interval_at, intervals_at, ranges_at, part_at, config_from, config_at, done_at, payload_at}
 use Rattle.ring_wire.specs.Texts.{number_bytes, one_byte, session_bytes, who_bytes, epoch_bytes, unit_bytes, interval_bytes, list_bytes, ranges_bytes, config_bytes, payload_bytes, flag_code, flag_bytes, ruling_code, ruling_bytes, done_bytes}
 use Rattle.ring_wire.proofs.Numbers.{AreBytes, bytes_behind}
 use Rattle.ring_wire.proofs.Forms.{IsField, any, some_same, bind_some, tested, resound, such_is, pair_is, made_is, byte_is, number_is, list_is}

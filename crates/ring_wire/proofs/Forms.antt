@@ -1,14 +1,13 @@
 -- A field and its spelling: what is read at the front is spelled so, and what is spelled so is read, whatever follows.
 -- One law for each way to make a field of others.
-use Rattle.std.proofs.Common.{◌≡◌, ℕ, zero, suc, ◌+◌, ◌^◌, ◌<◌, ◌≤◌, Bool, true, false, cond, ◌&&◌, nat_le, nat_lt, ◌⊎◌, ⊎_elim, inl, inr, List, [], ◌∷◌, ◌++◌, length, take, drop, Option, Some, None, refl, ap, sym, subst, ◌∙◌, arith, length-append}
+use Rattle.std.proofs.Common.{◌≡◌, ℕ, zero, suc, ◌^◌, ◌≤◌, Bool, true, false, cond, ◌&&◌, nat_le, nat_lt, List, [], ◌∷◌, ◌++◌, length, drop, Option, Some, None, refl, ap, sym, subst, ◌∙◌, arith, length-append}
 use Rattle.std.specs.Prelude.{IsTrue, ◌==◌}
 use Rattle.std.specs.List.{flat_map, list_all}
-use Rattle.std.proofs.lemmas.List.{append_assoc, append-nil, take-append-drop, drop_at}
+use Rattle.std.proofs.lemmas.List.{append_assoc, take-append-drop, drop_at}
 use Rattle.std.proofs.lemmas.Bool.{leb-true, le-leb, lt-ltb, ltb-true, eq-eqb, eqb-true, and_parts, and_from}
-use Rattle.std.proofs.lemmas.List.Concat.{flat_map-cons}
 use Rattle.byteorder.specs.Endian.{big_number}
 use Rattle.byteorder.specs.Numbers.{big_from-lt, big_number-reads_back}
-use Rattle.ring_wire.specs.Readers.{◌>>=◌, Field, such, pair, made, number_at, byte_at, bytes_at, times, list_at}
+use Rattle.ring_wire.specs.Readers.{◌>>=◌, Field, such, pair, made, number_at, byte_at, times, list_at}
 use Rattle.ring_wire.specs.Texts.{number_bytes, one_byte, list_bytes}
 use Rattle.ring_wire.proofs.Numbers.{AreBytes, bytes_behind, bytes_of_number}
 use Rattle.ring_wire.proofs.Puts.{number_length}

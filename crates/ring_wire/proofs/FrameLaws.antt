@@ -1,7 +1,6 @@
 -- The law of frames: what is read is spelled so, and what is spelled so is read.
 use Rattle.std.proofs.Common.{◌≡◌, ℕ, Bool, true, false, cond, List, [], ◌∷◌, ◌++◌, Option, Some, None, refl, ap, sym, subst, ◌∙◌}
 use Rattle.std.specs.Prelude.{IsTrue, ◌==◌, ◌&&◌}
-use Rattle.std.proofs.lemmas.List.{append_assoc}
 use Rattle.std.proofs.lemmas.Bool.{eqb-true, and_parts, and_from}
 use Rattle.fabric_terms.specs.declared.message.Message.{Message}
 use Rattle.fabric_terms.specs.declared.message.Body.{Body}
@@ -21,7 +20,7 @@ use Rattle.ring_wire.specs.Replicas.{replicas_of}
 use Rattle.ring_wire.proofs.Numbers.{AreBytes, bytes_behind}
 use Rattle.ring_wire.proofs.Forms.{IsField, bind_some, some_same, such_is, pair_is, made_is, byte_is}
 use Rattle.ring_wire.proofs.FieldLaws.{sender_is, addressee_is}
-use Rattle.ring_wire.proofs.BodyForms.{IsSpelled, Finds, none_finds}
+use Rattle.ring_wire.proofs.BodyForms.{IsSpelled, Finds}
 use Rattle.ring_wire.proofs.LinksLaws.{hello_again, hello_for_again, offer_again, offer_for_again, take_again, renew_again, renew_ack_again, transfer_again, gone_again, links_found, leases_found}
 use Rattle.ring_wire.proofs.SearchesLaws.{seek_again, found_again}
 use Rattle.ring_wire.proofs.RulingsLaws.{accuse_again, ruled_again, claim_again, kept_again}

@@ -1,25 +1,19 @@
 -- The law of each kind: partitions.
-use Rattle.std.proofs.Common.{◌≡◌, ℕ, List, Option, Some, None, refl, ap, sym, subst, ◌∙◌}
-use Rattle.std.specs.Prelude.{IsTrue, Bool, true, ◌&&◌}
+use Rattle.std.proofs.Common.{◌≡◌, ℕ, Option, Some, refl}
+use Rattle.std.specs.Prelude.{IsTrue, ◌&&◌}
 use Rattle.std.proofs.lemmas.Bool.{and_parts, and_from}
-use Rattle.fabric_terms.specs.declared.message.Body.{Body}
 use Rattle.fabric_terms.specs.declared.message.Body.TheVariants.{Prepare, Prepared, NoPrepare, Vote, Voted, NoVote, DoneAsk, DoneKept, NoDone}
-use Rattle.ring_points.specs.declared.who.Who.{Who}
-use Rattle.ring_points.specs.declared.who.Ruling.{Ruling}
 use Rattle.ring_points.specs.declared.unit.Epoch.{Epoch}
 use Rattle.ring_points.specs.declared.unit.Config.{Config}
-use Rattle.ring_points.specs.declared.point.Point.{Point}
-use Rattle.ring_points.specs.declared.interval.Interval.{Interval}
-use Rattle.ring_points.specs.Ranges.{is_proper}
-use Rattle.ring_wire.specs.Fields.{is_session, is_stamp, is_word, is_who, is_unit, is_config, same_unit}
-use Rattle.ring_wire.specs.Frames.{is_sound_body, version_of, kind_of, body_bytes}
+use Rattle.ring_wire.specs.Fields.{is_unit, is_config, same_unit}
+use Rattle.ring_wire.specs.Frames.{is_sound_body, body_bytes}
 use Rattle.std.specs.Prelude.{◌++◌}
 use Rattle.ring_wire.specs.Texts.{unit_bytes, config_bytes}
-use Rattle.ring_wire.specs.Readers.{body_from, such, pair, unit_at, config_at}
+use Rattle.ring_wire.specs.Readers.{such, pair, unit_at, config_at}
 use Rattle.ring_wire.specs.Partitions.{prepare_of, prepared_of, no_prepare_of, vote_of, voted_of, no_vote_of, done_ask_of, done_kept_of, no_done_of, partitions_of}
 use Rattle.ring_wire.proofs.Forms.{IsField, pair_is, such_is}
 use Rattle.ring_wire.proofs.FieldLaws.{config_is, done_is, epoch_is, unit_is}
-use Rattle.ring_wire.proofs.BodyForms.{Finds, Makes, kind_found, kind_again, case_found, none_finds, any_true}
+use Rattle.ring_wire.proofs.BodyForms.{Finds, kind_found, kind_again, case_found}
 use Rattle.ring_wire.proofs.ReplicasLaws.{replicas_found}
 
 prepare_found : Finds 1 32 prepare_of

@@ -1,23 +1,14 @@
 -- The law of each kind: replicas.
-use Rattle.std.proofs.Common.{◌≡◌, ℕ, List, Option, Some, None, refl, ap, sym, subst, ◌∙◌}
-use Rattle.std.specs.Prelude.{IsTrue, Bool, true, ◌&&◌}
-use Rattle.std.proofs.lemmas.Bool.{and_parts, and_from}
-use Rattle.fabric_terms.specs.declared.message.Body.{Body}
+use Rattle.std.proofs.Common.{◌≡◌, ℕ, List, Some, refl}
+use Rattle.std.specs.Prelude.{IsTrue}
 use Rattle.fabric_terms.specs.declared.message.Body.TheVariants.{Promise, Promised, Sync, Fetch, Piece, Adopted, Activate, Activated, Append, Appended, Older}
-use Rattle.ring_points.specs.declared.who.Who.{Who}
-use Rattle.ring_points.specs.declared.who.Ruling.{Ruling}
 use Rattle.ring_points.specs.declared.unit.Epoch.{Epoch}
 use Rattle.ring_points.specs.declared.unit.Config.{Config}
-use Rattle.ring_points.specs.declared.point.Point.{Point}
-use Rattle.ring_points.specs.declared.interval.Interval.{Interval}
-use Rattle.ring_points.specs.Ranges.{is_proper}
-use Rattle.ring_wire.specs.Fields.{is_session, is_stamp, is_word, is_who, is_unit, is_config, same_unit}
-use Rattle.ring_wire.specs.Frames.{is_sound_body, version_of, kind_of, body_bytes}
-use Rattle.ring_wire.specs.Readers.{body_from}
+use Rattle.ring_wire.specs.Frames.{is_sound_body, body_bytes}
 use Rattle.ring_wire.specs.Replicas.{promise_of, promised_of, sync_of, fetch_of, piece_of, adopted_of, activate_of, activated_of, append_of, appended_of, older_of, replicas_of}
-use Rattle.ring_wire.proofs.Forms.{IsField, pair_is, such_is}
+use Rattle.ring_wire.proofs.Forms.{pair_is}
 use Rattle.ring_wire.proofs.FieldLaws.{config_is, epoch_is, last_is, node_is, payload_is, unit_is, word_is}
-use Rattle.ring_wire.proofs.BodyForms.{Finds, Makes, kind_found, kind_again, case_found, none_finds, any_true}
+use Rattle.ring_wire.proofs.BodyForms.{Finds, kind_found, kind_again, case_found, none_finds}
 
 promise_found : Finds 1 48 promise_of
 unfolding promise_of

@@ -1,23 +1,14 @@
 -- The law of each kind: searches.
-use Rattle.std.proofs.Common.{◌≡◌, ℕ, List, Option, Some, None, refl, ap, sym, subst, ◌∙◌}
-use Rattle.std.specs.Prelude.{IsTrue, Bool, true, ◌&&◌}
-use Rattle.std.proofs.lemmas.Bool.{and_parts, and_from}
-use Rattle.fabric_terms.specs.declared.message.Body.{Body}
+use Rattle.std.proofs.Common.{◌≡◌, ℕ, Some, refl}
+use Rattle.std.specs.Prelude.{IsTrue}
 use Rattle.fabric_terms.specs.declared.message.Body.TheVariants.{Seek, Found}
 use Rattle.ring_points.specs.declared.who.Who.{Who}
-use Rattle.ring_points.specs.declared.who.Ruling.{Ruling}
-use Rattle.ring_points.specs.declared.unit.Epoch.{Epoch}
-use Rattle.ring_points.specs.declared.unit.Config.{Config}
 use Rattle.ring_points.specs.declared.point.Point.{Point}
-use Rattle.ring_points.specs.declared.interval.Interval.{Interval}
-use Rattle.ring_points.specs.Ranges.{is_proper}
-use Rattle.ring_wire.specs.Fields.{is_session, is_stamp, is_word, is_who, is_unit, is_config, same_unit}
-use Rattle.ring_wire.specs.Frames.{is_sound_body, version_of, kind_of, body_bytes}
-use Rattle.ring_wire.specs.Readers.{body_from}
+use Rattle.ring_wire.specs.Frames.{is_sound_body, body_bytes}
 use Rattle.ring_wire.specs.Searches.{seek_of, found_of, searches_of}
-use Rattle.ring_wire.proofs.Forms.{IsField, pair_is, such_is}
+use Rattle.ring_wire.proofs.Forms.{pair_is}
 use Rattle.ring_wire.proofs.FieldLaws.{hops_is, point_is, who_is}
-use Rattle.ring_wire.proofs.BodyForms.{Finds, Makes, kind_found, kind_again, case_found, none_finds, any_true}
+use Rattle.ring_wire.proofs.BodyForms.{Finds, kind_found, kind_again, case_found}
 use Rattle.ring_wire.proofs.RulingsLaws.{rulings_found}
 
 seek_found : Finds 1 8 seek_of
