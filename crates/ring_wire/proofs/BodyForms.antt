@@ -55,7 +55,7 @@ kind_again {A} {field} {s} {spell} law make x h =
 
 -- the first reader at the kind n, and the others at every other kind
 pub case_found : {first others : List ℕ → Option Body} (version kind n : ℕ) → Finds version n first → Finds version kind others → Finds version kind (λ bytes. cond (kind == n) (first bytes) (others bytes))
-case_found {first} {others} version kind n law law_b = record { found = λ bytes b h e. cases bytes b h (kind == n) refl e; }
+case_found {first} {others} version kind n law law_b = record { found = λ bytes b h e. cases bytes b h (kind == n) refl e }
   where
     cases : (bytes : List ℕ) (b : Body) → AreBytes bytes → (t : Bool) → (kind == n) ≡ t → cond t (first bytes) (others bytes) ≡ Some b → IsSpelled version kind bytes b
     cases bytes b h true t e =
@@ -64,7 +64,7 @@ case_found {first} {others} version kind n law law_b = record { found = λ bytes
     cases bytes b h false t e = law_b.found bytes b h e
 
 pub none_finds : (version kind : ℕ) → Finds version kind (λ bytes. None)
-none_finds version kind = record { found = λ bytes b h e. cc; }
+none_finds version kind = record { found = λ bytes b h e. cc }
 
 -- a field of which every value will do asks for nothing
 pub any_true : (a : Bool) → (a && true) ≡ a

@@ -1,5 +1,5 @@
 -- What a reader that gives the message of a frame says of the frame.
-use Rattle.std.proofs.Common.{◌≡◌, ◌≢◌, List, ℕ, Some, None, Ok, Err, Result, sym, ap, subst, ◌∙◌}
+use Rattle.std.proofs.Common.{◌≡◌, ◌≢◌, List, ℕ, Ok, Err, Result, ap}
 use Rattle.std.specs.Prelude.{IsTrue, MatchResult}
 use Rattle.fabric_terms.specs.declared.message.Message.{Message}
 use Rattle.ring_wire.specs.Frames.{is_sound, spelling}

@@ -1,20 +1,17 @@
 -- The law of each field of a frame.
-use Rattle.std.proofs.Common.{◌≡◌, ℕ, ◌+◌, ◌^◌, ◌<◌, ◌≤◌, Bool, true, false, cond, ◌&&◌, ◌||◌, nat_le, nat_lt, ◌⊎◌, ⊎_elim, List, [], ◌∷◌, ◌++◌, length, take, drop, Option, Some, None, refl, ap, sym, subst, ◌∙◌, arith, length-append}
+use Rattle.std.proofs.Common.{◌≡◌, ℕ, ◌+◌, ◌^◌, ◌<◌, ◌≤◌, Bool, true, false, cond, ◌&&◌, ◌||◌, nat_le, nat_lt, ⊎_elim, List, [], ◌∷◌, ◌++◌, length, take, drop, Option, Some, None, refl, ap, sym, subst, ◌∙◌, arith, length-append}
 use Rattle.std.specs.Prelude.{IsTrue, ◌==◌}
 use Rattle.std.specs.List.{list_all, list_any}
 use Rattle.std.proofs.lemmas.List.{append_assoc, take-append-drop, drop_at, take_at, length-take-le}
-use Rattle.std.proofs.lemmas.Bool.Decides.{nat_tests}
-use Rattle.std.proofs.lemmas.Bool.{leb-true, le-leb, lt-ltb, ltb-true, eq-eqb, eqb-true, eqb-false, and_parts, and_from, or_cases}
-use Rattle.ring_points.specs.declared.point.Point.{Point}
+use Rattle.std.proofs.lemmas.Bool.{leb-true, le-leb, lt-ltb, ltb-true, eqb-true, eqb-false, and_parts, and_from, or_cases}
 use Rattle.ring_points.specs.declared.who.Who.{Who}
 use Rattle.ring_points.specs.declared.who.Ruling.{Ruling}
 use Rattle.ring_points.specs.declared.who.Ruling.TheVariants.{Granted, Taken, Refused}
-use Rattle.ring_points.specs.declared.unit.Epoch.{Epoch}
 use Rattle.ring_points.specs.declared.unit.Config.{Config}
 use Rattle.ring_points.specs.declared.interval.Interval.{Interval}
 use Rattle.ring_points.specs.Ranges.{is_proper, rises_from, fits}
 use Rattle.ring_wire.specs.Fields.{is_short, is_word, is_long, is_counted, is_session, is_stamp, is_lease, is_last, is_hops, is_round, is_node, is_who, is_arbiter, is_sender, is_addressee, is_some, is_part, is_epoch, is_unit, rises_above, has_members, is_config, is_done, is_payload}
-use Rattle.ring_wire.specs.Readers.{◌>>=◌, Field, such, pair, made, number_at, byte_at, bytes_at, times, list_at, word_at, counted_at, last_at, stamp_at, lease_at, node_at, hops_at, round_at, flag_at, ruling_of, ruling_at, point_at, session_at, actor_at, is_numbered, who_at, sender_at, addressee_at, epoch_at, unit_at, interval_at, intervals_at, ranges_at, part_at, config_from, config_at, done_at, payload_at}
+use Rattle.ring_wire.specs.Readers.{◌>>=◌, Field, such, pair, made, number_at, byte_at, bytes_at, list_at, word_at, counted_at, last_at, stamp_at, lease_at, node_at, hops_at, round_at, flag_at, ruling_of, ruling_at, point_at, session_at, actor_at, is_numbered, who_at, sender_at, addressee_at, epoch_at, unit_at, interval_at, intervals_at, ranges_at, part_at, config_from, config_at, done_at, payload_at}
 use Rattle.ring_wire.specs.Texts.{number_bytes, one_byte, session_bytes, who_bytes, epoch_bytes, unit_bytes, interval_bytes, list_bytes, ranges_bytes, config_bytes, payload_bytes, flag_code, flag_bytes, ruling_code, ruling_bytes, done_bytes}
 use Rattle.ring_wire.proofs.Numbers.{AreBytes, bytes_behind}
 use Rattle.ring_wire.proofs.Forms.{IsField, any, some_same, bind_some, tested, resound, such_is, pair_is, made_is, byte_is, number_is, list_is}
@@ -70,9 +67,11 @@ flag_is =
         cases : (b : Bool) → (n == 1) ≡ b → n ≤ 1 → flag_code b ≡ n
         cases true e h = sym (eqb-true n 1 e)
         cases false e h = let ne = eqb-false n 1 e in omega arith
+
     back : (y : Bool) → (flag_code y == 1) ≡ y
     back true = refl
     back false = refl
+
     small : (y : Bool) → IsTrue (any y) → IsTrue (nat_le (flag_code y) 1)
     small true h = refl
     small false h = refl
@@ -98,12 +97,15 @@ ruling_is = record {
         third : (b : Bool) → (n == 3) ≡ b → cond b (Some Refused) None ≡ Some r → ruling_code r ≡ n
         third true t e = ap ruling_code (sym (some_same Refused r e)) ∙ sym (eqb-true n 3 t)
         third false t e = cc
+
         second : (b : Bool) → (n == 2) ≡ b → cond b (Some Taken) (cond (n == 3) (Some Refused) None) ≡ Some r → ruling_code r ≡ n
         second true t e = ap ruling_code (sym (some_same Taken r e)) ∙ sym (eqb-true n 2 t)
         second false t e = third (n == 3) refl e
+
         first : (b : Bool) → (n == 1) ≡ b → cond b (Some Granted) (cond (n == 2) (Some Taken) (cond (n == 3) (Some Refused) None)) ≡ Some r → ruling_code r ≡ n
         first true t e = ap ruling_code (sym (some_same Granted r e)) ∙ sym (eqb-true n 1 t)
         first false t e = second (n == 2) refl e
+
     again : (r : Ruling) (rest : List ℕ) → IsTrue (any r) → ruling_at (ruling_bytes r ++ rest) ≡ Some (r, rest)
     again r rest h = ap (λ (o : Field ℕ). o >>= λ z. before z.1 (ruling_of z.0)) (byte_is.again (ruling_code r) rest refl) ∙ same r
       where
@@ -165,6 +167,7 @@ sender_is = such_is actor_is (λ w. is_numbered w || is_arbiter w) is_sender int
     into : (w : Who) → IsTrue (is_short w.actor && is_word w.instance) → IsTrue (is_numbered w || is_arbiter w) → IsTrue (is_sender w)
     into w a b =
         ⊎_elim (λ n. or_left (is_who w) (is_arbiter w) (who_from w (and_parts (is_short w.actor) (is_word w.instance) a).1 n)) (λ r. or_right (is_who w) (is_arbiter w) r) (or_cases (is_numbered w) (is_arbiter w) b)
+
     back : (w : Who) → IsTrue (is_sender w) → IsTrue (is_short w.actor && is_word w.instance) × IsTrue (is_numbered w || is_arbiter w)
     back w h =
         ⊎_elim (λ n. let p = who_parts w n in (p.0, or_left (is_numbered w) (is_arbiter w) p.1)) (λ r. (arbiter_parts w r, or_right (is_numbered w) (is_arbiter w) r)) (or_cases (is_who w) (is_arbiter w) h)
@@ -176,6 +179,7 @@ addressee_is = such_is actor_is (λ w. is_node w.actor || is_arbiter w) is_addre
     into : (w : Who) → IsTrue (is_short w.actor && is_word w.instance) → IsTrue (is_node w.actor || is_arbiter w) → IsTrue (is_addressee w)
     into w a b =
         ⊎_elim (λ n. or_left (is_node w.actor && is_word w.instance) (is_arbiter w) (and_from (is_node w.actor) (is_word w.instance) n (and_parts (is_short w.actor) (is_word w.instance) a).1)) (λ r. or_right (is_node w.actor && is_word w.instance) (is_arbiter w) r) (or_cases (is_node w.actor) (is_arbiter w) b)
+
     back : (w : Who) → IsTrue (is_addressee w) → IsTrue (is_short w.actor && is_word w.instance) × IsTrue (is_node w.actor || is_arbiter w)
     back w h =
         ⊎_elim (λ n. let p = and_parts (is_node w.actor) (is_word w.instance) n in (and_from (is_short w.actor) (is_word w.instance) (node_short w.actor p.0) p.1, or_left (is_node w.actor) (is_arbiter w) p.0)) (λ r. (arbiter_parts w r, or_right (is_node w.actor) (is_arbiter w) r)) (or_cases (is_node w.actor && is_word w.instance) (is_arbiter w) h)
@@ -235,6 +239,7 @@ config_is = such_is base has_members is_config into back
   where
     base : IsField (made config_from (pair (pair unit_at (number_at 2)) (list_at 7 (number_at 2)))) (λ c. (is_unit c.partition c.epoch && is_short c.primary) && (nat_le (length c.members) 7 && list_all is_short c.members)) (λ c. (unit_bytes c.partition c.epoch ++ number_bytes 2 c.primary) ++ list_bytes (number_bytes 2) c.members)
     base = made_is (pair_is (pair_is unit_is (number_is 2)) (list_is (number_is 2) 7)) config_from (λ c. (((c.partition, c.epoch), c.primary), c.members)) (λ x h. refl) (λ c. refl)
+
     into : (c : Config) → IsTrue ((is_unit c.partition c.epoch && is_short c.primary) && (nat_le (length c.members) 7 && list_all is_short c.members)) → IsTrue (has_members c) → IsTrue (is_config c)
     into c a b =
         let u = is_unit c.partition c.epoch && is_short c.primary in
@@ -242,6 +247,7 @@ config_is = such_is base has_members is_config into back
         let p = and_parts u (few && list_all is_short c.members) a in
         let q = and_parts few (list_all is_short c.members) p.1 in
         and_from (u && few) (has_members c) (and_from u few p.0 q.0) b
+
     back : (c : Config) → IsTrue (is_config c) → IsTrue ((is_unit c.partition c.epoch && is_short c.primary) && (nat_le (length c.members) 7 && list_all is_short c.members)) × IsTrue (has_members c)
     back c h =
         let u = is_unit c.partition c.epoch && is_short c.primary in
@@ -276,6 +282,7 @@ done_is = record {
     found bytes false rest x e h s =
         let P : Option Config × List ℕ → Type 0 = λ z. IsTrue (is_done z.0) × (bytes ≡ done_bytes z.0 ++ z.1) in
         subst P (some_same (None, rest) x s) (refl, e)
+
     again : (d : Option Config) (rest : List ℕ) → IsTrue (is_done d) → done_at (done_bytes d ++ rest) ≡ Some (d, rest)
     again None rest h = ap (λ (o : Field Bool). o >>= after_flag) (flag_is.again false rest refl)
     again (Some c) rest h =

@@ -1,14 +1,13 @@
 -- A field and its spelling: what is read at the front is spelled so, and what is spelled so is read, whatever follows.
 -- One law for each way to make a field of others.
-use Rattle.std.proofs.Common.{◌≡◌, ℕ, zero, suc, ◌+◌, ◌^◌, ◌<◌, ◌≤◌, Bool, true, false, cond, ◌&&◌, nat_le, nat_lt, ◌⊎◌, ⊎_elim, inl, inr, List, [], ◌∷◌, ◌++◌, length, take, drop, Option, Some, None, refl, ap, sym, subst, ◌∙◌, arith, length-append}
+use Rattle.std.proofs.Common.{◌≡◌, ℕ, zero, suc, ◌^◌, ◌≤◌, Bool, true, false, cond, ◌&&◌, nat_le, nat_lt, List, [], ◌∷◌, ◌++◌, length, drop, Option, Some, None, refl, ap, sym, subst, ◌∙◌, arith, length-append}
 use Rattle.std.specs.Prelude.{IsTrue, ◌==◌}
 use Rattle.std.specs.List.{flat_map, list_all}
-use Rattle.std.proofs.lemmas.List.{append_assoc, append-nil, take-append-drop, drop_at}
+use Rattle.std.proofs.lemmas.List.{append_assoc, take-append-drop, drop_at}
 use Rattle.std.proofs.lemmas.Bool.{leb-true, le-leb, lt-ltb, ltb-true, eq-eqb, eqb-true, and_parts, and_from}
-use Rattle.std.proofs.lemmas.List.Concat.{flat_map-cons}
 use Rattle.byteorder.specs.Endian.{big_number}
 use Rattle.byteorder.specs.Numbers.{big_from-lt, big_number-reads_back}
-use Rattle.ring_wire.specs.Readers.{◌>>=◌, Field, such, pair, made, number_at, byte_at, bytes_at, times, list_at}
+use Rattle.ring_wire.specs.Readers.{◌>>=◌, Field, such, pair, made, number_at, byte_at, times, list_at}
 use Rattle.ring_wire.specs.Texts.{number_bytes, one_byte, list_bytes}
 use Rattle.ring_wire.proofs.Numbers.{AreBytes, bytes_behind, bytes_of_number}
 use Rattle.ring_wire.proofs.Puts.{number_length}
@@ -87,7 +86,7 @@ made_is {A} {B} {field} {s} {spell} law make parts there back = record {
 
 pub byte_is : IsField byte_at any one_byte
 unfolding byte_at one_byte
-byte_is = record { found = found; again = λ x rest h. refl; }
+byte_is = record { found = found; again = λ x rest h. refl }
   where
     found : (bytes : List ℕ) (x : ℕ × List ℕ) → AreBytes bytes → byte_at bytes ≡ Some x → IsTrue true × (bytes ≡ one_byte x.0 ++ x.1)
     found [] x h e = cc
@@ -115,7 +114,7 @@ number_is n = record {
 -- as many fields as there are
 pub times_is : {A : Type 0} {field : List ℕ → Field A} {s : A → Bool} {spell : A → List ℕ} → IsField field s spell → (n : ℕ) → IsField (times n field) (λ xs. (length xs == n) && list_all s xs) (flat_map spell)
 unfolding times
-times_is {A} {field} {s} {spell} law n = record { found = found n; again = λ xs rest h. again n xs rest (and_parts (length xs == n) (list_all s xs) h); }
+times_is {A} {field} {s} {spell} law n = record { found = found n; again = λ xs rest h. again n xs rest (and_parts (length xs == n) (list_all s xs) h) }
   where
     found : (n : ℕ) (bytes : List ℕ) (x : List A × List ℕ) → AreBytes bytes → times n field bytes ≡ Some x → IsTrue ((length x.0 == n) && list_all s x.0) × (bytes ≡ flat_map spell x.0 ++ x.1)
     found zero bytes x h e =
@@ -132,6 +131,7 @@ times_is {A} {field} {s} {spell} law n = record { found = found n; again = λ xs
           and_from (length (a.0.0 ∷ b.0.0) == suc n) (s a.0.0 && list_all s b.0.0) (eq-eqb (length (a.0.0 ∷ b.0.0)) (suc n) (let l = eqb-true (length b.0.0) n q.0 in omega arith)) (and_from (s a.0.0) (list_all s b.0.0) f.0 q.1),
           f.1 ∙ (ap (λ r. spell a.0.0 ++ r) g.1 ∙ sym (append_assoc (spell a.0.0) (flat_map spell b.0.0) b.0.1)),
         )
+
     again : (n : ℕ) (xs : List A) (rest : List ℕ) → IsTrue (length xs == n) × IsTrue (list_all s xs) → times n field (flat_map spell xs ++ rest) ≡ Some (xs, rest)
     again zero [] rest h = refl
     again zero (x ∷ xs) rest h = let l = eqb-true (length (x ∷ xs)) 0 h.0 in absurd (omega arith)

@@ -1,7 +1,6 @@
 -- The law of frames: what is read is spelled so, and what is spelled so is read.
 use Rattle.std.proofs.Common.{◌≡◌, ℕ, Bool, true, false, cond, List, [], ◌∷◌, ◌++◌, Option, Some, None, refl, ap, sym, subst, ◌∙◌}
 use Rattle.std.specs.Prelude.{IsTrue, ◌==◌, ◌&&◌}
-use Rattle.std.proofs.lemmas.List.{append_assoc}
 use Rattle.std.proofs.lemmas.Bool.{eqb-true, and_parts, and_from}
 use Rattle.fabric_terms.specs.declared.message.Message.{Message}
 use Rattle.fabric_terms.specs.declared.message.Body.{Body}
@@ -21,7 +20,7 @@ use Rattle.ring_wire.specs.Replicas.{replicas_of}
 use Rattle.ring_wire.proofs.Numbers.{AreBytes, bytes_behind}
 use Rattle.ring_wire.proofs.Forms.{IsField, bind_some, some_same, such_is, pair_is, made_is, byte_is}
 use Rattle.ring_wire.proofs.FieldLaws.{sender_is, addressee_is}
-use Rattle.ring_wire.proofs.BodyForms.{IsSpelled, Finds, none_finds}
+use Rattle.ring_wire.proofs.BodyForms.{IsSpelled, Finds}
 use Rattle.ring_wire.proofs.LinksLaws.{hello_again, hello_for_again, offer_again, offer_for_again, take_again, renew_again, renew_ack_again, transfer_again, gone_again, links_found, leases_found}
 use Rattle.ring_wire.proofs.SearchesLaws.{seek_again, found_again}
 use Rattle.ring_wire.proofs.RulingsLaws.{accuse_again, ruled_again, claim_again, kept_again}
@@ -30,12 +29,13 @@ use Rattle.ring_wire.proofs.ReplicasLaws.{promise_again, promised_again, sync_ag
 
 pub body_found : (version kind : ℕ) → Finds version kind (body_of version kind)
 unfolding body_of
-body_found version kind = record { found = λ bytes b h e. first bytes b h (version == 1) refl e; }
+body_found version kind = record { found = λ bytes b h e. first bytes b h (version == 1) refl e }
   where
     second : (bytes : List ℕ) (b : Body) → AreBytes bytes → (t : Bool) → (version == 2) ≡ t → cond t (leases_of kind bytes) None ≡ Some b → IsSpelled version kind bytes b
     second bytes b h true t e =
         let P : ℕ → Type 0 = λ v. IsSpelled v kind bytes b in subst P (sym (eqb-true version 2 t)) ((leases_found kind).found bytes b h e)
     second bytes b h false t e = cc
+
     first : (bytes : List ℕ) (b : Body) → AreBytes bytes → (t : Bool) → (version == 1) ≡ t → cond t (links_of kind bytes) (cond (version == 2) (leases_of kind bytes) None) ≡ Some b → IsSpelled version kind bytes b
     first bytes b h true t e =
         let P : ℕ → Type 0 = λ v. IsSpelled v kind bytes b in subst P (sym (eqb-true version 1 t)) ((links_found kind).found bytes b h e)
@@ -86,6 +86,7 @@ head_is =
   where
     first : IsField (such (λ n. n == 83) byte_at) (λ n. n == 83) one_byte
     first = such_is byte_is (λ n. n == 83) (λ n. n == 83) (λ n a b. b) (λ n h. (refl, h))
+
     there : (x : (((ℕ × ℕ) × ℕ) × Who) × Who) → IsTrue ((x.0.0.0.0 == 83) && true && true && is_sender x.0.1 && is_addressee x.1) → ((((83, x.0.0.0.1), x.0.0.1), x.0.1), x.1) ≡ x
     there x h =
         let p = and_parts ((x.0.0.0.0 == 83) && true && true && is_sender x.0.1) (is_addressee x.1) h in

@@ -1,5 +1,5 @@
 -- No frame has more than 1,200 bytes.
-use Rattle.std.proofs.Common.{◌≡◌, ℕ, suc, ◌+◌, ◌*◌, ◌≤◌, Bool, true, false, ◌&&◌, List, [], ◌∷◌, ◌++◌, length, nat_le, Option, Some, None, refl, arith, length-append}
+use Rattle.std.proofs.Common.{◌≡◌, ℕ, ◌+◌, ◌*◌, ◌≤◌, Bool, true, false, ◌&&◌, List, [], ◌∷◌, ◌++◌, length, nat_le, Option, Some, None, refl, arith, length-append}
 use Rattle.std.specs.Prelude.{IsTrue}
 use Rattle.std.specs.List.{flat_map}
 use Rattle.std.proofs.Math.Nat.{mul-le-mul_left}
@@ -13,8 +13,8 @@ use Rattle.ring_points.specs.declared.who.Ruling.{Ruling}
 use Rattle.ring_points.specs.declared.interval.Interval.{Interval}
 use Rattle.ring_points.specs.Ranges.{is_proper, fits, rises_from}
 use Rattle.ring_wire.specs.Fields.{is_session, is_unit, is_word, is_counted, is_stamp, is_epoch, is_part, is_some, is_config, is_done, is_payload, is_sender, is_addressee, same_unit, has_members, is_short}
-use Rattle.ring_wire.specs.Texts.{number_bytes, one_byte, session_bytes, who_bytes, epoch_bytes, unit_bytes, interval_bytes, list_bytes, ranges_bytes, config_bytes, payload_bytes, flag_bytes, flag_code, ruling_bytes, done_bytes}
-use Rattle.ring_wire.specs.Frames.{is_sound_body, is_sound, version_of, kind_of, body_bytes, spelling}
+use Rattle.ring_wire.specs.Texts.{number_bytes, one_byte, session_bytes, epoch_bytes, unit_bytes, interval_bytes, list_bytes, ranges_bytes, config_bytes, payload_bytes, flag_bytes, flag_code, ruling_bytes, done_bytes}
+use Rattle.ring_wire.specs.Frames.{is_sound_body, is_sound, body_bytes, spelling}
 use Rattle.ring_wire.proofs.Puts.{number_length}
 use Rattle.ring_wire.proofs.Standing.{who_length, epoch_length}
 

@@ -1,28 +1,21 @@
 -- The law of each kind: rulings.
-use Rattle.std.proofs.Common.{◌≡◌, ℕ, List, Option, Some, None, refl, ap, sym, subst, ◌∙◌}
-use Rattle.std.specs.Prelude.{IsTrue, Bool, true, ◌&&◌}
+use Rattle.std.proofs.Common.{◌≡◌, ℕ, Some, refl}
+use Rattle.std.specs.Prelude.{IsTrue, true}
 use Rattle.std.proofs.lemmas.Bool.{and_parts, and_from}
-use Rattle.fabric_terms.specs.declared.message.Body.{Body}
 use Rattle.fabric_terms.specs.declared.message.Body.TheVariants.{Accuse, Ruled, Claim, Kept}
 use Rattle.ring_points.specs.declared.who.Who.{Who}
 use Rattle.ring_points.specs.declared.who.Ruling.{Ruling}
-use Rattle.ring_points.specs.declared.unit.Epoch.{Epoch}
-use Rattle.ring_points.specs.declared.unit.Config.{Config}
-use Rattle.ring_points.specs.declared.point.Point.{Point}
-use Rattle.ring_points.specs.declared.interval.Interval.{Interval}
-use Rattle.ring_points.specs.Ranges.{is_proper}
-use Rattle.ring_wire.specs.Fields.{is_session, is_stamp, is_word, is_who, is_unit, is_config, same_unit}
-use Rattle.ring_wire.specs.Frames.{is_sound_body, version_of, kind_of, body_bytes}
-use Rattle.ring_wire.specs.Readers.{body_from}
+use Rattle.ring_wire.specs.Fields.{is_who}
+use Rattle.ring_wire.specs.Frames.{is_sound_body, body_bytes}
 use Rattle.ring_wire.specs.Rulings.{accuse_of, ruled_of, claim_of, kept_of, rulings_of}
-use Rattle.ring_wire.proofs.Forms.{IsField, pair_is, such_is}
+use Rattle.ring_wire.proofs.Forms.{pair_is}
 use Rattle.ring_wire.proofs.FieldLaws.{round_is, ruling_is, who_is}
-use Rattle.ring_wire.proofs.BodyForms.{Finds, Makes, kind_found, kind_again, case_found, none_finds, any_true}
+use Rattle.ring_wire.proofs.BodyForms.{Finds, kind_found, kind_again, case_found}
 use Rattle.ring_wire.proofs.PartitionsLaws.{partitions_found}
 
 accuse_found : Finds 1 16 accuse_of
 unfolding accuse_of
-accuse_found = kind_found {make = (λ x. Accuse x)} who_is (record { version_is = λ x. refl; kind_is = λ x. refl; sound = λ x h. h; spelled = λ x. refl; })
+accuse_found = kind_found {make = (λ x. Accuse x)} who_is (record { version_is = λ x. refl; kind_is = λ x. refl; sound = λ x h. h; spelled = λ x. refl })
 
 pub accuse_again : (victim : Who) → IsTrue (is_sound_body (Accuse victim)) → accuse_of (body_bytes (Accuse victim)) ≡ Some (Accuse victim)
 unfolding accuse_of
@@ -30,7 +23,7 @@ accuse_again victim h = kind_again who_is (λ x. Accuse x) victim h
 
 ruled_found : Finds 1 17 ruled_of
 unfolding ruled_of
-ruled_found = kind_found {make = (λ x. Ruled x.0 x.1)} (pair_is who_is ruling_is) (record { version_is = λ x. refl; kind_is = λ x. refl; sound = λ x h. (and_parts (is_who x.0) true h).0; spelled = λ x. refl; })
+ruled_found = kind_found {make = (λ x. Ruled x.0 x.1)} (pair_is who_is ruling_is) (record { version_is = λ x. refl; kind_is = λ x. refl; sound = λ x h. (and_parts (is_who x.0) true h).0; spelled = λ x. refl })
 
 pub ruled_again : (victim : Who) (ruling : Ruling) → IsTrue (is_sound_body (Ruled victim ruling)) → ruled_of (body_bytes (Ruled victim ruling)) ≡ Some (Ruled victim ruling)
 unfolding ruled_of
@@ -38,7 +31,7 @@ ruled_again victim ruling h = kind_again (pair_is who_is ruling_is) (λ x. Ruled
 
 claim_found : Finds 1 18 claim_of
 unfolding claim_of
-claim_found = kind_found {make = (λ x. Claim x.0 x.1)} (pair_is who_is round_is) (record { version_is = λ x. refl; kind_is = λ x. refl; sound = λ x h. h; spelled = λ x. refl; })
+claim_found = kind_found {make = (λ x. Claim x.0 x.1)} (pair_is who_is round_is) (record { version_is = λ x. refl; kind_is = λ x. refl; sound = λ x h. h; spelled = λ x. refl })
 
 pub claim_again : (victim : Who) (round : ℕ) → IsTrue (is_sound_body (Claim victim round)) → claim_of (body_bytes (Claim victim round)) ≡ Some (Claim victim round)
 unfolding claim_of
@@ -46,7 +39,7 @@ claim_again victim round h = kind_again (pair_is who_is round_is) (λ x. Claim x
 
 kept_found : Finds 1 19 kept_of
 unfolding kept_of
-kept_found = kind_found {make = (λ x. Kept x.0.0 x.0.1 x.1)} (pair_is (pair_is who_is round_is) who_is) (record { version_is = λ x. refl; kind_is = λ x. refl; sound = λ x h. h; spelled = λ x. refl; })
+kept_found = kind_found {make = (λ x. Kept x.0.0 x.0.1 x.1)} (pair_is (pair_is who_is round_is) who_is) (record { version_is = λ x. refl; kind_is = λ x. refl; sound = λ x h. h; spelled = λ x. refl })
 
 pub kept_again : (victim : Who) (round : ℕ) (claimer : Who) → IsTrue (is_sound_body (Kept victim round claimer)) → kept_of (body_bytes (Kept victim round claimer)) ≡ Some (Kept victim round claimer)
 unfolding kept_of

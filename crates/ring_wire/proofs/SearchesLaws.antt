@@ -1,28 +1,19 @@
 -- The law of each kind: searches.
-use Rattle.std.proofs.Common.{◌≡◌, ℕ, List, Option, Some, None, refl, ap, sym, subst, ◌∙◌}
-use Rattle.std.specs.Prelude.{IsTrue, Bool, true, ◌&&◌}
-use Rattle.std.proofs.lemmas.Bool.{and_parts, and_from}
-use Rattle.fabric_terms.specs.declared.message.Body.{Body}
+use Rattle.std.proofs.Common.{◌≡◌, ℕ, Some, refl}
+use Rattle.std.specs.Prelude.{IsTrue}
 use Rattle.fabric_terms.specs.declared.message.Body.TheVariants.{Seek, Found}
 use Rattle.ring_points.specs.declared.who.Who.{Who}
-use Rattle.ring_points.specs.declared.who.Ruling.{Ruling}
-use Rattle.ring_points.specs.declared.unit.Epoch.{Epoch}
-use Rattle.ring_points.specs.declared.unit.Config.{Config}
 use Rattle.ring_points.specs.declared.point.Point.{Point}
-use Rattle.ring_points.specs.declared.interval.Interval.{Interval}
-use Rattle.ring_points.specs.Ranges.{is_proper}
-use Rattle.ring_wire.specs.Fields.{is_session, is_stamp, is_word, is_who, is_unit, is_config, same_unit}
-use Rattle.ring_wire.specs.Frames.{is_sound_body, version_of, kind_of, body_bytes}
-use Rattle.ring_wire.specs.Readers.{body_from}
+use Rattle.ring_wire.specs.Frames.{is_sound_body, body_bytes}
 use Rattle.ring_wire.specs.Searches.{seek_of, found_of, searches_of}
-use Rattle.ring_wire.proofs.Forms.{IsField, pair_is, such_is}
+use Rattle.ring_wire.proofs.Forms.{pair_is}
 use Rattle.ring_wire.proofs.FieldLaws.{hops_is, point_is, who_is}
-use Rattle.ring_wire.proofs.BodyForms.{Finds, Makes, kind_found, kind_again, case_found, none_finds, any_true}
+use Rattle.ring_wire.proofs.BodyForms.{Finds, kind_found, kind_again, case_found}
 use Rattle.ring_wire.proofs.RulingsLaws.{rulings_found}
 
 seek_found : Finds 1 8 seek_of
 unfolding seek_of
-seek_found = kind_found {make = (λ x. Seek x.0.0 x.0.1 x.1)} (pair_is (pair_is who_is point_is) hops_is) (record { version_is = λ x. refl; kind_is = λ x. refl; sound = λ x h. h; spelled = λ x. refl; })
+seek_found = kind_found {make = (λ x. Seek x.0.0 x.0.1 x.1)} (pair_is (pair_is who_is point_is) hops_is) (record { version_is = λ x. refl; kind_is = λ x. refl; sound = λ x h. h; spelled = λ x. refl })
 
 pub seek_again : (origin : Who) (key : Point) (hops : ℕ) → IsTrue (is_sound_body (Seek origin key hops)) → seek_of (body_bytes (Seek origin key hops)) ≡ Some (Seek origin key hops)
 unfolding seek_of
@@ -30,7 +21,7 @@ seek_again origin key hops h = kind_again (pair_is (pair_is who_is point_is) hop
 
 found_found : Finds 1 9 found_of
 unfolding found_of
-found_found = kind_found {make = (λ x. Found x.0 x.1)} (pair_is point_is who_is) (record { version_is = λ x. refl; kind_is = λ x. refl; sound = λ x h. h; spelled = λ x. refl; })
+found_found = kind_found {make = (λ x. Found x.0 x.1)} (pair_is point_is who_is) (record { version_is = λ x. refl; kind_is = λ x. refl; sound = λ x h. h; spelled = λ x. refl })
 
 pub found_again : (key : Point) (holder : Who) → IsTrue (is_sound_body (Found key holder)) → found_of (body_bytes (Found key holder)) ≡ Some (Found key holder)
 unfolding found_of

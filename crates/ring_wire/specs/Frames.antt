@@ -1,13 +1,10 @@
 -- What a frame is: which messages are in the grammar, and how each is spelled.
-use Rattle.std.specs.Prelude.{ℕ, ◌≡◌, ◌≤◌, Bool, true, false, ◌&&◌, List, [], ◌∷◌, ◌++◌, length, Option, Some, None, IsTrue}
+use Rattle.std.specs.Prelude.{ℕ, Bool, ◌&&◌, List, [], ◌∷◌, ◌++◌, length}
 use Rattle.fabric_terms.specs.declared.message.Message.{Message}
 use Rattle.fabric_terms.specs.declared.message.Body.{Body}
 use Rattle.fabric_terms.specs.declared.message.Body.TheVariants.{Hello, HelloFor, Offer, OfferFor, Take, Renew, RenewAck, Transfer, Gone, Seek, Found, Accuse, Ruled, Claim, Kept, Prepare, Prepared, NoPrepare, Vote, Voted, NoVote, DoneAsk, DoneKept, NoDone, Promise, Promised, Sync, Fetch, Piece, Adopted, Activate, Activated, Append, Appended, Older}
-use Rattle.ring_points.specs.declared.unit.Epoch.{Epoch}
-use Rattle.ring_points.specs.declared.unit.Config.{Config}
-use Rattle.ring_points.specs.declared.interval.Interval.{Interval}
 use Rattle.ring_points.specs.Ranges.{is_proper}
-use Rattle.ring_wire.specs.Fields.{is_session, is_unit, is_done, is_part, is_short, is_word, is_long, is_counted, is_stamp, is_lease, is_last, is_hops, is_round, is_node, is_who, is_sender, is_addressee, is_epoch, same_unit, is_config, is_payload}
+use Rattle.ring_wire.specs.Fields.{is_session, is_unit, is_done, is_part, is_word, is_long, is_counted, is_stamp, is_lease, is_last, is_hops, is_round, is_node, is_who, is_sender, is_addressee, is_epoch, same_unit, is_config, is_payload}
 use Rattle.ring_wire.specs.Texts.{number_bytes, one_byte, who_bytes, epoch_bytes, ranges_bytes, unit_bytes, config_bytes, payload_bytes, flag_bytes, ruling_bytes, done_bytes, session_bytes}
 
 -- the numbers, lists and texts of a body are in their ranges

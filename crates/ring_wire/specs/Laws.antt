@@ -1,5 +1,5 @@
 -- What holds of frames as bytes.
-use Rattle.std.specs.Prelude.{◌≡◌, ◌≤◌, ◌++◌, List, ℕ, length, IsTrue}
+use Rattle.std.specs.Prelude.{◌≡◌, ◌≤◌, length, IsTrue}
 use Rattle.fabric_terms.specs.declared.message.Message.{Message}
 use Rattle.ring_wire.specs.Frames.{is_sound, spelling}
 

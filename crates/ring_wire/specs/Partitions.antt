@@ -1,5 +1,5 @@
 -- Epochs and configurations of partitions, at arbitrators: what is read as the fields of each kind.
-use Rattle.std.specs.Prelude.{ℕ, List, Option, None, ◌==◌, if◌then◌else◌}
+use Rattle.std.specs.Prelude.{ℕ, List, Option, ◌==◌, if◌then◌else◌}
 use Rattle.fabric_terms.specs.declared.message.Body.{Body}
 use Rattle.fabric_terms.specs.declared.message.Body.TheVariants.{Prepare, Prepared, NoPrepare, Vote, Voted, NoVote, DoneAsk, DoneKept, NoDone}
 use Rattle.ring_wire.specs.Readers.{body_from, pair, such, config_at, done_at, epoch_at, unit_at}

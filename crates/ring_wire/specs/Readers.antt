@@ -1,5 +1,5 @@
 -- How a frame is read: fields at the front of some bytes, each with its value and the bytes after it.
-use Rattle.std.specs.Prelude.{◌≡◌, ℕ, zero, suc, ◌+◌, Bool, true, false, ◌&&◌, ◌||◌, List, [], ◌∷◌, length, take, drop, Option, Some, None, Result, Ok, Err, nat_le, ◌==◌, if◌then◌else◌}
+use Rattle.std.specs.Prelude.{◌≡◌, ℕ, zero, suc, Bool, true, false, ◌&&◌, ◌||◌, List, [], ◌∷◌, length, take, drop, Option, Some, None, Result, Ok, Err, nat_le, ◌==◌, if◌then◌else◌}
 use Rattle.byteorder.specs.Endian.{big_number}
 use Rattle.fabric_terms.specs.declared.message.Body.{Body}
 use Rattle.ring_points.specs.declared.point.Point.{Point}
@@ -10,7 +10,7 @@ use Rattle.ring_points.specs.declared.unit.Epoch.{Epoch}
 use Rattle.ring_points.specs.declared.unit.Config.{Config}
 use Rattle.ring_points.specs.declared.interval.Interval.{Interval}
 use Rattle.ring_points.specs.Ranges.{is_proper}
-use Rattle.ring_wire.specs.Fields.{is_within, is_stamp, is_lease, is_last, is_hops, is_round, is_node, is_arbiter, is_some, has_members}
+use Rattle.ring_wire.specs.Fields.{is_stamp, is_lease, is_last, is_hops, is_round, is_node, is_arbiter, is_some, has_members}
 
 -- a step that goes on with what the one before gave
 infixl 10 ◌>>=◌

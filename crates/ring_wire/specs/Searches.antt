@@ -1,5 +1,5 @@
 -- Searches: what is read as the fields of each kind.
-use Rattle.std.specs.Prelude.{ℕ, List, Option, None, ◌==◌, if◌then◌else◌}
+use Rattle.std.specs.Prelude.{ℕ, List, Option, ◌==◌, if◌then◌else◌}
 use Rattle.fabric_terms.specs.declared.message.Body.{Body}
 use Rattle.fabric_terms.specs.declared.message.Body.TheVariants.{Seek, Found}
 use Rattle.ring_wire.specs.Readers.{body_from, pair, hops_at, point_at, who_at}

@@ -11,6 +11,8 @@ mod laws;
 mod not_frame;
 mod outbox;
 mod read;
+#[cfg(test)]
+mod tests;
 mod write;
 
 pub use fabric_terms::{Body, Message};

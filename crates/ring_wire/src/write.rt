@@ -6,19 +6,23 @@ ghost use Rattle.ring_wire.specs.Texts.{who_bytes};
 ghost use Rattle.ring_wire.specs.Writers.{Puts};
 
 mod field;
+mod greetings;
 mod links;
 mod number;
 mod partitions;
 mod replicas;
+mod roles;
 mod rulings;
 mod searches;
 
 use fabric_terms::{Body, Message};
 use field::put_who;
+use greetings::put_greeting;
 use links::put_link;
 use number::put_u8;
 use partitions::put_partition;
 use replicas::put_replica;
+use roles::put_role;
 use rulings::put_ruling_body;
 use searches::put_search;
 
@@ -97,11 +101,13 @@ fn put_body(into: &mut [u8; FRAME_LIMIT], at: usize, body: &Body) -> usize
     ensures { Puts (body_bytes body.now) into.old at into.new result }
 {
     match kind_of(body) {
-        0..=7 => put_link(into, at, body),
+        0..=3 => put_greeting(into, at, body),
+        4..=7 => put_link(into, at, body),
         8..=15 => put_search(into, at, body),
         16..=31 => put_ruling_body(into, at, body),
         32..=47 => put_partition(into, at, body),
-        _ => put_replica(into, at, body),
+        48..=53 => put_replica(into, at, body),
+        _ => put_role(into, at, body),
     }
 }
 

@@ -1,4 +1,4 @@
-// The sessions of links: the fields of the bodies, written from a place on.
+// Links that stand: the fields of the bodies, written from a place on.
 
 ghost use Rattle.std.specs.Prelude.{◌≡◌, ◌≤◌, ◌+◌, IsTrue};
 ghost use Rattle.ring_wire.specs.Frames.{is_sound_body, kind_of, body_bytes};
@@ -9,30 +9,15 @@ use crate::write::field::put_ranges;
 use crate::write::number::{put_flag, put_session, put_u32, put_u64};
 use fabric_terms::Body;
 
-/// A body of a kind from 0 to 7. Gives the place after it.
+/// A body of a kind from 4 to 7. Gives the place after it.
 pub fn put_link(into: &mut [u8; FRAME_LIMIT], at: usize, body: &Body) -> usize
     requires room { at + 600 ≤ 1200 }
     requires sound { IsTrue (is_sound_body body.now) }
+    requires low { 4 ≤ kind_of body.now }
     requires high { kind_of body.now ≤ 7 }
     ensures { Puts (body_bytes body.now) into.old at into.new result }
 {
     match body {
-        Body::Hello { mine } => put_u32(into, at, *mine),
-        Body::HelloFor { mine, length } => {
-            let at = put_u32(into, at, *mine);
-            put_u64(into, at, *length)
-        }
-        Body::Offer { mine, yours } | Body::Take { mine, yours } => put_session(
-            into, at, *mine, *yours,
-        ),
-        Body::OfferFor {
-            mine,
-            yours,
-            length,
-        } => {
-            let at = put_session(into, at, *mine, *yours);
-            put_u64(into, at, *length)
-        }
         Body::Renew {
             mine,
             yours,

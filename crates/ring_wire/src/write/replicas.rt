@@ -1,25 +1,24 @@
-// Replicas: the fields of the bodies, written from a place on.
+// Promises, and the logs that replicas take over: the fields of the bodies, written from a place on.
 
 ghost use Rattle.std.specs.Prelude.{◌≡◌, ◌≤◌, ◌+◌, IsTrue};
 ghost use Rattle.ring_wire.specs.Frames.{is_sound_body, kind_of, body_bytes};
 ghost use Rattle.ring_wire.specs.Writers.{Puts};
 
 use crate::write::FRAME_LIMIT;
-use crate::write::field::{put_config, put_epoch, put_payload, put_unit};
+use crate::write::field::{put_epoch, put_payload, put_unit};
 use crate::write::number::{put_u16, put_u32};
 use fabric_terms::Body;
 
-/// A body of a kind from 48 to 58. Gives the place after it.
+/// A body of a kind from 48 to 53. Gives the place after it.
 pub fn put_replica(into: &mut [u8; FRAME_LIMIT], at: usize, body: &Body) -> usize
     requires room { at + 600 ≤ 1200 }
     requires sound { IsTrue (is_sound_body body.now) }
     requires low { 48 ≤ kind_of body.now }
+    requires high { kind_of body.now ≤ 53 }
     ensures { Puts (body_bytes body.now) into.old at into.new result }
 {
     match body {
-        Body::Promise { partition, epoch } | Body::Activated { partition, epoch } => put_unit(
-            into, at, *partition, *epoch,
-        ),
+        Body::Promise { partition, epoch } => put_unit(into, at, *partition, *epoch),
         Body::Promised {
             partition,
             epoch,
@@ -64,33 +63,9 @@ pub fn put_replica(into: &mut [u8; FRAME_LIMIT], at: usize, body: &Body) -> usiz
             partition,
             epoch,
             last,
-        }
-        | Body::Appended {
-            partition,
-            epoch,
-            last,
         } => {
             let at = put_unit(into, at, *partition, *epoch);
             put_u32(into, at, *last)
-        }
-        Body::Activate { config } => put_config(into, at, config),
-        Body::Append {
-            partition,
-            epoch,
-            lsn,
-            text,
-        } => {
-            let at = put_unit(into, at, *partition, *epoch);
-            let at = put_u32(into, at, *lsn);
-            put_payload(into, at, text)
-        }
-        Body::Older {
-            partition,
-            epoch,
-            kept,
-        } => {
-            let at = put_unit(into, at, *partition, *epoch);
-            put_epoch(into, at, *kept)
         }
         _ => unreachable!(),
     }

@@ -1,7 +1,7 @@
-use Rattle.std.proofs.Common.{◌≡◌, ◌+◌, ◌-◌, ◌∷◌, ◌++◌, [], length, arith, ap, sym, ◌∙◌, length-append}
+use Rattle.std.proofs.Common.{◌≡◌, ◌+◌, ◌-◌, ◌∷◌, [], length, arith, ap, sym, ◌∙◌, length-append}
 use Rattle.std.proofs.lemmas.Result.{err_from_is_err_and}
 use Rattle.ring_wire.specs.Readers.{times, number_at}
-use Rattle.ring_wire.proofs.Times.{with_front, times_first, times_next, times_bad, times_done}
+use Rattle.ring_wire.proofs.Times.{with_front, times_next, times_bad, times_done}
 use Rattle.ring_wire.proofs.read.unit.members_of.Goals as goal
 
 pub returns-in_err-node : goal.returns-in_err-node

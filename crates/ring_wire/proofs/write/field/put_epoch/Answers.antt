@@ -1,4 +1,3 @@
-use Rattle.std.proofs.Common.{rules}
 use Rattle.ring_wire.specs.Texts.{epoch_bytes}
 use Rattle.ring_wire.proofs.Puts.{puts_more}
 use Rattle.ring_wire.proofs.write.field.put_epoch.Goals as goal

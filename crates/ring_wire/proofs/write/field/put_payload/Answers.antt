@@ -1,5 +1,3 @@
-use Rattle.std.proofs.Common.{rules, ap}
-use Rattle.std.proofs.Common.{length}
 use Rattle.ring_wire.specs.Texts.{payload_bytes}
 use Rattle.ring_wire.proofs.Puts.{puts_more}
 use Rattle.ring_wire.proofs.write.field.put_payload.Goals as goal

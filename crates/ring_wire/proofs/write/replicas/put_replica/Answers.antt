@@ -1,4 +1,4 @@
-use Rattle.std.proofs.Common.{rules, ⊎_elim}
+use Rattle.std.proofs.Common.{rules}
 use Rattle.ring_wire.proofs.Puts.{puts_more}
 use Rattle.ring_wire.proofs.write.replicas.put_replica.Goals as goal
 
@@ -14,12 +14,5 @@ returns-in-Fetch c = rw c.in-Fetch.is (search (rules, puts_more))
 pub returns-in-Piece : goal.returns-in-Piece
 returns-in-Piece c = rw c.in-Piece.is (search (rules, puts_more))
 
-pub returns-in-Append : goal.returns-in-Append
-returns-in-Append c = rw c.in-Append.is (search (rules, puts_more))
-
-pub returns-in-Older : goal.returns-in-Older
-returns-in-Older c = rw c.in-Older.is (search (rules, puts_more))
-
 pub returns-in-Adopted : goal.returns-in-Adopted
-returns-in-Adopted c =
-    ⊎_elim (λ e. rw e (search (rules, puts_more))) (λ e. rw e (search (rules, puts_more))) c.in-Adopted.is
+returns-in-Adopted c = rw c.in-Adopted.is (search (rules, puts_more))

@@ -1,0 +1,50 @@
+// Roles, and the entries of a primary: the fields of the bodies, written from a place on.
+
+ghost use Rattle.std.specs.Prelude.{◌≡◌, ◌≤◌, ◌+◌, IsTrue};
+ghost use Rattle.ring_wire.specs.Frames.{is_sound_body, kind_of, body_bytes};
+ghost use Rattle.ring_wire.specs.Writers.{Puts};
+
+use crate::write::FRAME_LIMIT;
+use crate::write::field::{put_config, put_epoch, put_payload, put_unit};
+use crate::write::number::put_u32;
+use fabric_terms::Body;
+
+/// A body of a kind from 54 on. Gives the place after it.
+pub fn put_role(into: &mut [u8; FRAME_LIMIT], at: usize, body: &Body) -> usize
+    requires room { at + 600 ≤ 1200 }
+    requires sound { IsTrue (is_sound_body body.now) }
+    requires low { 54 ≤ kind_of body.now }
+    ensures { Puts (body_bytes body.now) into.old at into.new result }
+{
+    match body {
+        Body::Activate { config } => put_config(into, at, config),
+        Body::Activated { partition, epoch } => put_unit(into, at, *partition, *epoch),
+        Body::Append {
+            partition,
+            epoch,
+            lsn,
+            text,
+        } => {
+            let at = put_unit(into, at, *partition, *epoch);
+            let at = put_u32(into, at, *lsn);
+            put_payload(into, at, text)
+        }
+        Body::Appended {
+            partition,
+            epoch,
+            last,
+        } => {
+            let at = put_unit(into, at, *partition, *epoch);
+            put_u32(into, at, *last)
+        }
+        Body::Older {
+            partition,
+            epoch,
+            kept,
+        } => {
+            let at = put_unit(into, at, *partition, *epoch);
+            put_epoch(into, at, *kept)
+        }
+        _ => unreachable!(),
+    }
+}
