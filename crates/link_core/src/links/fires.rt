@@ -43,6 +43,8 @@ impl Links16 {
         requires room { length out.old + 9 ≤ 192 }
         ensures did { did self.new out.new result ≡ did_after out.old (slot_fired now announce.now slot self.old) }
         ensures row { Does (λ c w. rules.fired_at c now slot (slot_at slot w.ring.slots) w) false self.old announce.now out.old (did self.new out.new result) }
+        ensures kept { self.new ≡ record self.old { slots = self.new.slots; accused = self.new.accused } }
+        ensures few { length out.new ≤ length out.old + 9 }
     {
         self.fire(slot, now, announce, out)
     }
@@ -51,7 +53,8 @@ impl Links16 {
         requires slot { slot < 16 }
         requires now { now ≤ 1_000_000_000_000_000 }
         requires room { length out.old + 9 ≤ 192 }
-        ensures { did self.new out.new result ≡ did_after out.old (slot_fired now announce.now slot self.old) }
+        ensures did { did self.new out.new result ≡ did_after out.old (slot_fired now announce.now slot self.old) }
+        ensures few { self.old.arbitrators ≤ 9 }
     {
         let Some(link) = &self.slots[slot] else {
             return LinkNotes::none();

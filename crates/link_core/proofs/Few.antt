@@ -1,0 +1,200 @@
+-- A frame is answered by one frame at most, and changes slots and sessions alone.
+use Rattle.std.proofs.Common.{◌≡◌, ℕ, ◌≤◌, Bool, true, false, List, [], ◌∷◌, length, Option, Some, None, refl, arith, nat_lt, nat_le, min, ◌==◌, ◌-◌, not, ◌||◌, slice_set}
+use Rattle.ring_points.specs.declared.interval.Interval.{Interval}
+use Rattle.ring_points.specs.declared.who.Flight.{Flight}
+use Rattle.ring_points.specs.declared.who.Ruling.{Ruling}
+use Rattle.ring_points.specs.declared.who.Who.{Who}
+use Rattle.ring_points.specs.Whos.{arbiter_actor}
+use Rattle.fabric_terms.specs.declared.message.Body.{Body}
+use Rattle.fabric_terms.specs.declared.message.Body.TheVariants as body
+use Rattle.arbiter_quorum.specs.declared.verdict.Verdict.{Verdict}
+use Rattle.arbiter_quorum.specs.declared.verdict.Verdict.TheVariants as verdict
+use Rattle.arbiter_quorum.specs.Tallies.{noted, verdict_of, may_be_heir}
+use Rattle.drift_clock.specs.declared.bound.Bound as clocks
+use Rattle.ring_rules.specs.declared.link.Link.{Link}
+use Rattle.ring_rules.specs.declared.link.LinkState.{LinkState}
+use Rattle.ring_rules.specs.declared.link.LinkState.TheVariants.{Hello, Offered, Bound, Parting, Accused, Discharged, Heir}
+use Rattle.ring_rules.specs.Links.{is_bare}
+use Rattle.ring_rules.specs.Rings.{Slots}
+use Rattle.ring_rules.specs.Slots.{slot_at, slot_where, is_free, is_hello, of_instance, of_node, of_session, greets_by, greets_node_by}
+use Rattle.link_core.specs.declared.announce.Announce.{Announce}
+use Rattle.link_core.specs.declared.notes.LinkNote.{LinkNote}
+use Rattle.link_core.specs.Links.{Links, Turn, Did, SlotRow, is_spent, new_link, same, unknown, in_found, with_slot}
+use Rattle.link_core.specs.Kept.{IsHeard}
+use Rattle.link_core.specs.Handshakes.{accept_counted, accept_free, accept, hello_crossed, hello_of_node, offer_same, offer_repeated_to, hello_repeated, hello_of_instance, hello_received, offer_taken, take_again, offer_repeated, offer_again, offer_seen, offer_received, take_in, take_seen, take_received}
+use Rattle.link_core.specs.Renewals.{renew_in, renew_seen, renew_received, ack_in, ack_seen, ack_received}
+use Rattle.link_core.specs.Flights.{arrived_if, transfer_in, transfer_seen, transfer_received, answers, closed, lost_flight, gone_heard, stands, gone_if, gone_seen, gone_greeting, gone_elsewhere, gone_received}
+use Rattle.link_core.specs.Rulings.{ripe_at, made_heir, discharge_told, kept_discharged, judged, awaits, ruling_if, ruling_seen, ruling_by, ruling_received}
+use Rattle.link_core.specs.Frames.{frame_row}
+
+-- one frame at most
+abbrev Few : Turn → Type 0
+Few t = length t.sent ≤ 1
+
+found_few : (row : ℕ → SlotRow) (none : Did) (k : Links) (place : Option ℕ) → ((i : ℕ) (slot : Option Link) → Few (row i slot)) → IsHeard k none → IsHeard k (in_found row none k place)
+found_few row none k None h n = n
+found_few row none k (Some i) h n = record { kept = refl; few = h i (slot_at i k.slots) }
+
+same_few : (k : Links) → IsHeard k (same k)
+same_few k = record { kept = refl; few = omega arith }
+
+unknown_few : (from : Who) (theirs own : ℕ) (k : Links) → IsHeard k (unknown from theirs own k)
+unknown_few from theirs own k = record { kept = refl; few = omega arith }
+
+-- Hello
+
+accept_counted_few : (k : Links) (s : Slots) (l : Link) (i : ℕ) (spent : Bool) → IsHeard k (accept_counted k (record k { slots = s }) l i spent)
+accept_counted_few k s l i true = record { kept = refl; few = omega arith }
+accept_counted_few k s l i false = record { kept = refl; few = omega arith }
+
+accept_free_few : (k : Links) (s : Slots) (l : Link) (place : Option ℕ) → IsHeard k (accept_free k (record k { slots = s }) l place)
+accept_free_few k s l None = record { kept = refl; few = omega arith }
+accept_free_few k s l (Some i) = accept_counted_few k s l i (is_spent k)
+
+accept_few : (k : Links) (s : Slots) (l : Link) → IsHeard k (accept k (record k { slots = s }) l)
+accept_few k s l = accept_free_few k s l (slot_where is_free s)
+
+crossed_few : (k : Links) (l : Link) (i : ℕ) (lower : Bool) → IsHeard k (hello_crossed k l i lower)
+crossed_few k l i true = same_few k
+crossed_few k l i false = accept_few k (slice_set k.slots i None) l
+
+of_node_few : (k : Links) (l : Link) (place : Option ℕ) → IsHeard k (hello_of_node k l place)
+of_node_few k l None = accept_few k k.slots l
+of_node_few k l (Some i) = crossed_few k l i (nat_lt k.me.actor l.peer.actor)
+
+same_offer_few : (l : Link) (again : Bool) → Few (offer_same l again)
+same_offer_few l true = omega arith
+same_offer_few l false = omega arith
+
+repeated_to_few : (theirs : ℕ) (l : Link) (was : LinkState) → Few (offer_repeated_to theirs l was)
+repeated_to_few theirs l Offered = same_offer_few l (l.yours == theirs)
+repeated_to_few theirs l _ = omega arith
+
+repeated_few : (theirs : ℕ) (slot : Option Link) → Few (hello_repeated theirs slot)
+repeated_few theirs None = omega arith
+repeated_few theirs (Some l) = repeated_to_few theirs l l.state
+
+of_instance_few : (k : Links) (l : Link) (place : Option ℕ) → IsHeard k (hello_of_instance k l place)
+of_instance_few k l (Some i) = record { kept = refl; few = repeated_few l.yours (slot_at i k.slots) }
+of_instance_few k l None = of_node_few k l (slot_where (of_node is_hello l.peer.actor) k.slots)
+
+-- Offer and Take
+
+taken_few : (now : ℕ) (from : Who) (theirs len : ℕ) (slot : Option Link) → Few (offer_taken now from theirs len slot)
+taken_few now from theirs len None = omega arith
+taken_few now from theirs len (Some l) = omega arith
+
+take_again_few : (l : Link) (was : LinkState) → Few (take_again l was)
+take_again_few l Bound = omega arith
+take_again_few l Parting = omega arith
+take_again_few l _ = omega arith
+
+offer_repeated_few : (i : ℕ) (slot : Option Link) → Few (offer_repeated slot)
+offer_repeated_few i None = omega arith
+offer_repeated_few i (Some l) = take_again_few l l.state
+
+offer_seen_few : (now : ℕ) (from : Who) (theirs own len : ℕ) (k : Links) (place : Option ℕ) → IsHeard k (offer_seen now from theirs own len k place)
+offer_seen_few now from theirs own len k (Some i) = record { kept = refl; few = taken_few now from theirs len (slot_at i k.slots) }
+offer_seen_few now from theirs own len k None = found_few (λ i. offer_repeated) (unknown from theirs own k) k (slot_where (of_session from own theirs) k.slots) offer_repeated_few (unknown_few from theirs own k)
+
+take_in_few : (now : ℕ) (a : Announce) (l : Link) (was : LinkState) → Few (take_in now a l was)
+take_in_few now a l Offered = omega arith
+take_in_few now a l Parting = omega arith
+take_in_few now a l _ = omega arith
+
+take_seen_few : (now : ℕ) (a : Announce) (i : ℕ) (slot : Option Link) → Few (take_seen now a slot)
+take_seen_few now a i None = omega arith
+take_seen_few now a i (Some l) = take_in_few now a l l.state
+
+-- Renew and RenewAck
+
+renew_in_few : (stamp version got : ℕ) (want : Bool) (ranges : List Interval) (i : ℕ) (l : Link) (was : LinkState) → Few (renew_in stamp version got want ranges i l was)
+renew_in_few stamp version got want ranges i l Offered = omega arith
+renew_in_few stamp version got want ranges i l Bound = omega arith
+renew_in_few stamp version got want ranges i l Parting = omega arith
+renew_in_few stamp version got want ranges i l _ = omega arith
+
+renew_seen_few : (stamp version got : ℕ) (want : Bool) (ranges : List Interval) (i : ℕ) (slot : Option Link) → Few (renew_seen stamp version got want ranges i slot)
+renew_seen_few stamp version got want ranges i None = omega arith
+renew_seen_few stamp version got want ranges i (Some l) = renew_in_few stamp version got want ranges i l l.state
+
+ack_in_few : (stamp version : ℕ) (l : Link) (was : LinkState) → Few (ack_in stamp version l was)
+ack_in_few stamp version l Bound = omega arith
+ack_in_few stamp version l Parting = omega arith
+ack_in_few stamp version l _ = omega arith
+
+ack_seen_few : (stamp version i : ℕ) (slot : Option Link) → Few (ack_seen stamp version slot)
+ack_seen_few stamp version i None = omega arith
+ack_seen_few stamp version i (Some l) = ack_in_few stamp version l l.state
+
+-- Transfer and Gone
+
+arrived_few : (i : ℕ) (l : Link) (number : ℕ) (part : List Interval) (above : Bool) → Few (arrived_if i l number part above)
+arrived_few i l number part true = omega arith
+arrived_few i l number part false = omega arith
+
+transfer_in_few : (number : ℕ) (part : List Interval) (i : ℕ) (l : Link) (was : LinkState) → Few (transfer_in number part i l was)
+transfer_in_few number part i l Bound = arrived_few i l number part (nat_lt l.got number)
+transfer_in_few number part i l Parting = omega arith
+transfer_in_few number part i l _ = omega arith
+
+transfer_seen_few : (number : ℕ) (part : List Interval) (i : ℕ) (slot : Option Link) → Few (transfer_seen number part i slot)
+transfer_seen_few number part i None = omega arith
+transfer_seen_few number part i (Some l) = transfer_in_few number part i l l.state
+
+answers_few : (bound : Bool) (to : Who) (b : Body) → length (answers bound to b) ≤ 1
+answers_few true to b = omega arith
+answers_few false to b = omega arith
+
+heard_few : (i : ℕ) (l : Link) (bound : Bool) (lost : Option Flight) → Few (gone_heard i l bound lost)
+heard_few i l bound None = answers_few bound l.peer (body.Gone l.mine l.yours l.got false)
+heard_few i l bound (Some f) = omega arith
+
+gone_if_few : (got : ℕ) (bound : Bool) (i : ℕ) (l : Link) (stood : Bool) → Few (gone_if got bound i l stood)
+gone_if_few got bound i l true = heard_few i l bound (lost_flight got l.flight)
+gone_if_few got bound i l false = omega arith
+
+gone_seen_few : (got : ℕ) (bound : Bool) (i : ℕ) (slot : Option Link) → Few (gone_seen got bound i slot)
+gone_seen_few got bound i None = omega arith
+gone_seen_few got bound i (Some l) = gone_if_few got bound i l (stands l.state)
+
+greeting_few : (from : Who) (theirs own : ℕ) (bound : Bool) (k : Links) (place : Option ℕ) → IsHeard k (gone_greeting from theirs own bound k place)
+greeting_few from theirs own bound k None = record { kept = refl; few = answers_few bound from (body.Gone own theirs 0 false) }
+greeting_few from theirs own bound k (Some i) = record { kept = refl; few = answers_few bound from (body.Gone own theirs 0 false) }
+
+-- Ruled
+
+made_heir_few : (l : Link) (ripe : ℕ) (bare : Bool) → Few (made_heir l ripe bare)
+made_heir_few l ripe true = omega arith
+made_heir_few l ripe false = omega arith
+
+discharged_few : (l : Link) (notes : List LinkNote) (ends : Bool) → Few (kept_discharged l notes ends)
+discharged_few l notes true = omega arith
+discharged_few l notes false = omega arith
+
+judged_few : (l : Link) (ripe : ℕ) (was : LinkState) (v : Verdict) → Few (judged l ripe was v)
+judged_few l ripe was verdict.Heir = made_heir_few l ripe (is_bare l)
+judged_few l ripe was verdict.Discharged = discharged_few l (discharge_told was l) (is_bare l || not (may_be_heir l.tally))
+judged_few l ripe was verdict.Lost = omega arith
+judged_few l ripe was verdict.Open = omega arith
+
+ruling_if_few : (ripe arbiter : ℕ) (ruling : Ruling) (l : Link) (was : LinkState) (waits : Bool) → Few (ruling_if ripe arbiter ruling l was waits)
+ruling_if_few ripe arbiter ruling l was true = judged_few (record l { tally = noted l.tally arbiter ruling }) ripe was (verdict_of (noted l.tally arbiter ruling))
+ruling_if_few ripe arbiter ruling l was false = omega arith
+
+ruling_seen_few : (now : ℕ) (bound : clocks.Bound) (answer arbiter : ℕ) (ruling : Ruling) (i : ℕ) (slot : Option Link) → Few (ruling_seen now bound answer arbiter ruling slot)
+ruling_seen_few now bound answer arbiter ruling i None = omega arith
+ruling_seen_few now bound answer arbiter ruling i (Some l) = ruling_if_few (ripe_at now bound answer l) arbiter ruling l l.state (awaits l.state)
+
+pub frame_few : (now : ℕ) (a : Announce) (from : Who) (b : Body) (k : Links) → IsHeard k (frame_row now a from b k)
+frame_few now a from (body.Hello mine) k = of_instance_few k (new_link k now from mine Offered 1 k.lease) (slot_where (of_instance from) k.slots)
+frame_few now a from (body.HelloFor mine length) k = of_instance_few k (new_link k now from mine Offered 2 (min length k.longest)) (slot_where (of_instance from) k.slots)
+frame_few now a from (body.Offer mine yours) k = offer_seen_few now from mine yours k.lease k (slot_where (greets_node_by from.actor yours) k.slots)
+frame_few now a from (body.OfferFor mine yours length) k = offer_seen_few now from mine yours length k (slot_where (greets_node_by from.actor yours) k.slots)
+frame_few now a from (body.Take mine yours) k = found_few (λ i. take_seen now a) (unknown from mine yours k) k (slot_where (of_session from yours mine) k.slots) (take_seen_few now a) (unknown_few from mine yours k)
+frame_few now a from (body.Renew mine yours stamp version got want ranges) k = found_few (renew_seen stamp version got want ranges) (unknown from mine yours k) k (slot_where (of_session from yours mine) k.slots) (renew_seen_few stamp version got want ranges) (unknown_few from mine yours k)
+frame_few now a from (body.RenewAck mine yours stamp version) k = found_few (λ i. ack_seen stamp version) (same k) k (slot_where (of_session from yours mine) k.slots) (ack_seen_few stamp version) (same_few k)
+frame_few now a from (body.Transfer mine yours flight ranges) k = found_few (transfer_seen flight ranges) (unknown from mine yours k) k (slot_where (of_session from yours mine) k.slots) (transfer_seen_few flight ranges) (unknown_few from mine yours k)
+frame_few now a from (body.Gone mine yours got bound) k = found_few (gone_seen got bound) (gone_elsewhere from mine yours bound k) k (slot_where (of_session from yours mine) k.slots) (gone_seen_few got bound) (greeting_few from mine yours bound k (slot_where (greets_by yours) k.slots))
+frame_few now a from (body.Ruled victim ruling) k = found_few (λ i. ruling_seen now k.bound k.answer (from.actor - arbiter_actor 0) ruling) (same k) k (slot_where (of_instance victim) k.slots) (ruling_seen_few now k.bound k.answer (from.actor - arbiter_actor 0) ruling) (same_few k)
+frame_few now a from _ k = same_few k
