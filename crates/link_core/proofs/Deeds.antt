@@ -11,7 +11,7 @@ use Rattle.link_core.specs.declared.announce.Announce.{Announce}
 use Rattle.link_core.specs.Links.{Links, Did, did_after}
 use Rattle.link_core.specs.Firing.{slot_fired}
 use Rattle.link_core.specs.Frames.{frame_row}
-use Rattle.link_core.specs.Ties.{Does, HasLinks, links_of, announce_of, finished, is_search, wants_answer, with_links, all_noted}
+use Rattle.link_core.specs.Ties.{Does, HasLinks, announce_of, finished, is_search, wants_answer, with_links, all_noted}
 use Rattle.link_core.proofs.Few.{frame_few}
 use Rattle.link_core.proofs.FiredFew.{slot_fired_few}
 use Rattle.link_core.proofs.FiringTies.{fired_at_tie}

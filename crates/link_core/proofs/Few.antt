@@ -1,5 +1,5 @@
 -- A frame is answered by one frame at most, and changes slots and sessions alone.
-use Rattle.std.proofs.Common.{◌≡◌, ℕ, ◌≤◌, Bool, true, false, List, [], ◌∷◌, length, Option, Some, None, refl, arith, nat_lt, nat_le, min, ◌==◌, ◌-◌, not, ◌||◌, slice_set}
+use Rattle.std.proofs.Common.{ℕ, ◌≤◌, Bool, true, false, List, length, Option, Some, None, refl, arith, nat_lt, min, ◌==◌, ◌-◌, not, ◌||◌, slice_set}
 use Rattle.ring_points.specs.declared.interval.Interval.{Interval}
 use Rattle.ring_points.specs.declared.who.Flight.{Flight}
 use Rattle.ring_points.specs.declared.who.Ruling.{Ruling}
@@ -13,18 +13,18 @@ use Rattle.arbiter_quorum.specs.Tallies.{noted, verdict_of, may_be_heir}
 use Rattle.drift_clock.specs.declared.bound.Bound as clocks
 use Rattle.ring_rules.specs.declared.link.Link.{Link}
 use Rattle.ring_rules.specs.declared.link.LinkState.{LinkState}
-use Rattle.ring_rules.specs.declared.link.LinkState.TheVariants.{Hello, Offered, Bound, Parting, Accused, Discharged, Heir}
+use Rattle.ring_rules.specs.declared.link.LinkState.TheVariants.{Offered, Bound, Parting}
 use Rattle.ring_rules.specs.Links.{is_bare}
 use Rattle.ring_rules.specs.Rings.{Slots}
 use Rattle.ring_rules.specs.Slots.{slot_at, slot_where, is_free, is_hello, of_instance, of_node, of_session, greets_by, greets_node_by}
 use Rattle.link_core.specs.declared.announce.Announce.{Announce}
 use Rattle.link_core.specs.declared.notes.LinkNote.{LinkNote}
-use Rattle.link_core.specs.Links.{Links, Turn, Did, SlotRow, is_spent, new_link, same, unknown, in_found, with_slot}
+use Rattle.link_core.specs.Links.{Links, Turn, Did, SlotRow, is_spent, new_link, same, unknown, in_found}
 use Rattle.link_core.specs.Kept.{IsHeard}
-use Rattle.link_core.specs.Handshakes.{accept_counted, accept_free, accept, hello_crossed, hello_of_node, offer_same, offer_repeated_to, hello_repeated, hello_of_instance, hello_received, offer_taken, take_again, offer_repeated, offer_again, offer_seen, offer_received, take_in, take_seen, take_received}
-use Rattle.link_core.specs.Renewals.{renew_in, renew_seen, renew_received, ack_in, ack_seen, ack_received}
-use Rattle.link_core.specs.Flights.{arrived_if, transfer_in, transfer_seen, transfer_received, answers, closed, lost_flight, gone_heard, stands, gone_if, gone_seen, gone_greeting, gone_elsewhere, gone_received}
-use Rattle.link_core.specs.Rulings.{ripe_at, made_heir, discharge_told, kept_discharged, judged, awaits, ruling_if, ruling_seen, ruling_by, ruling_received}
+use Rattle.link_core.specs.Handshakes.{accept_counted, accept_free, accept, hello_crossed, hello_of_node, offer_same, offer_repeated_to, hello_repeated, hello_of_instance, offer_taken, take_again, offer_repeated, offer_seen, take_in, take_seen}
+use Rattle.link_core.specs.Renewals.{renew_in, renew_seen, ack_in, ack_seen}
+use Rattle.link_core.specs.Flights.{arrived_if, transfer_in, transfer_seen, answers, lost_flight, gone_heard, stands, gone_if, gone_seen, gone_greeting, gone_elsewhere}
+use Rattle.link_core.specs.Rulings.{ripe_at, made_heir, discharge_told, kept_discharged, judged, awaits, ruling_if, ruling_seen}
 use Rattle.link_core.specs.Frames.{frame_row}
 
 -- one frame at most

@@ -1,9 +1,8 @@
 -- A firing sends nine frames at most, and changes slots and the accused alone.
-use Rattle.std.proofs.Common.{◌≡◌, ℕ, zero, suc, ◌+◌, ◌≤◌, Bool, true, false, List, [], ◌∷◌, ◌++◌, length, Option, Some, None, refl, arith, nat_lt, nat_le, length-append}
+use Rattle.std.proofs.Common.{ℕ, zero, suc, ◌+◌, ◌≤◌, Bool, true, false, List, length, Option, Some, None, refl, arith, nat_lt, nat_le, length-append}
 use Rattle.ring_points.specs.declared.who.Flight.{Flight}
 use Rattle.ring_points.specs.declared.who.Ruling.{Ruling}
 use Rattle.ring_points.specs.declared.who.Who.{Who}
-use Rattle.fabric_terms.specs.declared.message.Body.{Body}
 use Rattle.arbiter_quorum.specs.Tallies.{has_answered}
 use Rattle.ring_rules.specs.declared.link.Link.{Link}
 use Rattle.ring_rules.specs.declared.link.LinkState.{LinkState}
@@ -13,7 +12,7 @@ use Rattle.ring_rules.specs.Slots.{slot_at}
 use Rattle.link_core.specs.declared.announce.Announce.{Announce}
 use Rattle.link_core.specs.Links.{Links, Turn}
 use Rattle.link_core.specs.Kept.{IsFired}
-use Rattle.link_core.specs.Firing.{accuse_if, accusing, asked, asked_first, asked_if, discharged_due, fired_at, fired_if, heir_due, hello_due, is_over, peer_accused, slot_fired, spoken, transfer_again}
+use Rattle.link_core.specs.Firing.{accuse_if, accusing, asked, asked_first, asked_if, discharged_due, fired_at, fired_if, heir_due, hello_due, is_over, slot_fired, spoken, transfer_again}
 use Rattle.link_core.proofs.Asked.{asked_first-zero, asked_first-suc}
 
 asked_if_few : (a : ℕ) (peer : Who) (answered : Bool) → length (asked_if a peer answered) ≤ 1

@@ -1,5 +1,5 @@
 -- What a row of links leaves as it is, and how much it sends.
-use Rattle.std.specs.Prelude.{◌≡◌, ℕ, ◌≤◌, length}
+use Rattle.std.specs.Prelude.{◌≡◌, ◌≤◌, length}
 use Rattle.link_core.specs.Links.{Links, Did}
 
 -- a frame changes slots and the number of the next session alone, and is answered by one frame at most
