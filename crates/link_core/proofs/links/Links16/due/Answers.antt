@@ -7,5 +7,11 @@ returns-clause-row c = does_firing c.args.now c.args.slot c.args.self.now c.args
 pub returns-clause-kept : goal.returns-clause-kept
 returns-clause-kept c = (fired_did c.args.now c.args.announce.now c.args.slot c.args.self.now c.args.out.now _ c.fire.ensures.few c.fire.ensures.did).0
 
+pub returns-clause-accused : goal.returns-clause-accused
+returns-clause-accused c = (fired_did c.args.now c.args.announce.now c.args.slot c.args.self.now c.args.out.now _ c.fire.ensures.few c.fire.ensures.did).1
+
 pub returns-clause-few : goal.returns-clause-few
-returns-clause-few c = (fired_did c.args.now c.args.announce.now c.args.slot c.args.self.now c.args.out.now _ c.fire.ensures.few c.fire.ensures.did).1
+returns-clause-few c = (fired_did c.args.now c.args.announce.now c.args.slot c.args.self.now c.args.out.now _ c.fire.ensures.few c.fire.ensures.did).2
+
+pub returns-clause-notes : goal.returns-clause-notes
+returns-clause-notes c = (fired_did c.args.now c.args.announce.now c.args.slot c.args.self.now c.args.out.now _ c.fire.ensures.few c.fire.ensures.did).3

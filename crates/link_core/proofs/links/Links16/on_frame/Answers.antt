@@ -9,3 +9,6 @@ returns-clause-kept c = (heard_did c.args.now c.args.announce.now c.args.message
 
 pub returns-clause-few : goal.returns-clause-few
 returns-clause-few c = (heard_did c.args.now c.args.announce.now c.args.message.now.from c.args.message.now.body c.args.self.now c.args.out.now _ c.hear.ensures).1
+
+pub returns-clause-notes : goal.returns-clause-notes
+returns-clause-notes c = (heard_did c.args.now c.args.announce.now c.args.message.now.from c.args.message.now.body c.args.self.now c.args.out.now _ c.hear.ensures).2
