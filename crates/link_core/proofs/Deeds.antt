@@ -1,5 +1,5 @@
 -- A call that is a row of links is a row of the rules.
-use Rattle.std.proofs.Common.{◌≡◌, ℕ, Bool, false, List, ◌++◌, refl, sym, ap, ◌∙◌, append_assoc}
+use Rattle.std.proofs.Common.{◌≡◌, ℕ, ◌+◌, ◌≤◌, Bool, false, List, ◌++◌, length, take, refl, sym, ap, ◌∙◌, arith, append_assoc, length-append}
 use Rattle.ring_points.specs.declared.who.Who.{Who}
 use Rattle.fabric_terms.specs.declared.message.Body.{Body}
 use Rattle.ring_rules.specs.Deeds.{counted}
@@ -11,7 +11,9 @@ use Rattle.link_core.specs.declared.announce.Announce.{Announce}
 use Rattle.link_core.specs.Links.{Links, Did, did_after}
 use Rattle.link_core.specs.Firing.{slot_fired}
 use Rattle.link_core.specs.Frames.{frame_row}
-use Rattle.link_core.specs.Ties.{Does, HasLinks, links_of, announce_of, finished, is_search, wants_answer, with_links, all_noted}
+use Rattle.link_core.specs.Ties.{Does, HasLinks, announce_of, finished, is_search, wants_answer, with_links, all_noted}
+use Rattle.link_core.proofs.Few.{frame_few}
+use Rattle.link_core.proofs.FiredFew.{slot_fired_few}
 use Rattle.link_core.proofs.FiringTies.{fired_at_tie}
 use Rattle.link_core.proofs.FrameTies.{frame_tie}
 
@@ -30,3 +32,11 @@ pub does_firing : (now i : ℕ) (old : Links) (a : Announce) (out : List (Who ×
 does_firing now i old a out d e =
     does_row (λ c w. rules_of_firing.fired_at c now i (slot_at i w.ring.slots) w) false old a out d (slot_fired now a i old) e
     (λ c w k. ap (counted w) (fired_at_tie c now i (slot_at i w.ring.slots) w refl) ∙ ap (λ (m : Links). counted w (finished false (slot_fired now (announce_of w.ring) i m) w)) k.links ∙ ap (λ (b : Announce). counted w (finished false (slot_fired now b i old) w)) k.announce)
+
+-- what a call keeps and how much it sends, by its row
+
+pub heard_did : (now : ℕ) (a : Announce) (from : Who) (b : Body) (old : Links) (out : List (Who × Body)) (d : Did) → d ≡ did_after out (frame_row now a from b old) → d.links ≡ record old { slots = d.links.slots; next_session = d.links.next_session } × (length d.sent ≤ length out + 1) × (length d.notes ≤ 2)
+heard_did now a from b old out d e = let f = frame_few now a from b old in (rw e f.kept, rw (e, length-append) (omega (arith, f.sent)), rw e f.notes)
+
+pub fired_did : (now : ℕ) (a : Announce) (i : ℕ) (old : Links) (out : List (Who × Body)) (d : Did) → old.arbitrators ≤ 9 → d ≡ did_after out (slot_fired now a i old) → d.links ≡ record old { slots = d.links.slots; accused = d.links.accused } × (take (length old.accused) d.links.accused ≡ old.accused) × (length d.sent ≤ length out + 9) × (length d.notes ≤ 2)
+fired_did now a i old out d h e = let f = slot_fired_few now a i old h in (rw e f.kept, rw e f.accused, rw (e, length-append) (omega (arith, f.sent)), rw e f.notes)

@@ -1,5 +1,5 @@
 -- A firing at one slot is that of the rules.
-use Rattle.std.proofs.Common.{◌≡◌, ℕ, zero, suc, ◌+◌, Bool, true, false, List, [], ◌∷◌, ◌++◌, length, Option, Some, None, refl, sym, ap, ◌∙◌, nat_le, nat_lt, append_assoc, slice_set}
+use Rattle.std.proofs.Common.{◌≡◌, ℕ, zero, suc, ◌+◌, Bool, true, false, List, [], ◌∷◌, ◌++◌, length, Option, Some, None, refl, ap, ◌∙◌, nat_le, nat_lt, append_assoc}
 use Rattle.std.proofs.lemmas.List.{append-nil}
 use Rattle.ring_points.specs.declared.who.Flight.{Flight}
 use Rattle.ring_points.specs.declared.who.Who.{Who}
@@ -14,8 +14,8 @@ use Rattle.ring_rules.specs.Links.{offer_body, renew_body}
 use Rattle.ring_rules.specs.Rings.{Settings, Work, accused_limit, ◌▷◌}
 use Rattle.ring_rules.specs.Slots.{slot_at}
 use Rattle.ring_rules.proofs.Rows.{slot_fired-is, peer_accused-is, discharged_fired-is}
-use Rattle.link_core.specs.Links.{Turn, in_place}
-use Rattle.link_core.specs.Firing.{accuse_if, accusing, asked_first, asked_if, discharged_due, fired_at, fired_if, heir_due, hello_due, is_over, leases, peer_accused, slot_fired, spoken, transfer_again}
+use Rattle.link_core.specs.Links.{in_place}
+use Rattle.link_core.specs.Firing.{accuse_if, accusing, asked_first, asked_if, discharged_due, fired_at, fired_if, heir_due, hello_due, leases, peer_accused, slot_fired, transfer_again}
 use Rattle.link_core.specs.Ties.{links_of, announce_of, finished}
 use Rattle.link_core.proofs.Asked.{asked_first-zero, asked_first-suc}
 use Rattle.link_core.proofs.Places.{set_here}

@@ -1,5 +1,5 @@
 -- A frame's row of links is that of the rules.
-use Rattle.std.proofs.Common.{◌≡◌, ℕ, Bool, true, false, List, [], ◌++◌, IsTrue, refl, sym, ap, ◌∙◌, min}
+use Rattle.std.proofs.Common.{◌≡◌, ℕ, false, IsTrue, ap, min}
 use Rattle.ring_points.specs.declared.who.Who.{Who}
 use Rattle.fabric_terms.specs.declared.message.Body.{Body}
 use Rattle.fabric_terms.specs.declared.message.Body.TheVariants as body

@@ -1,5 +1,5 @@
 -- A table with a place that was made free has a free place.
-use Rattle.std.proofs.Common.{◌≡◌, ℕ, zero, suc, ◌+◌, ◌<◌, Bool, true, false, List, [], ◌∷◌, length, Option, Some, None, refl, sym, arith, slice_set}
+use Rattle.std.proofs.Common.{◌≡◌, ℕ, zero, suc, ◌+◌, ◌<◌, true, List, [], ◌∷◌, length, Some, None, refl, sym, arith, slice_set}
 use Rattle.std.proofs.lemmas.List.{append-nil}
 use Rattle.std.specs.List.{position_from}
 use Rattle.ring_points.specs.declared.who.Who.{Who}
@@ -7,11 +7,11 @@ use Rattle.fabric_terms.specs.declared.message.Body.{Body}
 use Rattle.fabric_terms.specs.declared.report.Why.TheVariants.{Counters}
 use Rattle.ring_rules.specs.declared.link.Link.{Link}
 use Rattle.ring_rules.specs.Rings.{Slots}
-use Rattle.ring_rules.specs.Slots.{is_free, slot_where}
+use Rattle.ring_rules.specs.Slots.{is_free}
 use Rattle.link_core.specs.declared.notes.LinkNote.{LinkNote}
 use Rattle.link_core.specs.declared.notes.LinkNote.TheVariants.{Leave}
-use Rattle.link_core.specs.Links.{Links, Did, did, did_after, is_spent, no_number, with_slot}
-use Rattle.link_core.specs.Handshakes.{accept, accept_free}
+use Rattle.link_core.specs.Links.{Links, did, did_after, is_spent, no_number, with_slot}
+use Rattle.link_core.specs.Handshakes.{accept}
 
 pub free_from : (s : Slots) (i n : ℕ) → i < length s → (j : ℕ) × (position_from is_free n (slice_set s i None) ≡ Some j)
 free_from [] i n h = absurd (omega arith)

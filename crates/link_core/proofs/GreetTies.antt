@@ -1,5 +1,5 @@
 -- Hello, heard and sent, is that of the rules, and needs a number.
-use Rattle.std.proofs.Common.{◌≡◌, ℕ, ◌+◌, Bool, true, false, List, [], ◌++◌, Option, Some, None, IsTrue, refl, sym, ap, ◌∙◌, arith, nat_lt, nat_le, ◌==◌, slice_set}
+use Rattle.std.proofs.Common.{◌≡◌, ℕ, ◌+◌, Bool, true, false, Option, Some, None, IsTrue, refl, sym, ap, ◌∙◌, arith, nat_lt, ◌==◌, slice_set}
 use Rattle.std.proofs.lemmas.Bool.Decides.{nat_tests}
 use Rattle.std.proofs.lemmas.List.{append-nil}
 use Rattle.ring_points.specs.declared.who.Who.{Who}
@@ -7,14 +7,14 @@ use Rattle.fabric_terms.specs.declared.report.Reason.{Reason}
 use Rattle.fabric_terms.specs.declared.report.Why.TheVariants.{Counters}
 use Rattle.ring_rules.specs.declared.link.Link.{Link}
 use Rattle.ring_rules.specs.declared.link.LinkState.{LinkState}
-use Rattle.ring_rules.specs.declared.link.LinkState.TheVariants.{Hello, Offered, Bound, Parting, Accused, Discharged, Heir}
-use Rattle.ring_rules.specs.Deeds.{counted, counted_if, has_numbers, leave, on_ring}
+use Rattle.ring_rules.specs.declared.link.LinkState.TheVariants.{Offered}
+use Rattle.ring_rules.specs.Deeds.{counted, has_numbers, leave, on_ring}
 use Rattle.ring_rules.specs.Handshakes as rules
 use Rattle.ring_rules.specs.Links.{greeting_link, offered_link}
 use Rattle.ring_rules.specs.Rings.{Ring, Settings, Slots, Work}
 use Rattle.ring_rules.specs.Slots.{slot_at, slot_where, is_free, is_hello, bars_link, of_instance, of_node}
 use Rattle.ring_rules.proofs.Rows.{hello_received-is}
-use Rattle.link_core.specs.Links.{Links, in_place, is_spent, no_number}
+use Rattle.link_core.specs.Links.{in_place, is_spent, no_number}
 use Rattle.link_core.specs.Handshakes.{accept, accept_free, accept_counted, greet, greet_counted, greet_free, greet_unless, greeting, hello_crossed, hello_of_node, hello_repeated, hello_of_instance, offer_repeated_to, offer_same, hello_received}
 use Rattle.link_core.specs.Ties.{links_of, finished, greeted}
 use Rattle.link_core.proofs.Places.{set_here}

@@ -1,21 +1,19 @@
 -- Hello, Offer and Take on links are those of the rules.
-use Rattle.std.proofs.Common.{◌≡◌, ℕ, ◌+◌, Bool, true, false, List, [], ◌++◌, Option, Some, None, IsTrue, refl, sym, ap, ◌∙◌, arith, nat_lt, nat_le, ◌==◌, slice_set}
-use Rattle.std.proofs.lemmas.Bool.Decides.{nat_tests}
-use Rattle.std.proofs.lemmas.List.{append-nil}
+use Rattle.std.proofs.Common.{◌≡◌, ℕ, false, Option, Some, None, refl, ◌∙◌}
 use Rattle.ring_points.specs.declared.who.Who.{Who}
 use Rattle.ring_rules.specs.declared.link.Link.{Link}
 use Rattle.ring_rules.specs.declared.link.LinkState.{LinkState}
-use Rattle.ring_rules.specs.declared.link.LinkState.TheVariants.{Hello, Offered, Bound, Parting, Accused, Discharged, Heir}
-use Rattle.ring_rules.specs.Deeds.{counted, has_numbers, on_ring, answer_unknown}
+use Rattle.ring_rules.specs.declared.link.LinkState.TheVariants.{Offered, Bound, Parting}
+use Rattle.ring_rules.specs.Deeds.{answer_unknown}
 use Rattle.ring_rules.specs.Handshakes as rules
-use Rattle.ring_rules.specs.Rings.{Settings, Slots, Work}
-use Rattle.ring_rules.specs.Slots.{slot_at, slot_where, is_free, is_hello, of_instance, of_node, of_session, greets_node_by}
-use Rattle.ring_rules.proofs.Rows.{hello_received-is, offer_received-is, take_received-is}
-use Rattle.link_core.specs.Links.{Links, in_place, is_spent, unknown}
-use Rattle.link_core.specs.Handshakes.{accept, accept_free, accept_counted, hello_crossed, hello_of_node, hello_repeated, hello_of_instance, offer_repeated_to, offer_same, hello_received, offer_taken, take_again, offer_repeated, offer_again, offer_seen, offer_received, take_in, take_seen, take_received}
+use Rattle.ring_rules.specs.Rings.{Settings, Work}
+use Rattle.ring_rules.specs.Slots.{slot_at, slot_where, of_session, greets_node_by}
+use Rattle.ring_rules.proofs.Rows.{offer_received-is, take_received-is}
+use Rattle.link_core.specs.Links.{in_place, unknown}
+use Rattle.link_core.specs.Handshakes.{offer_taken, take_again, offer_repeated, offer_seen, offer_received, take_in, take_seen, take_received}
 use Rattle.link_core.specs.Ties.{links_of, announce_of, finished}
 use Rattle.link_core.proofs.Places.{set_here}
-use Rattle.link_core.proofs.SessionTies.{same_tie, stays_tie, gone_said_tie, unknown_tie, session_tie}
+use Rattle.link_core.proofs.SessionTies.{stays_tie, gone_said_tie, unknown_tie, session_tie}
 
 -- Take
 

@@ -13,3 +13,5 @@ pub mod FiringTies
 pub mod PartTies
 pub mod FrameTies
 pub mod Deeds
+pub mod Few
+pub mod FiredFew

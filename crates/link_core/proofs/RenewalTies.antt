@@ -1,15 +1,14 @@
 -- Renew and RenewAck on links are those of the rules.
-use Rattle.std.proofs.Common.{◌≡◌, ℕ, Bool, true, false, List, [], ◌∷◌, ◌++◌, Option, Some, None, refl, sym, ap, ◌∙◌, slice_set}
+use Rattle.std.proofs.Common.{◌≡◌, ℕ, Bool, true, false, List, ◌∷◌, Some, refl, ◌∙◌}
 use Rattle.std.proofs.lemmas.List.{append-nil}
 use Rattle.ring_points.specs.declared.interval.Interval.{Interval}
 use Rattle.ring_points.specs.declared.who.Who.{Who}
-use Rattle.fabric_terms.specs.declared.message.Body.TheVariants as body
 use Rattle.join_phases.specs.Phases.{bound_phase}
 use Rattle.ring_rules.specs.declared.link.Link.{Link}
 use Rattle.ring_rules.specs.declared.link.LinkState.{LinkState}
-use Rattle.ring_rules.specs.declared.link.LinkState.TheVariants.{Hello, Offered, Bound, Parting, Accused, Discharged, Heir}
+use Rattle.ring_rules.specs.declared.link.LinkState.TheVariants.{Offered, Bound, Parting}
 use Rattle.ring_rules.specs.Deeds.{set_phase, answer_unknown}
-use Rattle.ring_rules.specs.Links.{renewed, acknowledged}
+use Rattle.ring_rules.specs.Links.{renewed}
 use Rattle.ring_rules.specs.Renewals as rules
 use Rattle.ring_rules.specs.Rings.{Settings, Work}
 use Rattle.ring_rules.specs.Slots.{slot_at, slot_where, of_session}

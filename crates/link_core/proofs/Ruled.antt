@@ -1,9 +1,9 @@
 -- A ruling in a slot that waits for the arbitrators.
-use Rattle.std.proofs.Common.{◌≡◌, ℕ, Bool, true, Option, Some}
+use Rattle.std.proofs.Common.{◌≡◌, ℕ, true, Option, Some}
 use Rattle.drift_clock.specs.declared.bound.Bound.{Bound}
 use Rattle.ring_points.specs.declared.who.Ruling.{Ruling}
 use Rattle.arbiter_quorum.specs.declared.verdict.Verdict.{Verdict}
-use Rattle.arbiter_quorum.specs.Tallies.{Tally, noted, verdict_of}
+use Rattle.arbiter_quorum.specs.Tallies.{noted, verdict_of}
 use Rattle.ring_rules.specs.declared.link.Link.{Link}
 use Rattle.link_core.specs.Links.{Turn}
 use Rattle.link_core.specs.Rulings.{awaits, judged, ripe_at, ruling_seen}

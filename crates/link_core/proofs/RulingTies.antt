@@ -1,5 +1,5 @@
 -- A ruling on links is that of the rules.
-use Rattle.std.proofs.Common.{◌≡◌, ℕ, ◌-◌, Bool, true, false, not, ◌||◌, List, [], ◌∷◌, ◌++◌, Option, Some, None, refl, sym, ap, ◌∙◌, slice_set}
+use Rattle.std.proofs.Common.{◌≡◌, ℕ, ◌-◌, Bool, true, false, not, ◌||◌, Some, refl, ◌∙◌}
 use Rattle.std.proofs.lemmas.List.{append-nil}
 use Rattle.ring_points.specs.declared.who.Ruling.{Ruling}
 use Rattle.ring_points.specs.declared.who.Who.{Who}
@@ -9,7 +9,7 @@ use Rattle.arbiter_quorum.specs.declared.verdict.Verdict.TheVariants as verdict
 use Rattle.arbiter_quorum.specs.Tallies.{noted, verdict_of, may_be_heir}
 use Rattle.ring_rules.specs.declared.link.Link.{Link}
 use Rattle.ring_rules.specs.declared.link.LinkState.{LinkState}
-use Rattle.ring_rules.specs.declared.link.LinkState.TheVariants.{Hello, Offered, Bound, Parting, Accused, Discharged, Heir}
+use Rattle.ring_rules.specs.declared.link.LinkState.TheVariants.{Accused, Discharged}
 use Rattle.ring_rules.specs.Links.{is_bare}
 use Rattle.ring_rules.specs.Rulings as rules
 use Rattle.ring_rules.specs.Rings.{Settings, Work}

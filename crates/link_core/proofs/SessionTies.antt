@@ -1,13 +1,13 @@
 -- A row in a session, by the row of its slot.
-use Rattle.std.proofs.Common.{◌≡◌, ℕ, Bool, List, [], ◌++◌, Option, Some, None, refl, slice_set}
+use Rattle.std.proofs.Common.{◌≡◌, ℕ, Bool, Option, Some, None, refl}
 use Rattle.std.proofs.lemmas.List.{append-nil}
 use Rattle.ring_points.specs.declared.who.Who.{Who}
 use Rattle.ring_rules.specs.declared.link.Link.{Link}
 use Rattle.ring_rules.specs.Deeds as rules
 use Rattle.ring_rules.specs.Rings.{Settings, Work}
 use Rattle.ring_rules.specs.Slots.{slot_at}
-use Rattle.link_core.specs.Links.{Turn, Did, SlotRow, did, stays, same, in_place, in_found, unknown, gone_said}
-use Rattle.link_core.specs.Ties.{links_of, with_did, finished}
+use Rattle.link_core.specs.Links.{Did, SlotRow, stays, same, in_place, in_found, unknown, gone_said}
+use Rattle.link_core.specs.Ties.{links_of, finished}
 use Rattle.link_core.proofs.Places.{set_here}
 
 -- nothing is done

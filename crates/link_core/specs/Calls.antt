@@ -10,7 +10,7 @@ use Rattle.ring_rules.specs.Slots.{slot_at, slot_where, may_part, of_node}
 use Rattle.ring_rules.specs.Links.{has_flight, parting_link, transfer_body}
 use Rattle.link_core.specs.declared.refusal.LinkRefusal.{LinkRefusal}
 use Rattle.link_core.specs.declared.refusal.LinkRefusal.TheVariants.{NotLinked, Busy}
-use Rattle.link_core.specs.Links.{Links, Turn, Did, did, did_after, turn, turn_after, same, stays, in_place, gone_said}
+use Rattle.link_core.specs.Links.{Links, Turn, Did, did, did_after, turn, turn_after, stays, in_place, gone_said}
 use Rattle.link_core.specs.Handshakes.{greet, greeting_for}
 use Rattle.link_core.specs.Flights.{last_words}
 

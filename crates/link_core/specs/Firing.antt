@@ -7,7 +7,7 @@ use Rattle.ring_points.specs.Whos.{node_instance, arbiter_actor}
 use Rattle.fabric_terms.specs.declared.message.Body.{Body}
 use Rattle.fabric_terms.specs.declared.message.Body.TheVariants as body
 use Rattle.fabric_terms.specs.declared.report.Why.TheVariants.{AccusedFull}
-use Rattle.arbiter_quorum.specs.Tallies.{Tally, has_answered, no_answers}
+use Rattle.arbiter_quorum.specs.Tallies.{has_answered, no_answers}
 use Rattle.ring_rules.specs.declared.link.Link.{Link}
 use Rattle.ring_rules.specs.declared.link.LinkState.{LinkState}
 use Rattle.ring_rules.specs.declared.link.LinkState.TheVariants as state

@@ -1,5 +1,5 @@
 -- The row of a frame on the links of a node.
-use Rattle.std.specs.Prelude.{ℕ, Bool, true, false, ◌&&◌, min, nat_le, nat_lt}
+use Rattle.std.specs.Prelude.{ℕ, Bool, true, ◌&&◌, min, nat_le, nat_lt}
 use Rattle.ring_points.specs.declared.who.Who.{Who}
 use Rattle.ring_points.specs.Whos.{arbiter_actor}
 use Rattle.fabric_terms.specs.declared.message.Body.{Body}

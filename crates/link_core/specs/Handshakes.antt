@@ -1,5 +1,5 @@
 -- How a link begins: a greeting, Hello, Offer, Take.
-use Rattle.std.specs.Prelude.{ℕ, ◌+◌, Bool, true, false, List, [], ◌∷◌, Option, Some, None, Result, Ok, Err, ◌==◌, min, nat_lt}
+use Rattle.std.specs.Prelude.{ℕ, Bool, true, false, [], ◌∷◌, Option, Some, None, Result, Ok, Err, ◌==◌, min, nat_lt}
 use Rattle.ring_points.specs.declared.who.Who.{Who}
 use Rattle.ring_points.specs.Whos.{node_instance}
 use Rattle.fabric_terms.specs.declared.message.Body.{Body}

@@ -1,6 +1,5 @@
 -- Each row of links, once its notes are done, is the row of the ring's rules.
-use Rattle.std.specs.Prelude.{◌≡◌, ℕ, Bool, true, false, IsTrue, Option}
-use Rattle.ring_points.specs.declared.who.Flight.{Flight}
+use Rattle.std.specs.Prelude.{◌≡◌, ℕ, false, IsTrue}
 use Rattle.ring_points.specs.declared.who.Who.{Who}
 use Rattle.fabric_terms.specs.declared.message.Body.{Body}
 use Rattle.fabric_terms.specs.declared.report.Reason.{Reason}

@@ -7,5 +7,6 @@ pub mod Rulings
 pub mod Firing
 pub mod Frames
 pub mod Calls
+pub mod Kept
 pub mod Ties
 pub mod Laws

@@ -1,4 +1,5 @@
-ghost use Rattle.std.specs.Prelude.{◌≡◌, ◌<◌, ◌≤◌, [], None, length};
+ghost use Rattle.std.specs.Prelude.{◌≡◌, ◌<◌, ◌≤◌, ◌+◌, [], None, length, take};
+ghost use Rattle.ring_rules.specs.Rings.{no_slots};
 ghost use Rattle.ring_rules.specs.Slots.{fence_of};
 ghost use Rattle.link_core.specs.Calls.{call_in, flight_sent, flight_taken, no_links, slot_closed};
 ghost use Rattle.link_core.specs.Links.{did, did_after, with_slot};
@@ -56,6 +57,15 @@ impl Model for Links16 {
     ghost invariant = { λ k. AreSound (record { me = k.me; lease = k.lease; longest = k.longest; answer = k.answer; bound = k.bound; arbitrators = k.arbitrators; slots = k.slots; next_session = k.last_session + 1; accused = k.accused.items }) };
 }
 
+fn free_slots() -> [Option<Link>; SLOTS]
+    ensures { result ≡ no_slots }
+{
+    [
+        None, None, None, None, None, None, None, None, None, None, None, None, None, None, None,
+        None,
+    ]
+}
+
 impl Links16 {
     /// No links. The lease is that of a link that names no length, the longest the longest that is granted; with the
     /// time for an answer they are at most 1,000,000,000 ticks. There are at most nine arbitrators.
@@ -82,10 +92,7 @@ impl Links16 {
             answer,
             bound,
             arbitrators,
-            slots: [
-                None, None, None, None, None, None, None, None, None, None, None, None, None, None,
-                None, None,
-            ],
+            slots: free_slots(),
             last_session: 0,
             accused: ArrayVec::new(),
         }
@@ -143,6 +150,23 @@ impl Links16 {
     {
         let place = &mut self.slots[slot];
         flight::close(place, bound, out);
+    }
+
+    /// The number of the last session, 0 where there was none. (This project's own.)
+    pub fn last_session(&self) -> u32
+        ensures { result + 1 ≡ self.now.next_session }
+    {
+        self.last_session
+    }
+
+    /// Every slot is free, as of a node that leaves; of the sessions and the accusations only those up to these
+    /// numbers count. (This project's own.)
+    pub fn leave(&mut self, last_session: u32, accused: usize)
+        ensures { self.new ≡ record self.old { slots = no_slots; next_session = last_session + 1; accused = take accused self.old.accused } }
+    {
+        self.slots = free_slots();
+        self.last_session = last_session;
+        self.accused.truncate(accused);
     }
 
     /// The slot is free.

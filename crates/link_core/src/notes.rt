@@ -1,4 +1,4 @@
-ghost use Rattle.std.specs.Prelude.{◌≡◌, [], ◌∷◌};
+ghost use Rattle.std.specs.Prelude.{◌≡◌, ◌≤◌, [], ◌∷◌, length};
 
 use arrayvec::ArrayVec;
 use fabric_terms::Why;
@@ -85,7 +85,8 @@ impl LinkNotes {
     }
 
     pub fn as_slice(&self) -> &[LinkNote]
-        ensures { result.now ≡ self.now }
+        ensures value { result.now ≡ self.now }
+        ensures few { length self.now ≤ 4 }
     {
         self.notes.as_slice()
     }

@@ -1,4 +1,4 @@
-ghost use Rattle.std.specs.Prelude.{◌≡◌, ◌<◌, ◌≤◌, ◌+◌, ◌∷◌, IfSome, false, length};
+ghost use Rattle.std.specs.Prelude.{◌≡◌, ◌<◌, ◌≤◌, ◌+◌, ◌∷◌, IfSome, false, length, take};
 ghost use Rattle.ring_rules.specs.Firing as rules;
 ghost use Rattle.ring_rules.specs.Slots.{slot_at};
 ghost use Rattle.link_core.specs.Firing.{peer_accused, slot_fired};
@@ -43,6 +43,10 @@ impl Links16 {
         requires room { length out.old + 9 ≤ 192 }
         ensures did { did self.new out.new result ≡ did_after out.old (slot_fired now announce.now slot self.old) }
         ensures row { Does (λ c w. rules.fired_at c now slot (slot_at slot w.ring.slots) w) false self.old announce.now out.old (did self.new out.new result) }
+        ensures kept { self.new ≡ record self.old { slots = self.new.slots; accused = self.new.accused } }
+        ensures accused { take (length self.old.accused) self.new.accused ≡ self.old.accused }
+        ensures few { length out.new ≤ length out.old + 9 }
+        ensures notes { length result ≤ 2 }
     {
         self.fire(slot, now, announce, out)
     }
@@ -51,7 +55,8 @@ impl Links16 {
         requires slot { slot < 16 }
         requires now { now ≤ 1_000_000_000_000_000 }
         requires room { length out.old + 9 ≤ 192 }
-        ensures { did self.new out.new result ≡ did_after out.old (slot_fired now announce.now slot self.old) }
+        ensures did { did self.new out.new result ≡ did_after out.old (slot_fired now announce.now slot self.old) }
+        ensures few { self.old.arbitrators ≤ 9 }
     {
         let Some(link) = &self.slots[slot] else {
             return LinkNotes::none();

@@ -29,6 +29,9 @@ impl Links16 {
         requires room { length out.old + 9 ≤ 192 }
         ensures did { did self.new out.new result ≡ did_after out.old (frame_row now announce.now message.now.from message.now.body self.old) }
         ensures row { is_search message.now.body ≡ false → Does (λ c. rules.frame_row c now message.now.from message.now.body) (wants_answer message.now.body) self.old announce.now out.old (did self.new out.new result) }
+        ensures kept { self.new ≡ record self.old { slots = self.new.slots; next_session = self.new.next_session } }
+        ensures few { length out.new ≤ length out.old + 1 }
+        ensures notes { length result ≤ 2 }
     {
         self.hear(now, message, announce, out)
     }
