@@ -35,28 +35,23 @@ fn ruled(
     victim: u16,
 ) -> (Ruling, Option<Who>) {
     let question = accusation(node(accuser), arbitrator(1), node(victim));
-    match arbiter.on_frame(&question) {
-        Ok(
-            Answer::Reply {
-                kept,
-                to,
-                body: Body::Ruled {
-                    victim: about,
-                    ruling,
-                },
-            },
-        ) => {
-            assert_eq!(rt; (to, about), (node(accuser), node(victim)));
-            match kept {
-                Some(Record::AccusedBy { victim: of, first }) => {
-                    assert_eq!(rt; of, node(victim));
-                    (ruling, Some(first))
-                }
-                _ => (ruling, None),
-            }
-        }
-        _ => panic!(rt; "no ruling"),
-    }
+    let answer = arbiter.on_frame(&question);
+    let Ok(Answer::Reply { kept, to, body }) = &answer else {
+        panic!(rt; "no answer");
+    };
+    let Body::Ruled {
+        victim: about,
+        ruling,
+    } = body
+    else {
+        panic!(rt; "no ruling");
+    };
+    assert_eq!(rt; (*to, *about), (node(accuser), node(victim)));
+    let Some(Record::AccusedBy { victim: of, first }) = kept else {
+        return (*ruling, None);
+    };
+    assert_eq!(rt; *of, node(victim));
+    (*ruling, Some(*first))
 }
 
 #[test]

@@ -2,9 +2,8 @@
 use Rattle.std.proofs.Common.{◌≡◌, ℕ, zero, suc, List, [], ◌∷◌, ◌++◌, refl, sym, ◌∙◌, subst}
 use Rattle.fabric_terms.specs.declared.record.Record.{Record}
 use Rattle.keep_log.specs.declared.kept.Kept.{Kept}
-use Rattle.keep_log.specs.Spellings.{is_sound, spelling}
 use Rattle.keep_log.specs.Places.{Stands, Follows, IsBadAfter, nothing_kept, with_record}
-use Rattle.keep_log.specs.Laws.{IsGood, FrontsAreGood, IsDecided, AllDecided}
+use Rattle.keep_log.specs.Laws.{FrontsAreGood, AllDecided}
 use Rattle.keep_log.proofs.Spelled.{one_spelling}
 
 front : (before kept : Kept) (xs ys : List (List ℕ)) → Follows before (xs ++ ys) kept → (mid : Kept) × Follows before xs mid

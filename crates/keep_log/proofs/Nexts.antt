@@ -1,20 +1,20 @@
 -- Which bytes are an accusation that can come next.
-use Rattle.std.proofs.Common.{◌≡◌, ℕ, ◌+◌, ◌<◌, ◌≤◌, Bool, true, false, List, [], ◌∷◌, ◌++◌, length, drop, Option, Some, None, refl, ap, sym, ◌∙◌, subst, arith, length-append}
-use Rattle.std.specs.Prelude.{◌&&◌, ◌==◌, not, nat_le, nat_lt, is_some, IsTrue}
-use Rattle.std.proofs.lemmas.Bool.{and_parts, and_from, ltb-true, lt-ltb, le-leb, eqb-true, eq-eqb}
+use Rattle.std.proofs.Common.{◌≡◌, ℕ, true, List, [], ◌∷◌, ◌++◌, length, drop, Option, Some, None, refl, ap, sym, ◌∙◌, arith, length-append}
+use Rattle.std.specs.Prelude.{◌==◌, not, is_some, IsTrue}
+use Rattle.std.proofs.lemmas.Bool.{and_parts, eqb-true}
 use Rattle.std.proofs.lemmas.List.{append-nil, drop_at}
 use Rattle.std.proofs.Math.ListN.{drop_of_length-le}
 use Rattle.ring_points.specs.declared.who.Who.{Who}
 use Rattle.fabric_terms.specs.declared.record.Record.{Record}
 use Rattle.fabric_terms.specs.declared.record.Record.TheVariants.{Boot, AccusedBy}
 use Rattle.ring_rules.specs.Arbiters.{first_accuser, accusations_after}
-use Rattle.ring_wire.specs.Fields.{is_word, is_who}
+use Rattle.ring_wire.specs.Fields.{is_who}
 use Rattle.ring_wire.specs.Stands.{StandsAt}
-use Rattle.ring_wire.specs.Texts.{number_bytes, who_bytes}
+use Rattle.ring_wire.specs.Texts.{who_bytes}
 use Rattle.ring_wire.proofs.FieldLaws.{who_is}
 use Rattle.ring_wire.proofs.Standing.{who_length}
 use Rattle.keep_log.specs.declared.kept.Kept.{Kept}
-use Rattle.keep_log.specs.Places.{Stands, is_empty}
+use Rattle.keep_log.specs.Places.{Stands}
 use Rattle.keep_log.proofs.Spelled.{same_field, tail_same}
 
 -- behind its first byte, the bytes are an accusation that can come next

@@ -1,13 +1,13 @@
 -- A list of records on the way of being read.
-use Rattle.std.proofs.Common.{◌≡◌, ℕ, zero, suc, ◌+◌, ◌<◌, ◌≤◌, Bool, true, false, List, [], ◌∷◌, ◌++◌, length, drop, get_or, map, refl, sym, ap, subst, ◌∙◌, arith, add-one, drop-cons}
-use Rattle.std.specs.Prelude.{◌&&◌, ◌==◌, not, is_some}
+use Rattle.std.proofs.Common.{◌≡◌, ℕ, zero, suc, ◌+◌, ◌<◌, ◌≤◌, true, List, [], ◌∷◌, length, drop, get_or, map, refl, sym, ap, subst, arith, add-one, drop-cons}
+use Rattle.std.specs.Prelude.{◌==◌}
 use Rattle.std.proofs.Math.ListN.{drop_of_length-le}
 use Rattle.std.proofs.lemmas.Bool.{and_parts}
 use Rattle.fabric_terms.specs.declared.record.Record.{Record}
-use Rattle.fabric_terms.specs.declared.record.Record.TheVariants.{Boot, AccusedBy}
-use Rattle.ring_rules.specs.Arbiters.{Accusations, first_accuser, accusations_after}
+use Rattle.fabric_terms.specs.declared.record.Record.TheVariants.{AccusedBy}
+use Rattle.ring_rules.specs.Arbiters.{Accusations, accusations_after}
 use Rattle.keep_log.specs.declared.kept.Kept.{Kept}
-use Rattle.keep_log.specs.Places.{Stands, Follows, IsBadAfter, is_next, is_new, is_once, is_empty, nothing_kept, with_record}
+use Rattle.keep_log.specs.Places.{Stands, Follows, IsBadAfter, is_next, is_new, is_once, nothing_kept, with_record}
 use Rattle.keep_log.proofs.Accusations.{is_once-append}
 
 -- i records are read, and amount to this

@@ -1,17 +1,15 @@
 -- No two records have one spelling.
-use Rattle.std.proofs.Common.{◌≡◌, ℕ, ◌+◌, Bool, true, false, List, [], ◌∷◌, ◌++◌, Some, refl, ap, sym, ◌∙◌}
+use Rattle.std.proofs.Common.{◌≡◌, ℕ, Bool, List, [], ◌∷◌, ◌++◌, Some, ap, sym, ◌∙◌}
 use Rattle.std.specs.Prelude.{◌&&◌, IsTrue}
 use Rattle.std.proofs.lemmas.Bool.{and_parts}
 use Rattle.std.proofs.lemmas.List.{append-nil}
 use Rattle.ring_points.specs.declared.who.Who.{Who}
-use Rattle.fabric_terms.specs.declared.record.Record.{Record}
 use Rattle.fabric_terms.specs.declared.record.Record.TheVariants.{Boot, AccusedBy}
 use Rattle.ring_wire.specs.Fields.{is_counted, is_who}
-use Rattle.ring_wire.specs.Readers.{Field, counted_at, who_at}
+use Rattle.ring_wire.specs.Readers.{Field}
 use Rattle.ring_wire.specs.Texts.{number_bytes, who_bytes}
 use Rattle.ring_wire.proofs.Forms.{IsField}
 use Rattle.ring_wire.proofs.FieldLaws.{counted_is, who_is}
-use Rattle.keep_log.specs.Spellings.{is_sound, spelling}
 use Rattle.keep_log.specs.Laws.{OneSpelling}
 
 -- a field that is spelled at the front of the same bytes has the same value, and the same follows

@@ -1,5 +1,5 @@
 -- The table's entries as accusations.
-use Rattle.std.specs.Prelude.{ℕ, List, [], ◌∷◌}
+use Rattle.std.specs.Prelude.{List, [], ◌∷◌}
 use Rattle.ring_points.specs.declared.who.Who.{Who}
 use Rattle.ring_rules.specs.Arbiters.{Accusations}
 use Rattle.keep_log.specs.declared.accused.Accused.{Accused}

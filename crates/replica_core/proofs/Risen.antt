@@ -1,5 +1,5 @@
 -- The promised epoch only rises, and the log of an epoch only grows.
-use Rattle.std.proofs.Common.{◌≡◌, ◌⊎◌, inl, inr, Bool, true, false, List, [], ◌∷◌, ◌++◌, append_assoc, refl, sym, ◌∙◌, ap, subst}
+use Rattle.std.proofs.Common.{◌≡◌, ◌⊎◌, inl, inr, true, false, List, [], ◌∷◌, ◌++◌, append_assoc, refl, sym, ◌∙◌, ap, subst}
 use Rattle.std.proofs.lemmas.List.{append-nil}
 use Rattle.ring_points.specs.declared.unit.Epoch.{Epoch}
 use Rattle.ring_points.specs.Epochs.{is_older}
@@ -8,7 +8,7 @@ use Rattle.replica_core.specs.Replicas.{Replica}
 use Rattle.replica_core.specs.Histories.{Call, after, after_all}
 use Rattle.replica_core.specs.Laws.{IsNotAhead, NeverFalling, StayingBehind, OnlyGrowing}
 use Rattle.replica_core.proofs.Orders.{not_itself, none_falls, is_above, older_than_older}
-use Rattle.replica_core.proofs.Ways.{Ways, ways}
+use Rattle.replica_core.proofs.Ways.{ways}
 
 not_fallen : (call : Call) (s : Replica) → is_older (after call s).promised s.promised ≡ false
 not_fallen call s =

@@ -1,5 +1,5 @@
 -- A call that is taken makes its epoch the promised one.
-use Rattle.std.proofs.Common.{◌≡◌, ℕ, Bool, true, false, List, [], ◌∷◌, Some, None, Ok, Err, refl, sym, ◌∙◌, ap, subst}
+use Rattle.std.proofs.Common.{◌≡◌, ℕ, Bool, true, false, List, Some, Ok, refl, subst}
 use Rattle.std.specs.Prelude.{◌+◌, ◌==◌, ◌&&◌, ◌||◌, not, nat_lt, length}
 use Rattle.ring_points.specs.declared.unit.Epoch.{Epoch}
 use Rattle.ring_points.specs.Epochs.{is_older}
@@ -7,13 +7,12 @@ use Rattle.replica_core.specs.declared.entry.Entry.{Entry}
 use Rattle.replica_core.specs.declared.refusal.Done.{Done}
 use Rattle.replica_core.specs.declared.refusal.Done.TheVariants.{New, Held}
 use Rattle.replica_core.specs.declared.refusal.ReplicaRefusal.{ReplicaRefusal}
-use Rattle.replica_core.specs.declared.refusal.ReplicaRefusal.TheVariants.{Older}
 use Rattle.replica_core.specs.Replicas.{Replica, same_epoch, collected_in}
 use Rattle.replica_core.specs.declared.role.Role.{Role}
 use Rattle.replica_core.specs.Roles.{is_idle, is_member, role_of}
 use Rattle.ring_points.specs.declared.unit.Config.{Config}
 use Rattle.replica_core.specs.Calls.{Outcome, unless, held_if, own_adopted, collected_call, is_collected, is_ahead, is_gap, is_empty, promise_call, append_call, adopt_own_call, adopt_call, adopt_collected_call, idle_call, activate_call}
-use Rattle.replica_core.specs.Histories.{Call, Promise, Append, AdoptOwn, Adopt, AdoptCollected, DropCollected, Idle, Activate, of_epoch, taken_epoch, made, after, after_all}
+use Rattle.replica_core.specs.Histories.{Promise, Append, AdoptOwn, Adopt, AdoptCollected, DropCollected, Idle, Activate, taken_epoch, after, after_all}
 use Rattle.replica_core.specs.Laws.{IsNotAhead, Promising, NoOlderEntry}
 use Rattle.replica_core.proofs.Orders.{none_falls, same_is, is_between}
 use Rattle.replica_core.proofs.Risen.{never_falling}

@@ -1,4 +1,3 @@
-use Rattle.std.proofs.Common.{◌≡◌, ◌+◌, length, arith}
 use Rattle.ring_wire.specs.Texts.{one_byte}
 use Rattle.ring_wire.proofs.Puts.{puts_more, puts_front}
 use Rattle.keep_log.proofs.encode.encode_record.Goals as goal
