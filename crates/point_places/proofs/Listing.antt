@@ -1,6 +1,6 @@
 -- The lines that are made are the lines for the places and holders.
-use Rattle.std.proofs.Common.{◌≡◌, ◌⊎◌, ℕ, ◌^◌, ◌<◌, Bool, true, false, ◌&&◌, ◌||◌, List, [], ◌∷◌, ◌++◌, IsTrue, inl, inr, refl, sym, ap, ◌∙◌, arith}
-use Rattle.std.specs.List.{All, list_any, list_all}
+use Rattle.std.proofs.Common.{◌≡◌, ◌⊎◌, ℕ, ◌^◌, ◌<◌, Bool, true, false, ◌&&◌, ◌||◌, List, [], ◌∷◌, ◌++◌, length, IsTrue, inl, inr, refl, sym, ap, ◌∙◌, arith}
+use Rattle.std.specs.List.{All, list_any, list_all, flat_map}
 use Rattle.std.proofs.lemmas.Bool.{and_parts, false≢true, or_left, or_right}
 use Rattle.std.proofs.lemmas.List.Elements.{All-nil, All-cons}
 use Rattle.ring_points.specs.declared.interval.Interval.{Interval}
@@ -13,7 +13,7 @@ use Rattle.point_places.specs.declared.unheld.Holder.{Holder}
 use Rattle.point_places.specs.Order.{seen, is_before, is_same}
 use Rattle.point_places.specs.Segments.{place_at, is_cut}
 use Rattle.point_places.specs.Steps.{places_from, line_if, lines_for}
-use Rattle.point_places.specs.Lines.{held_by, is_told, Line, IsLine, lines_rise, has_line, AreLines}
+use Rattle.point_places.specs.Lines.{held_by, is_told, Line, IsLine, lines_rise, has_line, AreLines, line_text, IsText}
 use Rattle.point_places.proofs.Orders.{same_is, same_itself}
 use Rattle.point_places.proofs.Tidying.{cut_is}
 use Rattle.point_places.proofs.Spans.{ranges_for, told_rises, told_points}
@@ -102,3 +102,22 @@ made_lines segments holders h k =
       each = each_lines_for segments holders places h k;
       every = λ p l told. has_lines_for segments holders places p h k l told (has_place_at segments p c.starts);
     }
+
+some_of : (a : Place) (qs : List declared.Place) → IsTrue (has a qs) → 0 < length qs
+some_of a [] h = absurd (false≢true h)
+some_of a (q ∷ qs) h = omega arith
+
+-- the ring has a place
+pub some_places : (segments : List Segment) → IsTrue (is_cut segments) → 0 < length (places_from [] segments)
+some_places segments h = let c = cut_is segments h in some_of (place_at segments 0) (places_from [] segments) (has_place_at segments 0 c.starts)
+
+-- the text that is made is the text of the lines
+pub made_text : (segments : List Segment) (holders : List Holder) (text : List ℕ) → IsTrue (is_cut segments)
+    → text ≡ flat_map line_text (lines_for segments holders (places_from [] segments))
+    → (0 < length (places_from [] segments) → IsTrue (list_all (λ h. is_proper h.ranges) holders))
+    → IsText (place_at segments) (held_by holders) text
+made_text segments holders text h e k = record {
+  lines = lines_for segments holders (places_from [] segments);
+  told = made_lines segments holders h (k (some_places segments h));
+  spelled = e;
+}

@@ -1,7 +1,7 @@
 -- The intervals of a place, and what is left of them.
 use Rattle.std.proofs.Common.{◌≡◌, ℕ, ◌+◌, ◌-◌, ◌^◌, ◌<◌, ◌≤◌, Bool, true, false, not, ◌&&◌, ◌||◌, ◌==◌, cond, nat_le, List, [], ◌∷◌, Option, Some, None, IsTrue, refl, sym, ap, ◌∙◌, arith}
 use Rattle.std.specs.List.{list_any, list_all}
-use Rattle.std.proofs.lemmas.Bool.{and_parts, not-true, false≢true, cases_lt}
+use Rattle.std.proofs.lemmas.Bool.{and_parts, not-true, false≢true, leb-false}
 use Rattle.std.proofs.lemmas.Bool.Decides.{nat_tests}
 use Rattle.ring_points.specs.declared.interval.Interval.{Interval}
 use Rattle.ring_points.specs.declared.who.Who.{Who}
@@ -43,41 +43,29 @@ in_spans low p q before s (t ∷ ts) h l =
     let r = first_segment low s (t ∷ ts) h in
     let u = first_segment (s.lo + 1) t ts r.rest in
     let rest = in_spans (s.lo + 1) p q s.place t ts r.rest l in
+    let from : IsTrue (rise_from t.lo (t ∷ ts)) = rise_with t.lo t ts (record { from_low = omega arith; inside = u.inside; rest = u.rest }) in
     in_spans-cons p (is_same q (seen s.place)) (interval s.lo (t.lo - 1)) (spans_of q (t ∷ ts))
     ∙ (ap (λ b. (is_same q (seen s.place) && in_interval p (interval s.lo (t.lo - 1))) || b) rest
-    ∙ by (nat_le s.lo p) refl (nat_le t.lo p) refl u.from_low
-    (λ less. spot_in-none t.lo p s.place (t ∷ ts) (rise_with t.lo t ts (record { from_low = omega arith; inside = u.inside; rest = u.rest })) less)
-    (λ less. spot_in-none t.lo p before (t ∷ ts) (rise_with t.lo t ts (record { from_low = omega arith; inside = u.inside; rest = u.rest })) less))
+    ∙ pieces (nat_le s.lo p) (nat_le t.lo p) (nat_le p (t.lo - 1)) (is_same q (seen s.place))
+    (is_same q (seen (spot_in s.place (t ∷ ts) p))) (is_same q (seen (spot_in (cond (nat_le s.lo p) s.place before) (t ∷ ts) p)))
+    (λ e. later (s.lo) (t.lo) u.from_low e) (ends (s.lo) (t.lo) u.from_low)
+    (λ e. ap (λ x. is_same q (seen x)) (spot_in-none t.lo p s.place (t ∷ ts) from (leb-false t.lo p e)))
+    (λ e. ap (λ b. is_same q (seen (spot_in (cond b s.place before) (t ∷ ts) p))) e))
   where
-    by : (b : Bool) → nat_le s.lo p ≡ b → (d : Bool) → nat_le t.lo p ≡ d → s.lo + 1 ≤ t.lo
-        → (p < t.lo → spot_in s.place (t ∷ ts) p ≡ s.place)
-        → (p < t.lo → spot_in before (t ∷ ts) p ≡ before)
-        → ((is_same q (seen s.place) && (nat_le s.lo p && nat_le p (t.lo - 1))) || (nat_le t.lo p && is_same q (seen (spot_in s.place (t ∷ ts) p))))
-        ≡ (b && is_same q (seen (spot_in (cond b s.place before) (t ∷ ts) p)))
-    by true e true f n here none =
-        let past : nat_le p (t.lo - 1) ≡ false = grind (arith, nat_tests) in
-        rw (e, f, past) (both (is_same q (seen s.place)) _)
-      where
-        both : (a b : Bool) → ((a && false) || b) ≡ b
-        both true b = refl
-        both false b = refl
-    by true e false f n here none =
-        let up : nat_le p (t.lo - 1) ≡ true = grind (arith, nat_tests) in
-        let at = here (grind (arith, nat_tests)) in
-        rw (e, f, up, at) (both (is_same q (seen s.place)))
-      where
-        both : (a : Bool) → ((a && true) || false) ≡ a
-        both true = refl
-        both false = refl
-    by false e true f n here none = absurd (low_first s.lo t.lo e f n)
-      where
-        low_first : (a b : ℕ) → nat_le a p ≡ false → nat_le b p ≡ true → a + 1 ≤ b → ⊥
-        low_first a b e f n = grind (arith, nat_tests)
-    by false e false f n here none = rw (e, f) (none_of (is_same q (seen s.place)) (nat_le p (t.lo - 1)))
-      where
-        none_of : (a b : Bool) → ((a && (false && b)) || false) ≡ false
-        none_of true b = refl
-        none_of false b = refl
+    later : (a b : ℕ) → a + 1 ≤ b → nat_le b p ≡ true → nat_le a p ≡ true
+    later a b n e = grind (arith, nat_tests)
+
+    ends : (a b : ℕ) → a + 1 ≤ b → nat_le p (b - 1) ≡ not (nat_le b p)
+    ends a b n = grind (arith, nat_tests)
+
+    pieces : (a d u m x y : Bool) → (d ≡ true → a ≡ true) → u ≡ not d → (d ≡ false → x ≡ m) → (a ≡ true → y ≡ x) → ((m && (a && u)) || (d && x)) ≡ (a && y)
+    pieces false true u m x y f e g k = absurd (false≢true (f refl))
+    pieces false false u true x y f e g k = refl
+    pieces false false u false x y f e g k = refl
+    pieces true true u true x y f e g k = rw e (sym (k refl))
+    pieces true true u false x y f e g k = sym (k refl)
+    pieces true false u true x y f e g k = rw e (sym (k refl ∙ g refl))
+    pieces true false u false x y f e g k = sym (k refl ∙ g refl)
 
 -- a place that stays begins no new interval before the next point but one
 abbrev stays : Option declared.Place → Place → Bool
