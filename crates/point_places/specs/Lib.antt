@@ -1,0 +1,5 @@
+pub mod Order
+pub mod Segments
+pub mod Lines
+pub mod Steps
+pub mod Laws
