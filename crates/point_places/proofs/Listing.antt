@@ -1,7 +1,7 @@
 -- The lines that are made are the lines for the places and holders.
-use Rattle.std.proofs.Common.{◌≡◌, ◌⊎◌, ℕ, ◌^◌, ◌<◌, Bool, true, false, ◌&&◌, ◌||◌, List, [], ◌∷◌, ◌++◌, length, IsTrue, inl, inr, refl, sym, ap, ◌∙◌, arith}
-use Rattle.std.specs.List.{All, list_any, list_all, flat_map}
-use Rattle.std.proofs.lemmas.Bool.{and_parts, false≢true, or_left, or_right}
+use Rattle.std.proofs.Common.{◌≡◌, ◌⊎◌, ℕ, ◌^◌, ◌<◌, Bool, ◌&&◌, List, [], ◌∷◌, ◌++◌, length, IsTrue, inl, inr, refl, sym, ap, ◌∙◌, arith}
+use Rattle.std.specs.List.{All, list_all, flat_map}
+use Rattle.std.proofs.lemmas.Bool.{and_parts, and_from, or_cases, false≢true, or_left, or_right}
 use Rattle.std.proofs.lemmas.List.Elements.{All-nil, All-cons}
 use Rattle.ring_points.specs.declared.interval.Interval.{Interval}
 use Rattle.ring_points.specs.declared.who.Who.{Who}
@@ -22,17 +22,13 @@ use Rattle.point_places.proofs.InOrder.{behind, places_rise, has, rise_places_fr
 abbrev lines_behind : Place → List Line → Bool
 lines_behind a lines = list_all (λ m. is_before a m.place) lines
 
-both : (a b : Bool) → IsTrue a → IsTrue b → IsTrue (a && b)
-both true b h k = k
-both false b h k = h
-
 behind_line_if : (a q : Place) (is : List Interval) (rest : List Line) → IsTrue (is_before a q) → IsTrue (lines_behind a rest) → IsTrue (lines_behind a (line_if q is ++ rest))
 behind_line_if a q [] rest h k = k
-behind_line_if a q (i ∷ is) rest h k = both (is_before a q) (lines_behind a rest) h k
+behind_line_if a q (i ∷ is) rest h k = and_from (is_before a q) (lines_behind a rest) h k
 
 rise_line_if : (q : Place) (is : List Interval) (rest : List Line) → IsTrue (lines_behind q rest) → IsTrue (lines_rise rest) → IsTrue (lines_rise (line_if q is ++ rest))
 rise_line_if q [] rest h k = k
-rise_line_if q (i ∷ is) rest h k = both (lines_behind q rest) (lines_rise rest) h k
+rise_line_if q (i ∷ is) rest h k = and_from (lines_behind q rest) (lines_rise rest) h k
 
 lines_behind_for : (segments : List Segment) (holders : List Holder) (a : Place) (qs : List declared.Place) → IsTrue (behind a qs) → IsTrue (lines_behind a (lines_for segments holders qs))
 lines_behind_for segments holders a [] h = refl
@@ -60,10 +56,6 @@ each_lines_for segments holders (q ∷ qs) h k =
     each_line_if (place_at segments) (held_by holders) (seen q) (ranges_for segments holders (seen q)) (lines_for segments holders qs)
     (told_rises segments holders (seen q) h k) (λ p l. told_points segments holders (seen q) p h k l) (each_lines_for segments holders qs h k)
 
-either : (a b : Bool) → IsTrue (a || b) → IsTrue a ⊎ IsTrue b
-either true b h = inl refl
-either false b h = inr h
-
 line_here : (a q : Place) (is : List Interval) (rest : List Line) (p : ℕ) → IsTrue (is_same a q) → IsTrue (in_ranges p is) → IsTrue (has_line a (line_if q is ++ rest))
 line_here a q [] rest p h k = absurd (false≢true k)
 line_here a q (i ∷ is) rest p h k = or_left _ _ h
@@ -76,12 +68,12 @@ has_lines_for : (segments : List Segment) (holders : List Holder) (qs : List dec
     → IsTrue (is_told (held_by holders) (place_at segments p) p) → IsTrue (has (place_at segments p) qs) → IsTrue (has_line (place_at segments p) (lines_for segments holders qs))
 has_lines_for segments holders [] p h k l told m = absurd (false≢true m)
 has_lines_for segments holders (q ∷ qs) p h k l told m =
-    by (either (is_same (place_at segments p) (seen q)) (has (place_at segments p) qs) m) (has_lines_for segments holders qs p h k l told)
+    by (or_cases (is_same (place_at segments p) (seen q)) (has (place_at segments p) qs) m) (has_lines_for segments holders qs p h k l told)
   where
     here : (b : Place) → place_at segments p ≡ b → IsTrue (in_ranges p (ranges_for segments holders b))
     here b e =
         told_points segments holders b p h k l
-        ∙ both (is_same b (place_at segments p)) (is_told (held_by holders) b p)
+        ∙ and_from (is_same b (place_at segments p)) (is_told (held_by holders) b p)
         (ap (is_same b) e ∙ same_itself b) (ap (λ c. is_told (held_by holders) c p) (sym e) ∙ told)
 
     by : IsTrue (is_same (place_at segments p) (seen q)) ⊎ IsTrue (has (place_at segments p) qs)

@@ -1,7 +1,7 @@
 -- The lines for places and holders are the only ones.
-use Rattle.std.proofs.Common.{◌≡◌, ◌⊎◌, ℕ, ◌^◌, ◌<◌, Bool, true, false, ◌&&◌, ◌||◌, List, [], ◌∷◌, length, IsTrue, inl, inr, refl, sym, ap, ◌∙◌, arith}
-use Rattle.std.specs.List.{All, list_any, list_all, flat_map}
-use Rattle.std.proofs.lemmas.Bool.{and_parts, false≢true, or_left, or_right, cases_lt}
+use Rattle.std.proofs.Common.{◌≡◌, ◌⊎◌, ℕ, ◌^◌, ◌<◌, Bool, true, false, ◌&&◌, ◌||◌, List, [], ◌∷◌, IsTrue, inl, inr, refl, sym, ap, ◌∙◌, arith}
+use Rattle.std.specs.List.{All, list_all, flat_map}
+use Rattle.std.proofs.lemmas.Bool.{and_parts, and_from, or_from, false≢true, cases_lt}
 use Rattle.std.proofs.lemmas.Bool.Decides.{nat_tests}
 use Rattle.std.proofs.lemmas.List.Elements.{All-head, All-tail}
 use Rattle.ring_points.specs.declared.interval.Interval.{Interval}
@@ -11,8 +11,8 @@ use Rattle.ring_points.proofs.Rising.{first_and_rest, in_ranges-ring}
 use Rattle.ring_points.proofs.OneList.{one_list}
 use Rattle.fabric_terms.specs.Places.{Place}
 use Rattle.point_places.specs.Order.{is_before, is_same}
-use Rattle.point_places.specs.Lines.{is_told, Line, IsLine, lines_rise, has_line, AreLines, line_text, IsText}
-use Rattle.point_places.proofs.Orders.{same_is, same_back, before_differs, behind_differs, before_goes_on, three}
+use Rattle.point_places.specs.Lines.{is_told, Line, IsLine, lines_rise, has_line, line_text, IsText}
+use Rattle.point_places.proofs.Orders.{same_is, before_differs, behind_differs, before_goes_on, three}
 
 -- two rising lists with the same points of the ring
 one_ring_list : (is js : List Interval) → IsTrue (rises_from 0 is) → IsTrue (rises_from 0 js) → ((p : ℕ) → p < 2 ^ 64 → in_ranges p is ≡ in_ranges p js) → is ≡ js
@@ -52,16 +52,12 @@ lines_behind a lines = list_all (λ m. is_before a m.place) lines
 abbrev covers : List Line → List Line → Bool
 covers ms ls = list_all (λ l. has_line l.place ms) ls
 
-both : (a b : Bool) → IsTrue a → IsTrue b → IsTrue (a && b)
-both true b h k = k
-both false b h k = h
-
 covered : (place : ℕ → Place) (held : Who → ℕ → Bool) (ms ls : List Line)
     → ((p : ℕ) → p < 2 ^ 64 → IsTrue (is_told held (place p) p) → IsTrue (has_line (place p) ms)) → All (IsLine place held) ls → IsTrue (covers ms ls)
 covered place held ms [] every h = refl
 covered place held ms (l ∷ ls) every h =
     let some = some_point place held l (All-head (IsLine place held) l ls h) in
-    both (has_line l.place ms) (covers ms ls) (ap (λ q. has_line q ms) some.2 ∙ every some.0 some.1 some.3)
+    and_from (has_line l.place ms) (covers ms ls) (ap (λ q. has_line q ms) some.2 ∙ every some.0 some.1 some.3)
     (covered place held ms ls every (All-tail (IsLine place held) l ls h))
 
 -- no line of what stands behind
@@ -78,12 +74,7 @@ first_is_first l m ls ms h k below =
     let parts = and_parts (has_line l.place (m ∷ ms)) (covers (m ∷ ms) ls) k in
     let here = before_differs l.place m.place below in
     let rest = none_behind l.place m.place ms below h in
-    false≢true (none (is_same l.place m.place) (has_line l.place ms) here rest parts.0)
-  where
-    none : (a b : Bool) → a ≡ false → b ≡ false → IsTrue (a || b) → false ≡ true
-    none true b e f g = sym e
-    none false true e f g = sym f
-    none false false e f g = g
+    false≢true (sym (or_from (is_same l.place m.place) (has_line l.place ms) here rest) ∙ parts.0)
 
 -- what stands behind the first line has its lines behind it
 covers_rest : (m : Line) (ls ms : List Line) → IsTrue (lines_behind m.place ls) → IsTrue (covers (m ∷ ms) ls) → IsTrue (covers ms ls)
@@ -91,7 +82,7 @@ covers_rest m [] ms h k = refl
 covers_rest m (l ∷ ls) ms h k =
     let parts = and_parts (is_before m.place l.place) (lines_behind m.place ls) h in
     let both_parts = and_parts (has_line l.place (m ∷ ms)) (covers (m ∷ ms) ls) k in
-    both (has_line l.place ms) (covers ms ls)
+    and_from (has_line l.place ms) (covers ms ls)
     (other (is_same l.place m.place) (has_line l.place ms) (behind_differs l.place m.place parts.0) both_parts.0) (covers_rest m ls ms parts.1 both_parts.1)
   where
     other : (a b : Bool) → a ≡ false → IsTrue (a || b) → IsTrue b

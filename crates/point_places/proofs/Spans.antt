@@ -7,7 +7,6 @@ use Rattle.ring_points.specs.declared.interval.Interval.{Interval}
 use Rattle.ring_points.specs.declared.who.Who.{Who}
 use Rattle.ring_points.specs.Ranges.{in_interval, in_ranges, rises_from, is_proper}
 use Rattle.ring_points.specs.Sets.{minus_of}
-use Rattle.ring_points.specs.Whos.{same_who}
 use Rattle.ring_points.proofs.Rising.{rises_with, rises_from-less}
 use Rattle.ring_points.proofs.Cuts.{in_ranges-minus_of, rises_from-minus_of}
 use Rattle.ring_points.proofs.Answered.{proper_rises}
@@ -16,11 +15,11 @@ use Rattle.point_places.specs.declared.place.Place as declared
 use Rattle.point_places.specs.declared.segments.Segment.{Segment}
 use Rattle.point_places.specs.declared.unheld.Holder.{Holder}
 use Rattle.point_places.specs.Order.{seen, is_same}
-use Rattle.point_places.specs.Segments.{spot_in, nowhere, place_at, rise_from, repeats, changes_after, starts_at_0, is_cut}
+use Rattle.point_places.specs.Segments.{spot_in, nowhere, place_at, rise_from, repeats, changes_after, is_cut}
 use Rattle.point_places.specs.Steps.{last_before, spans_of, less_held}
 use Rattle.point_places.specs.Lines.{held_by, is_told}
 use Rattle.point_places.proofs.Orders.{same_is, same_back, same_whos}
-use Rattle.point_places.proofs.Cutting.{RiseWith, first_segment, rise_with, rise_from-less, spot_in-none}
+use Rattle.point_places.proofs.Cutting.{RiseWith, first_segment, rise_with, spot_in-none}
 use Rattle.point_places.proofs.Tidying.{Cut, cut_is}
 
 abbrev interval : ℕ → ℕ → Interval

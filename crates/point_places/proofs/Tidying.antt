@@ -1,14 +1,14 @@
 -- Segments without those that repeat the place before.
-use Rattle.std.proofs.Common.{◌≡◌, ℕ, ◌+◌, ◌^◌, ◌<◌, ◌≤◌, Bool, true, false, not, ◌&&◌, cond, nat_le, List, [], ◌∷◌, Option, Some, None, IfSome, IsTrue, refl, ap, ◌∙◌, sym, arith}
+use Rattle.std.proofs.Common.{◌≡◌, ℕ, ◌+◌, ◌^◌, ◌<◌, ◌≤◌, Bool, true, false, ◌&&◌, cond, nat_le, List, [], ◌∷◌, Option, Some, None, IfSome, IsTrue, refl, ap, ◌∙◌, arith}
 use Rattle.std.proofs.lemmas.Bool.{and_parts}
 use Rattle.std.proofs.lemmas.Bool.Decides.{nat_tests}
 use Rattle.ring_points.specs.declared.interval.Interval.{Interval}
 use Rattle.ring_points.specs.Ranges.{in_ranges, rises_from}
-use Rattle.fabric_terms.specs.Places.{Place, With, Flying, moved_to}
+use Rattle.fabric_terms.specs.Places.{moved_to}
 use Rattle.point_places.specs.declared.place.Place as declared
 use Rattle.point_places.specs.declared.place.Place.TheVariants as kept
 use Rattle.point_places.specs.declared.segments.Segment.{Segment}
-use Rattle.point_places.specs.Order.{seen, is_same}
+use Rattle.point_places.specs.Order.{seen}
 use Rattle.point_places.specs.Segments.{spot_in, nowhere, place_at, rise_from, repeats, changes_after, starts_at_0, is_cut}
 use Rattle.point_places.specs.Steps.{put_all, tidied}
 use Rattle.point_places.proofs.Orders.{same_is}

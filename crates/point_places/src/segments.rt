@@ -29,7 +29,12 @@ fn spot_at(segments: &[Segment], p: u64) -> Place
 }
 
 /// What comes behind the point `hi`.
-fn push_rest(into: &mut Vec<Segment>, alloc: Global, old: &[Segment], hi: u64) -> Result<(), OutOfMemory>
+fn push_rest(
+    into: &mut Vec<Segment>,
+    alloc: Global,
+    old: &[Segment],
+    hi: u64,
+) -> Result<(), OutOfMemory>
     ensures { OnOk result (into.new.items ≡ into.old.items ++ rest_after old.now hi) }
 {
     match hi.checked_add(1) {
@@ -47,7 +52,12 @@ fn push_rest(into: &mut Vec<Segment>, alloc: Global, old: &[Segment], hi: u64) -
 }
 
 /// The segments where the points of the interval have this place now.
-fn put(alloc: Global, old: &[Segment], i: Interval, place: Place) -> Result<Vec<Segment>, OutOfMemory>
+fn put(
+    alloc: Global,
+    old: &[Segment],
+    i: Interval,
+    place: Place,
+) -> Result<Vec<Segment>, OutOfMemory>
     ensures { IfOk result (λ r. r.items ≡ put_interval old.now i place) }
 {
     let mut new: Vec<Segment> = old.iter().copied().filter(|s| s.lo < i.lo).collect(alloc)?;

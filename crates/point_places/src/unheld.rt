@@ -101,7 +101,11 @@ fn cut(alloc: Global, intervals: &[Interval], j: Interval) -> Result<Vec<Interva
 }
 
 /// The points of the first list that are not in the second.
-fn minus(alloc: Global, intervals: &[Interval], others: &[Interval]) -> Result<Vec<Interval>, OutOfMemory>
+fn minus(
+    alloc: Global,
+    intervals: &[Interval],
+    others: &[Interval],
+) -> Result<Vec<Interval>, OutOfMemory>
     ensures { IfOk result (λ r. r.items ≡ minus_of intervals.now others.now) }
 {
     let mut left = Vec::from_slice(alloc, intervals)?;
@@ -112,7 +116,12 @@ fn minus(alloc: Global, intervals: &[Interval], others: &[Interval]) -> Result<V
 }
 
 // The intervals of a place without what this holder holds, if it is the holder of the place.
-fn less_one(alloc: Global, intervals: &[Interval], place: Place, holder: &Holder) -> Result<Vec<Interval>, OutOfMemory>
+fn less_one(
+    alloc: Global,
+    intervals: &[Interval],
+    place: Place,
+    holder: &Holder,
+) -> Result<Vec<Interval>, OutOfMemory>
     ensures left { IfOk result (λ r. r.items ≡ less_held (seen place) (holder.now ∷ []) intervals.now) }
     ensures proper { IsTrue (is_proper holder.now.ranges) }
 {

@@ -1,4 +1,4 @@
-use Rattle.std.proofs.Common.{◌≡◌, None, IsTrue, sym, ◌∙◌}
+use Rattle.std.proofs.Common.{◌≡◌, None, IsTrue}
 use Rattle.ring_points.specs.Ranges.{rises_from}
 use Rattle.ring_points.proofs.Answered.{proper_rises}
 use Rattle.point_places.specs.Segments.{is_cut}
