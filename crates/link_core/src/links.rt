@@ -98,6 +98,13 @@ impl Links16 {
         }
     }
 
+    /// Whose links they are. (This project's own.)
+    pub fn me(&self) -> Who
+        ensures { result ≡ self.now.me }
+    {
+        self.me
+    }
+
     /// The instances that the node has accused, in order.
     pub fn accused(&self) -> &[Who]
         ensures { result.now ≡ self.now.accused }

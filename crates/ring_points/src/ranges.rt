@@ -81,12 +81,14 @@ impl RangeSet {
         ensures list { IfSome result (λ r. r ≡ pairs.now) }
         ensures proper { is_some result ≡ is_proper pairs.now }
     {
-        let intervals = ArrayVec::try_from(pairs).ok()?;
-        if is_rising(pairs) {
-            Some(RangeSet { intervals })
-        } else {
-            None
+        if pairs.len() > MAX_INTERVALS || !is_rising(pairs) {
+            return None;
         }
+        let mut intervals = ArrayVec::new();
+        for pair in pairs {
+            intervals.push(*pair);
+        }
+        Some(RangeSet { intervals })
     }
 
     /// The intervals, rising.

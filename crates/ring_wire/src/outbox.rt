@@ -1,4 +1,4 @@
-ghost use Rattle.std.specs.Prelude.{◌≡◌, ◌≤◌, ◌<◌, ◌∷◌, ◌++◌, [], length};
+ghost use Rattle.std.specs.Prelude.{◌≡◌, ◌≤◌, ◌<◌, ◌∷◌, ◌++◌, [], length, take};
 
 use arrayvec::ArrayVec;
 use fabric_terms::Body;
@@ -41,6 +41,13 @@ impl Outbox {
         ensures { self.new ≡ [] }
     {
         self.messages.clear();
+    }
+
+    /// Only the first so many messages are sent; the later ones never were.
+    pub fn truncate(&mut self, count: usize)
+        ensures { self.new ≡ take count self.old }
+    {
+        self.messages.truncate(count);
     }
 
     /// What is sent, in its order.

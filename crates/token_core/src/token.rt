@@ -1,4 +1,4 @@
-ghost use Rattle.std.specs.Prelude.{◌≡◌, ◌+◌, IfOk, IfErr, OnErr, is_err, nat_le};
+ghost use Rattle.std.specs.Prelude.{◌≡◌, ◌+◌, [], IfOk, IfErr, OnErr, is_err, nat_le};
 ghost use Rattle.std.specs.Option.{option_map, option_copied};
 ghost use Rattle.token_core.specs.Tokens.{first_token, announced, frozen_part, is_ready, inherited, last_number};
 ghost use Rattle.token_core.specs.Calls.{outcome, freeze_call, undo_call, give_call, take_call, inherit_call, flight_points};
@@ -186,6 +186,16 @@ impl Token {
         let added = held.union_without(flight.unwrap_or(&none), &self.ranges)?;
         self.take(&added)?;
         Ok(added)
+    }
+
+    /// Owns nothing any more, as a node that leaves, and says so by this version. (This project's own.)
+    pub fn leave(&mut self, version: u32)
+        ensures { self.new ≡ record self.old { ranges = []; freeze = None; version = version } }
+    {
+        self.ranges = RangeSet::new();
+        self.announced = RangeSet::new();
+        self.freeze = None;
+        self.version = version;
     }
 
     /// Whether the time of a take-over has come, both in ticks of one clock.

@@ -1,4 +1,5 @@
-ghost use Rattle.std.specs.Prelude.{◌≡◌, ◌<◌, ◌≤◌, ◌+◌, OnErr, false, length};
+ghost use Rattle.std.specs.Prelude.{◌≡◌, ◌<◌, ◌≤◌, ◌+◌, OnErr, false, length, IfSome};
+ghost use Rattle.ring_rules.specs.Slots.{slot_where, of_node, may_part};
 ghost use Rattle.link_core.specs.Calls.{call_after, hello_call, outcome, part_call};
 ghost use Rattle.link_core.specs.Handshakes.{greeting_for};
 ghost use Rattle.link_core.specs.Links.{is_spent, new_link, with_session};
@@ -126,6 +127,14 @@ impl Links16 {
         out.send(link.peer, say::hello(&link));
         self.begin(i, link);
         Ok(())
+    }
+
+    /// The place of the link that `part` would end. (This project's own.)
+    pub fn parting(&self, node: u16) -> Option<usize>
+        ensures place { result ≡ slot_where (of_node may_part node) self.now.slots }
+        ensures inside { IfSome result (λ i. i < 16) }
+    {
+        find::parting(&self.slots, node)
     }
 
     /// Ends the first link with a node that is Offered or Bound: its record is given up, it is Parting, and the peer
