@@ -1,19 +1,8 @@
--- Nothing above the ring, and nothing beside the accusations.
+-- That nothing above the ring does nothing of the ring.
 use Rattle.std.specs.Prelude.{refl}
-use Rattle.world_rules.specs.Uppers.{Upper, idle}
+use Rattle.world_rules.specs.Nothing.{nothing}
 use Rattle.ring_safety.specs.Above.{StaysAbove}
 
-abbrev pub nothing : Upper
-nothing = record {
-  Above = Unit {0};
-  Beside = Unit {0};
-  above_begun = λ c me records. tt;
-  above_step = λ c now r s i. idle s;
-  beside_begun = λ c arbiter records. tt;
-  beside_step = λ c arbiter s m. idle s;
-}
-
--- it does nothing of the ring
 pub nothing_stays : StaysAbove nothing
 nothing_stays = record {
   above = λ c now r s i. record { sends = refl; records = refl; tells = refl };

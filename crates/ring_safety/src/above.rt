@@ -1,6 +1,7 @@
 ghost use Rattle.world_rules.specs.Uppers.{Upper};
 ghost use Rattle.ring_safety.specs.Above.{StaysAbove};
-ghost use Rattle.ring_safety.specs.Nothing.{nothing, nothing_stays};
+ghost use Rattle.ring_safety.specs.Nothing.{nothing_stays};
+ghost use Rattle.world_rules.specs.Nothing.{nothing};
 
 /// What runs above the ring at a node and beside the accusations at an arbitrator, and that it does nothing of the
 /// ring.

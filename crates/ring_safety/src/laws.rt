@@ -1,5 +1,5 @@
 ghost use Rattle.ring_safety.specs.Laws.{AnswersExclude, ClocksAreOfRunning, InstancesAreCounted, LastOwnIsHeld, LeaveIsTold, LeavesBeforeTakeOver, OneHeir, PlacesAreKept, RecordsGrow, RingIsSafe, TableIsKept};
-ghost use Rattle.ring_safety.specs.Nothing.{nothing};
+ghost use Rattle.world_rules.specs.Nothing.{nothing};
 
 use crate::above::{Above, Nothing};
 

@@ -1,5 +1,6 @@
 pub mod Maps
 pub mod Uppers
+pub mod Nothing
 pub mod Nodes
 pub mod Arbiters
 pub mod Worlds
