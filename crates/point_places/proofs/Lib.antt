@@ -5,3 +5,4 @@ pub mod Spans
 pub mod InOrder
 pub mod Listing
 pub mod OneText
+pub mod Elsewhere

@@ -4,12 +4,13 @@
 //! instance, and the reports that tell of a move are all that moves it. This layer keeps the ring as segments of one
 //! place each, and prints the points that are with an instance which does not hold them, and those in flight. It
 //! knows no node and no lease: who holds what is told to it. It stands on the reports and on their text. It promises
-//! that the places are those that the reports tell, that the lines are the only ones for these places and holders,
-//! and that a call which is refused changes nothing.
+//! that the places are those that the reports tell, that a move has no error where room was made for it, that the
+//! lines are the only ones for these places and holders, and that a call which is refused moves no point.
 #![tactic(auto)]
 
 mod laws;
 mod lines;
+mod moves;
 mod place;
 mod places;
 mod segments;

@@ -29,7 +29,8 @@ fn expect_lines(
 #[test]
 fn a_join_under_way(rt: HostRuntime) -> Result<(), OutOfMemory> {
     let mut places = Places::new(rt.alloc(), node(1))?;
-    places.moved(node(1), &Report::Gave(node(2), 7, range(HALF, u64::MAX)))?;
+    places.reserve(1)?;
+    places.moved(node(1), &Report::Gave(node(2), 7, range(HALF, u64::MAX)));
     let holders = [Holder {
         who: node(1),
         ranges: range(0, HALF - 1),
@@ -59,8 +60,10 @@ fn a_stopped_first_node(rt: HostRuntime) -> Result<(), OutOfMemory> {
 fn a_part_across_point_0(rt: HostRuntime) -> Result<(), OutOfMemory> {
     let mut places = Places::new(rt.alloc(), node(1))?;
     let middle = range(0x100, u64::MAX - 0x100);
-    places.moved(node(1), &Report::Gave(node(2), 1, middle.copy()))?;
-    places.moved(node(2), &Report::Took(node(1), 1, middle))?;
+    places.reserve(1)?;
+    places.moved(node(1), &Report::Gave(node(2), 1, middle.copy()));
+    places.reserve(1)?;
+    places.moved(node(2), &Report::Took(node(1), 1, middle));
     expect_lines(
         &rt,
         rt.alloc(),
