@@ -105,6 +105,22 @@ impl Links16 {
         self.me
     }
 
+    /// The lease of a link that names no length, at most 1,000,000,000 ticks. (This project's own.)
+    pub fn lease(&self) -> u64
+        ensures value { result ≡ self.now.lease }
+        ensures short { result ≤ LONGEST_TIME }
+    {
+        self.lease
+    }
+
+    /// How many arbitrators there are, at most nine. (This project's own.)
+    pub fn arbitrators(&self) -> u8
+        ensures value { result ≡ self.now.arbitrators }
+        ensures few { result ≤ 9 }
+    {
+        self.arbitrators
+    }
+
     /// The instances that the node has accused, in order.
     pub fn accused(&self) -> &[Who]
         ensures { result.now ≡ self.now.accused }

@@ -74,6 +74,13 @@ impl Token {
         self.freeze.as_ref().map(|freeze| freeze.slot)
     }
 
+    /// The version of the freeze, if one stands. (This project's own.)
+    pub fn frozen_since(&self) -> Option<u32>
+        ensures { result ≡ option_map (λ z. z.version) self.now.freeze }
+    {
+        self.freeze.as_ref().map(|freeze| freeze.version)
+    }
+
     /// Freezes the owned points of a part for a slot: they are announced no more. It is `Busy` where a
     /// freeze stands; else `Empty` where the part has no owned point; else `TooMany` where those points or
     /// the announced ranges would need more than 32 intervals; else `Counters` where no version is left.

@@ -1,0 +1,12 @@
+pub mod Points
+pub mod Noted
+pub mod Rows
+pub mod Stays
+pub mod Refused
+pub mod Around
+pub mod Given
+pub mod Parted
+pub mod Come
+pub mod Sorting
+pub mod Promised
+pub mod Found

@@ -1,0 +1,7 @@
+pub mod Nodes
+pub mod Grants
+pub mod Greetings
+pub mod Owned
+pub mod Refusals
+pub mod Steps
+pub mod Up

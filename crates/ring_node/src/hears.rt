@@ -1,0 +1,49 @@
+ghost use Rattle.std.specs.Prelude.{◌≡◌, ◌+◌, ◌<◌, ◌≤◌, IsTrue, false, length};
+ghost use Rattle.link_core.specs.Frames.{may_come};
+ghost use Rattle.link_core.specs.Ties.{is_search, wants_answer};
+ghost use Rattle.ring_node.specs.Nodes.{by, step};
+ghost use Rattle.ring_rules.specs.Deeds.{counted};
+ghost use Rattle.ring_rules.specs.Frames.{frame_row};
+
+use crate::node::RingNode;
+use crate::reports::Reports;
+use fabric_terms::{Body, Message};
+use ring_wire::Outbox;
+
+/// Whether a frame says that its sender is gone and wants an answer.
+fn wants_answer(body: &Body) -> bool
+    ensures { result ≡ wants_answer body.now }
+{
+    matches!(body, Body::Gone { bound: true, .. })
+}
+
+impl RingNode {
+    /// The row of a frame of links, or of a ruling.
+    pub(crate) fn hear_link(
+        &mut self,
+        now: u64,
+        message: &Message,
+        out: &mut Outbox,
+        told: &mut Reports,
+    )
+        requires now { now ≤ 1_000_000_000_000_000 }
+        requires frame { IsTrue (may_come self.old.settings.arbitrators message.now.from message.now.body) }
+        requires link { is_search message.now.body ≡ false }
+        requires room { length out.old + 9 ≤ 192 }
+        requires place { length told.old + 2 ≤ 64 }
+        ensures row { step self.new out.new told.new ≡ by (λ c w. counted w (frame_row c now message.now.from message.now.body w)) (step self.old out.old told.old) }
+        ensures few { length told.new ≤ length told.old + 2 }
+        ensures short { length out.new ≤ length out.old + 3 }
+    {
+        let mark = self.mark(out, told);
+        let announce = self.announce();
+        let gone = wants_answer(&message.body);
+        let notes = self.links.on_frame(now, message, &announce, out);
+        match self.notes(gone, notes.as_slice(), out, told) {
+            Ok(()) => {
+                let _ = self.is_left();
+            }
+            Err(_) => self.roll_back(mark, out, told),
+        }
+    }
+}

@@ -1,0 +1,106 @@
+ghost use Rattle.std.specs.Prelude.{◌≡◌, ◌≤◌, [], IfOk, is_ok, length, map, true};
+ghost use Rattle.fabric_terms.specs.Sound.{IsSound};
+ghost use Rattle.ring_node.specs.Nodes.{step};
+ghost use Rattle.ring_node.specs.Steps.{first_phase, first_ranges, started};
+ghost use Rattle.ring_rules.specs.Rings.{longest_of, points_of, settings_of};
+ghost use Rattle.ring_rules.specs.Starts.{new_ring};
+
+use crate::node::{Mark, RingNode};
+use crate::reports::Reports;
+use arrayvec::ArrayVec;
+use fabric_terms::{FabricConfig, NodeEntry, OutOfMemory, Report, Why};
+use join_phases::{Booting, Phase};
+use link_core::Links16;
+use ring_points::{Point, RangeSet, Who};
+use ring_route::RouteTable;
+use std::alloc::Global;
+use token_core::Token;
+
+/// The longest lease that a node agrees to, 0 where it is not configured.
+fn longest_of(nodes: &[NodeEntry], node: u16) -> u64
+    ensures { result ≡ longest_of node nodes.now }
+{
+    for entry in nodes {
+        if entry.node == node {
+            return entry.longest;
+        }
+    }
+    0
+}
+
+/// The point of each node.
+fn points_of(nodes: &[NodeEntry]) -> ArrayVec<(u16, Point), 64>
+    requires { length nodes.now ≤ 64 }
+    ensures { map (λ p. (p.0, p.1.0)) result.items ≡ points_of nodes.now }
+{
+    let mut points = ArrayVec::new();
+    for entry in nodes {
+        points.push((entry.node, entry.point));
+    }
+    points
+}
+
+/// How a node begins: the first instance of the first node with all ranges, every other one with none.
+fn first_phase(config: &FabricConfig, me: Who) -> (Phase, RangeSet)
+    ensures phase { result.0 ≡ first_phase config.now me }
+    ensures ranges { result.1 ≡ first_ranges config.now me }
+{
+    match Booting::new(me.actor == config.first, me.instance).found() {
+        Ok(routing) => (Phase::Routing(routing), RangeSet::whole()),
+        Err(booting) => (Phase::Seeking(booting.seek()), RangeSet::new()),
+    }
+}
+
+impl RingNode {
+    /// A node in this phase with these ranges, before its first step.
+    fn begin(config: &FabricConfig, me: Who, phase: Phase, ranges: RangeSet) -> RingNode
+        requires { IsSound config.now }
+        ensures settings { result.settings ≡ settings_of config.now me.actor }
+        ensures ring { result.ring ≡ new_ring config.now me phase ranges }
+    {
+        let points = points_of(config.nodes.as_slice());
+        let longest = longest_of(config.nodes.as_slice(), me.actor);
+        let arbitrators = config.arbiters.as_slice().len() as u8;
+        RingNode {
+            links: Links16::new(
+                me,
+                config.lease,
+                longest,
+                config.answer,
+                config.bound,
+                arbitrators,
+            ),
+            token: Token::new(ranges),
+            routes: RouteTable::new(me, points.as_slice()),
+            points,
+            phase,
+            target: None,
+            near: config.near,
+        }
+    }
+
+    /// The instance of a node that starts, and what it tells: that it left, where all numbers of instances are spent,
+    /// and what it owns. No memory is needed, and no call fails.
+    #[tactic(auto, unfolding(ring_rules::specs::Starts::node_started))]
+    pub fn new(
+        _alloc: Global,
+        config: &FabricConfig,
+        me: Who,
+        _now: u64,
+        spent: bool,
+    ) -> Result<(RingNode, Reports), OutOfMemory>
+        requires { IsSound config.now }
+        ensures ok { is_ok result ≡ true }
+        ensures started { IfOk result (λ begun. step begun.0 [] begun.1 ≡ started config.now me spent) }
+    {
+        let (phase, ranges) = first_phase(config, me);
+        let mut node = RingNode::begin(config, me, phase, ranges);
+        let mut told = Reports::new();
+        if spent {
+            node.leave_at(Why::Counters, Mark::first());
+            told.tell(Report::LeftRing(Why::Counters));
+        }
+        told.tell(Report::Own(node.token.ranges().copy(), node.links.fence()));
+        Ok((node, told))
+    }
+}

@@ -1,0 +1,116 @@
+ghost use Rattle.std.specs.Prelude.{◌≡◌, ◌+◌, ◌<◌, ◌≤◌, ◌++◌, [], IsTrue, length};
+ghost use Rattle.ring_node.specs.Nodes.{by, step};
+ghost use Rattle.ring_node.specs.Owned.{own_since, owned_of, owns_same};
+ghost use Rattle.ring_node.specs.Steps.{acted, is_sound_input, taken};
+ghost use Rattle.ring_rules.specs.Steps.{before_fence, input_taken};
+
+use crate::node::RingNode;
+use crate::owns::{Owned, same_fence, same_ranges};
+use crate::reports::Reports;
+use fabric_terms::{Report, Why};
+use ring_rules::Input;
+use ring_wire::Outbox;
+
+impl RingNode {
+    /// What the node owns now, to tell later what has changed. (This project's own.)
+    pub fn owned(&self) -> Owned
+        ensures { result ≡ owned_of self.now }
+    {
+        Owned {
+            ranges: self.token.ranges().copy(),
+            fence: self.links.fence(),
+            left: self.is_left(),
+        }
+    }
+
+    fn owns_same(&self, before: &Owned) -> bool
+        ensures { result ≡ owns_same before.now self.now }
+    {
+        same_ranges(before.ranges.intervals(), self.token.ranges().intervals())
+            && same_fence(before.fence, self.links.fence())
+            && (before.left || !self.is_left())
+    }
+
+    /// Tells what the node owns, where the ranges or the fence are others than before, or the node has left since.
+    /// (This project's own.)
+    pub fn tell_own(&self, before: &Owned, told: &mut Reports)
+        requires { length told.old < 64 }
+        ensures own { told.new ≡ told.old ++ own_since before.now self.now }
+        ensures few { length told.new ≤ length told.old + 1 }
+    {
+        if !self.owns_same(before) {
+            told.tell(Report::Own(self.token.ranges().copy(), self.links.fence()));
+        }
+    }
+
+    /// The row of the input.
+    fn input(&mut self, now: u64, input: &Input, out: &mut Outbox, told: &mut Reports)
+        requires now { now ≤ 1_000_000_000_000_000 }
+        requires sound { IsTrue (is_sound_input input.now) }
+        requires sent { length out.old ≡ 0 }
+        requires told { length told.old ≡ 0 }
+        ensures row { step self.new out.new told.new ≡ by (λ c. input_taken c now input.now) (step self.old out.old told.old) }
+        ensures few { length told.new ≤ 34 }
+        ensures short { length out.new ≤ 185 }
+    {
+        match input {
+            Input::Fire => self.fire(now, out, told),
+            Input::Frame(message) => self.hear(now, message, out, told),
+            Input::Do(command) => self.command(now, command, out, told),
+        }
+    }
+
+    /// The step of an input, but for what is owned, which `tell_own` tells last. The outbox and the reports are empty
+    /// before it, the reading is at most 10^15, and a frame is in the grammar. (This project's own.)
+    #[tactic(auto, unfolding(ring_rules::specs::Steps::ring_step))]
+    pub fn advance(&mut self, now: u64, input: &Input, out: &mut Outbox, told: &mut Reports)
+        requires now { now ≤ 1_000_000_000_000_000 }
+        requires sound { IsTrue (is_sound_input input.now) }
+        requires sent { out.old ≡ [] }
+        requires told { told.old ≡ [] }
+        ensures step { step self.new out.new told.new ≡ taken now input.now self.old }
+        ensures few { length told.new ≤ 34 }
+        ensures short { length out.new ≤ 185 }
+    {
+        if self.is_left() {
+            return;
+        }
+        if self.is_past(now) {
+            self.leave(Why::Fence, out, told);
+            return;
+        }
+        self.input(now, input, out, told);
+    }
+
+    /// The step of an input, in these reports: the row of the rules, and at last what is owned, where that has changed
+    /// or the node has left. The outbox and the reports are empty before it, the reading is at most 10^15, and a frame
+    /// is in the grammar. It sends at most 192 messages and makes at most 64 reports. (This project's own.)
+    pub fn act(&mut self, now: u64, input: &Input, out: &mut Outbox, told: &mut Reports)
+        requires now { now ≤ 1_000_000_000_000_000 }
+        requires sound { IsTrue (is_sound_input input.now) }
+        requires sent { out.old ≡ [] }
+        requires told { told.old ≡ [] }
+        ensures step { step self.new out.new told.new ≡ acted now input.now self.old }
+        ensures messages { length out.new ≤ 192 }
+        ensures reports { length told.new ≤ 64 }
+    {
+        let before = self.owned();
+        self.advance(now, input, out, told);
+        self.tell_own(&before, told);
+    }
+
+    /// The step of an input. The outbox is empty before it, the reading is at most 10^15, and a frame is in the
+    /// grammar. It sends at most 192 messages and makes at most 64 reports.
+    pub fn step(&mut self, now: u64, input: &Input, out: &mut Outbox) -> Reports
+        requires now { now ≤ 1_000_000_000_000_000 }
+        requires sound { IsTrue (is_sound_input input.now) }
+        requires sent { out.old ≡ [] }
+        ensures step { step self.new out.new result ≡ acted now input.now self.old }
+        ensures messages { length out.new ≤ 192 }
+        ensures reports { length result ≤ 64 }
+    {
+        let mut told = Reports::new();
+        self.act(now, input, out, &mut told);
+        told
+    }
+}
