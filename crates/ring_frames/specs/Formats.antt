@@ -1,0 +1,18 @@
+-- What comes to a node and what is sent, as frames and lines can carry it.
+use Rattle.std.specs.Prelude.{Bool, ◌&&◌, IsTrue}
+use Rattle.fabric_terms.specs.declared.message.Body.{Body}
+use Rattle.ring_points.specs.declared.who.Who.{Who}
+use Rattle.ring_rules.specs.declared.input.Input.{Input}
+use Rattle.ring_rules.specs.declared.input.Input.TheVariants as input
+use Rattle.ring_wire.specs.Fields.{is_addressee}
+use Rattle.ring_wire.specs.Frames.{is_sound, is_sound_body}
+use Rattle.sched_text.specs.Commands.{FitsCommand}
+
+-- what is sent goes to an actor and says something in the grammar
+abbrev pub in_format : Who × Body → Bool
+in_format m = is_addressee m.0 && is_sound_body m.1
+
+abbrev pub InputInFormat : Input → Type 0
+InputInFormat input.Fire = Unit {0}
+InputInFormat (input.Frame m) = IsTrue (is_sound m)
+InputInFormat (input.Do d) = FitsCommand d

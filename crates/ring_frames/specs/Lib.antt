@@ -1,0 +1,6 @@
+pub mod OnRing
+pub mod Formats
+pub mod InRange
+pub mod Above
+pub mod Nothing
+pub mod Laws
