@@ -51,4 +51,11 @@ impl Reports {
     {
         self.reports.as_slice()
     }
+
+    /// The reports themselves, in their order. (This project's own.)
+    pub fn into_reports(self) -> ArrayVec<Report, 64>
+        ensures { result.items ≡ self }
+    {
+        self.reports
+    }
 }

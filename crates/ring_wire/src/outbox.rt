@@ -57,6 +57,13 @@ impl Outbox {
         self.messages.as_slice()
     }
 
+    /// The messages themselves, in their order. (This project's own.)
+    pub fn into_messages(self) -> ArrayVec<(Who, Body), 192>
+        ensures { result.items ≡ self }
+    {
+        self.messages
+    }
+
     /// Sends one more message.
     pub fn send(&mut self, to: Who, body: Body)
         requires { length self.old < 192 }
