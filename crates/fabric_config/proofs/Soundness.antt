@@ -25,17 +25,17 @@ use Rattle.fabric_config.specs.Arbiters as arbiters
 use Rattle.fabric_config.specs.Config.{document_of, config_of, config_of_line}
 
 -- what the first check gives holds for the second
-over : {A B : Type 0} (r : Result A ConfigError) (f : A → Result B ConfigError) (P : A → Type 0) (Q : B → Type 0)
+pub over : {A B : Type 0} (r : Result A ConfigError) (f : A → Result B ConfigError) (P : A → Type 0) (Q : B → Type 0)
     → IfOk r P → ((x : A) → P x → IfOk (f x) Q) → IfOk (r >>= f) Q
 over (Ok x) f P Q first then = then x first
 over (Err e) f P Q first then = tt
 
-anything : {A : Type 0} (r : Result A ConfigError) → IfOk r (λ _. Unit {0})
+pub anything : {A : Type 0} (r : Result A ConfigError) → IfOk r (λ _. Unit {0})
 anything (Ok x) = tt
 anything (Err e) = tt
 
 -- a check of which nothing is told, and then the rest
-after : {A B : Type 0} (r : Result A ConfigError) (f : A → Result B ConfigError) (Q : B → Type 0)
+pub after : {A B : Type 0} (r : Result A ConfigError) (f : A → Result B ConfigError) (Q : B → Type 0)
     → ((x : A) → IfOk (f x) Q) → IfOk (r >>= f) Q
 after r f Q then = over r f (λ _. Unit {0}) Q (anything r) (λ x _. then x)
 
@@ -57,7 +57,7 @@ number_within field least greatest d =
     (in_range_within field least greatest n)
 
 -- a field that must stand, and then the rest
-needs : {B : Type 0} (field : Field) (least greatest : ℕ) (d : Data) (f : ℕ → Result B ConfigError) (Q : B → Type 0)
+pub needs : {B : Type 0} (field : Field) (least greatest : ℕ) (d : Data) (f : ℕ → Result B ConfigError) (Q : B → Type 0)
     → ((n : ℕ) → Within least greatest n → IfOk (f n) Q) → IfOk (required field least greatest d >>= f) Q
 unfolding required
 needs field least greatest d f Q then =
@@ -66,7 +66,7 @@ needs field least greatest d f Q then =
     then
 
 -- a field that may be absent, and then the rest
-takes : {B : Type 0} (field : Field) (least greatest default : ℕ) (d : Data) (f : ℕ → Result B ConfigError) (Q : B → Type 0)
+pub takes : {B : Type 0} (field : Field) (least greatest default : ℕ) (d : Data) (f : ℕ → Result B ConfigError) (Q : B → Type 0)
     → Within least greatest default
     → ((n : ℕ) → Within least greatest n → IfOk (f n) Q) → IfOk (optional field least greatest default d >>= f) Q
 unfolding optional
@@ -77,10 +77,10 @@ takes field least greatest default d f Q fits then =
     by None = fits
     by (Some x) = number_within field least greatest x
 
-fits : (low high n : ℕ) → low ≤ n → n ≤ high → Within low high n
+pub fits : (low high n : ℕ) → low ≤ n → n ≤ high → Within low high n
 fits low high n p q = record { from_low = p; to_high = q }
 
-list_within : (field : Field) (most : ℕ) (d : Data) → IfOk (list_of field most d) (λ ds. Within 1 most (length ds))
+pub list_within : (field : Field) (most : ℕ) (d : Data) → IfOk (list_of field most d) (λ ds. Within 1 most (length ds))
 unfolding list_of
 list_within field most d =
     after (or_missing field (option_and_then as_array (get (name_of field) d))) _ _ λ items.
