@@ -1,5 +1,5 @@
 -- A configuration that was read is sound: a law of the definitions alone.
-use Rattle.std.proofs.Common.{◌≡◌, ℕ, suc, ◌+◌, ◌≤◌, ◌||◌, ◌==◌, nat_le, zero, subst, Bool, true, false, List, [], ◌∷◌, ◌++◌, length, slice_get, Option, Some, None, option_and_then, Result, Ok, Err, IfOk, refl, ap, sym, ◌∙◌, arith, append_assoc}
+use Rattle.std.proofs.Common.{◌≡◌, ℕ, suc, ◌+◌, ◌^◌, ◌<◌, ◌≤◌, ◌||◌, ◌==◌, nat_le, zero, subst, Bool, true, false, List, [], ◌∷◌, ◌++◌, length, slice_get, Option, Some, None, option_and_then, Result, Ok, Err, IfOk, IfSome, refl, ap, sym, ◌∙◌, arith, append_assoc}
 use Rattle.std.specs.Prelude.{All, Any}
 use Rattle.std.specs.List.{AllPairs, list_any}
 use Rattle.std.proofs.lemmas.Bool.Decides.{nat_tests}
@@ -8,7 +8,8 @@ use Rattle.std.proofs.lemmas.Result.{IfOk-weaker, IfOk-at_ok}
 use Rattle.std.proofs.lemmas.List.Elements.{All-cons}
 use Rattle.std.proofs.lemmas.List.Quantifiers.{all_pairs_push}
 use Rattle.serde_json.specs.Data.{Data}
-use Rattle.serde_json.specs.Find.{get, as_array}
+use Rattle.serde_json.specs.Find.{get, as_array, as_str}
+use Rattle.ring_points.specs.declared.point.Point.{Point}
 use Rattle.fabric_terms.specs.declared.config.NodeEntry.{NodeEntry}
 use Rattle.fabric_terms.specs.declared.config.FabricConfig.{FabricConfig}
 use Rattle.fabric_terms.specs.Sound.{Within, IsSoundNode, AreApart, IsSound}
@@ -22,7 +23,9 @@ use Rattle.fabric_config.specs.Nodes.{point_in, node_of, repeats, first_repeated
 use Rattle.fabric_config.specs.Nodes as nodes
 use Rattle.fabric_config.specs.Arbiters.{arbiter_of, arbiters_of}
 use Rattle.fabric_config.specs.Arbiters as arbiters
+use Rattle.fabric_config.specs.Points.{point_of}
 use Rattle.fabric_config.specs.Config.{document_of, config_of, config_of_line}
+use Rattle.fabric_config.proofs.Points.{point_fits}
 
 -- what the first check gives holds for the second
 pub over : {A B : Type 0} (r : Result A ConfigError) (f : A → Result B ConfigError) (P : A → Type 0) (Q : B → Type 0)
@@ -87,16 +90,28 @@ list_within field most d =
     over (in_range field 1 most (length (elements items))) _ _ _ (in_range_within field 1 most (length (elements items)))
     λ n p. p.1
 
+point_within : (d : Data) → IfOk (point_in d) (λ x. x.0 < 2 ^ 64)
+unfolding point_in
+point_within d = by (option_and_then as_str (get (name_of Field.Point) d))
+  where
+    spelled : (o : Option Point) → IfSome o (λ x. x.0 < 2 ^ 64) → IfOk (or_missing Field.Point o) (λ x. x.0 < 2 ^ 64)
+    spelled None small = tt
+    spelled (Some x) small = small
+
+    by : (o : Option (List ℕ)) → IfOk (or_missing Field.Point (option_and_then point_of o)) (λ x. x.0 < 2 ^ 64)
+    by None = tt
+    by (Some bytes) = spelled (point_of bytes) (point_fits bytes)
+
 node_sound : (lease : ℕ) (d : Data) → Within 10 1000000000 lease → IfOk (node_of lease d) IsSoundNode
 unfolding node_of
 node_sound lease d w =
     after (entry_of Field.Nodes d) _ _ λ entry.
     needs Field.Node 1 999 entry _ _ λ number p.
-    after (point_in entry) _ _ λ place.
+    over (point_in entry) _ (λ x. x.0 < 2 ^ 64) _ (point_within entry) λ place o.
     takes Field.Domain 1 64 1 entry _ _ (fits 1 64 1 (omega arith) (omega arith)) λ domain q.
     after (address_of entry) _ _ λ address.
     takes Field.Longest 10 1000000000 lease entry _ _ w λ longest r.
-    record { node = p; domain = q; longest = r }
+    record { node = p; point = o; domain = q; longest = r }
 
 record SoundEntries (count : ℕ) (nodes : List NodeEntry) : Type 0 where
   as_many : length nodes ≡ count

@@ -23,5 +23,5 @@ mod worked;
 pub use error::ConfigError;
 pub use fabric_terms::{Address, Arbiters, FabricConfig, NodeEntry, Nodes};
 pub use field::Field;
-pub use read::{need_endpoints, read_config, what_is_read_is_on_the_ring, what_is_read_is_sound};
+pub use read::{need_endpoints, read_config, what_is_read_is_sound};
 pub use worked::worked_lines;

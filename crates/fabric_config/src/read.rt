@@ -1,4 +1,4 @@
-ghost use Rattle.std.specs.Prelude.{◌≡◌, ◌^◌, ◌<◌, ◌↔◌, length, ◌==◌, Ok, Err, IsErr, IsErrOf, IsTrue, IfOk, List, ℕ, All};
+ghost use Rattle.std.specs.Prelude.{◌≡◌, ◌↔◌, length, ◌==◌, Ok, Err, IsErr, IsErrOf, IsTrue, IfOk, List, ℕ};
 ghost use Rattle.std.specs.List.{list_any};
 ghost use Rattle.serde_json.specs.View.{view};
 ghost use Rattle.fabric_terms.specs.Sound.{IsSound};
@@ -62,7 +62,6 @@ fn read_object(alloc: Global, object: &Value) -> Result<FabricConfig, ConfigErro
 pub fn read_config(alloc: Global, line: &[u8]) -> Result<FabricConfig, ConfigError>
     ensures value { Reads (config_of_line line.now) result }
     ensures sound { IfOk result IsSound }
-    ensures points { IfOk result (λ c. All (λ n. n.point.0 < 2 ^ 64) c.nodes) }
 {
     let document = read_document(alloc, line)?;
     read_object(alloc, &document)
@@ -100,9 +99,4 @@ pub fn need_endpoints(config: &FabricConfig) -> Result<(), ConfigError>
 /// Whatever a line is read as is sound: a law of the definition.
 pub fn what_is_read_is_sound()
     ensures { (line : List ℕ) (c : Configuration) → config_of_line line ≡ Ok c → IsSound c }
-{}
-
-/// The nodes of whatever a line is read as stand on points of the ring: a law of the definition.
-pub fn what_is_read_is_on_the_ring()
-    ensures { (line : List ℕ) (c : Configuration) → config_of_line line ≡ Ok c → All (λ n. n.point.0 < 2 ^ 64) c.nodes }
 {}

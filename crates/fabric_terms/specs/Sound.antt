@@ -1,5 +1,5 @@
 -- What every configuration that was read meets, and every crate takes for granted.
-use Rattle.std.specs.Prelude.{◌≡◌, ◌≢◌, ℕ, ◌+◌, ◌≤◌, List, length, Some, All, Any, AllPairs, slice_get}
+use Rattle.std.specs.Prelude.{◌≡◌, ◌≢◌, ℕ, ◌+◌, ◌^◌, ◌<◌, ◌≤◌, List, length, Some, All, Any, AllPairs, slice_get}
 use Rattle.fabric_terms.specs.declared.config.NodeEntry.{NodeEntry}
 use Rattle.fabric_terms.specs.declared.config.FabricConfig.{FabricConfig}
 
@@ -10,6 +10,7 @@ pub record Within (low high n : ℕ) : Type 0 where
 
 pub record IsSoundNode (n : NodeEntry) : Type 0 where
   pub node : Within 1 999 n.node
+  pub point : n.point.0 < 2 ^ 64
   pub domain : Within 1 64 n.domain
   pub longest : Within 10 1000000000 n.longest
 

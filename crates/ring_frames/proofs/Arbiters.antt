@@ -8,7 +8,7 @@ use Rattle.fabric_terms.specs.declared.message.Body.{Body}
 use Rattle.fabric_terms.specs.declared.message.Body.TheVariants as body
 use Rattle.fabric_terms.specs.declared.message.Message.{Message}
 use Rattle.fabric_terms.specs.declared.record.Record.TheVariants.{AccusedBy}
-use Rattle.ring_frames.specs.OnRing.{IsOnRing}
+use Rattle.fabric_terms.specs.Sound.{IsSound}
 use Rattle.ring_points.specs.declared.who.Ruling.{Ruling}
 use Rattle.ring_points.specs.declared.who.Who.{Who}
 use Rattle.ring_points.specs.Whos.{arbiter_actor}
@@ -29,7 +29,7 @@ pub record ArbiterActs (a : Upper) (p : SendsInFormat a) (c : FabricConfig) (who
   pub state : p.Beside c d.state.beside
   pub acts : ActsInFormat p.Kept who d
 
-module _ (a : Upper) (p : SendsInFormat a) (c : FabricConfig) (sound : IsOnRing c) (arbiter : ℕ) (m : Message) (h : IsTrue (is_sound m)) (s : ArbiterState a) (fine : p.Beside c s.beside) where
+module _ (a : Upper) (p : SendsInFormat a) (c : FabricConfig) (sound : IsSound c) (arbiter : ℕ) (m : Message) (h : IsTrue (is_sound m)) (s : ArbiterState a) (fine : p.Beside c s.beside) where
   -- whom it takes a frame from, and by whom the frame is taken
   from_node : takes_frame arbiter m ≡ true → IsTrue (is_who m.from)
   from_node e =

@@ -6,7 +6,7 @@ use Rattle.fabric_terms.specs.declared.command.Command.{Command}
 use Rattle.fabric_terms.specs.declared.command.Command.TheVariants as command
 use Rattle.fabric_terms.specs.declared.config.FabricConfig.{FabricConfig}
 use Rattle.fabric_terms.specs.declared.report.Verb.TheVariants as verb
-use Rattle.ring_frames.specs.OnRing.{IsOnRing}
+use Rattle.fabric_terms.specs.Sound.{IsSound}
 use Rattle.join_phases.specs.Phases.{is_routing}
 use Rattle.ring_points.specs.Whos.{node_instance}
 use Rattle.ring_rules.specs.declared.link.Link.{Link}
@@ -109,7 +109,7 @@ module _ (c : FabricConfig) (w : Work) (a : Going c w) where
       if_routing false = a
       if_routing true = seen (slot_where (of_node is_bound node) w.ring.slots) refl
 
-  join_going : IsOnRing c → (member : ℕ) → IsTrue (is_node member) → Going c (join_commanded member w)
+  join_going : IsSound c → (member : ℕ) → IsTrue (is_node member) → Going c (join_commanded member w)
   unfolding join_commanded
   join_going sound member h = unless (is_routing w.ring.phase)
     where
@@ -118,7 +118,7 @@ module _ (c : FabricConfig) (w : Work) (a : Going c w) where
       unless false =
           seek_place_going c (on_ring (λ r. record r { target = Some member }) w) (routes c w a w.ring.routes.known (Some member) (λ r. r.known) (λ r. h)) sound member h
 
-  pub command_going : IsOnRing c → (set : Settings) → SettingsInRange set → (now : ℕ) (d : Command) → FitsCommand d → Going c (command_row set now d w)
+  pub command_going : IsSound c → (set : Settings) → SettingsInRange set → (now : ℕ) (d : Command) → FitsCommand d → Going c (command_row set now d w)
   command_going sound set fine now (command.Link node) h = link_going set now node 1 set.lease (node_from node h) fine.lease
   command_going sound set fine now (command.LinkFor node length) h =
       link_going set now node 2 (min length set.longest) (node_from node h.0) (least_lease length set.longest (lease_from length h.1) fine.longest)

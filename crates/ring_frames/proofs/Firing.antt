@@ -8,7 +8,7 @@ use Rattle.fabric_terms.specs.declared.config.FabricConfig.{FabricConfig}
 use Rattle.fabric_terms.specs.declared.message.Body.TheVariants as body
 use Rattle.fabric_terms.specs.declared.report.Report.TheVariants as report
 use Rattle.fabric_terms.specs.declared.report.Why.TheVariants.{AccusedFull}
-use Rattle.ring_frames.specs.OnRing.{IsOnRing}
+use Rattle.fabric_terms.specs.Sound.{IsSound}
 use Rattle.join_phases.specs.Phases.{holding_phase, is_routing}
 use Rattle.ring_points.specs.declared.interval.Interval.{Interval}
 use Rattle.ring_points.specs.declared.who.Flight.{Flight}
@@ -205,7 +205,7 @@ gives_freeze c w d = counts c w (rows.give_frozen w.ring.token.freeze w) d (froz
     frozen None f = λ n. d
     frozen (Some z) f = ready z f _
 
-module _ (c : FabricConfig) (sound : IsOnRing c) (set : Settings) (fine : SettingsInRange set) (now : ℕ) where
+module _ (c : FabricConfig) (sound : IsSound c) (set : Settings) (fine : SettingsInRange set) (now : ℕ) where
   greets_each : (nodes : List ℕ) (w : Work) → All NodeInRange nodes → Going c w → Going c (rows.greet_all set now nodes w)
   greets_each [] w h a = a
   greets_each (node ∷ nodes) w h a =

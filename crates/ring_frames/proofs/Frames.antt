@@ -7,7 +7,7 @@ use Rattle.fabric_terms.specs.declared.config.FabricConfig.{FabricConfig}
 use Rattle.fabric_terms.specs.declared.message.Body.{Body}
 use Rattle.fabric_terms.specs.declared.message.Body.TheVariants as body
 use Rattle.fabric_terms.specs.declared.message.Message.{Message}
-use Rattle.ring_frames.specs.OnRing.{IsOnRing}
+use Rattle.fabric_terms.specs.Sound.{IsSound}
 use Rattle.ring_points.specs.declared.who.Who.{Who}
 use Rattle.ring_points.specs.Ranges.{is_proper}
 use Rattle.ring_route.specs.Routes.{heard_in, is_among, point_of}
@@ -54,7 +54,7 @@ not_answer (body.DoneKept partition epoch) h = absurd (cc (h))
 not_answer (body.NoDone partition epoch kept) h = absurd (cc (h))
 not_answer b h = refl
 
-module _ (c : FabricConfig) (sound : IsOnRing c) where
+module _ (c : FabricConfig) (sound : IsSound c) where
   -- a configured node that sends is an instance of it
   listed_sends : (r : Ring) (from : Who) → IsInRange c r → IsTrue (is_sender from) → rows.is_node r from.actor ≡ true → IsTrue (is_who from)
   listed_sends r from h k e =
@@ -114,7 +114,7 @@ module _ (c : FabricConfig) (set : Settings) (fine : SettingsInRange set) (now :
   row (body.Ruled victim ruling) who h = ruling_going c w a set now from victim ruling
   row b who h = a
 
-pub frame_done : (c : FabricConfig) → IsOnRing c → (set : Settings) → SettingsInRange set → (now : ℕ) → IsTrue (is_stamp now) → (m : Message) → IsTrue (is_sound m) →
+pub frame_done : (c : FabricConfig) → IsSound c → (set : Settings) → SettingsInRange set → (now : ℕ) → IsTrue (is_stamp now) → (m : Message) → IsTrue (is_sound m) →
     (w : Work) → Done c w → passes set w.ring m ≡ true → Done c (frame_received set now m.from m.body (sender_heard now m.from w))
 unfolding frame_received
 frame_done c sound set fine now reads m h w d e =

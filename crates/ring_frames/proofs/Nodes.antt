@@ -6,7 +6,7 @@ use Rattle.std.proofs.lemmas.List.Elements.{All-append, All-cons, All-nil}
 use Rattle.fabric_terms.specs.declared.config.FabricConfig.{FabricConfig}
 use Rattle.fabric_terms.specs.declared.record.Record.{Record}
 use Rattle.fabric_terms.specs.declared.record.Record.TheVariants.{Boot}
-use Rattle.ring_frames.specs.OnRing.{IsOnRing}
+use Rattle.fabric_terms.specs.Sound.{IsSound}
 use Rattle.join_phases.specs.Phases.{is_left}
 use Rattle.ring_points.specs.declared.who.Who.{Who}
 use Rattle.ring_points.specs.Whos.{node_instance}
@@ -41,7 +41,7 @@ pub record NodeActs (a : Upper) (p : SendsInFormat a) (c : FabricConfig) (d : Di
   pub state : LiveInRange a p c d.state
   pub acts : ActsInFormat p.Kept d.state.ring.me d
 
-module _ (a : Upper) (p : SendsInFormat a) (c : FabricConfig) (sound : IsOnRing c) where
+module _ (a : Upper) (p : SendsInFormat a) (c : FabricConfig) (sound : IsSound c) where
   -- Its step.
 
   module _ (now : ℕ) (i : Input) (s : NodeState a) where

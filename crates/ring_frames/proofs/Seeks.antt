@@ -5,7 +5,7 @@ use Rattle.std.proofs.lemmas.Bool.{le-leb, ltb-true}
 use Rattle.fabric_terms.specs.declared.config.FabricConfig.{FabricConfig}
 use Rattle.fabric_terms.specs.declared.message.Body.TheVariants as body
 use Rattle.fabric_terms.specs.declared.report.Report.TheVariants as report
-use Rattle.ring_frames.specs.OnRing.{IsOnRing}
+use Rattle.fabric_terms.specs.Sound.{IsSound}
 use Rattle.ring_points.specs.declared.point.Point.{Point}
 use Rattle.ring_points.specs.declared.who.Who.{Who}
 use Rattle.ring_points.specs.Ranges.{in_ranges}
@@ -71,7 +71,7 @@ module _ (c : FabricConfig) (w : Work) (a : Going c w) where
           (who_parts holder named).node
       holds false = a
 
-  pub seek_place_going : IsOnRing c → (member : ℕ) → IsTrue (is_node member) → Going c (seek_place member w)
+  pub seek_place_going : IsSound c → (member : ℕ) → IsTrue (is_node member) → Going c (seek_place member w)
   seek_place_going sound member h =
       let key : Point = record { 0 = point_of w.ring.me.actor w.ring.routes.points } in
       sends c w a (node_instance member 0) (body.Seek w.ring.me key 0)

@@ -6,8 +6,7 @@ use Rattle.std.proofs.lemmas.Bool.{eqb-true, lt-ltb}
 use Rattle.std.proofs.lemmas.List.Elements.{All-head, All-tail}
 use Rattle.fabric_terms.specs.declared.config.FabricConfig.{FabricConfig}
 use Rattle.fabric_terms.specs.declared.config.NodeEntry.{NodeEntry}
-use Rattle.fabric_terms.specs.Sound.{IsSoundNode, Within}
-use Rattle.ring_frames.specs.OnRing.{IsOnRing}
+use Rattle.fabric_terms.specs.Sound.{IsSound, IsSoundNode, Within}
 use Rattle.ring_route.specs.Routes.{point_of}
 use Rattle.ring_rules.specs.Rings.{longest_of, points_of, settings_of}
 use Rattle.ring_wire.specs.Fields.{is_lease, is_long, is_node}
@@ -40,27 +39,24 @@ longest_in_range (n ∷ ns) node h e = by_test (n.node == node) refl (λ g. long
     by_test true f rest g = rw f (lease_from n.longest (All-head IsSoundNode n ns h).longest)
     by_test false f rest g = rw f (rest g)
 
-abbrev OnPoint : NodeEntry → Type 0
-OnPoint n = n.point.0 < 2 ^ 64
-
-point_in_range : (nodes : List NodeEntry) (node : ℕ) → All OnPoint nodes → point_of node (points_of nodes) < 2 ^ 64
+point_in_range : (nodes : List NodeEntry) (node : ℕ) → All IsSoundNode nodes → point_of node (points_of nodes) < 2 ^ 64
 point_in_range [] node h = omega arith
-point_in_range (n ∷ ns) node h = by_test (n.node == node) (point_in_range ns node (All-tail OnPoint n ns h))
+point_in_range (n ∷ ns) node h = by_test (n.node == node) (point_in_range ns node (All-tail IsSoundNode n ns h))
   where
     by_test : (b : Bool) → point_of node (points_of ns) < 2 ^ 64 → cond b n.point.0 (point_of node (points_of ns)) < 2 ^ 64
-    by_test true rest = All-head OnPoint n ns h
+    by_test true rest = (All-head IsSoundNode n ns h).point
     by_test false rest = rest
 
-module _ (c : FabricConfig) (sound : IsOnRing c) where
+module _ (c : FabricConfig) (sound : IsSound c) where
   pub settings_in_range : (node : ℕ) → is_configured_node c node ≡ true → SettingsInRange (settings_of c node)
   settings_in_range node h = record {
-    lease = lease_from c.lease sound.sound.lease;
-    longest = longest_in_range c.nodes node sound.sound.nodes h;
-    arbitrators = sound.sound.arbiters_count.to_high;
+    lease = lease_from c.lease sound.lease;
+    longest = longest_in_range c.nodes node sound.nodes h;
+    arbitrators = sound.arbiters_count.to_high;
   }
 
   pub node_in_range : (actor : ℕ) → list_any (λ p. p.0 == actor) (points_of c.nodes) ≡ true → IsTrue (is_node actor)
-  node_in_range actor h = listed_in_range c.nodes actor sound.sound.nodes h
+  node_in_range actor h = listed_in_range c.nodes actor sound.nodes h
 
   pub point_long : (node : ℕ) → IsTrue (is_long (point_of node (points_of c.nodes)))
-  point_long node = lt-ltb (point_of node (points_of c.nodes)) 18446744073709551616 (point_in_range c.nodes node sound.points)
+  point_long node = lt-ltb (point_of node (points_of c.nodes)) 18446744073709551616 (point_in_range c.nodes node sound.nodes)

@@ -5,7 +5,7 @@ use Rattle.std.proofs.lemmas.List.Elements.{All-nil}
 use Rattle.fabric_terms.specs.declared.command.Command.{Command}
 use Rattle.fabric_terms.specs.declared.config.FabricConfig.{FabricConfig}
 use Rattle.fabric_terms.specs.declared.report.Why.TheVariants.{Fence}
-use Rattle.ring_frames.specs.OnRing.{IsOnRing}
+use Rattle.fabric_terms.specs.Sound.{IsSound}
 use Rattle.join_phases.specs.declared.phases.Phase.{Phase}
 use Rattle.join_phases.specs.Phases.{is_left, routing, seeking}
 use Rattle.ring_points.specs.declared.interval.Interval.{Interval}
@@ -37,7 +37,7 @@ use Rattle.ring_frames.proofs.Settled.{settings_in_range}
 begins : (c : FabricConfig) (r : Ring) → IsInRange c r → Done c (begun r)
 begins c r h = record { ring = h; sent = All-nil (λ m. IsTrue (in_format m)) }
 
-module _ (c : FabricConfig) (sound : IsOnRing c) (set : Settings) (fine : SettingsInRange set) (now : ℕ) (reads : IsTrue (is_stamp now)) where
+module _ (c : FabricConfig) (sound : IsSound c) (set : Settings) (fine : SettingsInRange set) (now : ℕ) (reads : IsTrue (is_stamp now)) where
   command_done : (o : Command) → FitsCommand o → (w : Work) → Done c w → Done c (command_received set now o w)
   unfolding command_received
   command_done o h w d = counts c w (command_row set now o w) d (command_going c w (λ n. d) sound set fine now o h)
@@ -66,7 +66,7 @@ module _ (c : FabricConfig) (sound : IsOnRing c) (set : Settings) (fine : Settin
       by_left true = d
       by_left false = by_fence (is_past now (fence_of set.answer r.slots))
 
-pub ring_done : (c : FabricConfig) → IsOnRing c → (now : ℕ) → IsNumber now → (i : Input) → InputInFormat i → (r : Ring) → IsInRange c r →
+pub ring_done : (c : FabricConfig) → IsSound c → (now : ℕ) → IsNumber now → (i : Input) → InputInFormat i → (r : Ring) → IsInRange c r →
     Done c (ring_step (settings_of c r.me.actor) now i r)
 ring_done c sound now reads i h r k =
     step_done c sound (settings_of c r.me.actor) (settings_in_range c sound r.me.actor k.configured) now (le-leb now 1000000000000000 reads) i h r k

@@ -3,7 +3,7 @@ use Rattle.std.proofs.Common.{ℕ, Bool, List, [], ◌∷◌}
 use Rattle.std.specs.Prelude.{All}
 use Rattle.std.proofs.lemmas.List.Elements.{All-head, All-tail}
 use Rattle.fabric_terms.specs.declared.config.FabricConfig.{FabricConfig}
-use Rattle.ring_frames.specs.OnRing.{IsOnRing}
+use Rattle.fabric_terms.specs.Sound.{IsSound}
 use Rattle.sched_text.specs.Lines.{Fits}
 use Rattle.world_rules.specs.Runs.{History, world_after}
 use Rattle.world_rules.specs.Schedules.{Valid}
@@ -12,7 +12,7 @@ use Rattle.ring_frames.specs.Above.{SendsInFormat}
 use Rattle.ring_frames.specs.Laws.{FramesAreInFormat}
 use Rattle.ring_frames.proofs.Worlds.{WorldInRange, empty_in_range, event_in_range}
 
-world_in_range : (a : Upper) (p : SendsInFormat a) (is_frame : List ℕ → Bool) (c : FabricConfig) (h : History) → IsOnRing c → All (λ e. Fits e.1) h →
+world_in_range : (a : Upper) (p : SendsInFormat a) (is_frame : List ℕ → Bool) (c : FabricConfig) (h : History) → IsSound c → All (λ e. Fits e.1) h →
     Valid a is_frame c h → WorldInRange a p c (world_after a c h)
 world_in_range a p is_frame c [] sound fits valid = empty_in_range a p c
 world_in_range a p is_frame c (e ∷ es) sound fits valid =

@@ -8,7 +8,7 @@ use Rattle.fabric_terms.specs.declared.event.Event.{Event}
 use Rattle.fabric_terms.specs.declared.event.Event.TheVariants.{Start, Stop, Tick, Fire, Give, Do, Junk}
 use Rattle.fabric_terms.specs.declared.message.Message.{Message}
 use Rattle.fabric_terms.specs.declared.record.Record.{Record}
-use Rattle.ring_frames.specs.OnRing.{IsOnRing}
+use Rattle.fabric_terms.specs.Sound.{IsSound}
 use Rattle.drift_clock.specs.Within.{Pair}
 use Rattle.ring_rules.specs.declared.input.Input.{Input}
 use Rattle.ring_rules.specs.declared.input.Input.TheVariants as input
@@ -49,7 +49,7 @@ empty_in_range a p c = record {
   frames = All-nil Sound;
 }
 
-module _ (a : Upper) (p : SendsInFormat a) (c : FabricConfig) (sound : IsOnRing c) (w : World a) (h : WorldInRange a p c w) where
+module _ (a : Upper) (p : SendsInFormat a) (c : FabricConfig) (sound : IsSound c) (w : World a) (h : WorldInRange a p c w) where
   abbrev Fine : World a → Type 0
   Fine v = WorldInRange a p c v
 

@@ -4,7 +4,7 @@ use Rattle.fabric_terms.specs.declared.config.FabricConfig.{FabricConfig}
 use Rattle.fabric_terms.specs.declared.message.Message.{Message}
 use Rattle.fabric_terms.specs.declared.record.Record.{Record}
 use Rattle.fabric_terms.specs.declared.record.Record.TheVariants.{AccusedBy, Boot}
-use Rattle.ring_frames.specs.OnRing.{IsOnRing}
+use Rattle.fabric_terms.specs.Sound.{IsSound}
 use Rattle.ring_points.specs.declared.who.Who.{Who}
 use Rattle.ring_rules.specs.declared.input.Input.{Input}
 use Rattle.ring_rules.specs.Rings.{Ring}
@@ -30,9 +30,9 @@ pub record SendsInFormat (a : Upper) : Type 1 where
   -- the records that the ring and the accusations keep are in range
   pub boot : (instance : ℕ) → IsTrue (is_counted instance) → Kept (Boot instance)
   pub accused : (victim first : Who) → IsTrue (is_who victim) → IsTrue (is_who first) → Kept (AccusedBy victim first)
-  pub above_begun : (c : FabricConfig) (me : Who) (records : List Record) → IsOnRing c → IsTrue (is_who me) → All Kept records → Above c (a.above_begun c me records)
-  pub above_step : (c : FabricConfig) (now : ℕ) (r : Ring) (s : a.Above) (i : Input) → IsOnRing c → IsNumber now → IsInRange c r → Above c s →
+  pub above_begun : (c : FabricConfig) (me : Who) (records : List Record) → IsSound c → IsTrue (is_who me) → All Kept records → Above c (a.above_begun c me records)
+  pub above_step : (c : FabricConfig) (now : ℕ) (r : Ring) (s : a.Above) (i : Input) → IsSound c → IsNumber now → IsInRange c r → Above c s →
       InputInFormat i → DidInFormat (Above c) Kept (a.above_step c now r s i)
-  pub beside_begun : (c : FabricConfig) (arbiter : ℕ) (records : List Record) → IsOnRing c → All Kept records → Beside c (a.beside_begun c arbiter records)
-  pub beside_step : (c : FabricConfig) (arbiter : ℕ) (s : a.Beside) (m : Message) → IsOnRing c → Beside c s → IsTrue (is_sound m) →
+  pub beside_begun : (c : FabricConfig) (arbiter : ℕ) (records : List Record) → IsSound c → All Kept records → Beside c (a.beside_begun c arbiter records)
+  pub beside_step : (c : FabricConfig) (arbiter : ℕ) (s : a.Beside) (m : Message) → IsSound c → Beside c s → IsTrue (is_sound m) →
       DidInFormat (Beside c) Kept (a.beside_step c arbiter s m)

@@ -1,4 +1,3 @@
-pub mod OnRing
 pub mod Formats
 pub mod InRange
 pub mod Above

@@ -1,4 +1,4 @@
-ghost use Rattle.std.specs.Prelude.{◌≡◌, ◌<◌, ◌++◌, ◌∷◌, [], length, take};
+ghost use Rattle.std.specs.Prelude.{◌≡◌, ◌+◌, ◌<◌, ◌≤◌, ◌++◌, ◌∷◌, [], length, take, vec_capacity, vec_len};
 
 use arrayvec::ArrayVec;
 use fabric_terms::Report;
@@ -52,10 +52,14 @@ impl Reports {
         self.reports.as_slice()
     }
 
-    /// The reports themselves, in their order. (This project's own.)
-    pub fn into_reports(self) -> ArrayVec<Report, 64>
-        ensures { result.items ≡ self }
+    /// Moves what is reported behind a list that has room for it, in its order. Nothing is reported any more.
+    pub fn hand_over(&mut self, reports: &mut Vec<Report>)
+        requires { vec_len reports.old + length self.old ≤ vec_capacity reports.old }
+        ensures reports { reports.new.items ≡ reports.old.items ++ self.old }
+        ensures emptied { self.new ≡ [] }
     {
-        self.reports
+        for report in self.reports.drain(..) {
+            reports.push_reserved(report);
+        }
     }
 }

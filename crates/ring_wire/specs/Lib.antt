@@ -11,3 +11,4 @@ pub mod Replicas
 pub mod Kinds
 pub mod Writers
 pub mod Laws
+pub mod Sent

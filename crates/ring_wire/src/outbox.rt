@@ -1,7 +1,8 @@
-ghost use Rattle.std.specs.Prelude.{◌≡◌, ◌≤◌, ◌<◌, ◌∷◌, ◌++◌, [], length, take};
+ghost use Rattle.std.specs.Prelude.{◌≡◌, ◌+◌, ◌≤◌, ◌<◌, ◌∷◌, ◌++◌, [], length, take, vec_capacity, vec_len};
+ghost use Rattle.ring_wire.specs.Sent.{from_all};
 
 use arrayvec::ArrayVec;
-use fabric_terms::Body;
+use fabric_terms::{Body, Message};
 use ring_points::Who;
 use std::marker::Model;
 
@@ -57,11 +58,16 @@ impl Outbox {
         self.messages.as_slice()
     }
 
-    /// The messages themselves, in their order. (This project's own.)
-    pub fn into_messages(self) -> ArrayVec<(Who, Body), 192>
-        ensures { result.items ≡ self }
+    /// Moves what is sent behind a list that has room for it, in its order, as messages from this instance. Nothing is
+    /// sent any more.
+    pub fn hand_over(&mut self, from: Who, frames: &mut Vec<Message>)
+        requires { vec_len frames.old + length self.old ≤ vec_capacity frames.old }
+        ensures frames { frames.new.items ≡ frames.old.items ++ from_all from self.old }
+        ensures emptied { self.new ≡ [] }
     {
-        self.messages
+        for (to, body) in self.messages.drain(..) {
+            frames.push_reserved(Message { from, to, body });
+        }
     }
 
     /// Sends one more message.
