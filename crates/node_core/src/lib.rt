@@ -1,0 +1,18 @@
+//! A whole node: its start from what is kept, and its step, with the records to sync, the frames to send and the
+//! reports to make.
+//!
+//! What a step leaves is taken into memory before the step is done, so that a node for which memory is short is as it
+//! was. The caller syncs the records, then sends the frames, then prints the reports. This crate stands on the ring at
+//! one node; its promise is the step of a whole node in the rules of the world, with nothing above the ring yet.
+#![tactic(auto)]
+
+mod batch;
+mod boots;
+mod node;
+mod outcome;
+#[cfg(test)]
+mod tests;
+
+pub use batch::Batch;
+pub use node::NodeCore;
+pub use outcome::Outcome;

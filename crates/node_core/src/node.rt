@@ -1,0 +1,144 @@
+ghost use Rattle.std.specs.Prelude.{◌≡◌, ◌≤◌, ◌^◌, List, IfOk, OnErr, true};
+ghost use Rattle.fabric_terms.specs.Sound.{IsSound};
+ghost use Rattle.fabric_terms.specs.declared.config.FabricConfig.{FabricConfig as Configuration};
+ghost use Rattle.fabric_terms.specs.declared.record.Record.{Record};
+ghost use Rattle.ring_rules.specs.Slots.{fence_of};
+ghost use Rattle.world_rules.specs.Nodes.{boots_of, node_begun, node_step};
+ghost use Rattle.world_rules.specs.Nothing.{nothing};
+ghost use Rattle.world_rules.specs.Schedules.{is_configured_node};
+ghost use Rattle.node_core.specs.Nodes.{Does, FitsInput, GoesBy, IsSmall, most_frames, state_of};
+
+use crate::batch::Batch;
+use crate::boots::{boot, instance_after, is_spent};
+use crate::outcome::Outcome;
+use fabric_terms::{FabricConfig, OutOfMemory};
+use keep_log::Kept;
+use ring_node::{Input, Reports, RingNode};
+use ring_points::{RangeSet, Who};
+use ring_wire::{OUTBOX_LIMIT, Outbox};
+use std::alloc::Global;
+use std::marker::Model;
+
+/// How many reports the ring makes in a step at most.
+const MOST_TOLD: usize = 64;
+
+/// A whole node. Contracts see it as the record `Node` of the ring at one node, since nothing runs above the ring yet.
+#[derive(Drop)]
+pub struct NodeCore {
+    alloc: Global,
+    ring: RingNode,
+    /// What a step sends and reports, empty between steps.
+    out: Outbox,
+    told: Reports,
+}
+
+impl Model for NodeCore {
+    ghost use Rattle.std.specs.Prelude.{◌≡◌, []};
+    ghost use Rattle.ring_node.specs.Nodes.{Node};
+
+    ghost Value = { Node };
+
+    ghost view = { λ n. n.ring };
+
+    ghost invariant = { λ n. (n.out ≡ []) × (n.told ≡ []) };
+}
+
+impl NodeCore {
+    /// Starts a node from what is kept of it: its next instance, or the last again where all numbers are used up, and
+    /// then it has left. It is an error where memory is short, and then `kept` is dropped.
+    pub fn start(
+        alloc: Global,
+        config: &FabricConfig,
+        node: u16,
+        kept: Kept,
+        now: u64,
+    ) -> Result<(NodeCore, Outcome), OutOfMemory>
+        requires sound { IsSound config.now }
+        requires node { is_configured_node config.now node ≡ true }
+        requires now { now ≤ 10 ^ 15 }
+        ensures begins { IfOk result (λ r. (records : List Record) → boots_of records ≡ kept.boots → Does (node_begun nothing config.now node records) r.0 r.1) }
+        ensures goes_by { IfOk result (λ r. GoesBy config.now r.0) }
+        ensures small { IfOk result (λ r. IsSmall r.1) }
+    {
+        let spent = is_spent(kept.boots);
+        let instance = instance_after(kept.boots);
+        let me = Who {
+            actor: node,
+            instance,
+        };
+        let records = boot(alloc, instance, spent)?;
+        let mut reports = Vec::with_capacity(alloc, MOST_TOLD)?;
+        let (ring, mut told) = RingNode::new(alloc, config, me, now, spent)?;
+        told.hand_over(&mut reports);
+        let outcome = Outcome {
+            records: Batch::new(records),
+            frames: Batch::new(Vec::new(alloc)),
+            reports: Batch::new(reports),
+        };
+        let node = NodeCore {
+            alloc,
+            ring,
+            out: Outbox::new(),
+            told,
+        };
+        Ok((node, outcome))
+    }
+
+    /// The step of the node when this comes, at this reading of its clock, in ticks. It is an error where memory is
+    /// short, and then nothing is changed.
+    pub fn step(&mut self, now: u64, input: &Input) -> Result<Outcome, OutOfMemory>
+        requires now { now ≤ 10 ^ 15 }
+        requires input { FitsInput input.now }
+        ensures does { IfOk result (λ o. (c : Configuration) → GoesBy c self.old → Does (node_step nothing c now input.now (state_of self.old)) self.new o) }
+        ensures small { IfOk result IsSmall }
+        ensures settings { self.new.settings ≡ self.old.settings }
+        ensures me { self.new.ring.me ≡ self.old.ring.me }
+        ensures refused { OnErr result (self.new ≡ self.old) }
+    {
+        let mut frames = Vec::with_capacity(self.alloc, OUTBOX_LIMIT)?;
+        let mut reports = Vec::with_capacity(self.alloc, MOST_TOLD)?;
+        self.ring.act(now, input, &mut self.out, &mut self.told);
+        self.out.hand_over(self.ring.me(), &mut frames);
+        self.told.hand_over(&mut reports);
+        Ok(Outcome {
+            records: Batch::new(Vec::new(self.alloc)),
+            frames: Batch::new(frames),
+            reports: Batch::new(reports),
+        })
+    }
+
+    /// How many frames the next step sends at most.
+    pub fn most_frames(&self) -> usize
+        ensures { result ≡ most_frames }
+    {
+        201
+    }
+
+    /// Which instance it is.
+    pub fn me(&self) -> Who
+        ensures { result ≡ self.now.ring.me }
+    {
+        self.ring.me()
+    }
+
+    /// What it owns.
+    pub fn ranges(&self) -> &RangeSet
+        ensures { result.now ≡ self.now.ring.token.ranges }
+    {
+        self.ring.ranges()
+    }
+
+    /// Up to which reading it holds what it owns, in ticks, where there is an end.
+    pub fn fence(&self) -> Option<u64>
+        ensures { result ≡ fence_of self.now.settings.answer self.now.ring.slots }
+    {
+        self.ring.fence()
+    }
+
+    /// The ring at the node.
+    pub fn ring(&self) -> &RingNode
+        ensures { result.now ≡ self.now }
+    {
+        &self.ring
+    }
+}
