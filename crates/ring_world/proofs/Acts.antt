@@ -1,0 +1,313 @@
+-- A node's step: the world stands for the world after it.
+use Rattle.std.proofs.Common.{◌≡◌, ℕ, zero, suc, ◌+◌, ◌≤◌, ◌<◌, ◌^◌, Bool, true, false, List, [], ◌∷◌, ◌++◌, Option, Some, refl, sym, ap, subst, ◌∙◌, arith, length, get_or}
+use Rattle.std.specs.Prelude.{◌&&◌, not, unwrap_or, slice_get, slice_set, slice_index, map, option_map, All}
+use Rattle.std.proofs.lemmas.List.{length-set, set-get_or}
+use Rattle.std.proofs.lemmas.Option.{slice_get-map, slice_get_within, get_or_from_slice_get}
+use Rattle.drift_clock.specs.Extremes.{Kept, Stands as DriftStands}
+use Rattle.std.specs.Prelude.{Vec}
+use Rattle.std.specs.Prelude.{Box}
+use Rattle.std.specs.Box.{with_value}
+use Rattle.std.specs.Vec.{with_item}
+use Rattle.std.specs.declared.alloc.Global.{Global}
+use Rattle.fabric_terms.specs.Runs.{Entry}
+use Rattle.fabric_terms.specs.declared.config.FabricConfig.{FabricConfig}
+use Rattle.fabric_terms.specs.declared.message.Body.{Body}
+use Rattle.fabric_terms.specs.declared.message.Message.{Message}
+use Rattle.fabric_terms.specs.declared.report.Report.{Report}
+use Rattle.node_core.specs.Nodes.{Does, GoesBy, IsSmall, state_of}
+use Rattle.ring_wire.specs.Sent.{from_all}
+use Rattle.node_core.specs.declared.outcome.Outcome.{Outcome}
+use Rattle.point_places.specs.Spots.{place_at}
+use Rattle.ring_node.specs.Nodes.{Node}
+use Rattle.ring_points.specs.Whos.{arbiter_actor}
+use Rattle.ring_points.specs.declared.who.Who.{Who}
+use Rattle.ring_rules.specs.Rings.{Ring, settings_of}
+use Rattle.ring_rules.specs.Steps.{ring_step}
+use Rattle.join_phases.specs.Phases.{is_left}
+use Rattle.ring_rules.specs.declared.input.Input.{Input}
+use Rattle.world_rules.specs.Events.{node_acts}
+use Rattle.world_rules.specs.Maps.{at, put}
+use Rattle.world_rules.specs.Nodes.{NodeState, node_step, above_if, comes_above, boots_of}
+use Rattle.world_rules.specs.Nothing.{nothing}
+use Rattle.world_rules.specs.Uppers.{Did}
+use Rattle.world_rules.specs.Worlds.{World as RuledWorld, Running as RuledRunning, kept_of, posted, numbers_of}
+use Rattle.world_rules.proofs.Maps.{rises-put}
+use Rattle.ring_world.specs.Answers.{entry_of}
+use Rattle.ring_world.specs.Commits.{posted_all, numbers_after}
+use Rattle.ring_world.specs.Moves.{Moves, Same, placed_by}
+use Rattle.ring_world.specs.Room.{most_events, most_frames}
+use Rattle.ring_world.specs.Running.{AllRun, RunsAs}
+use Rattle.ring_world.specs.Seen.{Seen, seen_of}
+use Rattle.ring_world.specs.Stands.{Stands, SeenStands, NodesStand, FramesStand}
+use Rattle.ring_world.specs.Steps.{IsSoundFrame, LeavesSound}
+use Rattle.ring_world.specs.declared.running.Running.{Running}
+use Rattle.ring_world.specs.declared.world.Acted.{Acted}
+use Rattle.ring_world.specs.declared.world.World.{World}
+use Rattle.ring_world.proofs.Growth.{kept_same, posted_is, posted-length, from-length, numbers_are, arbiters_on}
+use Rattle.ring_world.proofs.Maps.{put_place}
+use Rattle.ring_world.proofs.Nodes.{Ruled, clock_of, run_at, run_set}
+
+-- nothing above a node records anything
+pub records_none : (c : FabricConfig) (now : ℕ) (i : Input) (s : NodeState nothing) → (node_step nothing c now i s).records ≡ []
+unfolding node_step
+records_none c now i s =
+    let r : Ring = (ring_step (settings_of c s.ring.me.actor) now i s.ring).ring in
+    by_test r (not (is_left r.phase) && comes_above (settings_of c s.ring.me.actor) s.ring i)
+  where
+    by_test : (r : Ring) (b : Bool) → (above_if nothing c now r s.above i b).records ≡ []
+    by_test r true = refl
+    by_test r false = refl
+
+-- a clock that shows the same leaves the clocks as they were
+pub clocks_set : (es : List Ruled) (i : ℕ) (e f : Ruled) → slice_get es i ≡ Some e → clock_of f ≡ clock_of e → map clock_of (slice_set es i f) ≡ map clock_of es
+clocks_set [] i e f g same = refl
+clocks_set (q ∷ es) zero e f g same = let is : q ≡ e = cc in ap (λ k. k ∷ map clock_of es) (same ∙ ap clock_of (sym is))
+clocks_set (q ∷ es) (suc i) e f g same = ap (λ ks. clock_of q ∷ ks) (clocks_set es i e f g same)
+
+-- frames and their count after an outcome
+pub frames_more : (a : Seen) (w v : RuledWorld nothing) (who : Who) (d : Did (NodeState nothing)) (o : Outcome) → FramesStand a w → o.frames ≡ from_all who d.sent → length o.frames ≤ 201
+    → a.sent < most_frames → v.frames ≡ posted_all o.frames w.frames → v.count ≡ w.count + length d.sent
+    → (b : Seen) → b.frames ≡ posted_all o.frames a.frames → b.sent ≡ a.sent + length o.frames → FramesStand b v
+frames_more a w v who d o s is few room frames count b bag sent =
+    let n : length o.frames ≡ length d.sent = ap length is ∙ from-length who d.sent in
+    let posts : posted_all o.frames w.frames ≡ posted_all (from_all who d.sent) w.frames = ap (λ ms. posted_all ms w.frames) is in
+    record {
+      frames = bag ∙ (ap (λ ms. posted_all o.frames ms) s.frames ∙ sym frames);
+      counted = let k : length v.frames ≡ length w.frames + length d.sent = ap length (frames ∙ posts ∙ sym (posted_is who d.sent w.frames)) ∙ posted-length who d.sent w.frames in omega (arith, s.counted);
+      sent = omega (arith, s.sent);
+      few = omega (arith, s.sent);
+    }
+
+-- the node of the code at the place of one of the rules, and its clock
+pub record Placed (a : World) (place node : ℕ) (s : RuledRunning nothing) : Type 0 where
+  pub code : Running
+  pub here : slice_get a.running.items place ≡ Some code
+  pub runs : RunsAs a.config a.time code (node, s)
+  pub within : place < length a.running.items
+  pub clock : slice_get a.clocks.items place ≡ Some (s.node.ring.me, s.reading)
+  pub clock_within : place < length a.clocks.items
+
+pub placed : (a : World) (w : RuledWorld nothing) (place node : ℕ) (s : RuledRunning nothing) → Stands a w → slice_get w.nodes place ≡ Some (node, s) → Placed a place node s
+placed a w place node s st here =
+    let at = run_at a.config a.time a.running.items w.nodes place (node, s) st.nodes.running here in
+    let clock : slice_get a.clocks.items place ≡ Some (s.node.ring.me, s.reading) =
+    ap (λ ks. slice_get ks place) st.nodes.clocks ∙ (slice_get-map clock_of w.nodes place ∙ ap (λ o. option_map clock_of o) here) in
+    record {
+      code = at.node;
+      here = at.here;
+      runs = at.runs;
+      within = slice_get_within a.running.items place at.node at.here;
+      clock = clock;
+      clock_within = slice_get_within a.clocks.items place (s.node.ring.me, s.reading) clock;
+    }
+
+-- what is read at the place
+pub read_at : {X : Type 0} (xs : List X) (place : ℕ) (x y : X) → slice_get xs place ≡ Some x → y ≡ get_or xs place y → y ≡ x
+read_at xs place x y here read = read ∙ get_or_from_slice_get xs place x y here
+
+-- every frame is sound, so what was sent last is
+
+pub all_tail : {X : Type 0} (P : X → Type 0) (x : X) (xs : List X) → All P (x ∷ xs) → All P xs
+all_tail P x xs h k d lt = h (suc k) d (omega arith)
+
+pub all_cons : {X : Type 0} (P : X → Type 0) (x : X) (xs : List X) → P x → All P xs → All P (x ∷ xs)
+all_cons P x xs one h zero d lt = one
+all_cons P x xs one h (suc k) d lt = h k d (omega arith)
+
+pub sound_before : (P : Message → Type 0) (who : Who) (sent : List (Who × Body)) (frames : List Message) → All P (posted who sent frames) → All P frames
+sound_before P who [] frames h = h
+sound_before P who (m ∷ ms) frames h =
+    let sent : Message = record { from = who; to = m.0; body = m.1 } in
+    all_tail P sent frames (sound_before P who ms (sent ∷ frames) h)
+
+pub sound_sent : (P : Message → Type 0) (who : Who) (sent : List (Who × Body)) (frames : List Message) → All P (posted who sent frames) → All P (from_all who sent)
+sound_sent P who [] frames h = λ k d lt. absurd (omega arith)
+sound_sent P who (m ∷ ms) frames h =
+    let sent : Message = record { from = who; to = m.0; body = m.1 } in
+    all_cons P sent (from_all who ms) (sound_before P who ms (sent ∷ frames) h 0 sent (omega arith)) (sound_sent P who ms (sent ∷ frames) h)
+
+-- what is seen after an outcome is committed
+pub seen_committed : (a m new : World) (runs : Vec Running Global) (place : ℕ) (q : Running) (o : Outcome) → Same a m → m.running ≡ a.running → runs ≡ with_item m.running place q
+    → new ≡ record m { running = runs; events = m.events + 1; sent = m.sent + length o.frames; frames = new.frames; places = new.places }
+    → new.frames.frames ≡ posted_all o.frames m.frames.frames
+    → seen_of new ≡ record (seen_of a) { events = a.events + 1; sent = a.sent + length o.frames; frames = posted_all o.frames a.frames.frames; running = slice_set a.running.items place q }
+seen_committed a m new runs place q o same running set rest frames =
+    let items : runs.items ≡ slice_set a.running.items place q = ap (λ (v : Vec Running Global). v.items) set ∙ ap (λ (v : Vec Running Global). slice_set v.items place q) running in
+    let bag : new.frames.frames ≡ posted_all o.frames a.frames.frames = frames ∙ ap (λ (x : Seen). posted_all o.frames x.frames) same.seen in
+    ap seen_of rest
+    ∙ (ap (λ (x : Seen). record x { running = runs.items; events = x.events + 1; sent = x.sent + length o.frames; frames = new.frames.frames }) same.seen
+    ∙ (ap (λ (rs : List Running). record (seen_of a) { running = rs; events = a.events + 1; sent = a.sent + length o.frames; frames = new.frames.frames }) items
+    ∙ ap (λ (fs : List Message). record (seen_of a) { running = slice_set a.running.items place q; events = a.events + 1; sent = a.sent + length o.frames; frames = fs }) bag))
+
+-- a node that is put back as it was
+pub put_back : (a m : World) (place : ℕ) (r : Running) (old n : Node) → Same a m → r ≡ get_or m.running.items place r → old ≡ r.node.value → n ≡ old
+    → Same a (record m { running = with_item m.running place (record { drift = r.drift; node = with_value r.node n }) })
+put_back a m place r old n same here inside back =
+    let node : with_value r.node n ≡ r.node = ap (λ (v : Node). with_value r.node v) (back ∙ inside) in
+    let items : slice_set m.running.items place (record { drift = r.drift; node = with_value r.node n }) ≡ m.running.items =
+    ap (λ (b : Box Node Global). slice_set m.running.items place (record { drift = r.drift; node = b })) node
+    ∙ (ap (λ (q : Running). slice_set m.running.items place q) here ∙ set-get_or m.running.items place r) in
+    record {
+      seen = ap (λ (rs : List Running). record (seen_of m) { running = rs }) items ∙ same.seen;
+      places = same.places;
+    }
+
+-- What the step of a node leaves of the code, against what the rules say of it.
+
+pub record NodeDid (old : Node) (i : Input) (now : ℕ) (n : Node) (o : Outcome) : Type 0 where
+  pub does : (c : FabricConfig) → GoesBy c old → Does (node_step nothing c now i (state_of old)) n o
+  pub settings : n.settings ≡ old.settings
+  pub me : n.ring.me ≡ old.ring.me
+  pub small : IsSmall o
+
+-- the node of the code that was read there, and its clock
+pub record IsRead (a : World) (place : ℕ) (r : Running) (clock : Who × ℕ) (old : Node) : Type 0 where
+  pub is_node : r ≡ get_or a.running.items place r
+  pub is_clock : clock ≡ get_or a.clocks.items place clock
+  pub inside : old ≡ r.node.value
+
+module _ (a : World) (w : RuledWorld nothing) (place node : ℕ) (s : RuledRunning nothing) (i : Input) (r : Running) (clock : Who × ℕ) (old n : Node) (o : Outcome)
+    (st : Stands a w) (here : slice_get w.nodes place ≡ Some (node, s)) (read : IsRead a place r clock old) (did : NodeDid old i clock.1 n o) where
+  -- what the rules say
+  abbrev pub done : Did (NodeState nothing)
+  done = node_step nothing a.config s.reading i s.node
+
+  there : Placed a place node s
+  there = placed a w place node s st here
+
+  is_code : r ≡ there.code
+  is_code = read_at a.running.items place there.code r there.here read.is_node
+
+  pub is_clock : clock ≡ (s.node.ring.me, s.reading)
+  is_clock = read_at a.clocks.items place (s.node.ring.me, s.reading) clock there.clock read.is_clock
+
+  runs : RunsAs a.config a.time r (node, s)
+  runs = subst (λ (q : Running). RunsAs a.config a.time q (node, s)) (sym is_code) there.runs
+
+  is_state : state_of old ≡ s.node
+  is_state = ap state_of read.inside ∙ runs.node
+
+  goes_by : GoesBy a.config old
+  goes_by = subst (λ (q : Node). GoesBy a.config q) (sym read.inside) runs.goes_by
+
+  pub node_does : Does done n o
+  node_does =
+      subst (λ (t : ℕ). Does (node_step nothing a.config t i s.node) n o) (ap (λ k. k.1) is_clock)
+      (subst (λ (q : NodeState nothing). Does (node_step nothing a.config clock.1 i q) n o) is_state (did.does a.config goes_by))
+
+  -- it is the same instance
+  pub same_me : done.state.ring.me ≡ s.node.ring.me
+  same_me =
+      let now : n.ring.me ≡ done.state.ring.me = ap (λ q. q.ring.me) node_does.state in
+      let was : old.ring.me ≡ s.node.ring.me = ap (λ q. q.ring.me) is_state in
+      sym now ∙ (did.me ∙ was)
+
+  -- it leaves sound messages
+  pub sends_sound : LeavesSound (node_acts nothing a.config w node i s) → All IsSoundFrame o.frames
+  sends_sound h = subst (λ (ms : List Message). All IsSoundFrame ms) (sym node_does.frames) (sound_sent IsSoundFrame done.state.ring.me done.sent w.frames h)
+
+  -- the world of the rules after it
+  abbrev after : RuledWorld nothing
+  after = (node_acts nothing a.config w node i s).world
+
+  kept_on : (q : ℕ) → kept_of after q ≡ kept_of w q
+  kept_on q =
+      let none : done.records ≡ [] = records_none a.config s.reading i s.node in
+      ap (λ rs. unwrap_or (at q (put done.state.ring.me.actor (kept_of w done.state.ring.me.actor ++ rs) w.kept)) []) none ∙ kept_same w done.state.ring.me.actor q
+
+  is_next : RuledRunning nothing
+  is_next = record { node = done.state; reading = s.reading; pairs = s.pairs }
+
+  abbrev nodes_after : List Ruled
+  nodes_after = slice_set w.nodes place (node, is_next)
+
+  nodes_are : after.nodes ≡ nodes_after
+  unfolding is_next
+  nodes_are = put_place 0 w.nodes place node s is_next st.nodes.rise here
+
+  runs_next : (q : Running) → q.node.value ≡ n → q.drift ≡ r.drift → RunsAs a.config a.time q (node, is_next)
+  unfolding is_next
+  runs_next q value drift =
+      let settings : n.settings ≡ settings_of a.config n.ring.me.actor =
+      did.settings ∙ (goes_by ∙ ap (λ (m : Who). settings_of a.config m.actor) (sym did.me)) in
+      record {
+        number = ap (λ (m : Who). m.actor) same_me ∙ runs.number;
+        in_range = runs.in_range;
+        node = ap state_of value ∙ node_does.state;
+        goes_by = subst (λ (m : Node). GoesBy a.config m) (sym value) settings;
+        drift = subst (λ (k : Kept). DriftStands k s.pairs) (sym drift) runs.drift;
+        bound = ap (λ (k : Kept). k.bound) drift ∙ runs.bound;
+        latest = subst (λ (k : Kept). k.latest.0 ≤ a.time) (sym drift) runs.latest;
+        reading = runs.reading;
+      }
+
+  nodes_stand : (b : Seen) (q : Running) → q.node.value ≡ n → q.drift ≡ r.drift → b.config ≡ a.config → b.time ≡ a.time → b.running ≡ slice_set a.running.items place q → b.clocks ≡ a.clocks.items
+      → b.events ≡ a.events + 1 → b.boots ≡ a.boots.items → NodesStand b after
+  unfolding is_next
+  nodes_stand b q value drift config time running clocks events boots =
+      record {
+        rise = rises-put node is_next w.nodes st.nodes.rise;
+        running =
+            subst (λ (k : FabricConfig). AllRun k b.time b.running after.nodes) (sym config)
+            (subst (λ (t : ℕ). AllRun a.config t b.running after.nodes) (sym time)
+            (subst (λ (rs : List Running). AllRun a.config a.time rs after.nodes) (sym running)
+            (subst (λ (es : List Ruled). AllRun a.config a.time (slice_set a.running.items place q) es) (sym nodes_are)
+            (run_set a.config a.time a.running.items w.nodes place q (node, is_next) st.nodes.running (runs_next q value drift)))));
+        clocks = clocks ∙ (st.nodes.clocks ∙ sym (ap (λ (es : List Ruled). map clock_of es) nodes_are ∙ clocks_set w.nodes place (node, s) (node, is_next) here (ap (λ m. (m, s.reading)) same_me)));
+        few = let k : length after.nodes ≡ length w.nodes = ap length nodes_are ∙ length-set w.nodes place (node, is_next) in omega (arith, st.nodes.few);
+        table = ap length boots ∙ st.nodes.table;
+        boots = λ m le. ap (λ bs. slice_index bs m) boots ∙ (st.nodes.boots m le ∙ ap boots_of (sym (kept_on m)));
+      }
+
+  -- the code after it
+  abbrev pub seen_next : Running → Seen
+  seen_next q = record (seen_of a) {
+    events = a.events + 1;
+    sent = a.sent + length o.frames;
+    frames = posted_all o.frames a.frames.frames;
+    running = slice_set a.running.items place q;
+  }
+
+  stands_next : (q : Running) → q.node.value ≡ n → q.drift ≡ r.drift → a.events < most_events → a.sent < most_frames → SeenStands (seen_next q) after
+  stands_next q value drift few room = record {
+    sound = st.sound;
+    time = st.time;
+    in_time = st.in_time;
+    few_events = omega arith;
+    nodes = nodes_stand (seen_next q) q value drift refl refl refl refl refl refl;
+    arbiters = arbiters_on (seen_of a) (seen_next q) w after st.arbiters refl (λ k. kept_on (arbiter_actor k)) refl refl refl;
+    frames = frames_more (seen_of a) w after done.state.ring.me done o st.frames node_does.frames did.small.frames room (posted_is done.state.ring.me done.sent w.frames ∙ sym (ap (λ ms. posted_all ms w.frames) node_does.frames)) refl (seen_next q) refl refl;
+  }
+
+  -- what is seen of it
+  abbrev pub acted_as : ℕ → Acted
+  acted_as line = record { line = line; time = a.time; who = clock.0; reading = Some clock.1; sent = numbers_after a.sent (length o.frames); reports = o.reports }
+
+  entry_next : (line : ℕ) → entry_of (Some (acted_as line)) ≡ (node_acts nothing a.config w node i s).entry
+  entry_next line =
+      let who : clock.0 ≡ done.state.ring.me = ap (λ (k : Who × ℕ). k.0) is_clock ∙ sym same_me in
+      let reading : clock.1 ≡ s.reading = ap (λ (k : Who × ℕ). k.1) is_clock in
+      let count : length o.frames ≡ length done.sent = ap length node_does.frames ∙ from-length done.state.ring.me done.sent in
+      let sent : numbers_after a.sent (length o.frames) ≡ numbers_of w.count done.sent =
+      ap (λ (k : ℕ). numbers_after a.sent k) count ∙ (ap (λ (k : ℕ). numbers_after k (length done.sent)) st.frames.sent ∙ sym (numbers_are w.count done.sent)) in
+      ap (λ (x : Who). told_by x clock.1 (numbers_after a.sent (length o.frames)) o.reports) who
+      ∙ (ap (λ (t : ℕ). told_by done.state.ring.me t (numbers_after a.sent (length o.frames)) o.reports) reading
+      ∙ (ap (λ (k : ℕ × ℕ). told_by done.state.ring.me s.reading k o.reports) sent
+      ∙ ap (λ (rs : List Report). told_by done.state.ring.me s.reading (numbers_of w.count done.sent) rs) node_does.reports))
+    where
+      told_by : Who → ℕ → ℕ × ℕ → List Report → Option Entry
+      told_by x t k rs = Some (record { who = x; reading = Some t; sent = k; reports = rs })
+
+  pub moves_next : (new : World) (q : Running) (line : ℕ) (acted : Acted) → q.node.value ≡ n → q.drift ≡ r.drift → a.events < most_events → a.sent < most_frames → seen_of new ≡ seen_next q
+      → ((p : ℕ) → p < 2 ^ 64 → place_at new.places p ≡ placed_by clock.0 o.reports p (place_at a.places p)) → acted ≡ acted_as line
+      → Moves a new (node_acts nothing a.config w node i s) line (Some acted)
+  moves_next new q line acted value drift few room seen places is =
+      let who : clock.0 ≡ done.state.ring.me = ap (λ (k : Who × ℕ). k.0) is_clock ∙ sym same_me in
+      record {
+        config = ap (λ (x : Seen). x.config) seen;
+        events = ap (λ (x : Seen). x.events) seen;
+        state = subst (λ (x : Seen). SeenStands x after) (sym seen) (stands_next q value drift few room);
+        places = λ p lt. places p lt ∙ (ap (λ (x : Who). placed_by x o.reports p (place_at a.places p)) who ∙ ap (λ (rs : List Report). placed_by done.state.ring.me rs p (place_at a.places p)) node_does.reports);
+        entry = ap (λ (x : Acted). entry_of (Some x)) is ∙ entry_next line;
+        seen = (ap (λ (x : Acted). x.line) is, ap (λ (x : Acted). x.time) is ∙ st.time);
+      }

@@ -1,0 +1,47 @@
+use Rattle.std.proofs.Common.{◌≡◌, true, false, None, Some, refl, sym, subst, ◌∙◌}
+use Rattle.fabric_terms.specs.declared.event.Event.TheVariants.{Give}
+use Rattle.frame_bag.specs.Bags.{frame_of}
+use Rattle.world_rules.specs.Nothing.{nothing}
+use Rattle.world_rules.specs.Worlds.{Stepped}
+use Rattle.ring_world.specs.Moves.{Moves}
+use Rattle.ring_world.proofs.Given.{can_arrive, give_absent, give_is, give_there, sound_frame}
+use Rattle.ring_world.proofs.Limits.{room_is, room_test, same_world, bound-give}
+use Rattle.ring_world.proofs.world.World.give.Goals as goal
+
+pub returns-in_default : goal.returns-in_default
+returns-in_default c w s =
+    let none : frame_of c.args.number c.args.self.now.frames.frames ≡ None = sym c.get.ensures ∙ c.in_default.is in
+    (give_absent c.args.self.now w c.args.number s none, same_world c.args.self.now)
+
+pub returns-then-not-has_room : goal.returns-then-not-has_room
+returns-then-not-has_room c w s =
+    let a = c.args.self.now in
+    let got : frame_of c.args.number a.frames.frames ≡ Some c.in-Some.message = sym c.get.ensures ∙ c.in-Some.is in
+    let full : room_test a true ≡ false = sym c.has_room.ensures ∙ c.if-not-has_room.true in
+    ((give_there a w c.args.number s c.in-Some.message got, bound-give a w c.args.number, room_is a w (Give c.args.number) true s refl refl ∙ full), same_world a)
+
+pub reach-requires-clause-can : goal.reach-requires-clause-can
+reach-requires-clause-can c =
+    let a = c.args.self.now in
+    let got : frame_of c.args.number a.frames.frames ≡ Some c.in-Some.message = sym c.get.ensures ∙ c.in-Some.is in
+    can_arrive a c.args.number c.in-Some.message c.requires.world c.requires.fits got
+
+pub reach-requires-clause-sound : goal.reach-requires-clause-sound
+reach-requires-clause-sound c =
+    let a = c.args.self.now in
+    let got : frame_of c.args.number a.frames.frames ≡ Some c.in-Some.message = sym c.get.ensures ∙ c.in-Some.is in
+    sound_frame a c.args.number c.in-Some.message c.requires.world got
+
+pub returns : goal.returns
+returns c w s =
+    let a = c.args.self.now in
+    let m = c.in-Some.message in
+    let got : frame_of c.args.number a.frames.frames ≡ Some m = sym c.get.ensures ∙ c.in-Some.is in
+    let room : room_test a true ≡ true = sym c.has_room.ensures ∙ c.if-not-has_room.false in (
+      record {
+        there = give_there a w c.args.number s m got;
+        bound = bound-give a w c.args.number;
+        room = room_is a w (Give c.args.number) true s refl refl ∙ room;
+      },
+      subst (λ (x : Stepped nothing). Moves a c.reach.new.self x c.args.line c.in_ok-reach.field-0) (sym (give_is a w c.args.number s m got)) (c.in_ok-reach.ensures w s),
+    )

@@ -1,0 +1,62 @@
+use Rattle.std.proofs.Common.{◌≡◌, true, false, refl, sym, ap, ◌∙◌, Some, arith}
+use Rattle.std.specs.Prelude.{is_some, remove}
+use Rattle.std.proofs.Common.{ℕ, ◌+◌, List}
+use Rattle.fabric_terms.specs.declared.report.Report.{Report}
+use Rattle.ring_points.specs.declared.who.Who.{Who}
+use Rattle.ring_world.specs.Seen.{seen_of}
+use Rattle.ring_world.specs.declared.running.Running.{Running}
+use Rattle.fabric_terms.specs.declared.event.Event.TheVariants.{Stop}
+use Rattle.world_rules.specs.Events.{world_step, node_stops}
+use Rattle.world_rules.specs.Nothing.{nothing}
+use Rattle.ring_world.proofs.Acts.{placed}
+use Rattle.ring_world.proofs.Ends.{stop_moves}
+use Rattle.ring_world.proofs.Limits.{room_is, room_test, same_world, bound-stop, few_events}
+use Rattle.ring_world.proofs.Stops.{stop_runs, node_runs_is, stop_node_is}
+use Rattle.ring_world.proofs.world.World.stop_node.Goals as goal
+
+pub returns-in_default : goal.returns-in_default
+returns-in_default c w s =
+    let none = c.in_default.ensures w s in
+    (stop_runs c.args.self.now w c.args.node false (node_runs_is c.args.self.now w c.args.node false c.requires.node (ap (λ o. is_some o) none)), same_world c.args.self.now)
+
+pub returns-then-not-has_room : goal.returns-then-not-has_room
+returns-then-not-has_room c w s =
+    let a = c.args.self.now in
+    let k = c.in-Some.ensures w s in
+    let full : room_test a false ≡ false = sym c.has_room.ensures ∙ c.if-not-has_room.true in (
+      (stop_runs a w c.args.node true (node_runs_is a w c.args.node true c.requires.node (ap (λ o. is_some o) k.found)), bound-stop a w c.args.node, room_is a w (Stop c.args.node) false s refl refl ∙ full),
+      same_world a,
+    )
+
+pub remove-reading-requires : goal.remove-reading-requires
+remove-reading-requires c =
+    let can = c.requires.can in
+    let k = c.in-Some.ensures can.0 can.1 in
+    let here = placed c.args.self.now can.0 c.in-Some.place c.args.node k.value can.1 k.here in
+    omega (arith, here.clock_within)
+
+pub remove-ended-requires : goal.remove-ended-requires
+remove-ended-requires c =
+    let can = c.requires.can in
+    let k = c.in-Some.ensures can.0 can.1 in
+    let here = placed c.args.self.now can.0 c.in-Some.place c.args.node k.value can.1 k.here in
+    omega (arith, here.within)
+
+pub returns : goal.returns
+returns c w s =
+    let a = c.args.self.now in
+    let k = c.in-Some.ensures w s in
+    let room : room_test a false ≡ true = sym c.has_room.ensures ∙ c.if-not-has_room.false in
+    let step : world_step nothing a.config w (Stop c.args.node) ≡ node_stops nothing w c.args.node (Some k.value) =
+    stop_node_is a w c.args.node c.requires.node ∙ ap (λ o. node_stops nothing w c.args.node o) k.found in (
+      record {
+        there = stop_runs a w c.args.node true (node_runs_is a w c.args.node true c.requires.node (ap (λ o. is_some o) k.found));
+        bound = bound-stop a w c.args.node;
+        room = room_is a w (Stop c.args.node) false s refl refl ∙ room;
+      },
+      stop_moves a w c.in-Some.place c.args.node k.value c.remove-reading.result s k.here c.remove-reading.ensures.value (few_events a false room) _ _ _ _ step
+          (ap (λ (ks : List (Who × ℕ)). record (seen_of a) { events = a.events + 1; clocks = ks; running = c.remove-ended.new.self.items }) c.remove-reading.ensures.items
+          ∙ ap (λ (rs : List Running). record (seen_of a) { events = a.events + 1; clocks = remove a.clocks.items c.in-Some.place; running = rs }) c.remove-ended.ensures.items)
+          refl
+          (ap (λ (rs : List Report). record { line = c.args.line; time = a.time; who = c.remove-reading.result.0; reading = Some c.remove-reading.result.1; sent = (0, 0); reports = rs }) c.in_ok-reports.ensures),
+    )

@@ -1,0 +1,16 @@
+pub mod Room
+pub mod Drifts
+pub mod Holders
+pub mod Running
+pub mod Seen
+pub mod Finds
+pub mod Seats
+pub mod Stands
+pub mod Keeps
+pub mod Answers
+pub mod Moves
+pub mod Commits
+pub mod Steps
+pub mod Starts
+pub mod Rulings
+pub mod Ticks

@@ -1,0 +1,51 @@
+ghost use Rattle.std.specs.Prelude.{◌≡◌, ◌≤◌, length};
+ghost use Rattle.sched_text.specs.Commands.{FitsCommand};
+ghost use Rattle.world_rules.specs.Schedules.{command_names};
+
+use crate::find::is_configured;
+use fabric_terms::{Command, FabricConfig, Payload};
+
+fn payload_of(text: &Payload) -> Payload
+    requires { length text.now ≤ 512 }
+    ensures { result ≡ text.now }
+{
+    Payload::from_slice(text.as_slice())
+}
+
+/// The same command again.
+pub fn copy_of(command: &Command) -> Command
+    requires { FitsCommand command.now }
+    ensures { result ≡ command.now }
+{
+    match command {
+        Command::Link(node) => Command::Link(*node),
+        Command::LinkFor(node, length) => Command::LinkFor(*node, *length),
+        Command::Part(node) => Command::Part(*node),
+        Command::GiveNear(node) => Command::GiveNear(*node),
+        Command::GiveAll(node) => Command::GiveAll(*node),
+        Command::Join(node) => Command::Join(*node),
+        Command::Find(point) => Command::Find(*point),
+        Command::Create(partition, count) => Command::Create(*partition, *count),
+        Command::Swap(partition, node) => Command::Swap(*partition, *node),
+        Command::Heal(partition, count) => Command::Heal(*partition, *count),
+        Command::Lose(partition, node) => Command::Lose(*partition, *node),
+        Command::Write(partition, text) => Command::Write(*partition, payload_of(text)),
+        Command::Units(part) => Command::Units(*part),
+    }
+}
+
+/// Whether the node that a command names is configured, and another where the command is about a link.
+pub fn is_named(config: &FabricConfig, node: u16, command: &Command) -> bool
+    ensures { result ≡ command_names config.now node command.now }
+{
+    match command {
+        Command::Link(other)
+        | Command::LinkFor(other, _)
+        | Command::Part(other)
+        | Command::GiveNear(other)
+        | Command::GiveAll(other)
+        | Command::Join(other) => is_configured(config, *other) && *other != node,
+        Command::Swap(_, other) | Command::Lose(_, other) => is_configured(config, *other),
+        _ => true,
+    }
+}

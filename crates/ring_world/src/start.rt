@@ -1,0 +1,164 @@
+ghost use Rattle.std.specs.Prelude.{◌≡◌, ◌≤◌, ◌<◌, ◌^◌, ◌∷◌, [], Some, None, true, IfOk, OnOk, length, insert, vec_len, vec_capacity};
+ghost use Rattle.fabric_terms.specs.Sound.{IsSound};
+ghost use Rattle.node_core.specs.Nodes.{most_reports};
+ghost use Rattle.sched_text.specs.Lines.{Fits};
+ghost use Rattle.world_rules.specs.Maps.{at};
+ghost use Rattle.world_rules.specs.Nodes.{node_begun};
+ghost use Rattle.world_rules.specs.Nothing.{nothing};
+ghost use Rattle.world_rules.specs.Schedules.{is_configured_node};
+ghost use Rattle.world_rules.specs.Worlds.{World as RuledWorld, kept_of, node_acted};
+ghost use Rattle.ring_world.specs.Moves.{Comes, Moves, Same};
+ghost use Rattle.ring_world.specs.Room.{most_events, most_frames};
+ghost use Rattle.ring_world.specs.Running.{last_node};
+ghost use Rattle.ring_world.specs.Stands.{Stands};
+ghost use Rattle.ring_world.specs.Starts.{Begins, place_for};
+
+use crate::find::is_configured;
+use crate::running::Running;
+use crate::world::{Acted, EventRefusal, World};
+use drift_clock::Drift;
+use fabric_terms::{Event, OutOfMemory};
+use keep_log::{Kept, KeptError, read_records};
+use node_core::{NodeCore, Outcome};
+use ring_points::Who;
+use std::alloc::Global;
+
+/// What is kept of a node that has started so often.
+fn kept_boots(alloc: Global, boots: u32) -> Result<Kept, OutOfMemory>
+    ensures { IfOk result (λ kept. kept.boots ≡ boots) }
+{
+    match read_records(alloc, &[]) {
+        Ok(mut kept) => {
+            kept.boots = boots;
+            Ok(kept)
+        }
+        Err(KeptError::OutOfMemory) => Err(OutOfMemory),
+        Err(KeptError::BadRecord(_)) => unreachable!(),
+    }
+}
+
+/// Where the clock of this node has to stand.
+fn place_for(clocks: &[(Who, u64)], node: u16) -> usize
+    ensures place { result ≡ place_for node clocks.now }
+    ensures within { result ≤ length clocks.now }
+{
+    for (i, k) in clocks.iter().enumerate() {
+        if node < k.0.actor {
+            return i;
+        }
+    }
+    clocks.len()
+}
+
+/// Puts an item in where there is room for it.
+fn put_in<T: Drop>(items: &mut Vec<T>, place: usize, item: T)
+    requires place { place ≤ vec_len items.old }
+    requires room { vec_len items.old < vec_capacity items.old }
+    ensures { items.new.items ≡ insert items.old.items place item }
+{
+    match items.insert(place, item) {
+        Ok(()) => {}
+        Err(_) => unreachable!(),
+    }
+}
+
+impl World {
+    /// Makes room for one more running node, and for what its start tells.
+    fn make_place(&mut self) -> Result<(), OutOfMemory>
+        ensures same { Same self.old self.new }
+        ensures clocks { OnOk result (vec_len self.new.clocks < vec_capacity self.new.clocks) }
+        ensures running { OnOk result (vec_len self.new.running < vec_capacity self.new.running) }
+        ensures reports { OnOk result (most_reports ≤ self.new.places.room) }
+    {
+        self.make_room(0)?;
+        self.clocks.reserve(1)?;
+        self.running.reserve(1)?;
+        Ok(())
+    }
+
+    /// The next instance of a node, and what its start leaves.
+    fn new_node(&self, node: u16, reading: u64) -> Result<(Box<NodeCore>, Outcome), OutOfMemory>
+        requires sound { IsSound self.now.config }
+        requires node { is_configured_node self.now.config node ≡ true }
+        requires reading { reading ≤ 10 ^ 15 }
+        requires boots { node < length self.now.boots.items }
+        ensures { IfOk result (λ r. Begins self.now node r.0.value r.1) }
+    {
+        let kept = kept_boots(self.alloc, self.boots[usize::from(node)])?;
+        let (core, outcome) = NodeCore::start(self.alloc, &self.config, node, kept, reading)?;
+        Ok((Box::new(self.alloc, core)?, outcome))
+    }
+
+    /// The node runs: its clock and its start count, its frames are sent and its reports move points.
+    fn enter(
+        &mut self,
+        line: u64,
+        node: u16,
+        reading: u64,
+        core: Box<NodeCore>,
+        outcome: Outcome,
+    ) -> Acted
+        requires can { (w : RuledWorld nothing) × Stands self.old w }
+        requires node { node ≤ last_node }
+        requires begins { Begins self.old node core.value outcome }
+        requires reading { reading ≤ 10 ^ 15 }
+        requires events { self.old.events < most_events }
+        requires sent { self.old.sent < most_frames }
+        requires clocks { vec_len self.old.clocks < vec_capacity self.old.clocks }
+        requires running { vec_len self.old.running < vec_capacity self.old.running }
+        requires reports { most_reports ≤ self.old.places.room }
+        ensures { (w : RuledWorld nothing) → Stands self.old w → at node w.nodes ≡ None →
+            Moves self.old self.new (node_acted nothing w node reading ((w.time, reading) ∷ []) (node_begun nothing self.old.config node (kept_of w node))) line (Some result) }
+    {
+        let who = core.me();
+        let drift = Drift::new(self.config.bound, self.time, reading);
+        let place = place_for(&self.clocks, node);
+        put_in(&mut self.clocks, place, (who, reading));
+        put_in(&mut self.running, place, Running { drift, node: core });
+        self.boots[usize::from(node)] = who.instance;
+        self.commit(line, who, Some(reading), outcome)
+    }
+
+    /// Starts a configured node that does not run.
+    fn start_node(
+        &mut self,
+        line: u64,
+        node: u16,
+        reading: u64,
+    ) -> Result<Option<Acted>, EventRefusal>
+        requires can { (w : RuledWorld nothing) × Stands self.old w }
+        requires node { node ≤ last_node }
+        requires reading { reading ≤ 10 ^ 15 }
+        ensures { (w : RuledWorld nothing) → Stands self.old w → Comes self.old self.new w line (Event.Start node (Some reading)) result }
+    {
+        if !is_configured(&self.config, node) {
+            return Err(EventRefusal::NoSuch);
+        }
+        if self.place_of(node).is_some() {
+            return Err(EventRefusal::NoSuch);
+        }
+        if !self.has_room(true) {
+            return Err(EventRefusal::TooLarge);
+        }
+        self.make_place()?;
+        let (core, outcome) = self.new_node(node, reading)?;
+        Ok(Some(self.enter(line, node, reading, core, outcome)))
+    }
+
+    /// An actor's process begins: a node's with the reading of its clock, an arbitrator's without one.
+    pub(crate) fn start(
+        &mut self,
+        line: u64,
+        actor: u16,
+        reading: Option<u64>,
+    ) -> Result<Option<Acted>, EventRefusal>
+        requires can { (w : RuledWorld nothing) × Stands self.old w }
+        requires fits { Fits (Event.Start actor reading) }
+        ensures { (w : RuledWorld nothing) → Stands self.old w → Comes self.old self.new w line (Event.Start actor reading) result }
+    {
+        match reading {
+            Some(reading) => self.start_node(line, actor, reading),
+            None => self.start_arbiter(line, actor),
+        }
+    }
+}

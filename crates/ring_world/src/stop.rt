@@ -1,0 +1,90 @@
+ghost use Rattle.std.specs.Prelude.{◌≡◌, ◌≤◌, ◌<◌, [], ◌∷◌, IfOk};
+ghost use Rattle.sched_text.specs.Lines.{Fits};
+ghost use Rattle.world_rules.specs.Nothing.{nothing};
+ghost use Rattle.world_rules.specs.Worlds.{World as RuledWorld};
+ghost use Rattle.ring_world.specs.Moves.{Comes};
+ghost use Rattle.ring_world.specs.Stands.{Stands};
+
+use crate::find::ARBITRATORS;
+use crate::world::{Acted, EventRefusal, World};
+use fabric_terms::{Event, OutOfMemory, Report};
+use node_core::Batch;
+use ring_points::Who;
+use std::alloc::Global;
+
+fn stopped(alloc: Global) -> Result<Batch<Report>, OutOfMemory>
+    ensures { IfOk result (λ r. r ≡ Report.Stopped ∷ []) }
+{
+    let mut reports = Vec::new(alloc);
+    reports.push(Report::Stopped)?;
+    Ok(Batch::new(reports))
+}
+
+impl World {
+    /// A node's process ends.
+    fn stop_node(&mut self, line: u64, node: u16) -> Result<Option<Acted>, EventRefusal>
+        requires can { (w : RuledWorld nothing) × Stands self.old w }
+        requires node { node ≤ 999 }
+        ensures { (w : RuledWorld nothing) → Stands self.old w → Comes self.old self.new w line (Event.Stop node) result }
+    {
+        let Some(place) = self.place_of(node) else {
+            return Err(EventRefusal::NoSuch);
+        };
+        if !self.has_room(false) {
+            return Err(EventRefusal::TooLarge);
+        }
+        let reports = stopped(self.alloc)?;
+        let (who, reading) = self.clocks.remove(place);
+        let _ended = self.running.remove(place);
+        self.events += 1;
+        Ok(Some(Acted {
+            line,
+            time: self.time,
+            who,
+            reading: Some(reading),
+            sent: (0, 0),
+            reports,
+        }))
+    }
+
+    /// An arbitrator's process ends.
+    fn stop_arbiter(&mut self, line: u64, actor: u16) -> Result<Option<Acted>, EventRefusal>
+        requires { ARBITRATORS < actor }
+        ensures { (w : RuledWorld nothing) → Stands self.old w → Comes self.old self.new w line (Event.Stop actor) result }
+    {
+        let Some(place) = self.seat_of(actor) else {
+            return Err(EventRefusal::NoSuch);
+        };
+        if self.seats[place].running.is_none() {
+            return Err(EventRefusal::NoSuch);
+        }
+        if !self.has_room(false) {
+            return Err(EventRefusal::TooLarge);
+        }
+        let reports = stopped(self.alloc)?;
+        let seat = &mut self.seats[place];
+        seat.running = None;
+        self.events += 1;
+        Ok(Some(Acted {
+            line,
+            time: self.time,
+            who: Who { actor, instance: 0 },
+            reading: None,
+            sent: (0, 0),
+            reports,
+        }))
+    }
+
+    /// An actor's process ends.
+    pub(crate) fn stop(&mut self, line: u64, actor: u16) -> Result<Option<Acted>, EventRefusal>
+        requires can { (w : RuledWorld nothing) × Stands self.old w }
+        requires fits { Fits (Event.Stop actor) }
+        ensures { (w : RuledWorld nothing) → Stands self.old w → Comes self.old self.new w line (Event.Stop actor) result }
+    {
+        if actor <= ARBITRATORS {
+            self.stop_node(line, actor)
+        } else {
+            self.stop_arbiter(line, actor)
+        }
+    }
+}
