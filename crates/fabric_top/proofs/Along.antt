@@ -1,15 +1,16 @@
 -- Where a schedule stands after some of its lines.
 use Rattle.std.proofs.Common.{◌≡◌, ℕ, ◌+◌, ◌≤◌, List, [], ◌∷◌, ◌++◌, length, Some, None, arith, refl, ap, sym, subst, ◌∙◌}
 use Rattle.fabric_terms.specs.declared.config.FabricConfig.{FabricConfig}
+use Rattle.ring_world.specs.Answers.{ruled}
+use Rattle.ring_world.specs.declared.world.World.{World}
 use Rattle.sched_text.specs.Lines.{lines_of}
+use Rattle.world_rules.specs.Runs.{History}
 use Rattle.fabric_top.specs.declared.status.Refusal.{Refusal}
-use Rattle.fabric_top.specs.declared.world.World.{World}
-use Rattle.fabric_top.specs.Worlds.{History, world_after, run_of}
-use Rattle.fabric_top.specs.Schedule.{Verdict, Ignored, Accepted, Refused, Judged, line_verdict, judge_from, judged_at}
-use Rattle.fabric_top.specs.Output.{lines_of_run, place_lines, places_where, end_line, fault_line, IsAnswer}
+use Rattle.fabric_top.specs.Schedule.{Verdict, Ignored, Accepted, Refused, line_verdict, judge_from, judged_at}
+use Rattle.fabric_top.specs.Output.{fault_line, IsAnswer, IsReport}
 use Rattle.fabric_top.specs.Codes.{status_of}
-use Rattle.fabric_top.specs.Follows.{At, Follows, runs_first}
-use Rattle.fabric_top.proofs.Unheld.{places_of_run}
+use Rattle.fabric_top.specs.Follows.{At, Follows}
+use Rattle.fabric_top.proofs.Judging.{judge_on, judge_line}
 
 -- some history is done, and the lines that are left lead to the same end as all lines
 pub record Along (c : FabricConfig) (bytes : List ℕ) (a : World) (text rest : List ℕ) (number : ℕ) : Type 0 where
@@ -18,23 +19,10 @@ pub record Along (c : FabricConfig) (bytes : List ℕ) (a : World) (text rest : 
   pub judged : judge_from c history number (lines_of rest) ≡ judge_from c [] 2 (lines_of bytes)
   pub bounded : number + length rest ≤ length bytes + 2
 
-abbrev pub judge_on : FabricConfig → History → ℕ → List (List ℕ) → Verdict → Judged
-judge_on c h n ls Ignored = judge_from c h (n + 1) ls
-judge_on c h n ls (Accepted e) = judge_from c ((n, e) ∷ h) (n + 1) ls
-judge_on c h n ls (Refused status) = judged_at c h (Some status)
-
-judge_line : (c : FabricConfig) (h : History) (n : ℕ) (l : List ℕ) (ls : List (List ℕ)) → judge_from c h n (l ∷ ls) ≡ judge_on c h n ls (line_verdict c (world_after c h) (length h) n l)
-judge_line c h n l ls = by_verdict (line_verdict c (world_after c h) (length h) n l)
-  where
-    by_verdict : (v : Verdict) → (elim v [ Ignored ↦ judge_from c h (n + 1) ls | Accepted e ↦ judge_from c ((n, e) ∷ h) (n + 1) ls | Refused status ↦ judged_at c h (Some status) ]) ≡ judge_on c h n ls v
-    by_verdict Ignored = refl
-    by_verdict (Accepted e) = refl
-    by_verdict (Refused status) = refl
-
 -- a line that is not refused
-pub along_next : (c : FabricConfig) (bytes : List ℕ) (a new : World) (text more rest line after : List ℕ) (n : ℕ) (along : Along c bytes a text rest n) → lines_of rest ≡ line ∷ lines_of after → length after + 1 ≤ length rest → Follows c along.history n (line_verdict c (world_after c along.history) (length along.history) n line) None new more → Along c bytes new more after (n + 1)
+pub along_next : (c : FabricConfig) (bytes : List ℕ) (a new : World) (text more rest line after : List ℕ) (n : ℕ) (along : Along c bytes a text rest n) → lines_of rest ≡ line ∷ lines_of after → length after + 1 ≤ length rest → Follows c along.history n (line_verdict c (ruled c along.history) (length along.history) n line) None new more → Along c bytes new more after (n + 1)
 along_next c bytes a new text more rest line after n along cut less follows =
-    by_verdict (line_verdict c (world_after c along.history) (length along.history) n line) follows
+    by_verdict (line_verdict c (ruled c along.history) (length along.history) n line) follows
     (sym (judge_line c along.history n line (lines_of after)) ∙ (ap (judge_from c along.history n) (sym cut) ∙ along.judged))
   where
     by_verdict : (v : Verdict) → Follows c along.history n v None new more → judge_on c along.history n (lines_of after) v ≡ judge_from c [] 2 (lines_of bytes) → Along c bytes new more after (n + 1)
@@ -43,9 +31,9 @@ along_next c bytes a new text more rest line after n along cut less follows =
     by_verdict (Refused status) f j = let z : None ≡ Some status = f.0 in cc
 
 -- a line that is refused
-pub along_refused : (c : FabricConfig) (bytes : List ℕ) (a new : World) (text more rest line after : List ℕ) (n : ℕ) (status : Refusal) (along : Along c bytes a text rest n) → lines_of rest ≡ line ∷ lines_of after → Follows c along.history n (line_verdict c (world_after c along.history) (length along.history) n line) (Some status) new more → (last : List ℕ) → last ≡ more ++ fault_line (status_of status) → IsAnswer (judge_from c [] 2 (lines_of bytes)) (Some status) last
+pub along_refused : (c : FabricConfig) (bytes : List ℕ) (a new : World) (text more rest line after : List ℕ) (n : ℕ) (status : Refusal) (along : Along c bytes a text rest n) → lines_of rest ≡ line ∷ lines_of after → Follows c along.history n (line_verdict c (ruled c along.history) (length along.history) n line) (Some status) new more → (last : List ℕ) → last ≡ more ++ fault_line (status_of status) → IsAnswer (judge_from c [] 2 (lines_of bytes)) (Some status) last
 along_refused c bytes a new text more rest line after n status along cut follows last is =
-    by_verdict (line_verdict c (world_after c along.history) (length along.history) n line) follows
+    by_verdict (line_verdict c (ruled c along.history) (length along.history) n line) follows
     (sym (judge_line c along.history n line (lines_of after)) ∙ (ap (judge_from c along.history n) (sym cut) ∙ along.judged))
   where
     by_verdict : (v : Verdict) → Follows c along.history n v (Some status) new more → judge_on c along.history n (lines_of after) v ≡ judge_from c [] 2 (lines_of bytes) → IsAnswer (judge_from c [] 2 (lines_of bytes)) (Some status) last
@@ -57,17 +45,12 @@ along_refused c bytes a new text more rest line after n status along cut follows
         subst (λ k. IsAnswer k (Some status) last) judged (record { refused = refl; written = is ∙ ap (λ t. t ++ fault_line (status_of status)) f.1 })
 
 -- no line is left
-pub along_end : (c : FabricConfig) (bytes : List ℕ) (a : World) (text rest : List ℕ) (n : ℕ) → Along c bytes a text rest n → length rest ≡ 0 → (last : List ℕ) → last ≡ text ++ (places_where c (runs_first a) ++ end_line a.events 0) → IsAnswer (judge_from c [] 2 (lines_of bytes)) None last
-along_end c bytes a text rest n along none last is =
+pub along_end : (c : FabricConfig) (bytes : List ℕ) (a : World) (text rest : List ℕ) (n : ℕ) (along : Along c bytes a text rest n) → length rest ≡ 0 → (last : List ℕ) → IsReport c along.history last → IsAnswer (judge_from c [] 2 (lines_of bytes)) None last
+along_end c bytes a text rest n along none last report =
     let h = along.history in
     let empty : rest ≡ [] = no_more rest none in
     let judged : judged_at c h None ≡ judge_from c [] 2 (lines_of bytes) = ap (λ r. judge_from c h n (lines_of r)) (sym empty) ∙ along.judged in
-    subst (λ k. IsAnswer k None last) judged (record {
-      refused = refl;
-      written = is ∙ (ap (λ t. t ++ (places_where c (runs_first a) ++ end_line a.events 0)) along.at.written
-          ∙ (ap (λ p. lines_of_run (run_of c h) ++ (p ++ end_line a.events 0)) (places_of_run c h a along.at.config along.at.stands)
-          ∙ ap (λ e. lines_of_run (run_of c h) ++ (place_lines c (run_of c h) ++ end_line e 0)) along.at.events));
-    })
+    subst (λ k. IsAnswer k None last) judged (record { refused = refl; written = report })
   where
     no_more : (xs : List ℕ) → length xs ≡ 0 → xs ≡ []
     no_more [] e = refl

@@ -1,10 +1,8 @@
-pub mod Safety
-pub mod Running
-pub mod Ticks
-pub mod Steps
-pub mod Follow
-pub mod Fits
+pub mod Positions
 pub mod Cuts
-pub mod Unheld
+pub mod Judging
+pub mod Accepted
+pub mod Safe
+pub mod OneOutput
 pub mod Along
 pub mod Written

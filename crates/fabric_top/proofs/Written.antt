@@ -7,12 +7,12 @@ use Rattle.fabric_top.specs.declared.status.Refusal.TheVariants.{BadConfig, BadL
 use Rattle.fabric_top.specs.declared.status.Status.{Status}
 use Rattle.fabric_top.specs.declared.status.Status.TheVariants as status
 use Rattle.fabric_top.specs.Schedule.{Judged}
-use Rattle.fabric_top.specs.Output.{output_of, fault_line, IsAnswer}
+use Rattle.fabric_top.specs.Output.{fault_line, IsAnswer}
 use Rattle.fabric_top.specs.Top.{Writes, WritesFront, Wrote, status_after}
 
 -- nothing is a front of anything
 pub nothing_written : (j : Judged) (held : Option (List ℕ)) → WritesFront j held held
-nothing_written j held = record { text = output_of j; wanted = inl refl; grew = (0, λ bytes e. e ∙ ap Some (sym (append-nil bytes))) }
+nothing_written j held = record { text = fault_line status.ReadFault; wanted = inr refl; grew = (0, λ bytes e. e ∙ ap Some (sym (append-nil bytes))) }
 
 pub wrote_fault : (j : Judged) (ended : Status) (old new : Option (List ℕ)) (before now : ℕ) → Wrote status.ReadFault (fault_line status.ReadFault) ended old new before now → Writes ended j old new
 wrote_fault j ended old new before now wrote =
@@ -26,12 +26,12 @@ wrote_fault j ended old new before now wrote =
 
 -- the answer, whole
 whole_answer : (j : Judged) (refused : Option Refusal) (text : List ℕ) (old new : Option (List ℕ)) → IsAnswer j refused text → Grew old new text → Writes (status_after refused) j old new
-whole_answer j None text old new answer grew = record { good = answer.refused; grew = subst (λ t. Grew old new t) answer.written grew }
-whole_answer j (Some (BadConfig e)) text old new answer grew = record { refused = answer.refused; grew = subst (λ t. Grew old new t) answer.written grew }
-whole_answer j (Some (BadLine n)) text old new answer grew = record { refused = answer.refused; grew = subst (λ t. Grew old new t) answer.written grew }
-whole_answer j (Some (DriftBroken n)) text old new answer grew = record { refused = answer.refused; grew = subst (λ t. Grew old new t) answer.written grew }
-whole_answer j (Some (NoSuch n)) text old new answer grew = record { refused = answer.refused; grew = subst (λ t. Grew old new t) answer.written grew }
-whole_answer j (Some (TooLarge n)) text old new answer grew = record { refused = answer.refused; grew = subst (λ t. Grew old new t) answer.written grew }
+whole_answer j None text old new answer grew = record { good = answer.refused; text = text; output = answer.written; grew = grew }
+whole_answer j (Some (BadConfig e)) text old new answer grew = record { refused = answer.refused; text = text; output = answer.written; grew = grew }
+whole_answer j (Some (BadLine n)) text old new answer grew = record { refused = answer.refused; text = text; output = answer.written; grew = grew }
+whole_answer j (Some (DriftBroken n)) text old new answer grew = record { refused = answer.refused; text = text; output = answer.written; grew = grew }
+whole_answer j (Some (NoSuch n)) text old new answer grew = record { refused = answer.refused; text = text; output = answer.written; grew = grew }
+whole_answer j (Some (TooLarge n)) text old new answer grew = record { refused = answer.refused; text = text; output = answer.written; grew = grew }
 
 pub wrote_answer : (j : Judged) (refused : Option Refusal) (text : List ℕ) (ended : Status) (old new : Option (List ℕ)) (before now : ℕ) → IsAnswer j refused text → Wrote (status_after refused) text ended old new before now → Writes ended j old new
 wrote_answer j refused text ended old new before now answer wrote =

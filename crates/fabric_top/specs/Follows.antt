@@ -1,21 +1,18 @@
 -- What the code has done of a schedule after some of its lines.
-use Rattle.std.specs.Prelude.{◌≡◌, ◌==◌, ◌&&◌, ℕ, Bool, List, ◌∷◌, length, Option, Some, None}
-use Rattle.std.specs.List.{list_any}
-use Rattle.fabric_top.specs.declared.world.Running.{Running}
+use Rattle.std.specs.Prelude.{◌≡◌, ℕ, List, ◌∷◌, Option, Some, None}
 use Rattle.fabric_terms.specs.declared.config.FabricConfig.{FabricConfig}
+use Rattle.ring_world.specs.Answers.{StandsFor}
+use Rattle.ring_world.specs.declared.world.World.{World}
+use Rattle.world_rules.specs.Nothing.{nothing}
+use Rattle.world_rules.specs.Runs.{History, run_of}
 use Rattle.fabric_top.specs.declared.status.Refusal.{Refusal}
-use Rattle.fabric_top.specs.declared.world.World.{World}
-use Rattle.fabric_top.specs.Worlds.{History, world_after, run_of}
-use Rattle.fabric_top.specs.Stands.{Stands}
 use Rattle.fabric_top.specs.Schedule.{Verdict, Ignored, Accepted, Refused}
 use Rattle.fabric_top.specs.Output.{lines_of_run}
 
--- the world is that of the history, and the text is the lines of its run
+-- the world stands for the history, and the text is the lines of its run
 pub record At (a : World) (text : List ℕ) (c : FabricConfig) (h : History) : Type 0 where
-  pub config : a.config ≡ c
-  pub stands : Stands a (world_after c h)
-  pub events : a.events ≡ length h
-  pub written : text ≡ lines_of_run (run_of c h)
+  pub stands : StandsFor a c h
+  pub written : text ≡ lines_of_run (run_of nothing c h)
 
 -- there is such a history
 abbrev pub IsAlong : World → List ℕ → Type 0
@@ -25,8 +22,4 @@ IsAlong a text = (c : FabricConfig) × (h : History) × At a text c h
 abbrev pub Follows : FabricConfig → History → ℕ → Verdict → Option Refusal → World → List ℕ → Type 0
 Follows c h n Ignored refused a text = (refused ≡ None) × At a text c h
 Follows c h n (Accepted e) refused a text = (refused ≡ None) × At a text c ((n, e) ∷ h)
-Follows c h n (Refused refusal) refused a text = (refused ≡ Some refusal) × (text ≡ lines_of_run (run_of c h))
-
--- the first node's first instance runs
-abbrev pub runs_first : World → Bool
-runs_first a = list_any (λ (r : Running). r.who.actor == a.config.first && r.who.instance == 1) a.running.items
+Follows c h n (Refused refusal) refused a text = (refused ≡ Some refusal) × (text ≡ lines_of_run (run_of nothing c h))

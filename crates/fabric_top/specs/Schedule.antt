@@ -1,15 +1,38 @@
 -- Which lines of a schedule are accepted, and what is accepted of a schedule.
-use Rattle.std.specs.Prelude.{ℕ, ◌+◌, Bool, true, false, ◌||◌, ◌==◌, List, [], ◌∷◌, length, Option, Some, None, Result, Ok, Err, nat_lt}
+use Rattle.std.specs.Prelude.{ℕ, ◌+◌, Bool, true, false, not, ◌||◌, ◌==◌, List, [], ◌∷◌, length, Option, Some, None, Result, Ok, Err, nat_lt}
 use Rattle.fabric_config.specs.Config.{config_of_line}
 use Rattle.fabric_config.specs.declared.error.ConfigError.{ConfigError}
 use Rattle.fabric_config.specs.declared.error.ConfigError.TheVariants.{NotJson}
+use Rattle.fabric_terms.specs.declared.command.Command.{Command}
+use Rattle.fabric_terms.specs.declared.command.Command.TheVariants.{Create, Swap, Heal, Lose, Write, Units}
 use Rattle.fabric_terms.specs.declared.config.FabricConfig.{FabricConfig}
 use Rattle.fabric_terms.specs.declared.event.Event.{Event}
+use Rattle.fabric_terms.specs.declared.event.Event.TheVariants.{Do}
+use Rattle.ring_world.specs.Answers.{is_frame, ruled}
+use Rattle.ring_world.specs.Room.{has_room}
+use Rattle.ring_world.specs.declared.world.EventRefusal.{EventRefusal}
 use Rattle.sched_text.specs.Lines.{lines_of, event_of}
-use Rattle.fabric_top.specs.Worlds.{World, History, world_after, is_run, is_there, is_within, has_room}
-use Rattle.fabric_top.specs.declared.world.EventRefusal.{EventRefusal}
+use Rattle.world_rules.specs.Nothing.{nothing}
+use Rattle.world_rules.specs.Runs.{History}
+use Rattle.world_rules.specs.Schedules.{is_there, keeps_bound}
+use Rattle.world_rules.specs.Worlds.{World}
 use Rattle.fabric_top.specs.declared.status.Refusal.{Refusal}
 use Rattle.fabric_top.specs.declared.status.Refusal.TheVariants.{BadConfig, BadLine, DriftBroken, NoSuch, TooLarge}
+
+-- a command about a partition
+abbrev pub is_of_partition : Command → Bool
+is_of_partition (Create partition count) = true
+is_of_partition (Swap partition node) = true
+is_of_partition (Heal partition count) = true
+is_of_partition (Lose partition node) = true
+is_of_partition (Write partition text) = true
+is_of_partition (Units range) = true
+is_of_partition _ = false
+
+-- All events are run but commands about partitions.
+abbrev pub is_run : Event → Bool
+is_run (Do node command) = not (is_of_partition command)
+is_run _ = true
 
 pub data Verdict : Type 0 where
   Ignored : Verdict
@@ -34,7 +57,7 @@ most_lines = 2000000
 -- how an event at line n is refused, but for want of memory
 abbrev pub refusal_at : EventRefusal → ℕ → Option Refusal
 refusal_at EventRefusal.NoSuch n = Some (NoSuch n)
-refusal_at EventRefusal.DriftBroken n = Some (DriftBroken n)
+refusal_at (EventRefusal.DriftBroken broken) n = Some (DriftBroken n)
 refusal_at EventRefusal.TooLarge n = Some (TooLarge n)
 refusal_at EventRefusal.OutOfMemory n = None
 
@@ -51,24 +74,28 @@ abbrev pub unless_there : ℕ → Event → Bool → Bool → Bool → Verdict
 unless_there n e true within room = unless_within n e within room
 unless_there n e false within room = Refused (NoSuch n)
 
-abbrev pub unless_run : FabricConfig → World → ℕ → ℕ → Event → Bool → Verdict
-unless_run c w events n e true = unless_there n e (is_there c w e) (is_within c w e) (has_room w events e)
+-- an event that is run, at line n
+abbrev pub run_verdict : FabricConfig → World nothing → ℕ → ℕ → Event → Verdict
+run_verdict c w events n e = unless_there n e (is_there is_frame c w e) (keeps_bound c w e) (has_room w events e)
+
+abbrev pub unless_run : FabricConfig → World nothing → ℕ → ℕ → Event → Bool → Verdict
+unless_run c w events n e true = run_verdict c w events n e
 unless_run c w events n e false = Refused (BadLine n)
 
-abbrev pub event_verdict : FabricConfig → World → ℕ → ℕ → Option Event → Verdict
+abbrev pub event_verdict : FabricConfig → World nothing → ℕ → ℕ → Option Event → Verdict
 event_verdict c w events n None = Refused (BadLine n)
 event_verdict c w events n (Some e) = unless_run c w events n e (is_run e)
 
-abbrev pub unless_ignored : FabricConfig → World → ℕ → ℕ → List ℕ → Bool → Verdict
+abbrev pub unless_ignored : FabricConfig → World nothing → ℕ → ℕ → List ℕ → Bool → Verdict
 unless_ignored c w events n line true = Ignored
 unless_ignored c w events n line false = event_verdict c w events n (event_of line)
 
-abbrev pub unless_large : FabricConfig → World → ℕ → ℕ → List ℕ → Bool → Verdict
+abbrev pub unless_large : FabricConfig → World nothing → ℕ → ℕ → List ℕ → Bool → Verdict
 unless_large c w events n line true = Refused (TooLarge n)
 unless_large c w events n line false = unless_ignored c w events n line (is_ignored line)
 
 -- line n, after so many events that made this world
-unfoldable pub line_verdict : FabricConfig → World → ℕ → ℕ → List ℕ → Verdict
+unfoldable pub line_verdict : FabricConfig → World nothing → ℕ → ℕ → List ℕ → Verdict
 line_verdict c w events n line = unless_large c w events n line (nat_lt most_line (length line) || nat_lt most_lines n)
 
 -- what is accepted of a schedule, and how it is refused, if it is
@@ -87,7 +114,7 @@ refused_at_once refusal = record { config = None; history = []; refused = Some r
 abbrev pub judge_from : FabricConfig → History → ℕ → List (List ℕ) → Judged
 judge_from c h n [] = judged_at c h None
 judge_from c h n (l ∷ ls) =
-    elim (line_verdict c (world_after c h) (length h) n l) [
+    elim (line_verdict c (ruled c h) (length h) n l) [
       | Ignored ↦ judge_from c h (n + 1) ls
       | Accepted e ↦ judge_from c ((n, e) ∷ h) (n + 1) ls
       | Refused refusal ↦ judged_at c h (Some refusal)

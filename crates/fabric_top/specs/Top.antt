@@ -3,13 +3,15 @@ use Rattle.std.specs.Prelude.{◌≡◌, ◌⊎◌, ℕ, List, [], ◌∷◌, Op
 use Rattle.edge_io.specs.Edge.{Grew, GrewByFront, HasRisen}
 use Rattle.fabric_terms.specs.Places.{PlaceKept}
 use Rattle.fabric_terms.specs.Runs.{Run, RingSafe}
+use Rattle.fabric_terms.specs.TakeOvers.{TakenAfterLeave}
 use Rattle.fabric_terms.specs.declared.config.FabricConfig.{FabricConfig}
+use Rattle.ring_points.specs.Whos.{node_instance}
 use Rattle.fabric_top.specs.declared.status.Refusal.{Refusal}
 use Rattle.fabric_top.specs.declared.status.Refusal.TheVariants.{BadConfig, BadLine, DriftBroken, NoSuch, TooLarge}
 use Rattle.fabric_top.specs.declared.status.Status.{Status}
 use Rattle.fabric_top.specs.declared.status.Status.TheVariants as status
 use Rattle.fabric_top.specs.Codes.{status_of}
-use Rattle.fabric_top.specs.Output.{fault_line, output_of, accepted_run, first_who}
+use Rattle.fabric_top.specs.Output.{IsOutput, fault_line, accepted_run}
 use Rattle.fabric_top.specs.Schedule.{Judged}
 
 -- the one word
@@ -18,7 +20,7 @@ IsReplay words = words ≡ codes "replay" ∷ []
 
 -- the report of the schedule, or, where the source failed, that it did
 abbrev pub IsWanted : Judged → List ℕ → Type 0
-IsWanted j text = (text ≡ output_of j) ⊎ (text ≡ fault_line status.ReadFault)
+IsWanted j text = IsOutput j text ⊎ (text ≡ fault_line status.ReadFault)
 
 -- a front of what would have been written
 pub record WritesFront (j : Judged) (old new : Option (List ℕ)) : Type 0 where
@@ -29,12 +31,16 @@ pub record WritesFront (j : Judged) (old new : Option (List ℕ)) : Type 0 where
 -- the schedule is refused so, and the sink has the lines before it and the fault
 pub record WritesRefusal (j : Judged) (refusal : Refusal) (old new : Option (List ℕ)) : Type 0 where
   pub refused : j.refused ≡ Some refusal
-  pub grew : Grew old new (output_of j)
+  pub text : List ℕ
+  pub output : IsOutput j text
+  pub grew : Grew old new text
 
 -- the schedule is good, and the sink has its report
 pub record WritesReport (j : Judged) (old new : Option (List ℕ)) : Type 0 where
   pub good : j.refused ≡ None
-  pub grew : Grew old new (output_of j)
+  pub text : List ℕ
+  pub output : IsOutput j text
+  pub grew : Grew old new text
 
 -- what a sink has more at each status of `replay`, where it tells
 abbrev pub Writes : Status → Judged → Option (List ℕ) → Option (List ℕ) → Type 0
@@ -55,13 +61,20 @@ Writes (status.Left why) j old new = ⊥
 Writes (status.BadKeep i) j old new = ⊥
 Writes status.TableFull j old new = ⊥
 
+-- all was done, or there was not enough memory
+abbrev pub IsDone : Status → Type 0
+IsDone ended = (ended ≡ status.Ok) ⊎ (ended ≡ status.OutOfMemory)
+
+-- points stay where they are told to be; they begin with the first node's first instance
 abbrev pub KeepsPlaces : Option FabricConfig → Run → Type 0
 KeepsPlaces None run = Unit {0}
-KeepsPlaces (Some c) run = PlaceKept (first_who c) run
+KeepsPlaces (Some c) run = PlaceKept (node_instance c.first 1) run
 
--- the run of the events that are accepted is safe, and its points stay where they are told to be
+-- The run of the events that are accepted is safe: at no moment do two instances hold one point, who is told to be taken
+-- over holds nothing from then on, and points stay where they are told to be.
 pub record IsSafe (j : Judged) : Type 0 where
   pub ring : RingSafe (accepted_run j)
+  pub taken : TakenAfterLeave (accepted_run j)
   pub places : KeepsPlaces j.config (accepted_run j)
 
 -- how replay ends where nothing fails

@@ -1,24 +1,24 @@
 // The lines of a schedule, one after another, and what is written of them.
-ghost use Rattle.std.specs.Prelude.{◌≡◌, ◌<◌, ◌≤◌, ◌+◌, ◌++◌, OnOk, ◌^◌, ◌∷◌, [], ℕ, List, Some, None, IsTrue, IfOk, IfSome, length};
-ghost use Rattle.fabric_terms.specs.declared.config.FabricConfig.{FabricConfig as Configuration};
-ghost use Rattle.sched_text.specs.Lines.{event_of, lines_of};
-ghost use Rattle.fabric_top.specs.Worlds.{History, world_after, is_run, is_there, is_within, has_room};
-ghost use Rattle.fabric_top.specs.Stands.{FitsHere, IsWorld};
-ghost use Rattle.fabric_top.specs.Schedule.{is_ignored, most_lines, line_verdict, event_verdict, refusal_at, unless_there};
+ghost use Rattle.std.specs.Prelude.{◌≡◌, ◌++◌, ◌∷◌, [], ℕ, List, Some, None, IfOk, OnErr, length};
 ghost use Rattle.fabric_terms.specs.Sound.{IsSound};
-ghost use Rattle.fabric_top.specs.Output.{places_where, end_line, fault_line, IsAnswer};
+ghost use Rattle.fabric_terms.specs.declared.config.FabricConfig.{FabricConfig as Configuration};
+ghost use Rattle.ring_world.specs.Answers.{IsWorld, ruled};
+ghost use Rattle.sched_text.specs.Lines.{Fits, event_of, lines_of};
+ghost use Rattle.world_rules.specs.Runs.{History};
 ghost use Rattle.fabric_top.specs.Codes.{status_of};
-ghost use Rattle.fabric_top.specs.Schedule.{judge, judge_from};
-ghost use Rattle.fabric_top.specs.Follows.{At, IsAlong, Follows, runs_first};
+ghost use Rattle.fabric_top.specs.Follows.{At, IsAlong, Follows};
+ghost use Rattle.fabric_top.specs.Output.{IsAnswer, fault_line};
+ghost use Rattle.fabric_top.specs.Schedule.{is_ignored, is_of_partition, is_run, line_verdict, event_verdict, run_verdict, refusal_at, judge, judge_from};
 
+use crate::ending::push_ending;
 use crate::fault::push_fault;
 use crate::lines::cut_line;
-use crate::places::{push_end, push_unheld};
 use crate::status::Refusal;
-use crate::world::{EventRefusal, World};
+use crate::told::push_told;
 use fabric_config::{ConfigError, read_config};
-use fabric_terms::{Event, FabricConfig, Head, OutOfMemory};
-use sched_text::{TickReadings, print_report, read_event, read_tick};
+use fabric_terms::{Command, Event, FabricConfig, OutOfMemory};
+use ring_world::{EventRefusal, World};
+use sched_text::{TickReadings, read_event, read_tick};
 use std::alloc::Global;
 
 /// How many bytes a line may have.
@@ -30,9 +30,6 @@ pub const MOST_FIRST_LINE: usize = 65_536;
 /// How many lines a schedule may have.
 pub const MOST_LINES: u64 = 2_000_000;
 
-/// The first node's last number.
-const LAST_NODE: u16 = 999;
-
 /// Whether the line is empty, or a comment.
 fn is_ignored(line: &[u8]) -> bool
     ensures { result ≡ is_ignored line.now }
@@ -43,27 +40,41 @@ fn is_ignored(line: &[u8]) -> bool
     }
 }
 
+/// Whether a command is about a partition.
+fn is_of_partition(command: &Command) -> bool
+    ensures { result ≡ is_of_partition command.now }
+{
+    match command {
+        Command::Create(..)
+        | Command::Swap(..)
+        | Command::Heal(..)
+        | Command::Lose(..)
+        | Command::Write(..)
+        | Command::Units(_) => true,
+        _ => false,
+    }
+}
+
 /// Whether events of this kind are run.
 fn is_run(event: &Event) -> bool
     ensures { result ≡ is_run event.now }
 {
     match event {
-        Event::Start { reading, .. } => reading.is_some(),
-        Event::Stop { actor } => *actor <= LAST_NODE,
-        Event::Tick { .. } => true,
-        _ => false,
+        Event::Do { command, .. } => !is_of_partition(command),
+        _ => true,
     }
 }
 
-/// How an event at this line is refused, but for want of memory.
-fn refusal_of(refusal: EventRefusal, number: u64) -> Option<Refusal>
-    ensures { result ≡ refusal_at refusal number }
+/// How an event at this line is refused, or that memory was short.
+fn refusal_of(refusal: EventRefusal, number: u64) -> Result<Refusal, OutOfMemory>
+    ensures ok { IfOk result (λ r. refusal_at refusal number ≡ Some r) }
+    ensures err { OnErr result (refusal ≡ EventRefusal.OutOfMemory) }
 {
     match refusal {
-        EventRefusal::NoSuch => Some(Refusal::NoSuch(number)),
-        EventRefusal::DriftBroken => Some(Refusal::DriftBroken(number)),
-        EventRefusal::TooLarge => Some(Refusal::TooLarge(number)),
-        EventRefusal::OutOfMemory => None,
+        EventRefusal::NoSuch => Ok(Refusal::NoSuch(number)),
+        EventRefusal::DriftBroken(_) => Ok(Refusal::DriftBroken(number)),
+        EventRefusal::TooLarge => Ok(Refusal::TooLarge(number)),
+        EventRefusal::OutOfMemory => Err(OutOfMemory),
     }
 }
 
@@ -75,28 +86,16 @@ fn take_event(
     text: &mut Vec<u8>,
 ) -> Result<Option<Refusal>, OutOfMemory>
     requires along { IsAlong world.old text.old.items }
-    requires run { IsTrue (is_run event.now) }
-    requires fits { FitsHere event.now }
-    ensures { (c : Configuration) (h : History) → At world.old text.old.items c h → IfOk result (λ refused. Follows c h number (unless_there number event.now (is_there c (world_after c h) event.now) (is_within c (world_after c h) event.now) (has_room (world_after c h) (length h) event.now)) refused world.new text.new.items) }
+    requires fits { Fits event.now }
+    ensures { (c : Configuration) (h : History) → At world.old text.old.items c h → IfOk result (λ refused. Follows c h number (run_verdict c (ruled c h) (length h) number event.now) refused world.new text.new.items) }
 {
-    match world.apply(event) {
+    match world.apply(number, event) {
         Ok(None) => Ok(None),
         Ok(Some(acted)) => {
-            let head = Head {
-                line: number,
-                time: Some(world.time()),
-                who: acted.who,
-                reading: Some(acted.reading),
-            };
-            match print_report(&head, &acted.report, text) {
-                Ok(()) => Ok(None),
-                Err(_) => Err(OutOfMemory),
-            }
+            push_told(text, &acted)?;
+            Ok(None)
         }
-        Err(refusal) => match refusal_of(refusal, number) {
-            Some(refusal) => Ok(Some(refusal)),
-            None => Err(OutOfMemory),
-        },
+        Err(refusal) => Ok(Some(refusal_of(refusal, number)?)),
     }
 }
 
@@ -108,15 +107,12 @@ fn take_tick(
     readings: &[(u16, u64)],
 ) -> Result<Option<Refusal>, OutOfMemory>
     requires world { IsWorld world.old }
-    requires fits { FitsHere (Event.Tick advance readings.now) }
-    ensures { (c : Configuration) (h : History) (text : List ℕ) → At world.old text c h → IfOk result (λ refused. let e = Event.Tick advance readings.now in Follows c h number (unless_there number e (is_there c (world_after c h) e) (is_within c (world_after c h) e) (has_room (world_after c h) (length h) e)) refused world.new text) }
+    requires fits { Fits (Event.Tick advance readings.now) }
+    ensures { (c : Configuration) (h : History) (text : List ℕ) → At world.old text c h → IfOk result (λ refused. Follows c h number (run_verdict c (ruled c h) (length h) number (Event.Tick advance readings.now)) refused world.new text) }
 {
-    match world.tick(advance, readings) {
+    match world.tick(number, advance, readings) {
         Ok(()) => Ok(None),
-        Err(refusal) => match refusal_of(refusal, number) {
-            Some(refusal) => Ok(Some(refusal)),
-            None => Err(OutOfMemory),
-        },
+        Err(refusal) => Ok(Some(refusal_of(refusal, number)?)),
     }
 }
 
@@ -129,7 +125,7 @@ fn take_other(
     text: &mut Vec<u8>,
 ) -> Result<Option<Refusal>, OutOfMemory>
     requires { IsAlong world.old text.old.items }
-    ensures { (c : Configuration) (h : History) → At world.old text.old.items c h → IfOk result (λ refused. Follows c h number (event_verdict c (world_after c h) (length h) number (event_of line.now)) refused world.new text.new.items) }
+    ensures { (c : Configuration) (h : History) → At world.old text.old.items c h → IfOk result (λ refused. Follows c h number (event_verdict c (ruled c h) (length h) number (event_of line.now)) refused world.new text.new.items) }
 {
     match read_event(line) {
         Err(_) => Ok(Some(Refusal::BadLine(number))),
@@ -153,7 +149,7 @@ fn take_line(
     text: &mut Vec<u8>,
 ) -> Result<Option<Refusal>, OutOfMemory>
     requires { IsAlong world.old text.old.items }
-    ensures { (c : Configuration) (h : History) → At world.old text.old.items c h → IfOk result (λ refused. Follows c h number (line_verdict c (world_after c h) (length h) number line.now) refused world.new text.new.items) }
+    ensures { (c : Configuration) (h : History) → At world.old text.old.items c h → IfOk result (λ refused. Follows c h number (line_verdict c (ruled c h) (length h) number line.now) refused world.new text.new.items) }
 {
     if line.len() > MOST_LINE || number > MOST_LINES {
         return Ok(Some(Refusal::TooLarge(number)));
@@ -175,23 +171,12 @@ pub struct Answer {
     pub refused: Option<Refusal>,
 }
 
-/// The place lines and the end of a report.
-fn push_last(text: &mut Vec<u8>, config: &FabricConfig, world: &World) -> Result<(), OutOfMemory>
-    requires { world.now.config ≡ config.now }
-    ensures { OnOk result (text.new.items ≡ text.old.items ++ (places_where config.now (runs_first world.now) ++ end_line world.now.events 0)) }
-{
-    if !world.runs_first() {
-        push_unheld(text, config)?;
-    }
-    push_end(text, world.events())
-}
-
 /// The schedule behind line 1.
 fn take_lines(alloc: Global, config: FabricConfig, bytes: &[u8]) -> Result<Answer, OutOfMemory>
     requires { IsSound config }
     ensures { IfOk result (λ a. IsAnswer (judge_from config [] 2 (lines_of bytes.now)) a.refused a.text.items) }
 {
-    let mut world = World::new(alloc, config);
+    let mut world = World::new(alloc, config)?;
     let mut text = Vec::new(alloc);
     let mut readings = TickReadings::new();
     let mut rest = bytes;
@@ -206,7 +191,7 @@ fn take_lines(alloc: Global, config: FabricConfig, bytes: &[u8]) -> Result<Answe
         rest = after;
         number += 1;
     }
-    push_last(&mut text, world.config(), &world)?;
+    push_ending(&mut text, &world)?;
     Ok(Answer {
         text,
         refused: None,

@@ -1,8 +1,8 @@
 // The top call.
-ghost use Rattle.std.specs.Prelude.{◌≡◌, ◌≢◌, ◌↔◌, IsTrue, ℕ, List, [], Some, IfOk, map, string_bytes, codes};
+ghost use Rattle.std.specs.Prelude.{◌≡◌, ◌≢◌, ◌↔◌, IsTrue, ℕ, List, [], Some, None, IfOk, map, string_bytes, codes};
 ghost use Rattle.edge_io.specs.Edge.{HasRisen, HasCauseOf};
 ghost use Rattle.fabric_top.specs.Schedule.{judge};
-ghost use Rattle.fabric_top.specs.Top.{IsReplay, Wrote, Writes, EndsUsage, status_after, IsSafe};
+ghost use Rattle.fabric_top.specs.Top.{IsReplay, Wrote, Writes, EndsUsage, status_after, IsDone, IsSafe};
 
 use crate::replay::answer_to;
 use crate::status::{Refusal, Status};
@@ -100,9 +100,8 @@ fn usage<K: Sink>(sink: &mut K) -> Status
 
 /// All that the program does: the words say what.
 ///
-/// `replay` reads a schedule from the source, to its end, and writes its report to the sink. Other words
-/// are Usage.
-
+/// `replay` reads a schedule from the source, to its end, and writes its report to the sink. A command about
+/// a partition is no line of a schedule yet. Other words are Usage.
 pub fn fabric_main<S: Source, K: Sink>(
     alloc: Global,
     words: &[String],
@@ -121,7 +120,10 @@ pub fn fabric_main<S: Source, K: Sink>(
     ensures read_fault { result ≡ Status.ReadFault → HasRisen (S.faults source.old) (S.faults source.new) }
     ensures write_fault { result ≡ Status.WriteFault → HasRisen (K.faults sink.old) (K.faults sink.new) }
 
-    // The run of the accepted events is safe.
+    // A good schedule is done, or memory was short, where no device failed.
+    ensures complete { IsReplay (map string_bytes words.now) → (bytes : List ℕ) → S.left source.old ≡ Some bytes → (judge bytes).refused ≡ None → ¬ HasRisen (S.faults source.old) (S.faults source.new) → ¬ HasRisen (K.faults sink.old) (K.faults sink.new) → IsDone result }
+
+    // At every status the run of the accepted events is safe.
     ensures safe { (bytes : List ℕ) → S.left source.old ≡ Some bytes → IsSafe (judge bytes) }
 {
     if is_replay(words) {

@@ -1,5 +1,5 @@
-use Rattle.fabric_top.proofs.Fits.{read_fits}
+use Rattle.sched_text.proofs.LineLaws.{read_is_spelled}
 use Rattle.fabric_top.proofs.replay.take_other.Goals as goal
 
 pub take_event-requires-clause-fits : goal.take_event-requires-clause-fits
-take_event-requires-clause-fits c = read_fits c.args.line.now c.in-Ok.event c.in-Ok.ensures.ok
+take_event-requires-clause-fits c = (read_is_spelled c.args.line.now c.in-Ok.event c.in-Ok.ensures.ok).0

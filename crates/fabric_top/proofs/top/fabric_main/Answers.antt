@@ -1,4 +1,4 @@
-use Rattle.fabric_top.proofs.Safety.{accepted_is_safe}
+use Rattle.fabric_top.proofs.Safe.{accepted_is_safe}
 use Rattle.fabric_top.proofs.top.fabric_main.Goals as goal
 
 pub returns-then-is_replay-clause-safe : goal.returns-then-is_replay-clause-safe
