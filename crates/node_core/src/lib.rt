@@ -10,6 +10,7 @@ mod batch;
 mod boots;
 mod node;
 mod outcome;
+mod room;
 #[cfg(test)]
 mod tests;
 

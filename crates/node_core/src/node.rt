@@ -11,7 +11,8 @@ ghost use Rattle.node_core.specs.Nodes.{Does, FitsInput, GoesBy, IsSmall, most_f
 use crate::batch::Batch;
 use crate::boots::{boot, instance_after, is_spent};
 use crate::outcome::Outcome;
-use fabric_terms::{FabricConfig, OutOfMemory};
+use crate::room::give_away;
+use fabric_terms::{FabricConfig, Message, OutOfMemory, Report};
 use keep_log::Kept;
 use ring_node::{Input, Reports, RingNode};
 use ring_points::{RangeSet, Who};
@@ -30,6 +31,9 @@ pub struct NodeCore {
     /// What a step sends and reports, empty between steps.
     out: Outbox,
     told: Reports,
+    /// Room for what the next step leaves.
+    frames: Vec<Message>,
+    reports: Vec<Report>,
 }
 
 impl Model for NodeCore {
@@ -40,7 +44,7 @@ impl Model for NodeCore {
 
     ghost view = { λ n. n.ring };
 
-    ghost invariant = { λ n. (n.out ≡ []) × (n.told ≡ []) };
+    ghost invariant = { λ n. (n.out ≡ []) × (n.told ≡ []) × (n.frames.items ≡ []) × (n.reports.items ≡ []) };
 }
 
 impl NodeCore {
@@ -80,6 +84,8 @@ impl NodeCore {
             ring,
             out: Outbox::new(),
             told,
+            frames: Vec::new(alloc),
+            reports: Vec::new(alloc),
         };
         Ok((node, outcome))
     }
@@ -95,15 +101,15 @@ impl NodeCore {
         ensures me { self.new.ring.me ≡ self.old.ring.me }
         ensures refused { OnErr result (self.new ≡ self.old) }
     {
-        let mut frames = Vec::with_capacity(self.alloc, OUTBOX_LIMIT)?;
-        let mut reports = Vec::with_capacity(self.alloc, MOST_TOLD)?;
+        self.frames.reserve(OUTBOX_LIMIT)?;
+        self.reports.reserve(MOST_TOLD)?;
         self.ring.act(now, input, &mut self.out, &mut self.told);
-        self.out.hand_over(self.ring.me(), &mut frames);
-        self.told.hand_over(&mut reports);
+        self.out.hand_over(self.ring.me(), &mut self.frames);
+        self.told.hand_over(&mut self.reports);
         Ok(Outcome {
             records: Batch::new(Vec::new(self.alloc)),
-            frames: Batch::new(frames),
-            reports: Batch::new(reports),
+            frames: Batch::new(give_away(self.alloc, &mut self.frames)),
+            reports: Batch::new(give_away(self.alloc, &mut self.reports)),
         })
     }
 

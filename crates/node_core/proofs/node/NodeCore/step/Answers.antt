@@ -10,8 +10,8 @@ pub returns-clause-does : goal.returns-clause-does
 returns-clause-does c = λ config by.
     does_step config c.args.now c.args.input.now c.args.self.now c.act.new.self c.act.new.out c.act.new.told c.me.result (record { records = c.new-2.result; frames = c.new-3.result; reports = c.new-4.result }) by (c.act.ensures.step ∙ ap (acted c.args.now c.args.input.now) c.self.view_is) c.me.ensures
     (c.new-2.ensures ∙ c.new.ensures.items)
-    (c.new-3.ensures ∙ c.hand_over.ensures.frames ∙ ap (λ (xs : List Message). xs ++ from_all c.me.result c.act.new.out) c.in_ok-frames.ensures.items)
-    (c.new-4.ensures ∙ c.hand_over-2.ensures.reports ∙ ap (λ (xs : List Report). xs ++ c.act.new.told) c.in_ok-reports.ensures.items)
+    (c.new-3.ensures ∙ c.give_away.ensures.given ∙ c.hand_over.ensures.frames ∙ ap (λ (xs : List Message). xs ++ from_all c.me.result c.act.new.out) (c.reserve.ensures.items ∙ c.self.invariant.2))
+    (c.new-4.ensures ∙ c.give_away-2.ensures.given ∙ c.hand_over-2.ensures.reports ∙ ap (λ (xs : List Report). xs ++ c.act.new.told) (c.reserve-2.ensures.items ∙ c.self.invariant.3))
 
 pub returns-clause-me : goal.returns-clause-me
 returns-clause-me c = name_stays c.args.now c.args.input.now c.args.self.now c.act.new.self c.act.new.out c.act.new.told (c.act.ensures.step ∙ ap (acted c.args.now c.args.input.now) c.self.view_is)
