@@ -146,6 +146,7 @@ impl World {
     }
 
     /// An actor's process begins: a node's with the reading of its clock, an arbitrator's without one.
+    #[inline(never)]
     pub(crate) fn start(
         &mut self,
         line: u64,
