@@ -8,6 +8,7 @@
 
 mod batch;
 mod boots;
+mod desk;
 mod node;
 mod outcome;
 mod room;

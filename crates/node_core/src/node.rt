@@ -6,45 +6,40 @@ ghost use Rattle.ring_rules.specs.Slots.{fence_of};
 ghost use Rattle.world_rules.specs.Nodes.{boots_of, node_begun, node_step};
 ghost use Rattle.world_rules.specs.Nothing.{nothing};
 ghost use Rattle.world_rules.specs.Schedules.{is_configured_node};
+ghost use Rattle.node_core.specs.Desks.{IsClear, IsReady};
 ghost use Rattle.node_core.specs.Nodes.{Does, FitsInput, GoesBy, IsSmall, most_frames, state_of};
 
 use crate::batch::Batch;
 use crate::boots::{boot, instance_after, is_spent};
+use crate::desk::{Desk, MOST_TOLD};
 use crate::outcome::Outcome;
 use crate::room::give_away;
-use fabric_terms::{FabricConfig, Message, OutOfMemory, Report};
+use fabric_terms::{FabricConfig, OutOfMemory};
 use keep_log::Kept;
-use ring_node::{Input, Reports, RingNode};
+use ring_node::{Input, RingNode};
 use ring_points::{RangeSet, Who};
-use ring_wire::{OUTBOX_LIMIT, Outbox};
 use std::alloc::Global;
 use std::marker::Model;
-
-/// How many reports the ring makes in a step at most.
-const MOST_TOLD: usize = 64;
 
 /// A whole node. Contracts see it as the record `Node` of the ring at one node, since nothing runs above the ring yet.
 #[derive(Drop)]
 pub struct NodeCore {
     alloc: Global,
     ring: RingNode,
-    /// What a step sends and reports, empty between steps.
-    out: Outbox,
-    told: Reports,
-    /// Room for what the next step leaves.
-    frames: Vec<Message>,
-    reports: Vec<Report>,
+    /// From the first step on, where its steps put what they leave.
+    desk: Option<Box<Desk>>,
 }
 
 impl Model for NodeCore {
-    ghost use Rattle.std.specs.Prelude.{◌≡◌, []};
+    ghost use Rattle.std.specs.Prelude.{IfSome};
     ghost use Rattle.ring_node.specs.Nodes.{Node};
+    ghost use Rattle.node_core.specs.Desks.{IsClear};
 
     ghost Value = { Node };
 
     ghost view = { λ n. n.ring };
 
-    ghost invariant = { λ n. (n.out ≡ []) × (n.told ≡ []) × (n.frames.items ≡ []) × (n.reports.items ≡ []) };
+    ghost invariant = { λ n. IfSome n.desk (λ d. IsClear d.value) };
 }
 
 impl NodeCore {
@@ -82,12 +77,43 @@ impl NodeCore {
         let node = NodeCore {
             alloc,
             ring,
-            out: Outbox::new(),
-            told,
-            frames: Vec::new(alloc),
-            reports: Vec::new(alloc),
+            desk: None,
         };
         Ok((node, outcome))
+    }
+
+    /// A desk that is ready for a step.
+    fn take_desk(&mut self) -> Result<Box<Desk>, OutOfMemory>
+        ensures same { self.new ≡ self.old }
+        ensures ready { IfOk result (λ d. IsReady d.value) }
+    {
+        let mut desk = match self.desk.take() {
+            Some(desk) => desk,
+            None => Box::new(self.alloc, Desk::new(self.alloc))?,
+        };
+        desk.make_room()?;
+        Ok(desk)
+    }
+
+    /// The step of the node at a desk that is ready for it.
+    fn step_at(&mut self, now: u64, input: &Input, desk: &mut Desk) -> Outcome
+        requires now { now ≤ 10 ^ 15 }
+        requires input { FitsInput input.now }
+        requires ready { IsReady desk.old }
+        ensures does { (c : Configuration) → GoesBy c self.old → Does (node_step nothing c now input.now (state_of self.old)) self.new result }
+        ensures small { IsSmall result }
+        ensures settings { self.new.settings ≡ self.old.settings }
+        ensures me { self.new.ring.me ≡ self.old.ring.me }
+        ensures clear { IsClear desk.new }
+    {
+        self.ring.act(now, input, &mut desk.out, &mut desk.told);
+        desk.out.hand_over(self.ring.me(), &mut desk.frames);
+        desk.told.hand_over(&mut desk.reports);
+        Outcome {
+            records: Batch::new(Vec::new(self.alloc)),
+            frames: Batch::new(give_away(self.alloc, &mut desk.frames)),
+            reports: Batch::new(give_away(self.alloc, &mut desk.reports)),
+        }
     }
 
     /// The step of the node when this comes, at this reading of its clock, in ticks. It is an error where memory is
@@ -101,16 +127,10 @@ impl NodeCore {
         ensures me { self.new.ring.me ≡ self.old.ring.me }
         ensures refused { OnErr result (self.new ≡ self.old) }
     {
-        self.frames.reserve(OUTBOX_LIMIT)?;
-        self.reports.reserve(MOST_TOLD)?;
-        self.ring.act(now, input, &mut self.out, &mut self.told);
-        self.out.hand_over(self.ring.me(), &mut self.frames);
-        self.told.hand_over(&mut self.reports);
-        Ok(Outcome {
-            records: Batch::new(Vec::new(self.alloc)),
-            frames: Batch::new(give_away(self.alloc, &mut self.frames)),
-            reports: Batch::new(give_away(self.alloc, &mut self.reports)),
-        })
+        let mut desk = self.take_desk()?;
+        let outcome = self.step_at(now, input, &mut desk);
+        self.desk = Some(desk);
+        Ok(outcome)
     }
 
     /// How many frames the next step sends at most.

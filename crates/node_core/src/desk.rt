@@ -1,0 +1,43 @@
+ghost use Rattle.std.specs.Prelude.{◌≡◌, IfOk};
+ghost use Rattle.node_core.specs.Desks.{IsClear, IsReady};
+
+use fabric_terms::{Message, OutOfMemory, Report};
+use ring_node::Reports;
+use ring_wire::{OUTBOX_LIMIT, Outbox};
+use std::alloc::Global;
+
+/// How many reports the ring makes in a step at most.
+pub(crate) const MOST_TOLD: usize = 64;
+
+/// Where a node puts what a step sends and reports, and room for what the step leaves. It is clear between steps.
+/// (This project's own.)
+#[derive(Drop)]
+pub(crate) struct Desk {
+    pub(crate) out: Outbox,
+    pub(crate) told: Reports,
+    pub(crate) frames: Vec<Message>,
+    pub(crate) reports: Vec<Report>,
+}
+
+impl Desk {
+    pub(crate) fn new(alloc: Global) -> Desk
+        ensures { IsClear result }
+    {
+        Desk {
+            out: Outbox::new(),
+            told: Reports::new(),
+            frames: Vec::new(alloc),
+            reports: Vec::new(alloc),
+        }
+    }
+
+    /// Makes room for what one step leaves.
+    pub(crate) fn make_room(&mut self) -> Result<(), OutOfMemory>
+        requires { IsClear self.old }
+        ensures { IfOk result (λ _. IsReady self.new) }
+    {
+        self.frames.reserve(OUTBOX_LIMIT)?;
+        self.reports.reserve(MOST_TOLD)?;
+        Ok(())
+    }
+}
