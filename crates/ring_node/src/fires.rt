@@ -1,9 +1,10 @@
-ghost use Rattle.std.specs.Prelude.{◌≡◌, ◌+◌, ◌<◌, ◌≤◌, List, OnErr, OnOk, false, length, true};
+ghost use Rattle.std.specs.Prelude.{◌≡◌, ◌+◌, ◌<◌, ◌≤◌, IsTrue, List, None, OnErr, OnOk, false, length, true};
 ghost use Rattle.fabric_terms.specs.declared.report.Report.{Report};
 ghost use Rattle.join_phases.specs.Phases.{is_routing};
 ghost use Rattle.ring_node.specs.Nodes.{IsPatched, by, step};
 ghost use Rattle.ring_rules.specs.Deeds.{has_numbers};
 ghost use Rattle.ring_rules.specs.Firing.{freeze_given, give_frozen, place_sought, search_by, slot_fired, slots_fired, timer_fired};
+ghost use Rattle.ring_rules.specs.Slots.{slot_at};
 
 use crate::acked::all_acked;
 use crate::node::RingNode;
@@ -16,9 +17,9 @@ use ring_wire::Outbox;
 use token_core::TokenRefusal;
 
 impl RingNode {
-    /// What a firing does at this slot.
+    /// What a firing does at this slot, whether it is free or not.
     #[tactic(auto, unfolding(ring_rules::specs::Firing::slot_fired))]
-    pub(crate) fn fire_slot(&mut self, i: usize, now: u64, out: &mut Outbox, told: &mut Reports)
+    fn fire_link(&mut self, i: usize, now: u64, out: &mut Outbox, told: &mut Reports)
         requires slot { i < 16 }
         requires now { now ≤ 1_000_000_000_000_000 }
         requires room { length out.old + 11 ≤ 192 }
@@ -36,6 +37,32 @@ impl RingNode {
             }
             Err(_) => self.roll_back(mark, out, told),
         }
+    }
+
+    fn is_free(&self, i: usize) -> bool
+        requires { i < 16 }
+        ensures free { result ≡ true → slot_at i self.now.ring.slots ≡ None }
+        ensures numbers { IsTrue (has_numbers self.now.ring) }
+    {
+        let _ = self.is_left();
+        self.links.slots()[i].is_none()
+    }
+
+    /// What a firing does at this slot: nothing, where it is free.
+    #[tactic(auto, unfolding(ring_rules::specs::Firing::slot_fired))]
+    pub(crate) fn fire_slot(&mut self, i: usize, now: u64, out: &mut Outbox, told: &mut Reports)
+        requires slot { i < 16 }
+        requires now { now ≤ 1_000_000_000_000_000 }
+        requires room { length out.old + 11 ≤ 192 }
+        requires place { length told.old + 2 ≤ 64 }
+        ensures row { step self.new out.new told.new ≡ by (λ c. slot_fired c now i) (step self.old out.old told.old) }
+        ensures few { length told.new ≤ length told.old + 2 }
+        ensures short { length out.new ≤ length out.old + 11 }
+    {
+        if self.is_free(i) {
+            return;
+        }
+        self.fire_link(i, now, out, told);
     }
 
     /// Each slot in its order, until the node leaves.
