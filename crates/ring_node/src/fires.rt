@@ -1,10 +1,10 @@
-ghost use Rattle.std.specs.Prelude.{◌≡◌, ◌+◌, ◌<◌, ◌≤◌, IsTrue, List, None, OnErr, OnOk, false, length, true};
+ghost use Rattle.std.specs.Prelude.{◌≡◌, ◌+◌, ◌<◌, ◌≤◌, IsTrue, List, OnErr, OnOk, false, length, true};
 ghost use Rattle.fabric_terms.specs.declared.report.Report.{Report};
 ghost use Rattle.join_phases.specs.Phases.{is_routing};
 ghost use Rattle.ring_node.specs.Nodes.{IsPatched, by, step};
 ghost use Rattle.ring_rules.specs.Deeds.{has_numbers};
 ghost use Rattle.ring_rules.specs.Firing.{freeze_given, give_frozen, place_sought, search_by, slot_fired, slots_fired, timer_fired};
-ghost use Rattle.ring_rules.specs.Slots.{slot_at};
+ghost use Rattle.ring_rules.specs.Slots.{is_free, slot_at};
 
 use crate::acked::all_acked;
 use crate::node::RingNode;
@@ -39,11 +39,13 @@ impl RingNode {
         }
     }
 
+    /// Whether the slot is free.
     fn is_free(&self, i: usize) -> bool
         requires { i < 16 }
-        ensures free { result ≡ true → slot_at i self.now.ring.slots ≡ None }
+        ensures free { result ≡ is_free (slot_at i self.now.ring.slots) }
         ensures numbers { IsTrue (has_numbers self.now.ring) }
     {
+        // What the phase is does not matter here: asking for it shows that the ring's numbers are counted.
         let _ = self.is_left();
         self.links.slots()[i].is_none()
     }
