@@ -5,7 +5,7 @@ ghost use Rattle.arbiter_quorum.specs.Tallies.{is_majority};
 pub const MAX_ARBITRATORS: u8 = 9;
 
 /// Whether this many are more than half of `arbitrators`.
-pub(crate) fn is_majority(arbitrators: u8, count: usize) -> bool
+pub fn is_majority(arbitrators: u8, count: usize) -> bool
     ensures { result ≡ is_majority arbitrators count }
 {
     count > usize::from(arbitrators / 2)

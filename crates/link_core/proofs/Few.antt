@@ -1,4 +1,4 @@
--- A frame is answered by one frame at most, and changes slots and sessions alone.
+-- A frame is answered by nine frames at most, and changes slots and sessions alone.
 use Rattle.std.proofs.Common.{ℕ, ◌≤◌, Bool, true, false, List, length, Option, Some, None, refl, arith, nat_lt, min, ◌==◌, ◌-◌, not, ◌||◌, slice_set}
 use Rattle.ring_points.specs.declared.interval.Interval.{Interval}
 use Rattle.ring_points.specs.declared.who.Flight.{Flight}
@@ -9,7 +9,7 @@ use Rattle.fabric_terms.specs.declared.message.Body.{Body}
 use Rattle.fabric_terms.specs.declared.message.Body.TheVariants as body
 use Rattle.arbiter_quorum.specs.declared.verdict.Verdict.{Verdict}
 use Rattle.arbiter_quorum.specs.declared.verdict.Verdict.TheVariants as verdict
-use Rattle.arbiter_quorum.specs.Tallies.{noted, verdict_of, may_be_heir}
+use Rattle.arbiter_quorum.specs.Tallies.{noted, verdict_of}
 use Rattle.drift_clock.specs.declared.bound.Bound as clocks
 use Rattle.ring_rules.specs.declared.link.Link.{Link}
 use Rattle.ring_rules.specs.declared.link.LinkState.{LinkState}
@@ -24,12 +24,17 @@ use Rattle.link_core.specs.Kept.{IsHeard}
 use Rattle.link_core.specs.Handshakes.{accept_counted, accept_free, accept, hello_crossed, hello_of_node, offer_same, offer_repeated_to, hello_repeated, hello_of_instance, offer_taken, take_again, offer_repeated, offer_seen, take_in, take_seen}
 use Rattle.link_core.specs.Renewals.{wanted_if, renew_in, renew_seen, ack_in, ack_seen}
 use Rattle.link_core.specs.Flights.{arrived_if, transfer_in, transfer_seen, answers, lost_flight, gone_heard, stands, gone_if, gone_seen, gone_greeting, gone_elsewhere}
-use Rattle.link_core.specs.Rulings.{ripe_at, made_heir, discharge_told, kept_discharged, judged, awaits, ruling_if, ruling_seen}
+use Rattle.link_core.specs.Rulings.{ripe_at, made_heir, discharge_told, may_succeed, kept_discharged, judged, awaits, ruling_if, ruling_seen}
+use Rattle.heir_rounds.specs.Rounds.{round_noted, round_verdict}
+use Rattle.heir_rounds.specs.declared.verdict.RoundVerdict.{RoundVerdict}
+use Rattle.heir_rounds.specs.declared.verdict.RoundVerdict.TheVariants as rounds_of
+use Rattle.link_core.specs.Rounds.{claims, claims_if, round_judged, is_discharged, kept_if, kept_seen, kept_where}
+use Rattle.link_core.proofs.FiredFew.{both_first_few}
 use Rattle.link_core.specs.Frames.{frame_row}
 
--- one frame at most, and two notes
+-- nine frames at most, and two notes
 record Few (t : Turn) : Type 0 where
-  sent : length t.sent ≤ 1
+  sent : length t.sent ≤ 9
   notes : length t.notes ≤ 2
 
 found_few : (row : ℕ → SlotRow) (none : Did) (k : Links) (place : Option ℕ) → ((i : ℕ) (slot : Option Link) → Few (row i slot)) → IsHeard k none → IsHeard k (in_found row none k place)
@@ -152,7 +157,7 @@ answers_few true to b = omega arith
 answers_few false to b = omega arith
 
 heard_few : (i : ℕ) (l : Link) (bound : Bool) (lost : Option Flight) → Few (gone_heard i l bound lost)
-heard_few i l bound None = record { sent = answers_few bound l.peer (body.Gone l.mine l.yours l.got false); notes = omega arith }
+heard_few i l bound None = record { sent = omega (arith, answers_few bound l.peer (body.Gone l.mine l.yours l.got false)); notes = omega arith }
 heard_few i l bound (Some f) = record { sent = omega arith; notes = omega arith }
 
 gone_if_few : (got : ℕ) (bound : Bool) (i : ℕ) (l : Link) (stood : Bool) → Few (gone_if got bound i l stood)
@@ -164,8 +169,8 @@ gone_seen_few got bound i None = record { sent = omega arith; notes = omega arit
 gone_seen_few got bound i (Some l) = gone_if_few got bound i l (stands l.state)
 
 greeting_few : (from : Who) (theirs own : ℕ) (bound : Bool) (k : Links) (place : Option ℕ) → IsHeard k (gone_greeting from theirs own bound k place)
-greeting_few from theirs own bound k None = record { kept = refl; sent = answers_few bound from (body.Gone own theirs 0 false); notes = omega arith }
-greeting_few from theirs own bound k (Some i) = record { kept = refl; sent = answers_few bound from (body.Gone own theirs 0 false); notes = omega arith }
+greeting_few from theirs own bound k None = record { kept = refl; sent = omega (arith, answers_few bound from (body.Gone own theirs 0 false)); notes = omega arith }
+greeting_few from theirs own bound k (Some i) = record { kept = refl; sent = omega (arith, answers_few bound from (body.Gone own theirs 0 false)); notes = omega arith }
 
 -- Ruled
 
@@ -181,29 +186,63 @@ discharged_few : (l : Link) (notes : List LinkNote) (ends : Bool) → length not
 discharged_few l notes true h = record { sent = omega arith; notes = h }
 discharged_few l notes false h = record { sent = omega arith; notes = h }
 
-judged_few : (l : Link) (ripe : ℕ) (was : LinkState) (v : Verdict) → Few (judged l ripe was v)
-judged_few l ripe was verdict.Heir = made_heir_few l ripe (is_bare l)
-judged_few l ripe was verdict.Discharged = discharged_few l (discharge_told was l) (is_bare l || not (may_be_heir l.tally)) (told_few was l)
-judged_few l ripe was verdict.Lost = record { sent = omega arith; notes = omega arith }
-judged_few l ripe was verdict.Open = record { sent = omega arith; notes = omega arith }
+judged_few : (rounds : ℕ) (l : Link) (ripe : ℕ) (was : LinkState) (v : Verdict) → Few (judged rounds l ripe was v)
+judged_few rounds l ripe was verdict.Heir = made_heir_few l ripe (is_bare l)
+judged_few rounds l ripe was verdict.Discharged = discharged_few l (discharge_told was l) (is_bare l || not (may_succeed rounds l)) (told_few was l)
+judged_few rounds l ripe was verdict.Lost = record { sent = omega arith; notes = omega arith }
+judged_few rounds l ripe was verdict.Open = record { sent = omega arith; notes = omega arith }
 
-ruling_if_few : (ripe arbiter : ℕ) (ruling : Ruling) (l : Link) (was : LinkState) (waits : Bool) → Few (ruling_if ripe arbiter ruling l was waits)
-ruling_if_few ripe arbiter ruling l was true = judged_few (record l { tally = noted l.tally arbiter ruling }) ripe was (verdict_of (noted l.tally arbiter ruling))
-ruling_if_few ripe arbiter ruling l was false = record { sent = omega arith; notes = omega arith }
+ruling_if_few : (rounds ripe arbiter : ℕ) (ruling : Ruling) (l : Link) (was : LinkState) (waits : Bool) → Few (ruling_if rounds ripe arbiter ruling l was waits)
+ruling_if_few rounds ripe arbiter ruling l was true = judged_few rounds (record l { tally = noted l.tally arbiter ruling }) ripe was (verdict_of (noted l.tally arbiter ruling))
+ruling_if_few rounds ripe arbiter ruling l was false = record { sent = omega arith; notes = omega arith }
 
-ruling_seen_few : (now : ℕ) (bound : clocks.Bound) (answer arbiter : ℕ) (ruling : Ruling) (i : ℕ) (slot : Option Link) → Few (ruling_seen now bound answer arbiter ruling slot)
-ruling_seen_few now bound answer arbiter ruling i None = record { sent = omega arith; notes = omega arith }
-ruling_seen_few now bound answer arbiter ruling i (Some l) = ruling_if_few (ripe_at now bound answer l) arbiter ruling l l.state (awaits l.state)
+ruling_seen_few : (now : ℕ) (bound : clocks.Bound) (answer rounds arbiter : ℕ) (ruling : Ruling) (i : ℕ) (slot : Option Link) → Few (ruling_seen now bound answer rounds arbiter ruling slot)
+ruling_seen_few now bound answer rounds arbiter ruling i None = record { sent = omega arith; notes = omega arith }
+ruling_seen_few now bound answer rounds arbiter ruling i (Some l) = ruling_if_few rounds (ripe_at now bound answer l) arbiter ruling l l.state (awaits l.state)
 
-pub frame_few : (now : ℕ) (a : Announce) (from : Who) (b : Body) (k : Links) → IsHeard k (frame_row now a from b k)
-frame_few now a from (body.Hello mine) k = of_instance_few k (new_link k now from mine Offered 1 k.lease) (slot_where (of_instance from) k.slots)
-frame_few now a from (body.HelloFor mine length) k = of_instance_few k (new_link k now from mine Offered 2 (min length k.longest)) (slot_where (of_instance from) k.slots)
-frame_few now a from (body.Offer mine yours) k = offer_seen_few now from mine yours k.lease k (slot_where (greets_node_by from.actor yours) k.slots)
-frame_few now a from (body.OfferFor mine yours length) k = offer_seen_few now from mine yours length k (slot_where (greets_node_by from.actor yours) k.slots)
-frame_few now a from (body.Take mine yours) k = found_few (λ i. take_seen now a) (unknown from mine yours k) k (slot_where (of_session from yours mine) k.slots) (take_seen_few now a) (unknown_few from mine yours k)
-frame_few now a from (body.Renew mine yours stamp version got want ranges) k = found_few (renew_seen stamp version got want ranges) (unknown from mine yours k) k (slot_where (of_session from yours mine) k.slots) (renew_seen_few stamp version got want ranges) (unknown_few from mine yours k)
-frame_few now a from (body.RenewAck mine yours stamp version) k = found_few (λ i. ack_seen stamp version) (same k) k (slot_where (of_session from yours mine) k.slots) (ack_seen_few stamp version) (same_few k)
-frame_few now a from (body.Transfer mine yours flight ranges) k = found_few (transfer_seen flight ranges) (unknown from mine yours k) k (slot_where (of_session from yours mine) k.slots) (transfer_seen_few flight ranges) (unknown_few from mine yours k)
-frame_few now a from (body.Gone mine yours got bound) k = found_few (gone_seen got bound) (gone_elsewhere from mine yours bound k) k (slot_where (of_session from yours mine) k.slots) (gone_seen_few got bound) (greeting_few from mine yours bound k (slot_where (greets_by yours) k.slots))
-frame_few now a from (body.Ruled victim ruling) k = found_few (λ i. ruling_seen now k.bound k.answer (from.actor - arbiter_actor 0) ruling) (same k) k (slot_where (of_instance victim) k.slots) (ruling_seen_few now k.bound k.answer (from.actor - arbiter_actor 0) ruling) (same_few k)
-frame_few now a from _ k = same_few k
+-- Kept
+
+claims_few : (rounds n : ℕ) (l : Link) → n ≤ 9 → length (claims rounds n l) ≤ 9
+claims_few rounds n l h = go (nat_lt 1 rounds)
+  where
+    go : (b : Bool) → length (claims_if n l b) ≤ 9
+    go true = omega (arith, both_first_few n l)
+    go false = omega arith
+
+round_few : (rounds n : ℕ) (l : Link) (ripe : ℕ) (v : RoundVerdict) → n ≤ 9 → Few (round_judged rounds n l ripe v)
+round_few rounds n l ripe rounds_of.Won h = record { sent = omega arith; notes = omega arith }
+round_few rounds n l ripe (rounds_of.Next r) h = record { sent = claims_few rounds n l h; notes = omega arith }
+round_few rounds n l ripe rounds_of.Over h = record { sent = omega arith; notes = omega arith }
+round_few rounds n l ripe rounds_of.Open h = record { sent = omega arith; notes = omega arith }
+
+kept_if_few : (rounds n ripe arbiter round : ℕ) (claimer : Who) (l : Link) (is : Bool) → n ≤ 9 → Few (kept_if rounds n ripe arbiter round claimer l is)
+kept_if_few rounds n ripe arbiter round claimer l true h =
+    round_few rounds n (record l { rounds = round_noted l.rounds round arbiter claimer }) ripe (round_verdict l.rounds round arbiter claimer) h
+kept_if_few rounds n ripe arbiter round claimer l false h = record { sent = omega arith; notes = omega arith }
+
+kept_seen_few : (now : ℕ) (bound : clocks.Bound) (answer rounds n arbiter round : ℕ) (claimer : Who) → n ≤ 9 → (i : ℕ) (slot : Option Link) →
+    Few (kept_seen now bound answer rounds n arbiter round claimer slot)
+kept_seen_few now bound answer rounds n arbiter round claimer h i None = record { sent = omega arith; notes = omega arith }
+kept_seen_few now bound answer rounds n arbiter round claimer h i (Some l) =
+    kept_if_few rounds n (ripe_at now bound answer l) arbiter round claimer l (is_discharged l.state) h
+
+kept_few : (now arbiter : ℕ) (victim : Who) (round : ℕ) (claimer : Who) (k : Links) (is : Bool) → k.arbitrators ≤ 9 →
+    IsHeard k (kept_where now arbiter victim round claimer k is)
+kept_few now arbiter victim round claimer k true h =
+    found_few (λ i. kept_seen now k.bound k.answer k.rounds k.arbitrators arbiter round claimer) (same k) k (slot_where (of_instance victim) k.slots)
+    (kept_seen_few now k.bound k.answer k.rounds k.arbitrators arbiter round claimer h) (same_few k)
+kept_few now arbiter victim round claimer k false h = same_few k
+
+pub frame_few : (now : ℕ) (a : Announce) (from : Who) (b : Body) (k : Links) → k.arbitrators ≤ 9 → IsHeard k (frame_row now a from b k)
+frame_few now a from (body.Hello mine) k h = of_instance_few k (new_link k now from mine Offered 1 k.lease) (slot_where (of_instance from) k.slots)
+frame_few now a from (body.HelloFor mine length) k h = of_instance_few k (new_link k now from mine Offered 2 (min length k.longest)) (slot_where (of_instance from) k.slots)
+frame_few now a from (body.Offer mine yours) k h = offer_seen_few now from mine yours k.lease k (slot_where (greets_node_by from.actor yours) k.slots)
+frame_few now a from (body.OfferFor mine yours length) k h = offer_seen_few now from mine yours length k (slot_where (greets_node_by from.actor yours) k.slots)
+frame_few now a from (body.Take mine yours) k h = found_few (λ i. take_seen now a) (unknown from mine yours k) k (slot_where (of_session from yours mine) k.slots) (take_seen_few now a) (unknown_few from mine yours k)
+frame_few now a from (body.Renew mine yours stamp version got want ranges) k h = found_few (renew_seen stamp version got want ranges) (unknown from mine yours k) k (slot_where (of_session from yours mine) k.slots) (renew_seen_few stamp version got want ranges) (unknown_few from mine yours k)
+frame_few now a from (body.RenewAck mine yours stamp version) k h = found_few (λ i. ack_seen stamp version) (same k) k (slot_where (of_session from yours mine) k.slots) (ack_seen_few stamp version) (same_few k)
+frame_few now a from (body.Transfer mine yours flight ranges) k h = found_few (transfer_seen flight ranges) (unknown from mine yours k) k (slot_where (of_session from yours mine) k.slots) (transfer_seen_few flight ranges) (unknown_few from mine yours k)
+frame_few now a from (body.Gone mine yours got bound) k h = found_few (gone_seen got bound) (gone_elsewhere from mine yours bound k) k (slot_where (of_session from yours mine) k.slots) (gone_seen_few got bound) (greeting_few from mine yours bound k (slot_where (greets_by yours) k.slots))
+frame_few now a from (body.Ruled victim ruling) k h = found_few (λ i. ruling_seen now k.bound k.answer k.rounds (from.actor - arbiter_actor 0) ruling) (same k) k (slot_where (of_instance victim) k.slots) (ruling_seen_few now k.bound k.answer k.rounds (from.actor - arbiter_actor 0) ruling) (same_few k)
+frame_few now a from (body.Kept victim round claimer) k h = kept_few now (from.actor - arbiter_actor 0) victim round claimer k (nat_lt 1 k.rounds) h
+frame_few now a from _ k h = same_few k

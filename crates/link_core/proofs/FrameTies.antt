@@ -14,6 +14,7 @@ use Rattle.link_core.proofs.GreetTies.{hello_tie}
 use Rattle.link_core.proofs.RenewalTies.{renew_tie, ack_tie}
 use Rattle.link_core.proofs.FlightTies.{transfer_tie, gone_tie}
 use Rattle.link_core.proofs.RulingTies.{ruling_tie}
+use Rattle.link_core.proofs.RoundTies.{kept_tie}
 
 pub frame_tie : (c : Settings) (now : ℕ) (from : Who) (b : Body) (w : Work) → IsTrue (has_numbers w.ring) → is_search b ≡ false → counted w (rules.frame_row c now from b w) ≡ counted w (finished (wants_answer b) (frame_row now (announce_of w.ring) from b (links_of c w.ring)) w)
 frame_tie c now from (body.Hello mine) w h e = hello_tie c now from mine 1 c.lease w h
@@ -26,6 +27,7 @@ frame_tie c now from (body.RenewAck mine yours stamp version) w h e = ap (counte
 frame_tie c now from (body.Transfer mine yours flight ranges) w h e = ap (counted w) (transfer_tie c from mine yours flight ranges w)
 frame_tie c now from (body.Gone mine yours got bound) w h e = ap (counted w) (gone_tie c from mine yours got bound w)
 frame_tie c now from (body.Ruled victim ruling) w h e = ap (counted w) (ruling_tie c now from victim ruling w)
+frame_tie c now from (body.Kept victim round claimer) w h e = ap (counted w) (kept_tie c now from victim round claimer w)
 frame_tie c now from (body.Seek origin key hops) w h e = cc
 frame_tie c now from (body.Found key holder) w h e = cc
 frame_tie c now from _ w h e = ap (counted w) (same_tie c false w)

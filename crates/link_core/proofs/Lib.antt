@@ -10,8 +10,9 @@ pub mod RenewalTies
 pub mod FlightTies
 pub mod RulingTies
 pub mod FiringTies
+pub mod RoundTies
 pub mod PartTies
 pub mod FrameTies
 pub mod Deeds
-pub mod Few
 pub mod FiredFew
+pub mod Few

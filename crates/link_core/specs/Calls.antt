@@ -15,8 +15,8 @@ use Rattle.link_core.specs.Handshakes.{greet, greeting_for}
 use Rattle.link_core.specs.Flights.{last_words}
 
 -- no link yet, and nobody accused
-abbrev pub no_links : Who → ℕ → ℕ → ℕ → Bound → ℕ → Links
-no_links me lease longest answer bound arbitrators =
+abbrev pub no_links : Who → ℕ → ℕ → ℕ → Bound → ℕ → ℕ → Links
+no_links me lease longest answer bound arbitrators rounds =
     record {
       me = me;
       lease = lease;
@@ -24,6 +24,7 @@ no_links me lease longest answer bound arbitrators =
       answer = answer;
       bound = bound;
       arbitrators = arbitrators;
+      rounds = rounds;
       slots = no_slots;
       next_session = 1;
       accused = [];

@@ -1,5 +1,5 @@
 -- A firing at one slot.
-use Rattle.std.specs.Prelude.{ℕ, zero, suc, ◌+◌, Bool, true, false, List, [], ◌∷◌, ◌++◌, length, Option, Some, None, nat_le, nat_lt, slice_set}
+use Rattle.std.specs.Prelude.{ℕ, zero, suc, ◌+◌, ◌-◌, ◌*◌, Bool, true, false, List, [], ◌∷◌, ◌++◌, length, Option, Some, None, nat_le, nat_lt, slice_set}
 use Rattle.ring_points.specs.declared.who.Ruling.{Ruling}
 use Rattle.ring_points.specs.declared.who.Flight.{Flight}
 use Rattle.ring_points.specs.declared.who.Who.{Who}
@@ -8,6 +8,7 @@ use Rattle.fabric_terms.specs.declared.message.Body.{Body}
 use Rattle.fabric_terms.specs.declared.message.Body.TheVariants as body
 use Rattle.fabric_terms.specs.declared.report.Why.TheVariants.{AccusedFull}
 use Rattle.arbiter_quorum.specs.Tallies.{has_answered, no_answers}
+use Rattle.heir_rounds.specs.Rounds.{no_rounds}
 use Rattle.ring_rules.specs.declared.link.Link.{Link}
 use Rattle.ring_rules.specs.declared.link.LinkState.{LinkState}
 use Rattle.ring_rules.specs.declared.link.LinkState.TheVariants as state
@@ -18,6 +19,7 @@ use Rattle.link_core.specs.declared.announce.Announce.{Announce}
 use Rattle.link_core.specs.declared.notes.LinkNote.TheVariants.{AccusedNow, Leave, Ripe, Undo}
 use Rattle.link_core.specs.Links.{Links, Turn, Did, turn, did, stays, same, asks_for, in_place, gone_said}
 use Rattle.link_core.specs.Handshakes.{renew_body}
+use Rattle.link_core.specs.Rounds.{claims}
 
 -- An arbitrator that has not answered is asked about the peer.
 abbrev pub asked_if : ℕ → Who → Bool → List (Who × Body)
@@ -35,7 +37,7 @@ asked n l = asked_first n l.peer l.tally.answers
 -- The peer is accused, where the list of the accused is not full.
 
 abbrev pub accusing : Links → Link → Link
-accusing k l = record l { state = state.Accused; tally = no_answers k.me l.peer k.arbitrators }
+accusing k l = record l { state = state.Accused; tally = no_answers k.me l.peer k.arbitrators; rounds = no_rounds k.me k.arbitrators k.rounds }
 
 abbrev pub accuse_if : ℕ → Link → Links → Bool → Did
 accuse_if i l k true =
@@ -65,10 +67,14 @@ abbrev pub transfer_again : Link → Option Flight → List (Who × Body)
 transfer_again l None = []
 transfer_again l (Some f) = (l.peer, transfer_body l f) ∷ []
 
--- A discharged slot asks again, until the peer's fence must be over.
-abbrev pub discharged_due : ℕ → Link → Bool → Turn
-discharged_due n l true = stays None
-discharged_due n l false = turn (Some l) (asked n l) []
+-- A discharged slot asks again, and claims the present round, until each round had its time after the peer's fence.
+
+abbrev pub discharged_end : ℕ → ℕ → Link → ℕ
+discharged_end answer rounds l = l.until + answer + (rounds - 1) * (l.len + answer)
+
+abbrev pub discharged_due : ℕ → ℕ → Link → Bool → Turn
+discharged_due rounds n l true = stays None
+discharged_due rounds n l false = turn (Some l) (asked n l ++ claims rounds n l) []
 
 -- An heir that is ripe takes over; that is the caller's to do.
 abbrev pub heir_due : ℕ → Link → Bool → Turn
@@ -76,18 +82,18 @@ heir_due i l true = turn (Some l) [] (Ripe i ∷ [])
 heir_due i l false = stays (Some l)
 
 -- what a slot says that need not accuse
-abbrev pub spoken : ℕ → Announce → ℕ → ℕ → ℕ → Link → LinkState → Turn
-spoken now a answer n i l state.Hello = hello_due l (nat_le l.until now)
-spoken now a answer n i l state.Offered = turn (Some l) ((l.peer, offer_body l) ∷ []) []
-spoken now a answer n i l state.Bound = turn (Some l) ((l.peer, renew_body now a l) ∷ transfer_again l l.flight) []
-spoken now a answer n i l state.Parting = gone_said l
-spoken now a answer n i l state.Accused = turn (Some l) (asked n l) []
-spoken now a answer n i l state.Discharged = discharged_due n l (nat_le (l.until + answer) now)
-spoken now a answer n i l state.Heir = heir_due i l (nat_le l.ripe now)
+abbrev pub spoken : ℕ → Announce → ℕ → ℕ → ℕ → ℕ → Link → LinkState → Turn
+spoken now a answer rounds n i l state.Hello = hello_due l (nat_le l.until now)
+spoken now a answer rounds n i l state.Offered = turn (Some l) ((l.peer, offer_body l) ∷ []) []
+spoken now a answer rounds n i l state.Bound = turn (Some l) ((l.peer, renew_body now a l) ∷ transfer_again l l.flight) []
+spoken now a answer rounds n i l state.Parting = gone_said l
+spoken now a answer rounds n i l state.Accused = turn (Some l) (asked n l) []
+spoken now a answer rounds n i l state.Discharged = discharged_due rounds n l (nat_le (discharged_end answer rounds l) now)
+spoken now a answer rounds n i l state.Heir = heir_due i l (nat_le l.ripe now)
 
 abbrev pub fired_if : ℕ → Announce → ℕ → Link → LinkState → Links → Bool → Did
 fired_if now a i l was k true = peer_accused i l k
-fired_if now a i l was k false = in_place i (spoken now a k.answer k.arbitrators i l was) k
+fired_if now a i l was k false = in_place i (spoken now a k.answer k.rounds k.arbitrators i l was) k
 
 abbrev pub fired_at : ℕ → Announce → ℕ → Option Link → Links → Did
 fired_at now a i None k = same k

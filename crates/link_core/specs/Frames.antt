@@ -10,11 +10,13 @@ use Rattle.link_core.specs.Handshakes.{hello_received, offer_received, take_rece
 use Rattle.link_core.specs.Renewals.{renew_received, ack_received}
 use Rattle.link_core.specs.Flights.{transfer_received, gone_received}
 use Rattle.link_core.specs.Rulings.{ruling_received}
+use Rattle.link_core.specs.Rounds.{kept_received}
 
--- what is said of a frame that a node takes: its stamp is a reading, and a ruling is of a configured arbitrator
+-- what is said of a frame that a node takes: its stamp is a reading, and a ruling and an answer to a claim are of a configured arbitrator
 abbrev pub may_come : ℕ → Who → Body → Bool
 may_come arbitrators from (body.RenewAck mine yours stamp version) = nat_le stamp 1000000000000000
 may_come arbitrators from (body.Ruled victim ruling) = nat_lt (arbiter_actor 0) from.actor && nat_le from.actor (arbiter_actor arbitrators)
+may_come arbitrators from (body.Kept victim round claimer) = nat_lt (arbiter_actor 0) from.actor && nat_le from.actor (arbiter_actor arbitrators)
 may_come arbitrators from _ = true
 
 -- a frame of another kind changes nothing
@@ -29,4 +31,5 @@ frame_row now a from (body.RenewAck mine yours stamp version) k = ack_received f
 frame_row now a from (body.Transfer mine yours flight ranges) k = transfer_received from mine yours flight ranges k
 frame_row now a from (body.Gone mine yours got bound) k = gone_received from mine yours got bound k
 frame_row now a from (body.Ruled victim ruling) k = ruling_received now from victim ruling k
+frame_row now a from (body.Kept victim round claimer) k = kept_received now from victim round claimer k
 frame_row now a from _ k = same k

@@ -1,11 +1,11 @@
 -- What a row of links leaves as it is, and how much it sends and leaves to do.
-use Rattle.std.specs.Prelude.{◌≡◌, ℕ, ◌≤◌, length, take}
+use Rattle.std.specs.Prelude.{◌≡◌, ◌≤◌, length, take}
 use Rattle.link_core.specs.Links.{Links, Did}
 
--- a frame changes slots and the number of the next session alone, and is answered by one frame at most
+-- a frame changes slots and the number of the next session alone, and is answered by nine frames at most
 pub record IsHeard (old : Links) (d : Did) : Type 0 where
   pub kept : d.links ≡ record old { slots = d.links.slots; next_session = d.links.next_session }
-  pub sent : length d.sent ≤ 1
+  pub sent : length d.sent ≤ 9
   pub notes : length d.notes ≤ 2
 
 -- a firing changes slots and the accused alone, accuses at the end of the list, and sends nine frames at most

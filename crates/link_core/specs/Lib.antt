@@ -4,6 +4,7 @@ pub mod Handshakes
 pub mod Renewals
 pub mod Flights
 pub mod Rulings
+pub mod Rounds
 pub mod Firing
 pub mod Frames
 pub mod Calls

@@ -7,6 +7,7 @@ use Rattle.fabric_terms.specs.declared.message.Body.TheVariants.{Gone}
 use Rattle.fabric_terms.specs.declared.report.Why.TheVariants.{Counters}
 use Rattle.token_core.specs.Tokens.{last_number}
 use Rattle.arbiter_quorum.specs.Tallies.{no_answers}
+use Rattle.heir_rounds.specs.Rounds.{no_rounds}
 use Rattle.ring_rules.specs.declared.link.Link.{Link}
 use Rattle.ring_rules.specs.declared.link.LinkState.{LinkState}
 use Rattle.ring_rules.specs.Rings.{Slots}
@@ -15,7 +16,7 @@ use Rattle.link_core.specs.declared.notes.LinkNote.{LinkNote}
 use Rattle.link_core.specs.declared.notes.LinkNote.TheVariants.{Leave}
 
 -- Whose links they are, the lease of a link that names no length, the longest lease that is granted, the time for an
--- answer, the clocks' bound, how many arbitrators there are; the slots, the number of the next session, and the accused.
+-- answer, the clocks' bound, how many arbitrators and how many rounds there are; the slots, the number of the next session, and the accused.
 pub record Links : Type 0 where
   pub me : Who
   pub lease : ℕ
@@ -23,6 +24,7 @@ pub record Links : Type 0 where
   pub answer : ℕ
   pub bound : Bound
   pub arbitrators : ℕ
+  pub rounds : ℕ
   pub slots : Slots
   pub next_session : ℕ
   pub accused : List Who
@@ -109,6 +111,7 @@ new_link k now peer theirs first wire len =
       got = 0;
       flight = None;
       tally = no_answers k.me peer k.arbitrators;
+      rounds = no_rounds k.me k.arbitrators k.rounds;
       len = len;
       wire = wire;
     }

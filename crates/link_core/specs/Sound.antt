@@ -16,6 +16,7 @@ pub record IsSoundLink (arbitrators : ℕ) (l : Link) : Type 0 where
   pub len : l.len ≤ longest_time
   pub until : l.until ≤ latest_end
   pub tally : l.tally.arbitrators ≡ arbitrators
+  pub rounds : l.rounds.arbitrators ≡ arbitrators
 
 abbrev pub IsSoundSlot : ℕ → Option Link → Type 0
 IsSoundSlot arbitrators None = Unit {0}
@@ -28,5 +29,6 @@ pub record AreSound (k : Links) : Type 0 where
   pub drift : k.bound.d ≤ 100
   pub grain : k.bound.grain ≤ 1000000
   pub arbitrators : k.arbitrators ≤ 9
+  pub rounds : k.rounds ≤ 8
   pub slots : All (IsSoundSlot k.arbitrators) k.slots
   pub count : length k.slots ≡ slot_count

@@ -36,6 +36,7 @@ links_of c r =
       answer = c.answer;
       bound = c.bound;
       arbitrators = c.arbitrators;
+      rounds = c.rounds;
       slots = r.slots;
       next_session = r.next_session;
       accused = r.accused;

@@ -1,10 +1,11 @@
 ghost use Rattle.std.specs.Prelude.{◌≡◌, ℕ, ◌+◌, ◌^◌, ◌<◌, ◌≤◌, [], ◌∷◌, ◌++◌, Some, IfSome, length, nat_le};
 ghost use Rattle.arbiter_quorum.specs.Tallies.{has_answered};
 ghost use Rattle.link_core.specs.Links.{turn, turn_after};
-ghost use Rattle.link_core.specs.Firing.{asked, asked_if, is_over, leases, spoken, transfer_again};
+ghost use Rattle.link_core.specs.Firing.{asked, asked_if, discharged_end, is_over, leases, spoken, transfer_again};
 
 use crate::announce::Announce;
 use crate::notes::{LinkNote, LinkNotes};
+use crate::rounds::claim_round;
 use crate::say::{self, say_gone};
 use fabric_terms::Body;
 use ring_points::Who;
@@ -15,13 +16,14 @@ use ring_wire::Outbox;
 pub(crate) const ARBITERS: u16 = 32768;
 
 /// What a firing at one slot goes by: the reading, what the node announces, the time for an answer, and how many
-/// arbitrators there are.
+/// arbitrators and rounds there are.
 #[derive(Drop)]
 pub(crate) struct Firing<'a> {
     pub reading: u64,
     pub announce: &'a Announce,
     pub answer: u64,
     pub arbitrators: u8,
+    pub rounds: u8,
 }
 
 /// A slot with a lease, at its end.
@@ -61,6 +63,18 @@ pub(crate) fn ask_arbiters(link: &Link, arbitrators: u8, out: &mut Outbox)
     }
 }
 
+/// When a discharged slot ends: each round had its time after the peer's fence.
+fn discharged_end(link: &Link, firing: &Firing) -> u64
+    requires rounds { firing.now.rounds ≤ 8 }
+    requires answer { firing.now.answer ≤ 1_000_000_000 }
+    requires times { link.now.until ≤ 1_000_001_000_000_000 }
+    requires length { link.now.len ≤ 1_000_000_000 }
+    ensures { result ≡ discharged_end firing.now.answer firing.now.rounds link.now }
+{
+    let more = u64::from(firing.rounds.saturating_sub(1));
+    link.until + firing.answer + more * (link.len + firing.answer)
+}
+
 fn transfer_again(link: &Link, out: &mut Outbox)
     requires { length out.old < 192 }
     ensures { out.new ≡ out.old ++ transfer_again link.now link.now.flight }
@@ -79,8 +93,11 @@ pub(crate) fn spoken(
 ) -> LinkNotes
     requires few { firing.now.arbitrators ≤ 9 }
     requires room { length out.old + 9 ≤ 192 }
-    requires times { IfSome slot.old (λ l. l.until + firing.now.answer < 2 ^ 64) }
-    ensures { IfSome slot.old (λ l. turn slot.new out.new result ≡ turn_after out.old (spoken firing.now.reading firing.now.announce.now firing.now.answer firing.now.arbitrators i l l.state)) }
+    requires rounds { firing.now.rounds ≤ 8 }
+    requires answer { firing.now.answer ≤ 1_000_000_000 }
+    requires times { IfSome slot.old (λ l. l.until ≤ 1_000_001_000_000_000) }
+    requires length { IfSome slot.old (λ l. l.len ≤ 1_000_000_000) }
+    ensures { IfSome slot.old (λ l. turn slot.new out.new result ≡ turn_after out.old (spoken firing.now.reading firing.now.announce.now firing.now.answer firing.now.rounds firing.now.arbitrators i l l.state)) }
 {
     let Some(link) = slot else {
         return LinkNotes::none();
@@ -95,8 +112,11 @@ pub(crate) fn spoken(
         }
         LinkState::Parting => say_gone(link, out),
         LinkState::Accused => ask_arbiters(link, firing.arbitrators, out),
-        LinkState::Discharged if link.until + firing.answer <= firing.reading => *slot = None,
-        LinkState::Discharged => ask_arbiters(link, firing.arbitrators, out),
+        LinkState::Discharged if discharged_end(link, firing) <= firing.reading => *slot = None,
+        LinkState::Discharged => {
+            ask_arbiters(link, firing.arbitrators, out);
+            claim_round(link, firing.arbitrators, firing.rounds, out);
+        }
         LinkState::Heir if link.ripe <= firing.reading => return LinkNotes::one(LinkNote::Ripe(i)),
         LinkState::Heir => {}
     }

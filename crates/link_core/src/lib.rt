@@ -20,6 +20,7 @@ mod notes;
 mod part;
 mod refusal;
 mod renewal;
+mod rounds;
 mod ruling;
 mod say;
 #[cfg(test)]

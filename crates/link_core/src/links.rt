@@ -40,6 +40,7 @@ pub struct Links16 {
     answer: u64,
     bound: Bound,
     arbitrators: u8,
+    rounds: u8,
     slots: [Option<Link>; SLOTS],
     last_session: u32,
     accused: ArrayVec<Who, MAX_ACCUSED>,
@@ -52,9 +53,9 @@ impl Model for Links16 {
 
     ghost Value = { Links };
 
-    ghost view = { λ k. record { me = k.me; lease = k.lease; longest = k.longest; answer = k.answer; bound = k.bound; arbitrators = k.arbitrators; slots = k.slots; next_session = k.last_session + 1; accused = k.accused.items } };
+    ghost view = { λ k. record { me = k.me; lease = k.lease; longest = k.longest; answer = k.answer; bound = k.bound; arbitrators = k.arbitrators; rounds = k.rounds; slots = k.slots; next_session = k.last_session + 1; accused = k.accused.items } };
 
-    ghost invariant = { λ k. AreSound (record { me = k.me; lease = k.lease; longest = k.longest; answer = k.answer; bound = k.bound; arbitrators = k.arbitrators; slots = k.slots; next_session = k.last_session + 1; accused = k.accused.items }) };
+    ghost invariant = { λ k. AreSound (record { me = k.me; lease = k.lease; longest = k.longest; answer = k.answer; bound = k.bound; arbitrators = k.arbitrators; rounds = k.rounds; slots = k.slots; next_session = k.last_session + 1; accused = k.accused.items }) };
 }
 
 fn free_slots() -> [Option<Link>; SLOTS]
@@ -68,7 +69,8 @@ fn free_slots() -> [Option<Link>; SLOTS]
 
 impl Links16 {
     /// No links. The lease is that of a link that names no length, the longest the longest that is granted; with the
-    /// time for an answer they are at most 1,000,000,000 ticks. There are at most nine arbitrators.
+    /// time for an answer they are at most 1,000,000,000 ticks. There are at most nine arbitrators,
+    /// and at most eight rounds of heirs.
     pub fn new(
         me: Who,
         lease: u64,
@@ -76,6 +78,7 @@ impl Links16 {
         answer: u64,
         bound: Bound,
         arbitrators: u8,
+        rounds: u8,
     ) -> Links16
         requires lease { lease ≤ LONGEST_TIME }
         requires longest { longest ≤ LONGEST_TIME }
@@ -83,7 +86,8 @@ impl Links16 {
         requires drift { bound.d ≤ 100 }
         requires grain { bound.grain ≤ 1_000_000 }
         requires arbitrators { arbitrators ≤ 9 }
-        ensures { result ≡ no_links me lease longest answer bound arbitrators }
+        requires rounds { rounds ≤ 8 }
+        ensures { result ≡ no_links me lease longest answer bound arbitrators rounds }
     {
         Links16 {
             me,
@@ -92,6 +96,7 @@ impl Links16 {
             answer,
             bound,
             arbitrators,
+            rounds,
             slots: free_slots(),
             last_session: 0,
             accused: ArrayVec::new(),

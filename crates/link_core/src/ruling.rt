@@ -1,8 +1,8 @@
 ghost use Rattle.std.specs.Prelude.{◌≡◌, ℕ, ◌+◌, ◌<◌, ◌≤◌, [], ◌∷◌, Some, IfSome, length, not, ◌||◌};
-ghost use Rattle.arbiter_quorum.specs.Tallies.{may_be_heir, noted, verdict_of};
+ghost use Rattle.arbiter_quorum.specs.Tallies.{noted, verdict_of};
 ghost use Rattle.ring_rules.specs.Links.{is_bare};
 ghost use Rattle.link_core.specs.Links.{turn};
-ghost use Rattle.link_core.specs.Rulings.{awaits, discharge_told, judged, made_heir, kept_discharged, ruling_seen, ripe_at};
+ghost use Rattle.link_core.specs.Rulings.{awaits, becomes_heir, discharge_told, judged, made_heir, may_succeed, kept_discharged, ruling_seen, ripe_at};
 
 use crate::notes::{LinkNote, LinkNotes};
 use arbiter_quorum::Verdict;
@@ -27,6 +27,19 @@ fn discharge_told(link: &Link) -> LinkNotes
     }
 }
 
+/// It waits until it is ripe.
+pub(crate) fn becomes_heir(slot: &mut Option<Link>, ripe: u64) -> LinkNotes
+    ensures { IfSome slot.old (λ l. turn slot.new [] result ≡ becomes_heir l ripe) }
+{
+    let Some(link) = slot else {
+        return LinkNotes::none();
+    };
+    let peer = link.peer;
+    link.state = LinkState::Heir;
+    link.ripe = ripe;
+    LinkNotes::one(LinkNote::HeirNow(peer, ripe))
+}
+
 /// A majority has granted.
 fn made_heir(slot: &mut Option<Link>, ripe: u64) -> LinkNotes
     ensures { IfSome slot.old (λ l. turn slot.new [] result ≡ made_heir l ripe (is_bare l)) }
@@ -39,21 +52,26 @@ fn made_heir(slot: &mut Option<Link>, ripe: u64) -> LinkNotes
         *slot = None;
         LinkNotes::one(LinkNote::DischargedNow(peer))
     } else {
-        link.state = LinkState::Heir;
-        link.ripe = ripe;
-        LinkNotes::one(LinkNote::HeirNow(peer, ripe))
+        becomes_heir(slot, ripe)
     }
 }
 
+/// The node may become heir, by a ruling or by a later round.
+fn may_succeed(link: &Link, rounds: u8) -> bool
+    ensures { result ≡ may_succeed rounds link.now }
+{
+    rounds > 1 || link.tally.may_be_heir()
+}
+
 /// A majority has not refused.
-fn kept_discharged(slot: &mut Option<Link>) -> LinkNotes
-    ensures { IfSome slot.old (λ l. turn slot.new [] result ≡ kept_discharged l (discharge_told l.state l) (is_bare l || not (may_be_heir l.tally))) }
+fn kept_discharged(slot: &mut Option<Link>, rounds: u8) -> LinkNotes
+    ensures { IfSome slot.old (λ l. turn slot.new [] result ≡ kept_discharged l (discharge_told l.state l) (is_bare l || not (may_succeed rounds l))) }
 {
     let Some(link) = slot else {
         return LinkNotes::none();
     };
     let notes = discharge_told(link);
-    if is_bare(link) || !link.tally.may_be_heir() {
+    if is_bare(link) || !may_succeed(link, rounds) {
         *slot = None;
     } else {
         link.state = LinkState::Discharged;
@@ -61,19 +79,19 @@ fn kept_discharged(slot: &mut Option<Link>) -> LinkNotes
     notes
 }
 
-fn judged(slot: &mut Option<Link>, ripe: u64, verdict: Verdict) -> LinkNotes
-    ensures { IfSome slot.old (λ l. turn slot.new [] result ≡ judged l ripe l.state verdict) }
+fn judged(slot: &mut Option<Link>, ripe: u64, rounds: u8, verdict: Verdict) -> LinkNotes
+    ensures { IfSome slot.old (λ l. turn slot.new [] result ≡ judged rounds l ripe l.state verdict) }
 {
     match verdict {
         Verdict::Heir => made_heir(slot, ripe),
-        Verdict::Discharged => kept_discharged(slot),
+        Verdict::Discharged => kept_discharged(slot, rounds),
         Verdict::Lost => LinkNotes::one(LinkNote::Leave(Why::Lost)),
         Verdict::Open => LinkNotes::none(),
     }
 }
 
 /// When an heir may take over: the peer's lease and its answers must be over by every clock.
-fn ripe_at(now: u64, bound: Bound, answer: u64, link: &Link) -> u64
+pub(crate) fn ripe_at(now: u64, bound: Bound, answer: u64, link: &Link) -> u64
     requires now { now ≤ 1_000_000_000_000_000 }
     requires drift { bound.d ≤ 100 }
     requires grain { bound.grain ≤ 1_000_000 }
@@ -93,11 +111,12 @@ fn note(link: &mut Link, arbitrator: u8, ruling: Ruling) -> Verdict
     link.tally.note(arbitrator, ruling)
 }
 
-/// The arbitrators' terms at a node: the time for an answer, and the bound of clocks.
+/// The arbitrators' terms at a node: the time for an answer, the bound of clocks, and how many rounds there are.
 #[derive(Clone, Copy)]
 pub(crate) struct Terms {
     pub answer: u64,
     pub bound: Bound,
+    pub rounds: u8,
 }
 
 /// It waits for the arbitrators.
@@ -121,7 +140,7 @@ pub(crate) fn ruling_seen(
     requires length { IfSome slot.old (λ l. l.len + terms.answer ≤ 2_000_000_000) }
     requires first { 1 ≤ arbitrator }
     requires last { IfSome slot.old (λ l. arbitrator ≤ l.tally.arbitrators) }
-    ensures { turn slot.new [] result ≡ ruling_seen now terms.bound terms.answer arbitrator ruling slot.old }
+    ensures { turn slot.new [] result ≡ ruling_seen now terms.bound terms.answer terms.rounds arbitrator ruling slot.old }
 {
     let Some(link) = slot else {
         return LinkNotes::none();
@@ -131,5 +150,5 @@ pub(crate) fn ruling_seen(
     }
     let ripe = ripe_at(now, terms.bound, terms.answer, link);
     let verdict = note(link, arbitrator, ruling);
-    judged(slot, ripe, verdict)
+    judged(slot, ripe, terms.rounds, verdict)
 }

@@ -15,7 +15,7 @@ fn instance(actor: u16) -> Who
 
 fn links(node: u16) -> Links16 {
     let bound = Bound { d: 10, grain: 1 };
-    Links16::new(instance(node), 3000, 3000, 1000, bound, 3)
+    Links16::new(instance(node), 3000, 3000, 1000, bound, 3, 1)
 }
 
 fn wanting() -> Announce {

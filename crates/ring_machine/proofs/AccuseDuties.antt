@@ -8,12 +8,11 @@ use Rattle.ring_machine.specs.Slots.{Slot, Flight, State, Accused, Discharged, H
 use Rattle.ring_machine.specs.Tokens.{Token, undone}
 use Rattle.ring_machine.specs.Frames.{RenewAck, Accuse}
 use Rattle.ring_machine.specs.World.{Settings, World, slot}
-use Rattle.ring_machine.specs.Arbitration.{GrantedBy, AnsweredBy}
+use Rattle.ring_machine.specs.Arbitration.{HeirBy, AnsweredBy}
 use Rattle.ring_machine.specs.Effects.{Outcome, outcome, ended}
 use Rattle.ring_machine.specs.SoundSlots.{Freed, by_answers}
 use Rattle.ring_machine.specs.SoundFrames.{SoundAck}
 use Rattle.ring_machine.proofs.States.{implied}
-use Rattle.ring_machine.proofs.Exclusions.{granted_answered}
 use Rattle.ring_machine.proofs.Duty.{Sent, Duty}
 use Rattle.ring_machine.proofs.Acting.{Acting, good, is_renewal, each_of_one}
 use Rattle.ring_machine.proofs.Kept.{InState, Guarding, kept_duty, lease_same}
@@ -79,21 +78,22 @@ module _ {c : Settings} {w : World} {e : End} (a : Acting c w e) where
       (token_shrunk a state s.until ripe held flight token [] less (not_undone token) (λ g h. absurd h))
       (place_shrunk a state s.until ripe held flight token [] less (not_undone token) (λ g h. absurd h) (λ h. absurd (both_ways _ deaf h)))
 
-  pub majority_answered_duty : is_tallying s.state ≡ true → AnsweredBy c w.sent e.who s.far.who →
+  pub majority_answered_duty : is_tallying s.state ≡ true → AnsweredBy c w.sent e.who s.far.who → HasClaim s.held s.flight →
       Duty c w e (w.instance e.who).next_session (outcome (record s { state = Discharged }) token [] w.place)
-  majority_answered_duty tallying answered =
+  majority_answered_duty tallying answered claims =
       decided_duty Discharged s.ripe s.held s.flight (implied is_tallying is_engaged refl s.state tallying)
-      (implied is_tallying is_active refl s.state tallying) (not_less s) refl refl refl (λ h. refl) tt (by_answers answered)
+      (implied is_tallying is_active refl s.state tallying) (not_less s) refl refl refl (λ h. refl) (answered, claims) (by_answers answered)
 
   -- what the other side's lease rests on now bounds it from now on, since its acknowledgements have ended
-  pub majority_granted_duty : is_tallying s.state ≡ true → GrantedBy c w.sent e.who s.far.who → HasClaim s.held s.flight →
+  pub majority_kept_duty : is_tallying s.state ≡ true → AnsweredBy c w.sent e.who s.far.who → HeirBy c w.sent e.who s.far.who → HasClaim s.held s.flight →
       Duty c w e (w.instance e.who).next_session
       (outcome (record s { state = Heir; ripe = (w.instance e.who).reading + wait c.bound (s.len + c.answer) }) token [] w.place)
-  majority_granted_duty tallying granted claims =
+  majority_kept_duty tallying answered keeps claims =
       decided_duty Heir ((w.instance e.who).reading + wait c.bound (s.len + c.answer)) s.held s.flight
       (implied is_tallying is_engaged refl s.state tallying) (implied is_tallying is_active refl s.state tallying) (not_less s) refl refl refl (λ h. refl) (
         record {
-          grants = granted;
+          answered = answered;
+          keeps = keeps;
           since = w.time;
           begun = (w.instance e.who).reading;
           reading = a.inv.present e.who a.live.running;
@@ -103,7 +103,7 @@ module _ {c : Settings} {w : World} {e : End} (a : Acting c w e) where
         },
         claims,
       )
-      (by_answers (granted_answered e.who s.far.who granted))
+      (by_answers answered)
 
   -- a session that is over after an accusation is dropped
   pub session_dropped_duty : (is_decided s.state ≡ true) ⊎ ((s.state ≡ Accused) × AnsweredBy c w.sent e.who s.far.who) →

@@ -5,7 +5,7 @@ use Rattle.ring_machine.specs.Points.{Points}
 use Rattle.ring_machine.specs.Ends.{End}
 use Rattle.ring_machine.specs.Slots.{Slot, Flight, is_engaged}
 use Rattle.ring_machine.specs.Tokens.{Freeze}
-use Rattle.ring_machine.specs.Frames.{Frame, Hello, Offer, Take, Renew, RenewAck, Transfer, Gone, Accuse, Ruled, answer_if}
+use Rattle.ring_machine.specs.Frames.{Frame, Hello, Offer, Take, Renew, RenewAck, Transfer, Gone, Accuse, Ruled, RoundClaim, Kept, answer_if}
 use Rattle.ring_machine.specs.World.{Settings, World, At, Live, slot}
 use Rattle.ring_machine.specs.Sessions.{Tied}
 use Rattle.ring_machine.specs.Claims.{Claim, by_record, by_renew, by_flight}
@@ -31,6 +31,8 @@ is_renewal (Transfer from to number part) = false
 is_renewal (Gone from to got bound) = false
 is_renewal (Accuse from victim) = false
 is_renewal (Ruled a to victim ruling) = false
+is_renewal (RoundClaim from victim round) = false
+is_renewal (Kept a victim round claimer) = false
 
 -- what holds of the one frame that is sent holds of each
 pub each_of_one : (P : Frame → Type 0) (f : Frame) → P f → (g : Frame) → IsMember g (f ∷ []) → P g

@@ -1,32 +1,19 @@
 -- An arbitrator answers, and the invariant is kept.
-use Rattle.std.proofs.Common.{◌≡◌, ℕ, Bool, true, false, cond, Option, Some, None, refl, sym, ap, ◌∙◌, subst, inl, inr, ⊎_elim}
+use Rattle.std.proofs.Common.{◌≡◌, ℕ, ◌==◌, Bool, true, false, cond, [], ◌∷◌, Option, Some, None, refl, sym, ap, ◌∙◌, subst, inl, inr, ⊎_elim}
 use Rattle.ring_points.specs.declared.who.Who.{Who}
 use Rattle.ring_points.specs.declared.who.Ruling.{Ruling}
 use Rattle.ring_points.specs.declared.who.Ruling.TheVariants.{Granted, Taken, Refused}
 use Rattle.ring_points.specs.Whos.{same_who}
 use Rattle.ring_machine.specs.Members.{IsMember}
-use Rattle.ring_machine.specs.Ends.{End, updated}
-use Rattle.ring_machine.specs.Frames.{Frame, Hello, Offer, Take, Renew, RenewAck, Transfer, Gone, Accuse, Ruled}
-use Rattle.ring_machine.specs.World.{Settings, World, slot}
-use Rattle.ring_machine.specs.Arbitration.{ruling_of, first_after, ruled, Answered}
-use Rattle.ring_machine.specs.Claims.{Claim, by_record, by_renew, by_flight}
-use Rattle.ring_machine.specs.Leases.{SoundHeir}
-use Rattle.ring_machine.specs.SoundSlots.{SoundSlot}
+use Rattle.ring_machine.specs.Ends.{updated}
+use Rattle.ring_machine.specs.Frames.{Frame, Ruled}
+use Rattle.ring_machine.specs.World.{Settings, World}
+use Rattle.ring_machine.specs.Arbitration.{ruling_of, first_after, ruled, Answered, kept_of}
 use Rattle.ring_machine.specs.SoundFrames.{SoundRuling, SoundFrame}
 use Rattle.ring_machine.specs.Invariant.{Invariant}
 use Rattle.ring_machine.proofs.Whos.{same_who-true, same_who-false, updated_cases, replaced_cases}
-use Rattle.ring_machine.proofs.Later.{Later, later_refl, tied_later, both_tied_later, closed_later, granted_by_later, freed_later, backed_later, hello_later, offer_later, renew_later, ack_later, gone_later}
-
-abbrev is_ruling : Frame → Bool
-is_ruling (Ruled a to victim ruling) = true
-is_ruling (Hello from node len) = false
-is_ruling (Offer from to len) = false
-is_ruling (Take from to) = false
-is_ruling (Renew from to stamp version got points) = false
-is_ruling (RenewAck from to stamp version) = false
-is_ruling (Transfer from to number part) = false
-is_ruling (Gone from to got bound) = false
-is_ruling (Accuse from victim) = false
+use Rattle.ring_machine.proofs.Later.{Later, open_later}
+use Rattle.ring_machine.proofs.Arbitrated.{is_answer, arbitrated_later, arbitrated_keeps}
 
 -- a first accuser stays
 first_stays : (accused first : Option Who) (x z : Who) → first ≡ Some z → first_after (ruling_of accused first x) first x ≡ Some z
@@ -59,27 +46,12 @@ module _ {c : Settings} {w : World} (inv : Invariant c w) (a : ℕ) (x y : Who) 
   abbrev answered : World
   answered = ruled w a x y
 
+  one_answer : (f : Frame) → IsMember f (Ruled a x y ruling ∷ []) → is_answer f ≡ true
+  one_answer f (inl e) = ap is_answer e
+  one_answer f (inr m) = absurd m
+
   pub answered_world_later : Later c w answered
-  answered_world_later =
-      let still = later_refl c w in record {
-        time = still.time;
-        sent = λ f m. inr m;
-        pairs = still.pairs;
-        dies = still.dies;
-        versions = still.versions;
-        next_flights = still.next_flights;
-        uses = still.uses;
-        asks = still.asks;
-        engages = still.engages;
-        settles = still.settles;
-        far = still.far;
-        len = still.len;
-        willing = still.willing;
-        quiets = still.quiets;
-        still = still.still;
-        held_versions = still.held_versions;
-        gots = still.gots;
-      }
+  answered_world_later = arbitrated_later inv answered.first_accuser w.first_claimer (Ruled a x y ruling ∷ []) one_answer
 
   -- each first accuser stays, at each arbitrator
   tables_stay : (b : ℕ) (z u : Who) → w.first_accuser b z ≡ Some u → answered.first_accuser b z ≡ Some u
@@ -120,19 +92,6 @@ module _ {c : Settings} {w : World} (inv : Invariant c w) (a : ℕ) (x y : Who) 
       (λ (k : Ruled a y x Taken ≡ Ruled a x y ruling). let same : x ≡ y = cc in same_who-false x y apart same)
       (λ k. let r : (z : Who) × SoundRuling w a y x z = inv.frames (Ruled a y x Taken) k in let kept = r.1.kept in cc) m
 
-  old_frame : (f : Frame) → SoundFrame c w f → SoundFrame c answered f
-  old_frame (Hello e node len) h = hello_later answered_world_later e node len h
-  old_frame (Offer f e len) h = offer_later answered_world_later f e len h
-  old_frame (Take e f) h = both_tied_later answered_world_later e f h
-  old_frame (Renew f e stamp version got points) h = renew_later answered_world_later f e stamp version got h
-  old_frame (RenewAck e f stamp version) h = ack_later answered_world_later e f stamp version h
-  old_frame (Transfer e f number part) h = record { tied = both_tied_later answered_world_later e f h.tied; transferable = h.transferable }
-  old_frame (Gone e f got bound) h = gone_later answered_world_later e f got h
-  old_frame (Accuse u z) h = h
-  old_frame (Ruled b u z Granted) h = record { kept = tables_stay b z u h.kept; no_cross = not_crossed b u z u h.kept h.no_cross }
-  old_frame (Ruled b u z Taken) h = (h.0, record { kept = tables_stay b z h.0 h.1.kept; no_cross = not_crossed b u z h.0 h.1.kept h.1.no_cross })
-  old_frame (Ruled b u z Refused) h = h
-
   new_frame : (r : Ruling) → ruling ≡ r → SoundFrame c answered (Ruled a x y r)
   new_frame Granted h = let k = when_granted (w.first_accuser a x) (w.first_accuser a y) x h in record { kept = now_first ∙ k.1; no_cross = none_crosses k.0 }
   new_frame Taken h =
@@ -140,81 +99,19 @@ module _ {c : Settings} {w : World} (inv : Invariant c w) (a : ℕ) (x y : Who) 
       (k.1.0, record { kept = now_first ∙ k.1.1; no_cross = none_crosses k.0 })
   new_frame Refused h = tt
 
-  -- a frame that is no answer was sent before
-  sent_before : (f : Frame) → is_ruling f ≡ false → IsMember f answered.sent → IsMember f w.sent
-  sent_before f h (inl i) = absurd (cc (ap is_ruling i, h))
-  sent_before f h (inr m) = m
-
-  heir_still : (e f : End) (len ripe : ℕ) → SoundHeir c w e f len ripe → SoundHeir c answered e f len ripe
-  heir_still e f len ripe r = record {
-    grants = granted_by_later answered_world_later e.who f.who r.grants;
-    since = r.since;
-    begun = r.begun;
-    reading = r.reading;
-    waits = r.waits;
-    lease = r.lease;
-    acks = λ stamp version m. r.acks stamp version (sent_before (RenewAck e f stamp version) refl m);
-  }
-
-  claim_before : (e f : End) (p : ℕ) → Claim answered.sent e f (slot w e) (slot w f).got p → Claim w.sent e f (slot w e) (slot w f).got p
-  claim_before e f p (by_record r) = by_record r
-  claim_before e f p (by_renew h stamp version got points m lt r) =
-      by_renew h stamp version got points (sent_before (Renew f e stamp version got points) refl m) lt r
-  claim_before e f p (by_flight l i le r) = by_flight l i le r
-
-  slot_still : (e : End) → SoundSlot c answered e (slot w e)
-  slot_still e = let s = inv.slots e in record {
-    numbered = s.numbered;
-    far_used = s.far_used;
-    apart = s.apart;
-    touched = λ h. tied_later answered_world_later (slot w e).far e (s.touched h);
-    bound = λ h. tied_later answered_world_later (slot w e).far e (s.bound h);
-    asker = s.asker;
-    agreed = λ h t. s.agreed h (record { engaged = t.engaged; far = t.far });
-    plain = s.plain;
-    recorded = s.recorded;
-    leased = s.leased;
-    heir = λ h. heir_still e (slot w e).far (slot w e).len (slot w e).ripe (s.heir h);
-    heir_claims = s.heir_claims;
-    claims = s.claims;
-    parting = s.parting;
-    parted = λ h. let k = s.parted h in (k.0, k.1, closed_later answered_world_later (slot w e).far e k.2);
-    acked = s.acked;
-    version = s.version;
-    got = s.got;
-    freed = λ h g. freed_later answered_world_later e (slot w e).far (s.freed h g);
-  }
+  kept_still : (b : ℕ) (z : Who) (round : ℕ) (u : Who) → kept_of w b z round ≡ Some u → kept_of answered b z round ≡ Some u
+  kept_still b z round u = go (round == 1)
+    where
+      go : (q : Bool) → cond q (w.first_accuser b z) (w.first_claimer b z round) ≡ Some u →
+          cond q (answered.first_accuser b z) (w.first_claimer b z round) ≡ Some u
+      go true h = tables_stay b z u h
+      go false h = h
 
   pub answered_keeps : Invariant c answered
-  answered_keeps = record {
-    owned = inv.owned;
-    exact = inv.exact;
-    unborn_place = inv.unborn_place;
-    whole_ring = inv.whole_ring;
-    inside = inv.inside;
-    not_started = inv.not_started;
-    no_zeroth = inv.no_zeroth;
-    blank = inv.blank;
-    clocks = inv.clocks;
-    present = inv.present;
-    slots = slot_still;
-    frames = λ f m. ⊎_elim (λ e. subst (SoundFrame c answered) (sym e) (new_frame ruling refl)) (λ o. old_frame f (inv.frames f o)) m;
-    single = inv.single;
-    backed = λ e f p far k. backed_later answered_world_later e.who f.who p (λ o. inl o) (inv.backed e f p far (claim_before e f p k));
-    flights = inv.flights;
-    flown = inv.flown;
-    counted = inv.counted;
-    tokens = inv.tokens;
-    freezes = λ f e z is tied.
-        let k = inv.freezes f e z is (record {
-          mine = record { engaged = tied.mine.engaged; far = tied.mine.far };
-          theirs = record { engaged = tied.theirs.engaged; far = tied.theirs.far };
-        }) in
-        record {
-          renews = λ stamp version got points m. k.renews stamp version got points (sent_before (Renew f e stamp version got points) refl m);
-          confirms = λ stamp version got points m. k.confirms stamp version got points (sent_before (Renew f e stamp version got points) refl m);
-          acks = λ stamp version m. k.acks stamp version (sent_before (RenewAck e f stamp version) refl m);
-          settled = k.settled;
-          recorded = k.recorded;
-        };
-  }
+  answered_keeps =
+      arbitrated_keeps inv answered.first_accuser w.first_claimer (Ruled a x y ruling ∷ []) one_answer (record {
+        granted = λ b u z h. record { kept = tables_stay b z u h.kept; no_cross = not_crossed b u z u h.kept h.no_cross };
+        taken = λ b u z t h. record { kept = tables_stay b z t h.kept; no_cross = not_crossed b u z t h.kept h.no_cross };
+        kept = λ b z round u h. record { kept = kept_still b z round u h.kept; is_open = open_later answered_world_later z round h.is_open };
+      })
+      (λ f m. ⊎_elim (λ e. subst (SoundFrame c answered) (sym e) (new_frame ruling refl)) (λ n. absurd n) m)

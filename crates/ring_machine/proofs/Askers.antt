@@ -3,7 +3,7 @@ use Rattle.std.proofs.Common.{◌≡◌, ◌∙◌, ℕ, true, Option, Some, ref
 use Rattle.ring_machine.specs.Members.{IsMember}
 use Rattle.ring_machine.specs.Ends.{End}
 use Rattle.ring_machine.specs.Slots.{Asking, is_engaged}
-use Rattle.ring_machine.specs.Frames.{Frame, Hello, Offer, Take, Renew, RenewAck, Transfer, Gone, Accuse, Ruled, ends_of}
+use Rattle.ring_machine.specs.Frames.{Frame, Hello, Offer, Take, Renew, RenewAck, Transfer, Gone, Accuse, Ruled, RoundClaim, Kept, ends_of}
 use Rattle.ring_machine.specs.World.{Settings, World, slot}
 use Rattle.ring_machine.specs.Sessions.{BothTied}
 use Rattle.ring_machine.specs.SoundSlots.{AsksFor}
@@ -61,3 +61,5 @@ module _ {c : Settings} {w : World} (inv : Invariant c w) where
       go (Gone g h got bound) m i = tt
       go (Accuse x y) m i = absurd (cc (i))
       go (Ruled a x y ruling) m i = absurd (cc (i))
+      go (RoundClaim x y round) m i = absurd (cc (i))
+      go (Kept a y round x) m i = absurd (cc (i))

@@ -7,7 +7,7 @@ use Rattle.ring_machine.specs.Arbitration.{count_to, is_majority}
 use Rattle.ring_machine.proofs.Whos.{test}
 
 -- what is alike up to n counts alike
-count_to-same : (f g : ℕ → Bool) (n : ℕ) → ((a : ℕ) → a ≤ n → f a ≡ g a) → count_to f n ≡ count_to g n
+pub count_to-same : (f g : ℕ → Bool) (n : ℕ) → ((a : ℕ) → a ≤ n → f a ≡ g a) → count_to f n ≡ count_to g n
 count_to-same f g zero same = refl
 count_to-same f g (suc n) same =
     let rest = count_to-same f g n (λ a le. same a (omega arith)) in
@@ -18,7 +18,7 @@ not_less : (x a : ℕ) → a < x → x == a ≡ false
 not_less x a lt = test (x == a) (λ e. let same = eqb-true x a e in absurd (omega arith)) (λ e. e)
 
 -- one more counts for one
-count_to-more : (f : ℕ → Bool) (x n : ℕ) → 0 < x → x ≤ n → f x ≡ false → count_to (λ a. x == a || f a) n ≡ suc (count_to f n)
+pub count_to-more : (f : ℕ → Bool) (x n : ℕ) → 0 < x → x ≤ n → f x ≡ false → count_to (λ a. x == a || f a) n ≡ suc (count_to f n)
 count_to-more f x zero pos le new = absurd (omega arith)
 count_to-more f x (suc n) pos le new = test (x == suc n) here (below (λ le. count_to-more f x n pos le new))
   where

@@ -7,7 +7,7 @@ use Rattle.ring_machine.specs.Points.{Points}
 use Rattle.ring_machine.specs.Slots.{Slot}
 use Rattle.ring_machine.specs.Tokens.{Token}
 use Rattle.ring_machine.specs.World.{Settings, Instance, World, Place, At, InFlight, Outside, Live, slot}
-use Rattle.ring_machine.specs.Deeds.{SlotDeed, HelloAgain, HelloDropped, HelloDenied, OfferAgain, OfferTaken, TakeAgain, TakeHeard, RenewSent, RenewHeard, AckHeard, PartFrozen, PartGiven, FlightAgain, FlightTaken, FlightReturned, PartingBegun, GoneAgain, GoneHeard, UnknownDenied, PeerAccused, AccuseAgain, MajorityAnswered, MajorityGranted, SessionDropped, TakenOver, Deed, HelloBegun, OfferBegun, InSlot}
+use Rattle.ring_machine.specs.Deeds.{SlotDeed, HelloAgain, HelloDropped, HelloDenied, OfferAgain, OfferTaken, TakeAgain, TakeHeard, RenewSent, RenewHeard, AckHeard, PartFrozen, PartGiven, FlightAgain, FlightTaken, FlightReturned, PartingBegun, GoneAgain, GoneHeard, UnknownDenied, PeerAccused, AccuseAgain, MajorityAnswered, MajorityKept, RoundClaimed, SessionDropped, TakenOver, Deed, HelloBegun, OfferBegun, InSlot}
 use Rattle.ring_machine.specs.Guards.{MayInSlot, May}
 use Rattle.ring_machine.specs.Effects.{Outcome, effect, moved, done, stepped}
 use Rattle.ring_machine.specs.Events.{IsSound}
@@ -17,13 +17,13 @@ use Rattle.ring_machine.proofs.Duty.{Duty, Deeded}
 use Rattle.ring_machine.proofs.Stepped.{own_instance, other_instance, later}
 use Rattle.ring_machine.proofs.SteppedKeeps.{keeps, stays_live}
 use Rattle.ring_machine.proofs.Acting.{Acting}
-use Rattle.ring_machine.proofs.SendDuties.{hello_again, offer_again, take_again, flight_again, gone_again, accuse_again, unknown_denied}
+use Rattle.ring_machine.proofs.SendDuties.{hello_again, offer_again, take_again, flight_again, gone_again, accuse_again, round_claimed, unknown_denied}
 use Rattle.ring_machine.proofs.HandshakeDuties.{hello_begun_duty, offer_begun_duty, offer_taken_duty, hello_dropped_duty, hello_denied_duty, take_heard_duty}
 use Rattle.ring_machine.proofs.AckDuties.{ack_heard_duty}
 use Rattle.ring_machine.proofs.RenewDuties.{renew_sent_duty}
 use Rattle.ring_machine.proofs.HearDuties.{renew_heard_duty}
 use Rattle.ring_machine.proofs.PartDuties.{parting_begun_duty, gone_heard_duty}
-use Rattle.ring_machine.proofs.AccuseDuties.{peer_accused_duty, majority_answered_duty, majority_granted_duty, session_dropped_duty}
+use Rattle.ring_machine.proofs.AccuseDuties.{peer_accused_duty, majority_answered_duty, majority_kept_duty, session_dropped_duty}
 use Rattle.ring_machine.proofs.GiveDuties.{part_frozen_duty, part_given_duty}
 use Rattle.ring_machine.proofs.TakeDuties.{flight_taken_duty, flight_returned_duty}
 use Rattle.ring_machine.proofs.TakeOverDuty.{taken_over_duty}
@@ -52,8 +52,9 @@ module _ {c : Settings} {w : World} {e : End} (sound : IsSound c) (a : Acting c 
   slot_duty (UnknownDenied from) may = unknown_denied a from may.0 may.1
   slot_duty PeerAccused may = peer_accused_duty a may
   slot_duty AccuseAgain may = accuse_again a may
-  slot_duty MajorityAnswered may = majority_answered_duty a may.0 may.1
-  slot_duty MajorityGranted may = majority_granted_duty a may.0 may.1 may.2
+  slot_duty MajorityAnswered may = majority_answered_duty a may.0 may.1 may.2
+  slot_duty MajorityKept may = majority_kept_duty a may.0 may.1 may.2 may.3
+  slot_duty (RoundClaimed round) may = round_claimed a round may.0 may.1
   slot_duty SessionDropped may = session_dropped_duty a may
   slot_duty (TakenOver part) may = taken_over_duty sound.drift a may.0 may.1 part may.2
 
@@ -79,6 +80,7 @@ pub record Rest (w : World) (x : Who) (v : World) : Type 0 where
   pub time : v.time ≡ w.time
   pub starts : v.starts ≡ w.starts
   pub first_accuser : v.first_accuser ≡ w.first_accuser
+  pub first_claimer : v.first_claimer ≡ w.first_claimer
   pub reading : (v.instance x).reading ≡ (w.instance x).reading
   pub others : (y : Who) → same_who x y ≡ false → v.instance y ≡ w.instance y
 
@@ -99,6 +101,7 @@ duty_done {w = w} {e = e} d = record {
     time = refl;
     starts = refl;
     first_accuser = refl;
+    first_claimer = refl;
     reading = ap (λ (i : Instance). i.reading) (own_instance d);
     others = λ y n. other_instance d y n;
   };
@@ -127,7 +130,7 @@ none_done {c = c} {w = w} inv x live = record {
   inv = inv;
   live = live;
   later = later_refl c w;
-  rest = record { time = refl; starts = refl; first_accuser = refl; reading = refl; others = λ y n. refl };
+  rest = record { time = refl; starts = refl; first_accuser = refl; first_claimer = refl; reading = refl; others = λ y n. refl };
 }
 
 -- more deeds
@@ -140,6 +143,7 @@ then_done a b = record {
     time = b.rest.time ∙ a.rest.time;
     starts = b.rest.starts ∙ a.rest.starts;
     first_accuser = b.rest.first_accuser ∙ a.rest.first_accuser;
+    first_claimer = b.rest.first_claimer ∙ a.rest.first_claimer;
     reading = b.rest.reading ∙ a.rest.reading;
     others = λ y n. b.rest.others y n ∙ a.rest.others y n;
   };

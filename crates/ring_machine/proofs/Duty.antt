@@ -6,10 +6,11 @@ use Rattle.ring_points.specs.Whos.{same_who}
 use Rattle.ring_machine.specs.Members.{IsMember}
 use Rattle.ring_machine.specs.Points.{Points}
 use Rattle.ring_machine.specs.Ends.{End}
-use Rattle.ring_machine.specs.Slots.{Slot, Flight, Asking, Bound, Parting, Heir, Parted, HasClaim, guards, is_used, is_settled, is_engaged, is_active, is_willing}
+use Rattle.ring_machine.specs.Slots.{Slot, Flight, Asking, Bound, Parting, Discharged, Heir, Parted, HasClaim, guards, is_used, is_settled, is_engaged, is_active, is_willing}
 use Rattle.ring_machine.specs.Tokens.{Token, Freeze}
-use Rattle.ring_machine.specs.Frames.{Frame, Hello, Offer, Take, Renew, RenewAck, Transfer, Gone, Accuse, Ruled}
+use Rattle.ring_machine.specs.Frames.{Frame, Hello, Offer, Take, Renew, RenewAck, Transfer, Gone, Accuse, Ruled, RoundClaim, Kept}
 use Rattle.ring_machine.specs.World.{Settings, World, Unborn, Place, At, Outside, InFlight, Live, Dead, slot}
+use Rattle.ring_machine.specs.Arbitration.{AnsweredBy, IsOpen}
 use Rattle.ring_machine.specs.Effects.{Outcome}
 use Rattle.ring_machine.specs.Sessions.{Tied, BothTied, Touched, Untouched, IsEmpty, Quiet, Closed, ClosedTo}
 use Rattle.ring_machine.specs.Claims.{Barred, Claim}
@@ -43,6 +44,7 @@ pub record LinkDuty (c : Settings) (w : World) (e : End) (s t : Slot) (next : �
   pub plain : is_engaged t.state ≡ false → Untouched t × IsEmpty t.held
   pub recorded : (p : ℕ) → t.held p ≡ true → 0 < t.held_version
   pub leased : guards t.state ≡ true → Leased (w.instance e.who).pairs w.time t.until t.len
+  pub discharged : t.state ≡ Discharged → AnsweredBy c w.sent e.who t.far.who × HasClaim t.held t.flight
   pub heir : t.state ≡ Heir → SoundHeir c w e t.far t.len t.ripe
   pub heir_claims : t.state ≡ Heir → HasClaim t.held t.flight
   pub claims : HasClaim t.held t.flight → is_active t.state ≡ true
@@ -108,6 +110,8 @@ Sent c w e s out (Transfer from to number part) = SentTransfer c w e s out from 
 Sent c w e s out (Gone from to got bound) = SentGone w e out.slot from to got
 Sent c w e s out (Accuse from victim) = same_who from victim ≡ false
 Sent c w e s out (Ruled a to victim ruling) = ⊥
+Sent c w e s out (RoundClaim from victim round) = IsOpen c w.sent victim round
+Sent c w e s out (Kept a victim round claimer) = ⊥
 
 -- versions, flights and freezes
 pub record TokenDuty (w : World) (e : End) (s t : Slot) (token : Token) (sent : List Frame) : Type 0 where

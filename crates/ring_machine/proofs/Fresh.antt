@@ -110,6 +110,7 @@ module _ {c : Settings} {w : World} {e : End} (a : Acting c w e) (unsettled : is
     plain = λ h. (bare.untouched, bare.empty);
     recorded = λ p h. absurd (bare.empty p h);
     leased = λ h. absurd (both_ways _ lone (implied guards is_engaged refl t.state h));
+    discharged = λ h. absurd (both_ways _ lone (ap is_engaged h));
     heir = λ h. absurd (both_ways _ lone (ap is_engaged h));
     heir_claims = λ h. absurd (both_ways _ lone (ap is_engaged h));
     claims = λ h. absurd (no_claim t bare h);
@@ -157,6 +158,7 @@ module _ {c : Settings} {w : World} {e : End} (a : Acting c w e) (unsettled : is
     plain = λ h. absurd (both_ways _ h engaged);
     recorded = λ p h. absurd (bare.empty p h);
     leased = λ h. lease;
+    discharged = λ h. absurd (⊎_elim (λ i. cc (h, i)) (λ i. let j = i.0 in cc (h, j)) b.state);
     heir = λ h. absurd (⊎_elim (λ i. cc (h, i)) (λ i. let j = i.0 in cc (h, j)) b.state);
     heir_claims = λ h. absurd (⊎_elim (λ i. cc (h, i)) (λ i. let j = i.0 in cc (h, j)) b.state);
     claims = λ h. absurd (no_claim t bare h);

@@ -8,8 +8,8 @@ use Rattle.ring_machine.specs.Slots.{Unused, unused_slot}
 use Rattle.ring_machine.specs.World.{Settings, World, Unborn, Left, Stopped, Place, At, InFlight, Outside, Live, first_of, has_clock, empty_world}
 use Rattle.ring_machine.specs.Sessions.{Touched, flew, heard, took, was_heard}
 use Rattle.ring_machine.specs.Claims.{ClaimBy, by_record, by_renew, by_flight}
-use Rattle.ring_machine.specs.Events.{Event, Starts, Stops, Leaves, Ticks, Answers, Does, IsSound, Can, after, Valid, world_after}
-use Rattle.ring_machine.specs.Frames.{Accuse}
+use Rattle.ring_machine.specs.Events.{Event, Starts, Stops, Leaves, Ticks, Answers, Keeps, Does, IsSound, Can, after, Valid, world_after}
+use Rattle.ring_machine.specs.Frames.{Accuse, RoundClaim}
 use Rattle.ring_machine.specs.Invariant.{Invariant}
 use Rattle.ring_machine.proofs.Later.{Later}
 use Rattle.ring_machine.proofs.Shrunk.{nothing_claimed}
@@ -18,6 +18,7 @@ use Rattle.ring_machine.proofs.Leaving.{left_keeps, left_later}
 use Rattle.ring_machine.proofs.Ticking.{passed_keeps, passed_later}
 use Rattle.ring_machine.proofs.Starting.{started_keeps, started_later}
 use Rattle.ring_machine.proofs.Answering.{answered_keeps, answered_world_later}
+use Rattle.ring_machine.proofs.Claiming.{claimed_keeps, claimed_later}
 
 module _ (c : Settings) where
   -- the places of the empty world
@@ -57,6 +58,7 @@ module _ (c : Settings) where
       plain = λ h. (record { flight = refl; held_version = refl; got = refl; acked = refl }, λ p i. cc (i));
       recorded = λ p h. absurd (cc (h));
       leased = λ h. absurd (cc (h));
+      discharged = λ h. absurd (cc (h));
       heir = λ h. absurd (cc (h));
       heir_claims = λ h. absurd (cc (h));
       claims = λ h. absurd (nothing_claimed h);
@@ -108,6 +110,9 @@ event_done sound inv (Ticks advance readings) can = record { inv = passed_keeps 
 event_done sound inv (Answers arbiter accuser victim) can =
     let apart = inv.frames (Accuse accuser victim) can in
     record { inv = answered_keeps inv arbiter accuser victim apart; later = answered_world_later inv arbiter accuser victim apart }
+event_done sound inv (Keeps arbiter claimer victim round) can =
+    let opened = inv.frames (RoundClaim claimer victim round) can in
+    record { inv = claimed_keeps inv arbiter claimer victim round opened; later = claimed_later inv arbiter claimer victim round }
 event_done sound inv (Does x deed) can = let d = deed_done sound inv x can.0 deed can.1 in record { inv = d.inv; later = d.later }
 
 -- the invariant holds after every valid history

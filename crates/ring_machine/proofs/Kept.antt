@@ -4,9 +4,10 @@ use Rattle.std.proofs.lemmas.Bool.{both_ways}
 use Rattle.ring_points.specs.Whos.{same_who}
 use Rattle.ring_machine.specs.Members.{IsMember}
 use Rattle.ring_machine.specs.Ends.{End}
-use Rattle.ring_machine.specs.Slots.{Slot, Flight, State, Asking, Bound, Parting, Heir, Parted, HasClaim, guards, is_used, is_settled, is_engaged, is_active, is_willing}
+use Rattle.ring_machine.specs.Slots.{Slot, Flight, State, Asking, Bound, Parting, Discharged, Heir, Parted, HasClaim, guards, is_used, is_settled, is_engaged, is_active, is_willing}
 use Rattle.ring_machine.specs.Frames.{Frame, RenewAck}
 use Rattle.ring_machine.specs.World.{Settings, World, slot}
+use Rattle.ring_machine.specs.Arbitration.{AnsweredBy}
 use Rattle.ring_machine.specs.Effects.{Outcome}
 use Rattle.ring_machine.specs.Sessions.{Tied, Touched, IsEmpty, Quiet, Closed}
 use Rattle.ring_machine.specs.Leases.{Rests, Leased, SoundHeir}
@@ -18,6 +19,7 @@ use Rattle.ring_machine.proofs.Acting.{Acting, good}
 -- what a slot in this state has to have
 abbrev pub InState : Settings → World → End → Slot → State → Type 0
 InState c w e t Bound = Tied w t.far e
+InState c w e t Discharged = AnsweredBy c w.sent e.who t.far.who × HasClaim t.held t.flight
 InState c w e t Heir = SoundHeir c w e t.far t.len t.ripe × HasClaim t.held t.flight
 InState c w e t Parting = IsEmpty t.held × (t.flight ≡ None)
 InState c w e t Parted = IsEmpty t.held × (t.flight ≡ None) × Closed w t.far e
@@ -79,6 +81,7 @@ module _ {c : Settings} {w : World} {e : End} (a : Acting c w e) where
     plain = λ h. absurd (both_ways _ h k.engaged);
     recorded = k.recorded;
     leased = λ h. (lease h).leased;
+    discharged = λ h. subst (InState c w e t) h k.in_state;
     heir = λ h. let i : InState c w e t Heir = subst (InState c w e t) h k.in_state in i.0;
     heir_claims = λ h. let i : InState c w e t Heir = subst (InState c w e t) h k.in_state in i.1;
     claims = k.claims;
@@ -113,6 +116,7 @@ module _ {c : Settings} {w : World} {e : End} (a : Acting c w e) where
   -- what the slot has in the state that it is in
   pub state_same : (st : State) → s.state ≡ st → InState c w e s st
   state_same Bound h = (good a).bound h
+  state_same Discharged h = (good a).discharged h
   state_same Heir h = ((good a).heir h, (good a).heir_claims h)
   state_same Parting h = (good a).parting h
   state_same Parted h = (good a).parted h

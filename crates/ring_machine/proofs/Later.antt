@@ -1,14 +1,13 @@
 -- What only grows from one world to a later one, and the facts that therefore last.
-use Rattle.std.proofs.Common.{◌≡◌, ℕ, ◌≤◌, true, false, ◌⊎◌, refl, sym, ap, ◌∙◌, inl, inr, ⊎_elim, arith}
+use Rattle.std.proofs.Common.{◌≡◌, ℕ, ◌≤◌, true, false, List, ◌⊎◌, refl, sym, ap, ◌∙◌, inl, inr, ⊎_elim, arith}
 use Rattle.std.proofs.lemmas.Bool.{both_ways, false_from_ne_true}
 use Rattle.ring_points.specs.declared.who.Who.{Who}
-use Rattle.ring_points.specs.declared.who.Ruling.TheVariants.{Granted}
 use Rattle.ring_machine.specs.Members.{IsMember}
 use Rattle.ring_machine.specs.Ends.{End}
 use Rattle.ring_machine.specs.Slots.{Slot, Asking, is_used, is_settled, is_engaged, is_willing}
-use Rattle.ring_machine.specs.Frames.{Frame, Ruled}
+use Rattle.ring_machine.specs.Frames.{Frame}
 use Rattle.ring_machine.specs.World.{Settings, World, At, Dead, slot}
-use Rattle.ring_machine.specs.Arbitration.{Answered, GrantedBy, AnsweredBy}
+use Rattle.ring_machine.specs.Arbitration.{Answered, AnsweredBy, Tells, by_kept, by_grant, HeirBy, IsOpen}
 use Rattle.ring_machine.specs.Sessions.{Tied, BothTied, Quiet, Closed, elsewhere, over}
 use Rattle.ring_machine.specs.Claims.{Barred, other_heir, discharged, Backed, claimant_dead, barred, of_owner}
 use Rattle.ring_machine.specs.Leases.{Rests, Leased}
@@ -90,6 +89,20 @@ later_trans {w = w} {v = v} a b = record {
   gots = λ e. let m = a.gots e in let n = b.gots e in omega arith;
 }
 
+-- what arbitrators told, they told where more is sent
+tells_more : (sent more : List Frame) → ((f : Frame) → IsMember f sent → IsMember f more) → (a : ℕ) (y : Who) (round : ℕ) (x : Who) →
+    Tells sent a y round x → Tells more a y round x
+tells_more sent more keeps a y round x (by_kept m) = by_kept (keeps _ m)
+tells_more sent more keeps a y round x (by_grant one m) = by_grant one (keeps _ m)
+
+pub open_more : (c : Settings) (sent more : List Frame) → ((f : Frame) → IsMember f sent → IsMember f more) → (y : Who) (round : ℕ) →
+    IsOpen c sent y round → IsOpen c more y round
+open_more c sent more keeps y round o = record {
+  counted = o.counted;
+  before = λ r pos lt.
+      let s = o.before r pos lt in record { told = s.told; tells = λ a z e. tells_more sent more keeps a y r z (s.tells a z e); none = s.none };
+}
+
 module _ {c : Settings} {w v : World} (l : Later c w v) where
   pub tied_later : (e f : End) → Tied w e f → Tied v e f
   tied_later e f t = record { engaged = l.engages e t.engaged; far = l.far e (implied is_engaged is_settled refl (slot w e).state t.engaged) ∙ t.far }
@@ -101,8 +114,14 @@ module _ {c : Settings} {w v : World} (l : Later c w v) where
   closed_later f e (elsewhere s n) = elsewhere (l.settles f s) (λ h. n (sym (l.far f s) ∙ h))
   closed_later f e (over s q) = over (l.settles f s) (l.quiets f s q)
 
-  pub granted_by_later : (x y : Who) → GrantedBy c w.sent x y → GrantedBy c v.sent x y
-  granted_by_later x y g = record { by = g.by; answers = λ a h. l.sent (Ruled a x y Granted) (g.answers a h); most = g.most }
+  pub heir_by_later : (x y : Who) → HeirBy c w.sent x y → HeirBy c v.sent x y
+  heir_by_later x y g = record {
+    round = g.round;
+    kept = record { by = g.kept.by; tells = λ a h. tells_more w.sent v.sent l.sent a y g.round x (g.kept.tells a h); most = g.kept.most };
+  }
+
+  pub open_later : (y : Who) (round : ℕ) → IsOpen c w.sent y round → IsOpen c v.sent y round
+  open_later y round o = open_more c w.sent v.sent l.sent y round o
 
   pub answered_later : (a : ℕ) (x y : Who) → Answered w.sent a x y → Answered v.sent a x y
   answered_later a x y (inl m) = inl (l.sent _ m)
@@ -112,7 +131,7 @@ module _ {c : Settings} {w v : World} (l : Later c w v) where
   answered_by_later x y g = record { by = g.by; answers = λ a h. answered_later a x y (g.answers a h); most = g.most }
 
   pub barred_later : (x y : Who) → Barred c w.sent x y → Barred c v.sent x y
-  barred_later x y (other_heir z n g) = other_heir z n (granted_by_later z y g)
+  barred_later x y (other_heir z n g) = other_heir z n (heir_by_later z y g)
   barred_later x y (discharged g) = discharged (answered_by_later y x g)
 
   -- the point stays where it is, or it does not matter to x

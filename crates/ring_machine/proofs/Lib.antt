@@ -33,7 +33,9 @@ pub mod Unmoved
 pub mod Leaving
 pub mod Ticking
 pub mod Starting
+pub mod Arbitrated
 pub mod Answering
+pub mod Claiming
 pub mod Histories
 pub mod LawProofs
 pub mod Standing

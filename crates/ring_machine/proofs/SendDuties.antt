@@ -3,8 +3,9 @@ use Rattle.std.proofs.Common.{◌≡◌, ℕ, ◌≤◌, true, false, [], ◌∷
 use Rattle.ring_machine.specs.Members.{IsMember}
 use Rattle.ring_machine.specs.Ends.{End}
 use Rattle.ring_machine.specs.Slots.{Slot, Flight, Asking, Offered, Bound, Parting, is_used, is_engaged, is_settled, is_willing, is_tallying}
-use Rattle.ring_machine.specs.Frames.{Frame, Hello, Offer, Take, Renew, Transfer, Gone, Accuse, ends_of}
+use Rattle.ring_machine.specs.Frames.{Frame, Hello, Offer, Take, Renew, Transfer, Gone, Accuse, RoundClaim, ends_of}
 use Rattle.ring_machine.specs.World.{Settings, World, slot}
+use Rattle.ring_machine.specs.Arbitration.{IsOpen}
 use Rattle.ring_machine.specs.Guards.{Came, IsUnknown, other_session, abandoned, parted}
 use Rattle.ring_machine.specs.Sessions.{Tied, BothTied, Closed, ClosedTo, elsewhere, over}
 use Rattle.ring_machine.specs.SoundFrames.{SoundOffer, SoundRenew, SoundTransfer, SoundGone}
@@ -112,6 +113,11 @@ module _ {c : Settings} {w : World} {e : End} (a : Acting c w e) where
   accuse_again h =
       let engaged = implied is_tallying is_engaged refl s.state h in
       sends_one (Accuse e.who s.far.who) (implied is_tallying is_used refl s.state h) refl ((good a).apart engaged)
+
+  -- a round that is open is claimed
+  pub round_claimed : (round : ℕ) → is_tallying s.state ≡ true → IsOpen c w.sent s.far.who round →
+      Duty c w e (w.instance e.who).next_session (outcome s ((w.instance e.who).token) (RoundClaim e.who s.far.who round ∷ []) w.place)
+  round_claimed round h opened = sends_one (RoundClaim e.who s.far.who round) (implied is_tallying is_used refl s.state h) refl opened
 
   -- what is unknown here is denied
   pub unknown_denied : (from : End) → Came w.sent from e → IsUnknown s from →

@@ -160,6 +160,7 @@ module _ {c : Settings} {w : World} {e : End} (a : Acting c w e) where
         recorded = k.recorded;
         leased = k.leased;
         heir = k.heir;
+        discharged = k.discharged;
         heir_claims = k.heir_claims;
         claims = k.claims;
         parting = k.parting;

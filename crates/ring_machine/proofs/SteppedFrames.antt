@@ -7,7 +7,7 @@ use Rattle.ring_machine.specs.Members.{IsMember}
 use Rattle.ring_machine.specs.Points.{Points}
 use Rattle.ring_machine.specs.Ends.{End}
 use Rattle.ring_machine.specs.Slots.{Slot, Flight, Asking, of_flight, is_used, is_settled, is_engaged, is_active, is_willing}
-use Rattle.ring_machine.specs.Frames.{Frame, Hello, Offer, Take, Renew, RenewAck, Transfer, Gone, Accuse, Ruled}
+use Rattle.ring_machine.specs.Frames.{Frame, Hello, Offer, Take, Renew, RenewAck, Transfer, Gone, Accuse, Ruled, RoundClaim, Kept}
 use Rattle.ring_machine.specs.World.{Settings, Instance, World, InFlight, Dead, slot}
 use Rattle.ring_machine.specs.Effects.{Outcome}
 use Rattle.ring_machine.specs.Sessions.{Tied, BothTied, Closed, ClosedTo, elsewhere, over}
@@ -15,7 +15,7 @@ use Rattle.ring_machine.specs.SoundFlights.{IsWhole, SoundFlight}
 use Rattle.ring_machine.specs.SoundFrames.{SoundHello, SoundOffer, SoundRenew, SoundAck, Transferable, SoundTransfer, SoundGone, SoundRuling, SoundFrame}
 use Rattle.ring_machine.proofs.Whos.{apart_ends}
 use Rattle.ring_machine.proofs.States.{implied}
-use Rattle.ring_machine.proofs.Later.{tied_later, both_tied_later, closed_later, hello_later, offer_later, renew_later, ack_later, gone_later}
+use Rattle.ring_machine.proofs.Later.{tied_later, both_tied_later, closed_later, hello_later, offer_later, renew_later, ack_later, gone_later, open_later}
 use Rattle.ring_machine.proofs.Duty.{Deeded, SentHello, SentOffer, SentTake, SentRenew, SentAck, SentTransfer, SentGone}
 use Rattle.ring_machine.proofs.Stepped.{next_world, slot_cases, own_slot, other_slot, own_instance, other_instance, sent_cases, later, new_tie, far_apart}
 
@@ -118,6 +118,8 @@ module _ {c : Settings} {w : World} {e : End} {next : ℕ} {out : Outcome} (d : 
   old_frame (Ruled a x y Granted) h = ruling_after a x y x h
   old_frame (Ruled a x y Taken) h = (h.0, ruling_after a x y h.0 h.1)
   old_frame (Ruled a x y Refused) h = h
+  old_frame (RoundClaim x y round) h = open_later (later d) y round h
+  old_frame (Kept a y round x) h = record { kept = h.kept; is_open = open_later (later d) y round h.is_open }
 
   new_transfer : (g : End) (number : ℕ) (part : Points) → BothTied w e g →
       Transferable c (w.instance g.who) out.token.next_flight (is_willing (slot w g).state) out.place t.flight (slot w g).got e g number
@@ -177,6 +179,8 @@ module _ {c : Settings} {w : World} {e : End} {next : ℕ} {out : Outcome} (d : 
       })
   new_frame (Accuse x y) m = d.duty.sends (Accuse x y) m
   new_frame (Ruled a x y r) m = absurd (d.duty.sends (Ruled a x y r) m)
+  new_frame (RoundClaim x y round) m = open_later (later d) y round (d.duty.sends (RoundClaim x y round) m)
+  new_frame (Kept a y round x) m = absurd (d.duty.sends (Kept a y round x) m)
 
   pub frames_after : (f : Frame) → IsMember f (next_world d).sent → SoundFrame c (next_world d) f
   frames_after f m = ⊎_elim (λ new. new_frame f new) (λ old. old_frame f (d.inv.frames f old)) (sent_cases d f m)

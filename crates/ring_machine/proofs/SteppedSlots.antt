@@ -11,7 +11,7 @@ use Rattle.ring_machine.specs.Leases.{Rests, Leased, SoundHeir}
 use Rattle.ring_machine.specs.SoundSlots.{SoundSlot, AsksFor}
 use Rattle.ring_machine.proofs.Whos.{end_cases}
 use Rattle.ring_machine.proofs.States.{implied}
-use Rattle.ring_machine.proofs.Later.{tied_later, closed_later, granted_by_later, freed_later, rests_later, leased_later}
+use Rattle.ring_machine.proofs.Later.{tied_later, closed_later, answered_by_later, heir_by_later, freed_later, rests_later, leased_later}
 use Rattle.ring_machine.proofs.Duty.{Deeded, SentAck}
 use Rattle.ring_machine.proofs.Stepped.{next_world, slot_cases, own_slot, other_slot, own_instance, sent_cases, later, counter_rises, old_tie, own_tie, far_differs}
 
@@ -28,7 +28,8 @@ module _ {c : Settings} {w : World} {e : End} {next : ℕ} {out : Outcome} (d : 
   heir_after : (g h : End) (len ripe : ℕ) → Tied w h g → ((stamp version : ℕ) → IsMember (RenewAck g h stamp version) out.sent → ⊥) →
       SoundHeir c w g h len ripe → SoundHeir c (next_world d) g h len ripe
   heir_after g h len ripe tie deaf r = record {
-    grants = granted_by_later (later d) g.who h.who r.grants;
+    answered = answered_by_later (later d) g.who h.who r.answered;
+    keeps = heir_by_later (later d) g.who h.who r.keeps;
     since = r.since;
     begun = r.begun;
     waits = r.waits;
@@ -63,6 +64,7 @@ module _ {c : Settings} {w : World} {e : End} {next : ℕ} {out : Outcome} (d : 
         plain = link.plain;
         recorded = link.recorded;
         leased = λ g. leased_later (later d) e.who w.time w.time t.until t.len (omega arith) (link.leased g);
+        discharged = λ h. let k = link.discharged h in (answered_by_later (later d) e.who t.far.who k.0, k.1);
         heir = λ h. heir_after e t.far t.len t.ripe (link.touched (claim_touched t link.recorded (link.heir_claims h)))
             (λ stamp version b.
             let a : SentAck w e (slot w e) t e t.far stamp version = d.duty.sends (RenewAck e t.far stamp version) b in
@@ -114,6 +116,7 @@ module _ {c : Settings} {w : World} {e : End} {next : ℕ} {out : Outcome} (d : 
         plain = s.plain;
         recorded = s.recorded;
         leased = λ u. leased_later (later d) g.who w.time w.time (slot w g).until (slot w g).len (omega arith) (s.leased u);
+        discharged = λ h. let k = s.discharged h in (answered_by_later (later d) g.who (slot w g).far.who k.0, k.1);
         heir = λ h. heir_after g (slot w g).far (slot w g).len (slot w g).ripe (s.touched (claim_touched (slot w g) s.recorded (s.heir_claims h)))
             (λ stamp version b. n (sym (d.duty.sends (RenewAck g (slot w g).far stamp version) b).own)) (s.heir h);
         heir_claims = s.heir_claims;

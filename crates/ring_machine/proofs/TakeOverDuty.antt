@@ -6,7 +6,7 @@ use Rattle.ring_machine.specs.Ends.{End}
 use Rattle.ring_machine.specs.Slots.{Slot, Flight, Heir, Ended, HasClaim, of_record, of_flight, guards, is_engaged, is_active, is_willing, part_of}
 use Rattle.ring_machine.specs.Tokens.{Token}
 use Rattle.ring_machine.specs.World.{Settings, World, Unborn, Place, At, InFlight, Live, Dead, slot}
-use Rattle.ring_machine.specs.Arbitration.{GrantedBy, AnsweredBy}
+use Rattle.ring_machine.specs.Arbitration.{HeirBy, AnsweredBy}
 use Rattle.ring_machine.specs.Effects.{outcome, moved, enlarged, ended}
 use Rattle.ring_machine.specs.Sessions.{Tied, BothTied, Closed, elsewhere, over}
 use Rattle.ring_machine.specs.Claims.{Barred, other_heir, discharged, Backed, claimant_dead, barred, of_owner, Claim, by_record, by_renew, by_flight}
@@ -15,7 +15,7 @@ use Rattle.ring_machine.specs.SoundSlots.{Freed, by_answers, by_closing}
 use Rattle.ring_machine.proofs.Whos.{test, same_who-false, same_who_from}
 use Rattle.ring_machine.proofs.States.{implied}
 use Rattle.ring_machine.proofs.Waits.{wait_covers}
-use Rattle.ring_machine.proofs.Exclusions.{granted_answered, one_heir, no_crossing}
+use Rattle.ring_machine.proofs.Exclusions.{one_heir, no_crossing}
 use Rattle.ring_machine.proofs.Duty.{TokenDuty, PlaceDuty, Duty}
 use Rattle.ring_machine.proofs.Acting.{Acting, good, here, back, freeze_mine}
 use Rattle.ring_machine.proofs.Kept.{KeptLink, kept_duty}
@@ -75,7 +75,7 @@ module _ {c : Settings} {w : World} {e : End} (drift : c.bound.d ≤ 100) (a : A
     where
       freed : Freed c w s.far (slot w s.far).far → ⊥
       freed (by_answers k) =
-          no_crossing a.inv e.who s.far.who (granted_answered e.who s.far.who sound.grants)
+          no_crossing a.inv e.who s.far.who sound.answered
           (subst (λ (f : End). AnsweredBy c w.sent s.far.who f.who) tied.far k)
       freed (by_closing k) = not_closed (subst (λ f. Closed w f s.far) tied.far k) ((good a).heir_claims heir)
 
@@ -84,8 +84,8 @@ module _ {c : Settings} {w : World} {e : End} (drift : c.bound.d ≤ 100) (a : A
   claimed p k = by_backing (a.inv.backed e s.far p refl k)
     where
       not_barred : Barred c w.sent e.who s.far.who → ⊥
-      not_barred (other_heir z n g) = same_who-false z e.who n (one_heir a.inv z e.who s.far.who g sound.grants)
-      not_barred (discharged k) = no_crossing a.inv e.who s.far.who (granted_answered e.who s.far.who sound.grants) k
+      not_barred (other_heir z n g) = same_who-false z e.who n (one_heir a.inv z e.who s.far.who g sound.keeps)
+      not_barred (discharged k) = no_crossing a.inv e.who s.far.who sound.answered k
 
       by_backing : Backed c w e.who s.far.who p → w.place p ≡ At s.far.who
       by_backing (claimant_dead d) = absurd (d.not_live a.live)
@@ -204,7 +204,7 @@ module _ {c : Settings} {w : World} {e : End} (drift : c.bound.d ≤ 100) (a : A
       stays = λ u v p far now claim i. at p (λ o. (o ≡ At v.who) ⊎ Barred c w.sent u.who v.who)
           (λ j. ⊎_elim
           (λ (o : w.place p ≡ At s.far.who). let same : s.far.who ≡ v.who = cc in
-          inr (other_heir e.who (same_who_from e.who u.who (λ who. others_apart u v p far now claim (sym same) who)) (subst (GrantedBy c w.sent e.who) same sound.grants)))
+          inr (other_heir e.who (same_who_from e.who u.who (λ who. others_apart u v p far now claim (sym same) who)) (subst (HeirBy c w.sent e.who) same sound.keeps)))
           (λ (o : (number : ℕ) × (w.place p ≡ InFlight e s.far number)). let k = o.1 in absurd (cc))
           (taken_from p j))
           (λ j. inl i);

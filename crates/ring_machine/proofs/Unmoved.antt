@@ -6,7 +6,7 @@ use Rattle.ring_machine.specs.Members.{IsMember}
 use Rattle.ring_machine.specs.Ends.{End}
 use Rattle.ring_machine.specs.Slots.{Slot, Flight, Asking, guards, is_used, is_settled, is_engaged, is_active, is_willing}
 use Rattle.ring_machine.specs.Tokens.{Freeze}
-use Rattle.ring_machine.specs.Frames.{Frame, Hello, Offer, Take, Renew, RenewAck, Transfer, Gone, Accuse, Ruled}
+use Rattle.ring_machine.specs.Frames.{Frame, Hello, Offer, Take, Renew, RenewAck, Transfer, Gone, Accuse, Ruled, RoundClaim, Kept}
 use Rattle.ring_machine.specs.World.{Settings, Instance, World, Dead, slot}
 use Rattle.ring_machine.specs.Sessions.{Tied, BothTied, Quiet}
 use Rattle.ring_machine.specs.Claims.{Claim, Backed}
@@ -15,7 +15,7 @@ use Rattle.ring_machine.specs.SoundSlots.{AsksFor, SoundSlot}
 use Rattle.ring_machine.specs.SoundFlights.{SoundFlight, FrozenTo, SoundFreeze}
 use Rattle.ring_machine.specs.SoundFrames.{Transferable, SoundFrame}
 use Rattle.ring_machine.specs.Invariant.{Invariant}
-use Rattle.ring_machine.proofs.Later.{Later, AskedBefore, tied_later, both_tied_later, closed_later, freed_later, rests_later, leased_later, backed_later, hello_later, offer_later, renew_later, ack_later, gone_later}
+use Rattle.ring_machine.proofs.Later.{Later, AskedBefore, tied_later, both_tied_later, closed_later, freed_later, rests_later, leased_later, backed_later, hello_later, offer_later, renew_later, ack_later, gone_later, open_later}
 
 -- slots stay, and what else an instance has only grows
 pub record Unmoved (c : Settings) (w : World) (time : ℕ) (instance : Who → Instance) : Type 0 where
@@ -73,7 +73,8 @@ module _ {c : Settings} {w : World} (inv : Invariant c w) {time : ℕ} (starts :
 
   heir_unmoved : (e f : End) (len ripe : ℕ) → SoundHeir c w e f len ripe → SoundHeir c unmoved e f len ripe
   heir_unmoved e f len ripe r = record {
-    grants = r.grants;
+    answered = r.answered;
+    keeps = r.keeps;
     since = r.since;
     begun = r.begun;
     reading = u.pairs e.who (r.since, r.begun) r.reading;
@@ -98,6 +99,7 @@ module _ {c : Settings} {w : World} (inv : Invariant c w) {time : ℕ} (starts :
         plain = s.plain;
         recorded = s.recorded;
         leased = λ g. leased_later unmoved_later e.who w.time time (slot w e).until (slot w e).len u.time_passes (s.leased g);
+        discharged = s.discharged;
         heir = λ h. heir_unmoved e (slot w e).far (slot w e).len (slot w e).ripe (s.heir h);
         heir_claims = s.heir_claims;
         claims = s.claims;
@@ -136,6 +138,8 @@ module _ {c : Settings} {w : World} (inv : Invariant c w) {time : ℕ} (starts :
       go (Ruled a x y Granted) h = record { kept = h.kept; no_cross = h.no_cross }
       go (Ruled a x y Taken) h = (h.0, record { kept = h.1.kept; no_cross = h.1.no_cross })
       go (Ruled a x y Refused) h = h
+      go (RoundClaim x y round) h = open_later unmoved_later y round h
+      go (Kept a y round x) h = record { kept = h.kept; is_open = open_later unmoved_later y round h.is_open }
 
   pub backed_unmoved : (e f : End) (p : ℕ) → (slot unmoved e).far ≡ f → Claim w.sent e f (slot unmoved e) (slot unmoved f).got p →
       Backed c unmoved e.who f.who p

@@ -8,11 +8,11 @@ use Rattle.ring_machine.specs.Ends.{End}
 use Rattle.ring_machine.specs.Slots.{Slot, State, Flight, is_willing}
 use Rattle.ring_machine.specs.Frames.{Frame, Renew}
 use Rattle.ring_machine.specs.World.{Settings, World, At, Dead}
-use Rattle.ring_machine.specs.Arbitration.{GrantedBy, AnsweredBy}
+use Rattle.ring_machine.specs.Arbitration.{HeirBy, AnsweredBy}
 
 -- x can never take over from y: another is y's heir, or y is discharged from x
 pub data Barred (c : Settings) (sent : List Frame) (x y : Who) : Type 0 where
-  other_heir : (z : Who) → same_who z x ≡ false → GrantedBy c sent z y → Barred c sent x y
+  other_heir : (z : Who) → same_who z x ≡ false → HeirBy c sent z y → Barred c sent x y
   discharged : AnsweredBy c sent y x → Barred c sent x y
 
 -- x's claim on the point p of y harms nobody: x is dead, or can never take over from y, or the point is y's

@@ -34,7 +34,8 @@ pub data SlotDeed : Type 0 where
   PeerAccused : SlotDeed
   AccuseAgain : SlotDeed
   MajorityAnswered : SlotDeed
-  MajorityGranted : SlotDeed
+  MajorityKept : SlotDeed
+  RoundClaimed : (round : ℕ) → SlotDeed
   SessionDropped : SlotDeed
   TakenOver : (part : Points) → SlotDeed
 

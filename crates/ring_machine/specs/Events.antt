@@ -5,9 +5,9 @@ use Rattle.ring_points.specs.Whos.{node_instance}
 use Rattle.ring_machine.specs.Members.{IsMember}
 use Rattle.ring_machine.specs.Ends.{updated, replaced}
 use Rattle.drift_clock.specs.Within.{FitsAll}
-use Rattle.ring_machine.specs.Frames.{Accuse}
+use Rattle.ring_machine.specs.Frames.{Accuse, RoundClaim}
 use Rattle.ring_machine.specs.World.{Settings, Instance, World, Phase, Running, Left, Stopped, Live, has_clock, born, empty_world}
-use Rattle.ring_machine.specs.Arbitration.{ruled}
+use Rattle.ring_machine.specs.Arbitration.{ruled, claimed}
 use Rattle.ring_machine.specs.Deeds.{Deed}
 use Rattle.ring_machine.specs.Guards.{May}
 use Rattle.ring_machine.specs.Effects.{done}
@@ -19,6 +19,7 @@ pub data Event : Type 0 where
   Leaves : (who : Who) → Event
   Ticks : (advance : ℕ) → (readings : Who → ℕ) → Event
   Answers : (arbiter : ℕ) → (accuser victim : Who) → Event
+  Keeps : (arbiter : ℕ) → (claimer victim : Who) → (round : ℕ) → Event
   Does : (who : Who) → Deed → Event
 
 -- the node's next instance
@@ -52,6 +53,7 @@ after c w (Stops x) = in_phase w x Stopped
 after c w (Leaves x) = in_phase w x Left
 after c w (Ticks advance readings) = passed w advance readings
 after c w (Answers arbiter accuser victim) = ruled w arbiter accuser victim
+after c w (Keeps arbiter claimer victim round) = claimed w arbiter claimer victim round
 after c w (Does x deed) = done c w x deed
 
 -- the event can happen
@@ -62,6 +64,7 @@ Can c w (Leaves x) = (w.instance x).phase ≡ Running
 Can c w (Ticks advance readings) =
     (x : Who) → (w.instance x).phase ≡ Running → FitsAll c.bound (w.instance x).pairs (w.time + advance, readings x)
 Can c w (Answers arbiter accuser victim) = IsMember (Accuse accuser victim) w.sent
+Can c w (Keeps arbiter claimer victim round) = IsMember (RoundClaim claimer victim round) w.sent
 Can c w (Does x deed) = Live c (w.instance x) × May c w x deed
 
 abbrev pub world_after : Settings → List Event → World

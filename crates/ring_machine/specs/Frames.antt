@@ -6,7 +6,8 @@ use Rattle.ring_machine.specs.Points.{Points}
 use Rattle.ring_machine.specs.Ends.{End}
 
 -- Hello carries the lease length that the asker proposes, Offer the one that is agreed.
--- A Renew's stamp is the reading at its sending; bound says of a Gone that its sender wants one in answer.
+-- A Renew's stamp is the reading at its sending; bound says of a Gone that its sender wants one in answer. A Kept says whom
+-- the arbitrator keeps of a round about the victim, to whomever it goes.
 pub data Frame : Type 0 where
   Hello : (from : End) → (node len : ℕ) → Frame
   Offer : (from to : End) → (len : ℕ) → Frame
@@ -17,6 +18,8 @@ pub data Frame : Type 0 where
   Gone : (from to : End) → (got : ℕ) → (bound : Bool) → Frame
   Accuse : (from victim : Who) → Frame
   Ruled : (arbiter : ℕ) → (to victim : Who) → Ruling → Frame
+  RoundClaim : (from victim : Who) → (round : ℕ) → Frame
+  Kept : (arbiter : ℕ) → (victim : Who) → (round : ℕ) → (claimer : Who) → Frame
 
 -- the ends that a frame names, where it is one of a session
 abbrev pub ends_of : Frame → Option (End × End)
@@ -29,6 +32,8 @@ ends_of (Transfer from to number part) = Some (from, to)
 ends_of (Gone from to got bound) = Some (from, to)
 ends_of (Accuse from victim) = None
 ends_of (Ruled arbiter to victim ruling) = None
+ends_of (RoundClaim from victim round) = None
+ends_of (Kept arbiter victim round claimer) = None
 
 -- the frame, where it is wanted
 abbrev pub answer_if : Bool → Frame → List Frame

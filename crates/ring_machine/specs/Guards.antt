@@ -9,8 +9,8 @@ use Rattle.ring_machine.specs.Slots.{Slot, Asking, Offered, Bound, Parting, Accu
 use Rattle.ring_machine.specs.Tokens.{Token}
 use Rattle.ring_machine.specs.Frames.{Frame, Hello, Offer, Take, Renew, RenewAck, Transfer, Gone, ends_of}
 use Rattle.ring_machine.specs.World.{Settings, World, slot}
-use Rattle.ring_machine.specs.Arbitration.{GrantedBy, AnsweredBy}
-use Rattle.ring_machine.specs.Deeds.{SlotDeed, HelloAgain, HelloDropped, HelloDenied, OfferTaken, OfferAgain, TakeAgain, TakeHeard, RenewSent, RenewHeard, AckHeard, PartFrozen, PartGiven, FlightAgain, FlightTaken, PartingBegun, GoneAgain, GoneHeard, FlightReturned, UnknownDenied, PeerAccused, AccuseAgain, MajorityAnswered, MajorityGranted, SessionDropped, TakenOver, Deed, HelloBegun, OfferBegun, InSlot}
+use Rattle.ring_machine.specs.Arbitration.{HeirBy, IsOpen, AnsweredBy}
+use Rattle.ring_machine.specs.Deeds.{SlotDeed, HelloAgain, HelloDropped, HelloDenied, OfferTaken, OfferAgain, TakeAgain, TakeHeard, RenewSent, RenewHeard, AckHeard, PartFrozen, PartGiven, FlightAgain, FlightTaken, PartingBegun, GoneAgain, GoneHeard, FlightReturned, UnknownDenied, PeerAccused, AccuseAgain, MajorityAnswered, MajorityKept, RoundClaimed, SessionDropped, TakenOver, Deed, HelloBegun, OfferBegun, InSlot}
 
 -- no session with the instance is open
 abbrev pub IsAlone : Who → (ℕ → Slot) → Type 0
@@ -67,9 +67,11 @@ MayInSlot c w e now s token (UnknownDenied from) = Came w.sent from e × IsUnkno
 -- the other side is accused, and an heir takes over
 MayInSlot c w e now s token PeerAccused = stands s.state ≡ true
 MayInSlot c w e now s token AccuseAgain = is_tallying s.state ≡ true
-MayInSlot c w e now s token MajorityAnswered = (is_tallying s.state ≡ true) × AnsweredBy c w.sent e.who s.far.who
-MayInSlot c w e now s token MajorityGranted =
-    (is_tallying s.state ≡ true) × GrantedBy c w.sent e.who s.far.who × HasClaim s.held s.flight
+MayInSlot c w e now s token MajorityAnswered =
+    (is_tallying s.state ≡ true) × AnsweredBy c w.sent e.who s.far.who × HasClaim s.held s.flight
+MayInSlot c w e now s token MajorityKept =
+    (is_tallying s.state ≡ true) × AnsweredBy c w.sent e.who s.far.who × HeirBy c w.sent e.who s.far.who × HasClaim s.held s.flight
+MayInSlot c w e now s token (RoundClaimed round) = (is_tallying s.state ≡ true) × IsOpen c w.sent s.far.who round
 MayInSlot c w e now s token SessionDropped =
     (is_decided s.state ≡ true) ⊎ ((s.state ≡ Accused) × AnsweredBy c w.sent e.who s.far.who)
 MayInSlot c w e now s token (TakenOver part) =

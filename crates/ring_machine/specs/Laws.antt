@@ -5,7 +5,7 @@ use Rattle.ring_machine.specs.Points.{Points}
 use Rattle.ring_machine.specs.Ends.{End, end_of}
 use Rattle.ring_machine.specs.Slots.{Slot}
 use Rattle.ring_machine.specs.World.{Settings, World, At, InFlight, Live, Holds, slot}
-use Rattle.ring_machine.specs.Arbitration.{GrantedBy, AnsweredBy}
+use Rattle.ring_machine.specs.Arbitration.{HeirBy, AnsweredBy}
 use Rattle.ring_machine.specs.Deeds.{InSlot, SlotDeed, PartGiven, FlightTaken, FlightReturned, TakenOver}
 use Rattle.ring_machine.specs.Events.{Event, Does, IsSound, Valid, world_after, after}
 use Rattle.ring_machine.specs.SoundFlights.{IsWhole}
@@ -19,9 +19,9 @@ Always Fact = (c : Settings) (events : List Event) → IsSound c → Valid c eve
 abbrev pub Exclusion : Type 0
 Exclusion = Always (λ c w. (x y : Who) → AnsweredBy c w.sent x y → AnsweredBy c w.sent y x → ⊥)
 
--- one instance at most has a majority's grant about another
+-- one instance at most is kept by a majority in some round about another, whatever the rounds
 abbrev pub Uniqueness : Type 0
-Uniqueness = Always (λ c w. (x y victim : Who) → GrantedBy c w.sent x victim → GrantedBy c w.sent y victim → x ≡ y)
+Uniqueness = Always (λ c w. (x y victim : Who) → HeirBy c w.sent x victim → HeirBy c w.sent y victim → x ≡ y)
 
 -- no two instances hold one point
 abbrev pub RingSafe : Type 0

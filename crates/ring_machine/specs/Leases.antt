@@ -6,7 +6,7 @@ use Rattle.ring_machine.specs.Slots.{guards}
 use Rattle.ring_machine.specs.Frames.{RenewAck}
 use Rattle.drift_clock.specs.Wait.{wait}
 use Rattle.ring_machine.specs.World.{Settings, World, slot}
-use Rattle.ring_machine.specs.Arbitration.{GrantedBy}
+use Rattle.ring_machine.specs.Arbitration.{AnsweredBy, HeirBy}
 
 -- the stamp is a reading of this clock, taken no later than the moment
 pub record Rests (pairs : List (ℕ × ℕ)) (moment stamp : ℕ) : Type 0 where
@@ -23,7 +23,8 @@ pub record Leased (pairs : List (ℕ × ℕ)) (moment until len : ℕ) : Type 0 
 -- e is the heir of f's instance since a moment: each lease of f, and each acknowledgement that can prolong it,
 -- rests on a stamp that is no later
 pub record SoundHeir (c : Settings) (w : World) (e f : End) (len ripe : ℕ) : Type 0 where
-  pub grants : GrantedBy c w.sent e.who f.who
+  pub answered : AnsweredBy c w.sent e.who f.who
+  pub keeps : HeirBy c w.sent e.who f.who
   pub since : ℕ
   pub begun : ℕ
   pub reading : IsMember (since, begun) (w.instance e.who).pairs

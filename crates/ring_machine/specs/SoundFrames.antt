@@ -6,9 +6,9 @@ use Rattle.ring_points.specs.Whos.{same_who}
 use Rattle.ring_machine.specs.Points.{Points}
 use Rattle.ring_machine.specs.Ends.{End}
 use Rattle.ring_machine.specs.Slots.{Flight, Asking, is_used, is_willing}
-use Rattle.ring_machine.specs.Frames.{Frame, Hello, Offer, Take, Renew, RenewAck, Transfer, Gone, Accuse, Ruled}
+use Rattle.ring_machine.specs.Frames.{Frame, Hello, Offer, Take, Renew, RenewAck, Transfer, Gone, Accuse, Ruled, RoundClaim, Kept}
 use Rattle.ring_machine.specs.World.{Settings, Instance, World, Place, InFlight, Dead, slot}
-use Rattle.ring_machine.specs.Arbitration.{Answered}
+use Rattle.ring_machine.specs.Arbitration.{Answered, kept_of, IsOpen}
 use Rattle.ring_machine.specs.Sessions.{Tied, BothTied, Closed}
 use Rattle.ring_machine.specs.Leases.{Rests}
 use Rattle.ring_machine.specs.SoundFlights.{IsWhole}
@@ -65,6 +65,11 @@ pub record SoundRuling (w : World) (a : ℕ) (x y z : Who) : Type 0 where
   pub kept : w.first_accuser a y ≡ Some z
   pub no_cross : Answered w.sent a y x → ⊥
 
+-- arbitrator a keeps x of the round about y, and the round may be claimed
+pub record SoundKept (c : Settings) (w : World) (a : ℕ) (y : Who) (round : ℕ) (x : Who) : Type 0 where
+  pub kept : kept_of w a y round ≡ Some x
+  pub is_open : IsOpen c w.sent y round
+
 abbrev pub SoundFrame : Settings → World → Frame → Type 0
 SoundFrame c w (Hello e node len) = SoundHello w e node len
 SoundFrame c w (Offer f e len) = SoundOffer w f e len
@@ -77,3 +82,5 @@ SoundFrame c w (Accuse x y) = same_who x y ≡ false
 SoundFrame c w (Ruled a x y Granted) = SoundRuling w a x y x
 SoundFrame c w (Ruled a x y Taken) = (z : Who) × SoundRuling w a x y z
 SoundFrame c w (Ruled a x y Refused) = Unit {0}
+SoundFrame c w (RoundClaim x y round) = IsOpen c w.sent y round
+SoundFrame c w (Kept a y round x) = SoundKept c w a y round x

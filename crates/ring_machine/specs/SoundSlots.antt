@@ -2,7 +2,7 @@
 use Rattle.std.specs.Prelude.{◌≡◌, ℕ, ◌<◌, ◌≤◌, true, false, None}
 use Rattle.ring_points.specs.Whos.{same_who}
 use Rattle.ring_machine.specs.Ends.{End}
-use Rattle.ring_machine.specs.Slots.{Slot, Asking, Bound, Parting, Heir, Parted, HasClaim, guards, is_used, is_engaged, is_active}
+use Rattle.ring_machine.specs.Slots.{Slot, Asking, Bound, Parting, Discharged, Heir, Parted, HasClaim, guards, is_used, is_engaged, is_active}
 use Rattle.ring_machine.specs.World.{Settings, World, slot}
 use Rattle.ring_machine.specs.Arbitration.{AnsweredBy}
 use Rattle.ring_machine.specs.Sessions.{Tied, Touched, Untouched, IsEmpty, Closed}
@@ -38,6 +38,8 @@ pub record SoundSlot (c : Settings) (w : World) (e : End) (s : Slot) : Type 0 wh
   pub recorded : (p : ℕ) → s.held p ≡ true → 0 < s.held_version
   -- a lease rests on a stamp of the own clock
   pub leased : guards s.state ≡ true → Leased (w.instance e.who).pairs w.time s.until s.len
+  -- whom a majority has answered, and who has something to take over, is discharged
+  pub discharged : s.state ≡ Discharged → AnsweredBy c w.sent e.who s.far.who × HasClaim s.held s.flight
   -- an heir has something to take over, and its wait covers the other's lease
   pub heir : s.state ≡ Heir → SoundHeir c w e s.far s.len s.ripe
   pub heir_claims : s.state ≡ Heir → HasClaim s.held s.flight

@@ -38,13 +38,15 @@ pub data Place : Type 0 where
   InFlight : (giver receiver : End) → (number : ℕ) → Place
   Outside : Place
 
--- starts is how often each node was started; first_accuser is the table of each arbitrator, by the accused instance;
+-- starts is how often each node was started; first_accuser is the table of each arbitrator, by the accused instance, and
+-- first_claimer that of its later rounds, by the accused instance and the round;
 -- sent has the latest frame first; place is told by no instance
 pub record World : Type 0 where
   pub time : ℕ
   pub starts : ℕ → ℕ
   pub instance : Who → Instance
   pub first_accuser : ℕ → Who → Option Who
+  pub first_claimer : ℕ → Who → ℕ → Option Who
   pub sent : List Frame
   pub place : ℕ → Place
 
@@ -101,6 +103,7 @@ empty_world c = record {
   starts = λ node. 0;
   instance = λ x. unborn;
   first_accuser = λ arbiter victim. None;
+  first_claimer = λ arbiter victim round. None;
   sent = [];
   place = λ p. cond (is_point p) (At (first_of c)) Outside;
 }

@@ -11,7 +11,8 @@ pub fn arbitrators_exclude()
     ensures { Exclusion }
 {}
 
-/// Uniqueness: never have two instances a majority of Granted about one instance.
+/// Uniqueness: never does a majority of arbitrators keep one instance, and a majority another, about one
+/// instance, each in some round, whatever the rounds. Of the first round they keep whom they granted.
 pub fn one_heir_at_most()
     ensures { Uniqueness }
 {}

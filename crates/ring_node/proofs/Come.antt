@@ -17,6 +17,7 @@ both false b h = absurd cc
 comes : (c : Settings) (r : Ring) (from : Who) (b : Body) → is_sound_body b ≡ true → may_send c r from.actor (is_between_nodes b) (is_arbiters_answer b) ≡ true → may_come c.arbitrators from b ≡ true
 comes c r from (body.RenewAck mine yours stamp version) h s = (both _ _ (both _ _ h).0).1
 comes c r from (body.Ruled victim ruling) h s = s
+comes c r from (body.Kept victim round claimer) h s = s
 comes c r from _ h s = refl
 
 pub may_hear : (c : Settings) (r : Ring) (m : Message) → IsTrue (is_sound m) → IsTrue (passes c r m) → IsTrue (may_come c.arbitrators m.from m.body)

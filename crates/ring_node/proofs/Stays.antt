@@ -26,17 +26,18 @@ pub record AreOfOne (k l : Links) : Type 0 where
   pub answer : l.answer ≡ k.answer
   pub bound : l.bound ≡ k.bound
   pub arbitrators : l.arbitrators ≡ k.arbitrators
+  pub rounds : l.rounds ≡ k.rounds
 
 pub kept_heard : (k l : Links) → l ≡ record k { slots = l.slots; next_session = l.next_session } → AreOfOne k l
-kept_heard k l e = record { me = ap (λ (x : Links). x.me) e; lease = ap (λ (x : Links). x.lease) e; longest = ap (λ (x : Links). x.longest) e; answer = ap (λ (x : Links). x.answer) e; bound = ap (λ (x : Links). x.bound) e; arbitrators = ap (λ (x : Links). x.arbitrators) e }
+kept_heard k l e = record { me = ap (λ (x : Links). x.me) e; lease = ap (λ (x : Links). x.lease) e; longest = ap (λ (x : Links). x.longest) e; answer = ap (λ (x : Links). x.answer) e; bound = ap (λ (x : Links). x.bound) e; arbitrators = ap (λ (x : Links). x.arbitrators) e; rounds = ap (λ (x : Links). x.rounds) e }
 
 pub kept_fired : (k l : Links) → l ≡ record k { slots = l.slots; accused = l.accused } → AreOfOne k l
-kept_fired k l e = record { me = ap (λ (x : Links). x.me) e; lease = ap (λ (x : Links). x.lease) e; longest = ap (λ (x : Links). x.longest) e; answer = ap (λ (x : Links). x.answer) e; bound = ap (λ (x : Links). x.bound) e; arbitrators = ap (λ (x : Links). x.arbitrators) e }
+kept_fired k l e = record { me = ap (λ (x : Links). x.me) e; lease = ap (λ (x : Links). x.lease) e; longest = ap (λ (x : Links). x.longest) e; answer = ap (λ (x : Links). x.answer) e; bound = ap (λ (x : Links). x.bound) e; arbitrators = ap (λ (x : Links). x.arbitrators) e; rounds = ap (λ (x : Links). x.rounds) e }
 
 pub kept_links : (n : Node) (k l : Links) (token : Token) (routes : Routes) (phase : Phase) (target : Option ℕ) (near : ℕ) → n ≡ node_of k token routes phase target near → AreOfOne k l → l ≡ links_of (with_links l n)
 kept_links n k l token routes phase target near e h =
     let f : links_of (with_links l n) ≡ record k { slots = l.slots; next_session = l.next_session; accused = l.accused } = ap (λ (m : Node). links_of (with_links l m)) e in
-    sym (f ∙ rw (← h.me, ← h.lease, ← h.longest, ← h.answer, ← h.bound, ← h.arbitrators) refl)
+    sym (f ∙ rw (← h.me, ← h.lease, ← h.longest, ← h.answer, ← h.bound, ← h.arbitrators, ← h.rounds) refl)
 
 -- nobody new is accused
 pub accused_kept : (n : Node) (k l : Links) (token : Token) (routes : Routes) (phase : Phase) (target : Option ℕ) (near : ℕ) → n ≡ node_of k token routes phase target near → take (length k.accused) l.accused ≡ k.accused → take (length n.ring.accused) l.accused ≡ n.ring.accused

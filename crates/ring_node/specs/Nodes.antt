@@ -23,7 +23,7 @@ pub record Node : Type 0 where
 abbrev pub node_of : Links → Token → Routes → Phase → Option ℕ → ℕ → Node
 node_of k token routes phase target near =
     record {
-      settings = record { lease = k.lease; longest = k.longest; answer = k.answer; bound = k.bound; near = near; arbitrators = k.arbitrators };
+      settings = record { lease = k.lease; longest = k.longest; answer = k.answer; bound = k.bound; near = near; arbitrators = k.arbitrators; rounds = k.rounds };
       ring = record {
         me = k.me;
         phase = phase;

@@ -120,7 +120,7 @@ impl RingNode {
         requires place { length told.old ≡ 0 }
         ensures row { step self.new out.new told.new ≡ by (λ c. rules.frame_received c now message.now.from message.now.body) (step self.old out.old told.old) }
         ensures few { length told.new ≤ 4 }
-        ensures short { length out.new ≤ 3 }
+        ensures short { length out.new ≤ 11 }
     {
         match &message.body {
             Body::Seek { origin, key, hops } => self.hear_seek(*origin, *key, *hops, out, told),
@@ -137,7 +137,7 @@ impl RingNode {
         requires place { length told.old ≡ 0 }
         ensures row { step self.new out.new told.new ≡ by (λ c w. frame_if c now message.now w (rules.passes c w.ring message.now)) (step self.old out.old told.old) }
         ensures few { length told.new ≤ 4 }
-        ensures short { length out.new ≤ 3 }
+        ensures short { length out.new ≤ 11 }
     {
         if self.passes(message) {
             self.hear_sender(now, message.from);

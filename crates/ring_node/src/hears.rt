@@ -33,7 +33,7 @@ impl RingNode {
         requires place { length told.old + 2 ≤ 64 }
         ensures row { step self.new out.new told.new ≡ by (λ c w. counted w (frame_row c now message.now.from message.now.body w)) (step self.old out.old told.old) }
         ensures few { length told.new ≤ length told.old + 2 }
-        ensures short { length out.new ≤ length out.old + 3 }
+        ensures short { length out.new ≤ length out.old + 11 }
     {
         let mark = self.mark(out, told);
         let announce = self.announce();

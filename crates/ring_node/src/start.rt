@@ -69,6 +69,7 @@ impl RingNode {
                 config.answer,
                 config.bound,
                 arbitrators,
+                config.rounds,
             ),
             token: Token::new(ranges),
             routes: RouteTable::new(me, points.as_slice()),

@@ -35,7 +35,7 @@ fn one_of_three(first: bool) -> RingNode {
         Err(booting) => (Phase::Seeking(booting.seek()), RangeSet::new()),
     };
     RingNode {
-        links: Links16::new(node(1), 3000, 3000, 1000, Bound { d: 10, grain: 1 }, 3),
+        links: Links16::new(node(1), 3000, 3000, 1000, Bound { d: 10, grain: 1 }, 3, 1),
         token: Token::new(ranges),
         routes: RouteTable::new(node(1), points.as_slice()),
         points,

@@ -24,6 +24,7 @@ use Rattle.ring_machine.specs.Frames.{Frame, Accuse}
 use Rattle.ring_machine.specs.World.{World}
 use Rattle.ring_machine.specs.Deeds.{PeerAccused, AccuseAgain}
 use Rattle.ring_machine.specs.Events.{IsSound}
+use Rattle.ring_machine.proofs.Exclusions.{first_open}
 use Rattle.ring_machine.proofs.Lists.{IsMember-append_left, IsMember-append_right}
 use Rattle.ring_refines.specs.Images.{machine_of, state_of, slot_of}
 use Rattle.ring_refines.specs.Refined.{AllSaid}
@@ -61,6 +62,15 @@ asked lease sent x l w h (suc n) =
           (record { image = h; rises = refl; no_ruling = refl }, tt);
     }
 
+-- what is asked leaves the ring
+pub ask_ring : (n : ℕ) (l : Link) (w : Work) → (ask_first n l w).ring ≡ w.ring
+ask_ring zero l w = refl
+ask_ring (suc n) l w = one (has_answered (suc n) l.tally.answers) (ask_ring n l w)
+  where
+    one : (q : Bool) → (ask_first n l w).ring ≡ w.ring → (ask_if (suc n) l (ask_first n l w) q).ring ≡ w.ring
+    one true e = e
+    one false e = e
+
 module _ {c : FabricConfig} {m : World} {x : Who} {now : ℕ} {w : Work} (sound : IsSound (machine_of c)) (node : ℕ) (g : Going c m x now w) where
   abbrev v : World
   v = g.after
@@ -87,6 +97,13 @@ module _ {c : FabricConfig} {m : World} {x : Who} {now : ℕ} {w : Work} (sound 
           part = s.part;
           length = λ p. absurd (cc (p));
           tally = λ h. record { arbitrators = refl; counted = refl; each = λ b r n. absurd n };
+          rounds = λ h. record {
+            me = g.shows.me;
+            arbitrators = refl;
+            counted = refl;
+            each = λ b z n. absurd n;
+            is_open = first_open (machine_of c) (Accuse x l.peer ∷ v.sent) l.peer;
+          };
         };
         alone = stays_alone g.shows.slots i l k at refl (λ h. absurd (cc (h))) (λ h. bars);
       }))

@@ -15,10 +15,12 @@ use Rattle.ring_machine.specs.Slots as machine
 use Rattle.ring_machine.specs.Slots.{Slot, State, Unused, Abandoned, Parted, Ended}
 use Rattle.ring_machine.specs.Frames.{Frame}
 use Rattle.ring_machine.proofs.Whos.{replaced_cases}
-use Rattle.ring_refines.specs.Images.{state_of, slot_of}
-use Rattle.ring_refines.specs.Tables.{is_over, SoundTally, SoundLink, Has, ShowsSlots}
+use Rattle.ring_refines.specs.Images.{machine_of, state_of, slot_of}
+use Rattle.ring_refines.specs.Tables.{is_over, SoundTally, SoundRounds, SoundLink, Has, ShowsSlots}
 use Rattle.ring_refines.proofs.Places.{set_cases, set_same, set_other}
 use Rattle.arbiter_quorum.specs.Tallies.{Tally}
+use Rattle.heir_rounds.specs.Rounds.{RoundTally}
+use Rattle.ring_machine.proofs.Later.{open_more}
 
 -- beside the link at place i no greeting meets a link that bars it
 pub record StandsAlone (slots : Slots) (i : ℕ) (k : Link) : Type 0 where
@@ -42,6 +44,16 @@ pub tally_later : (c : FabricConfig) (x victim : Who) (sent more : List Frame) (
     ((g : Frame) → IsMember g sent → IsMember g more) → SoundTally c x victim sent t → SoundTally c x victim more t
 tally_later c x victim sent more t later h = record { arbitrators = h.arbitrators; counted = h.counted; each = λ a ruling m. later _ (h.each a ruling m) }
 
+pub rounds_later : (c : FabricConfig) (x victim : Who) (sent more : List Frame) (t : RoundTally) →
+    ((g : Frame) → IsMember g sent → IsMember g more) → SoundRounds c x victim sent t → SoundRounds c x victim more t
+rounds_later c x victim sent more t later h = record {
+  me = h.me;
+  arbitrators = h.arbitrators;
+  counted = h.counted;
+  each = λ a z m. later _ (h.each a z m);
+  is_open = open_more (machine_of c) sent more later victim t.round h.is_open;
+}
+
 pub sound_later : (c : FabricConfig) (x : Who) (sent more : List Frame) (l : Link) → ((g : Frame) → IsMember g sent → IsMember g more) →
     SoundLink c x sent l → SoundLink c x more l
 sound_later c x sent more l later h = record {
@@ -49,6 +61,7 @@ sound_later c x sent more l later h = record {
   part = h.part;
   length = h.length;
   tally = λ s. tally_later c x l.peer sent more l.tally later (h.tally s);
+  rounds = λ s. rounds_later c x l.peer sent more l.rounds later (h.rounds s);
 }
 
 -- a link guards as its slot does

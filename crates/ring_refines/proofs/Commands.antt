@@ -61,7 +61,7 @@ module _ {c : FabricConfig} {m : World} {x : Who} {now : ℕ} {w : Work} (sound 
         numbered = refl;
         below = g.shows.slots.below i l at;
         shown = refl;
-        sound = let s = g.shows.slots.sound i l at in record { held = refl; part = s.part; length = λ p. absurd (cc (p)); tally = λ h. absurd (cc (h)) };
+        sound = let s = g.shows.slots.sound i l at in record { held = refl; part = s.part; length = λ p. absurd (cc (p)); tally = λ h. absurd (cc (h)); rounds = λ h. absurd (cc (h)) };
         alone = stays_alone g.shows.slots i l k at refl (λ h. absurd (cc (h))) (λ h. bars l.state may);
       }))
       w.ring.accused (λ y h. h) (λ h. absurd (cc (h))) (w.sent ++ (l.peer, body.Gone l.mine l.yours l.got true) ∷ [])

@@ -1,5 +1,5 @@
 -- A firing of a node's timer: each slot, a freeze that is ready, and the search for a place.
-use Rattle.std.proofs.Common.{◌≡◌, ℕ, zero, suc, ◌+◌, nat_le, Bool, true, false, List, [], ◌∷◌, Option, Some, None, refl, sym, ap, subst, inl}
+use Rattle.std.proofs.Common.{◌≡◌, ℕ, zero, suc, ◌+◌, nat_le, Bool, true, false, List, [], ◌∷◌, length, Option, Some, None, refl, sym, ap, subst, inl}
 use Rattle.ring_points.specs.declared.who.Flight as points
 use Rattle.ring_points.specs.declared.who.Who.{Who}
 use Rattle.fabric_terms.specs.declared.config.FabricConfig.{FabricConfig}
@@ -9,10 +9,10 @@ use Rattle.ring_rules.specs.declared.link.Link.{Link}
 use Rattle.ring_rules.specs.declared.link.LinkState.{LinkState}
 use Rattle.ring_rules.specs.declared.link.LinkState.TheVariants as state
 use Rattle.ring_rules.specs.Deeds.{send, say_gone}
-use Rattle.ring_rules.specs.Firing.{hello_due, lease_over, transfer_again, discharged_due, discharged_fired, fired_in, fired_at, slot_fired, slots_fired, freeze_given, seek_from, greet_all, search_by, place_sought, timer_fired}
+use Rattle.ring_rules.specs.Firing.{hello_due, lease_over, transfer_again, rounds_time, discharged_due, discharged_fired, fired_in, fired_at, slot_fired, slots_fired, freeze_given, seek_from, greet_all, search_by, place_sought, timer_fired}
 use Rattle.ring_rules.specs.Handshakes.{greet_plainly}
 use Rattle.ring_rules.specs.Links.{offer_body, renew_body}
-use Rattle.ring_rules.specs.Rings.{Work, settings_of, slot_count}
+use Rattle.ring_rules.specs.Rings.{Ring, Work, settings_of, slot_count}
 use Rattle.ring_rules.specs.Slots.{slot_at, bars_link}
 use Rattle.ring_rules.proofs.Rows.{discharged_fired-is, slot_fired-is, slots_fired-zero, slots_fired-suc, place_sought-is, timer_fired-is}
 use Rattle.ring_machine.specs.Slots.{stands, is_tallying, is_decided}
@@ -24,8 +24,9 @@ use Rattle.ring_refines.proofs.Going.{Going}
 use Rattle.ring_refines.proofs.Greetings.{greet_plainly_going, hello_dropped, offer_again_going}
 use Rattle.ring_refines.proofs.Saying.{hello_again_going, gone_again_going, flight_again_going, renew_going}
 use Rattle.ring_refines.proofs.Leaving.{Went, on, counted_went, then_went}
-use Rattle.ring_refines.proofs.Accusing.{asks_going, peer_accused_went}
+use Rattle.ring_refines.proofs.Accusing.{ask_ring, asks_going, peer_accused_went}
 use Rattle.ring_refines.proofs.Rulings.{dropped_going}
+use Rattle.ring_refines.proofs.Claims.{claims_going}
 use Rattle.ring_refines.proofs.Quiet.{seek_place_going}
 use Rattle.ring_refines.proofs.Heirs.{heir_going}
 use Rattle.ring_refines.proofs.Giving.{freeze_given_went}
@@ -43,11 +44,13 @@ module _ {c : FabricConfig} {m : World} {x : Who} {now : ℕ} {w : Work} (sound 
 
   discharged_going : (i : ℕ) (l : Link) → slot_at i w.ring.slots ≡ Some l → l.state ≡ state.Discharged → Going c m x now (discharged_fired (settings_of c node) now i l w)
   discharged_going i l at is =
-      subst (λ (u : Work). Going c m x now u) (sym (discharged_fired-is (settings_of c node) now i l w)) (go (nat_le (l.until + c.answer) now))
+      subst (λ (u : Work). Going c m x now u) (sym (discharged_fired-is (settings_of c node) now i l w)) (go (nat_le (l.until + c.answer + rounds_time (settings_of c node) l) now))
     where
       go : (q : Bool) → Going c m x now (discharged_due (settings_of c node) i l w q)
       go true = dropped_going sound node g i l at (ap (λ s. is_wronged (state_of s)) is) (inl (ap (λ s. is_decided (state_of s)) is))
-      go false = asks_going sound node g i l at (ap (λ s. is_tallying (state_of s)) is)
+      go false =
+          claims_going sound node (asks_going sound node g i l at (ap (λ s. is_tallying (state_of s)) is)) i l
+          (subst (λ (r : Ring). slot_at i r.slots ≡ Some l) (sym (ask_ring (length c.arbiters) l w)) at) is
 
 module _ {c : FabricConfig} {m : World} {x : Who} {now : ℕ} {w : Work} (sound : IsSound (machine_of c)) (node : ℕ) (g : Going c m x now w) where
   -- one slot

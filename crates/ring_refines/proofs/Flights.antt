@@ -67,7 +67,7 @@ module _ {c : FabricConfig} {m : World} {x : Who} {now : ℕ} {w : Work} (sound 
           numbered = refl;
           below = g.shows.slots.below i l at;
           shown = refl;
-          sound = let s = g.shows.slots.sound i l at in record { held = s.held; part = s.part; length = s.length; tally = s.tally };
+          sound = let s = g.shows.slots.sound i l at in record { held = s.held; part = s.part; length = s.length; tally = s.tally; rounds = s.rounds };
           alone = stays_alone g.shows.slots i l k at refl (λ h. h) (λ h. h);
         });
         me = refl;

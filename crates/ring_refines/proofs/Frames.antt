@@ -33,6 +33,7 @@ use Rattle.ring_refines.proofs.Renewals.{renew_received_going, ack_received_goin
 use Rattle.ring_refines.proofs.Flights.{transfer_going, gone_going}
 use Rattle.ring_refines.proofs.Quiet.{knows, seek_received_going, found_received_going}
 use Rattle.ring_refines.proofs.Rulings.{ruling_went}
+use Rattle.ring_refines.proofs.Claims.{kept_received_going}
 use Rattle.ring_points.specs.declared.interval.Interval.{Interval}
 use Rattle.ring_rules.specs.Flights.{transfer_received, gone_received}
 use Rattle.ring_rules.specs.Handshakes.{offer_received, take_received}
@@ -187,6 +188,10 @@ module _ {c : FabricConfig} {m : World} {x : Who} {now : ℕ} {w : Work} (sound 
       let a = and_parts (nat_lt (arbiter_actor 0) from.actor) (nat_le from.actor (arbiter_actor (length c.arbiters))) may in
       ruling_went sound node g from victim ruling (ltb-true (arbiter_actor 0) from.actor a.0) (leb-true from.actor (arbiter_actor (length c.arbiters)) a.1)
       (subst (λ (y : Who). IsMember (Ruled (from.actor - arbiter_actor 0) y victim ruling) m.sent) (for_named to (p.to_one refl) for_x) p.image)
+  frame_row_went from to (body.Kept victim round claimer) p for_x trusted may =
+      let a = and_parts (nat_lt (arbiter_actor 0) from.actor) (nat_le from.actor (arbiter_actor (length c.arbiters))) may in
+      on (kept_received_going sound node g from victim round claimer (ltb-true (arbiter_actor 0) from.actor a.0)
+      (leb-true from.actor (arbiter_actor (length c.arbiters)) a.1) p.image)
   frame_row_went from to b p for_x trusted may = on g
 
 module _ {c : FabricConfig} {m : World} {x : Who} {now : ℕ} {w : Work} (sound : IsSound (machine_of c)) (node : ℕ) (g : Going c m x now w) where

@@ -59,6 +59,7 @@ module _ {c : FabricConfig} {m : World} {x : Who} {now : ℕ} {w : Work} (sound 
             part = rises;
             length = o.length;
             tally = λ h. absurd (let t = ap (λ s. is_tallying (state_of s)) is in cc (t, h));
+            rounds = λ h. absurd (let t = ap (λ s. is_tallying (state_of s)) is in cc (t, h));
           };
           alone = stays_alone g.shows.slots z.slot l k at refl (λ h. h) (λ h. h);
         });

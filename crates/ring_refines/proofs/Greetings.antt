@@ -77,7 +77,7 @@ module _ {c : FabricConfig} {m : World} {x : Who} {now : ℕ} {w : Work} (sound 
   greeted at_node wire len length_is i lt free none refused =
       begins sound g i lt free k (Hello (end_of x w.ring.next_session) at_node len ∷ [])
       (subst (λ (z : World). DeedsDone (machine_of c) v x z) shown (deed_done sound g.inv x g.live (HelloBegun at_node len) tt))
-      refl (record { held = refl; part = refl; length = λ p q. length_is q; tally = λ h. absurd (cc (h)) })
+      refl (record { held = refl; part = refl; length = λ p q. length_is q; tally = λ h. absurd (cc (h)); rounds = λ h. absurd (cc (h)) })
       (record {
         greets = λ h j l at b e. absurd (barred j l at b e);
         bars = λ h j l at b e. absurd (barred j l at (hello_bars l.state b) (sym e));
@@ -145,7 +145,7 @@ module _ {c : FabricConfig} {m : World} {x : Who} {now : ℕ} {w : Work} (sound 
           begins sound g i f.within (free_is (slot_at i w.ring.slots) f.passes) (offered_link (settings_of c node) now w.ring from theirs wire len)
           (Offer (end_of x w.ring.next_session) (end_of from theirs) len ∷ [])
           (subst (λ (z : World). DeedsDone (machine_of c) v x z) shown (deed_done sound g.inv x g.live (OfferBegun (end_of from theirs) proposed len) may))
-          refl (record { held = refl; part = refl; length = λ p q. length_is q; tally = λ h. absurd (cc (h)) })
+          refl (record { held = refl; part = refl; length = λ p q. length_is q; tally = λ h. absurd (cc (h)); rounds = λ h. absurd (cc (h)) })
           (record { greets = λ h j l at b e. absurd (cc (h)); bars = λ h j l at b e. absurd (none_greets j l at b e) }) refl _
           (λ h. all_said_both c.lease _ x w.sent _ h (
             offer_said c.lease (Offer (end_of x w.ring.next_session) (end_of from theirs) len ∷ v.sent) x

@@ -73,6 +73,7 @@ module _ {c : FabricConfig} {m : World} {x : Who} {w : Work} (sound : IsSound (m
       time = refl;
       starts = refl;
       first_accuser = refl;
+      first_claimer = refl;
       reading = ap (λ (i : Instance). i.reading) own;
       pairs = ap (λ (i : Instance). i.pairs) own;
       others = λ y n. updated_cases (λ i. i ≡ s.after.instance y) s.after.instance x y out (λ e. absurd (same_who-false x y n e)) (λ e. refl);

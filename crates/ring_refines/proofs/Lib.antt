@@ -15,9 +15,11 @@ pub mod Flights
 pub mod Quiet
 pub mod Commands
 pub mod Tallies
+pub mod Rounds
 pub mod Leaving
 pub mod Accusing
 pub mod Rulings
+pub mod Claims
 pub mod Heirs
 pub mod Giving
 pub mod Firing

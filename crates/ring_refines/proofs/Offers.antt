@@ -45,7 +45,7 @@ module _ {c : FabricConfig} {m : World} {x : Who} {now : ℕ} {w : Work} (sound 
   taken from theirs len i l at is actor trusted came =
       puts sound g i l at (OfferTaken (end_of from theirs) len) (ap state_of is, came, alone_of sound g from no_session) k
       (Take (end_of x l.mine) (end_of from theirs) ∷ []) refl refl
-      (let s = g.shows.slots.sound i l at in record { held = s.held; part = s.part; length = λ p. absurd (cc (p)); tally = λ h. absurd (cc (h)) })
+      (let s = g.shows.slots.sound i l at in record { held = s.held; part = s.part; length = λ p. absurd (cc (p)); tally = λ h. absurd (cc (h)); rounds = λ h. absurd (cc (h)) })
       (stays_alone g.shows.slots i l k at (sym actor) (λ h. absurd (cc (h))) (λ h. ap bars_link is)) (λ h. refl) (λ h. absurd (cc (h))) _ _ _
       (one_said sound g (Take (end_of x l.mine) (end_of from theirs)) from (body.Take l.mine theirs) (record { image = inl refl; rises = refl; no_ruling = refl })
       (bound_phase w.ring.phase) (bound_stays w.ring.phase g.stays))
@@ -147,7 +147,7 @@ module _ {c : FabricConfig} {m : World} {x : Who} {now : ℕ} {w : Work} (sound 
       known i l at h state.Offered is =
           let bound : Going c m x now (put_slot i k w) =
           puts sound g i l at TakeHeard (ap state_of is, h) k [] refl refl
-          (let s = g.shows.slots.sound i l at in record { held = s.held; part = s.part; length = λ p. absurd (cc (p)); tally = λ h. absurd (cc (h)) })
+          (let s = g.shows.slots.sound i l at in record { held = s.held; part = s.part; length = λ p. absurd (cc (p)); tally = λ h. absurd (cc (h)); rounds = λ h. absurd (cc (h)) })
           (stays_alone g.shows.slots i l k at refl (λ h. absurd (cc (h))) (λ h. ap bars_link is)) (λ h. refl) (λ h. absurd (cc (h))) _ _ _
           (nothing_besides sound g []) in
           let renewed = renew_going sound bound i k (set_same w.ring.slots i (Some k) (used_within w.ring.slots i l at)) refl in

@@ -133,7 +133,7 @@ module _ {c : FabricConfig} {m : World} {x : Who} {now : ℕ} {w : Work} (sound 
           let put = puts sound g i l at (RenewHeard stamp version got (points_of ranges)) (willing, g.beside.sent _ came) k
           (RenewAck (end_of x l.mine) (end_of l.peer l.yours) stamp version ∷ [])
           (λ j. effects.outcome (shown j) (token_of w.ring.slots w.ring.token) (RenewAck (end_of x l.mine) (end_of l.peer l.yours) stamp version ∷ []) g.after.place)
-          mine (record { held = held; part = part; length = λ p. absurd (cc (is, p)); tally = λ h. absurd (cc (is, h)) })
+          mine (record { held = held; part = part; length = λ p. absurd (cc (is, p)); tally = λ h. absurd (cc (is, h)); rounds = λ h. absurd (cc (is, h)) })
           (stays_alone g.shows.slots i l k at (ap (λ (y : Who). y.actor) peer) (λ h. absurd (cc (is, h))) (λ h. bars)) (λ h. is) (λ h. absurd (cc (is, h))) _ _ _
           (one_said sound g (RenewAck (end_of x l.mine) (end_of l.peer l.yours) stamp version) k.peer (body.RenewAck k.mine k.yours stamp version)
           (record { image = inl (λ j. RenewAck (end_of x (mine j)) (end_of (peer j) (yours j)) stamp version); rises = refl; no_ruling = refl }) w.ring.phase g.stays) in
@@ -192,7 +192,7 @@ module _ {c : FabricConfig} {m : World} {x : Who} {now : ℕ} {w : Work} (sound 
       acked i l at standing unwronged h =
           let s = g.shows.slots.sound i l at in
           puts sound g i l at (AckHeard stamp version) (standing, h) (acknowledged l stamp version) [] refl refl
-          (record { held = s.held; part = s.part; length = s.length; tally = s.tally })
+          (record { held = s.held; part = s.part; length = s.length; tally = s.tally; rounds = s.rounds })
           (stays_alone g.shows.slots i l (acknowledged l stamp version) at refl (λ h. h) (λ h. h)) (λ h. h) (λ h. absurd (both_ways _ unwronged h)) _ _ _
           (nothing_besides sound g [])
 

@@ -12,7 +12,8 @@ use Rattle.fabric_terms.specs.declared.config.FabricConfig.{FabricConfig}
 use Rattle.fabric_terms.specs.declared.report.Report.TheVariants as report
 use Rattle.fabric_terms.specs.declared.report.Why.TheVariants.{Lost}
 use Rattle.token_core.specs.Calls.{is_empty}
-use Rattle.arbiter_quorum.specs.Tallies.{Tally, noted, verdict_of, may_be_heir, is_heir}
+use Rattle.arbiter_quorum.specs.Tallies.{Tally, noted, verdict_of, is_heir}
+use Rattle.heir_rounds.specs.Rounds.{RoundTally}
 use Rattle.arbiter_quorum.specs.declared.verdict.Verdict.{Verdict}
 use Rattle.arbiter_quorum.specs.declared.verdict.Verdict.TheVariants as verdict
 use Rattle.ring_rules.specs.declared.link.Link.{Link}
@@ -22,15 +23,15 @@ use Rattle.ring_rules.specs.Deeds as rows
 use Rattle.ring_rules.specs.Deeds.{in_slot, in_found, put_slot, send, tell}
 use Rattle.ring_rules.specs.Links.{is_bare, has_flight}
 use Rattle.ring_rules.specs.Rings.{Work, settings_of}
-use Rattle.ring_rules.specs.Rulings.{ripe_at, made_heir, kept_discharged, judged, ruling_seen, ruling_received}
+use Rattle.ring_rules.specs.Rulings.{ripe_at, becomes_heir, made_heir, may_succeed, kept_discharged, judged, ruling_seen, ruling_received}
 use Rattle.ring_rules.specs.Slots.{slot_at, slot_where, of_instance}
 use Rattle.ring_rules.proofs.Rows.{ruling_received-is}
 use Rattle.ring_machine.specs.Members.{IsMember}
 use Rattle.ring_machine.specs.Slots.{Accused, HasClaim, of_record, of_flight, is_tallying, is_decided}
 use Rattle.ring_machine.specs.Frames.{Accuse, Ruled}
 use Rattle.ring_machine.specs.World.{World}
-use Rattle.ring_machine.specs.Arbitration.{AnsweredBy}
-use Rattle.ring_machine.specs.Deeds.{AccuseAgain, MajorityAnswered, MajorityGranted, SessionDropped}
+use Rattle.ring_machine.specs.Arbitration.{AnsweredBy, HeirBy}
+use Rattle.ring_machine.specs.Deeds.{AccuseAgain, MajorityAnswered, MajorityKept, SessionDropped}
 use Rattle.ring_machine.specs.Effects.{ended}
 use Rattle.ring_machine.specs.Events.{IsSound}
 use Rattle.ring_machine.proofs.Whos.{same_who-true}
@@ -39,7 +40,7 @@ use Rattle.ring_refines.specs.Tables.{is_wronged, SoundTally}
 use Rattle.ring_refines.proofs.Places.{found_at}
 use Rattle.ring_refines.proofs.Changes.{stays_alone}
 use Rattle.ring_refines.proofs.Ranges.{Rises}
-use Rattle.ring_refines.proofs.Tallies.{granted_by, answered_by, tally_noted, granted_answered, RestsOn, verdict_rests}
+use Rattle.ring_refines.proofs.Tallies.{granted_by, heir_answered, answered_by, tally_noted, RestsOn, verdict_rests}
 use Rattle.ring_refines.proofs.Telling.{moved_and, over_and}
 use Rattle.ring_refines.proofs.Going.{Going}
 use Rattle.ring_refines.proofs.Leaving.{Went, on, left_went}
@@ -60,36 +61,40 @@ has_point (j ∷ js) h n =
     here true false d h k = absurd (cc (k))
     here false b d h k = absurd (cc (h))
 
+first_fails : (a b : Bool) → a || b ≡ false → a ≡ false
+first_fails true b e = absurd (cc (e))
+first_fails false b e = refl
+
 -- a slot of these states counts rulings
-data Against (s : LinkState) : Type 0 where
+pub data Against (s : LinkState) : Type 0 where
   accused : s ≡ state.Accused → Against s
   discharged : s ≡ state.Discharged → Against s
 
-tallies : (s : LinkState) → Against s → is_tallying (state_of s) ≡ true
+pub tallies : (s : LinkState) → Against s → is_tallying (state_of s) ≡ true
 tallies s (accused e) = ap (λ s. is_tallying (state_of s)) e
 tallies s (discharged e) = ap (λ s. is_tallying (state_of s)) e
 
-wrongs_by : (s : LinkState) → Against s → is_wronged (state_of s) ≡ true
+pub wrongs_by : (s : LinkState) → Against s → is_wronged (state_of s) ≡ true
 wrongs_by s (accused e) = ap (λ s. is_wronged (state_of s)) e
 wrongs_by s (discharged e) = ap (λ s. is_wronged (state_of s)) e
 
-not_bound : (s : LinkState) → Against s → s ≡ state.Bound → ⊥
+pub not_bound : (s : LinkState) → Against s → s ≡ state.Bound → ⊥
 not_bound s (accused e) h = cc (e, h)
 not_bound s (discharged e) h = cc (e, h)
 
 -- where a slot is not bare, there is something to take over
-claims : (l : Link) → Rises l.held → (is_empty l.held && not (has_flight l)) ≡ false → HasClaim (points_of l.held) (flight_of l.flight)
+pub claims : (l : Link) → Rises l.held → (is_empty l.held && not (has_flight l)) ≡ false → HasClaim (points_of l.held) (flight_of l.flight)
 claims l h bare = go l.flight refl bare
   where
     held : is_empty l.held ≡ false → HasClaim (points_of l.held) (flight_of l.flight)
     held e = let p = has_point l.held h e in of_record p.0 p.1
 
-    first_fails : (b : Bool) → b && true ≡ false → b ≡ false
-    first_fails true e = absurd (cc (e))
-    first_fails false e = refl
+    fails : (b : Bool) → b && true ≡ false → b ≡ false
+    fails true e = absurd (cc (e))
+    fails false e = refl
 
     go : (o : Option points.Flight) → l.flight ≡ o → (is_empty l.held && not (is_some o)) ≡ false → HasClaim (points_of l.held) (flight_of l.flight)
-    go None e b = held (first_fails (is_empty l.held) b)
+    go None e b = held (fails (is_empty l.held) b)
     go (Some f) e b = of_flight (record { number = f.number; part = points_of f.part }) (ap flight_of e)
 
 module _ {c : FabricConfig} {m : World} {x : Who} {now : ℕ} {w : Work} (sound : IsSound (machine_of c)) (node : ℕ) (g : Going c m x now w) where
@@ -110,15 +115,15 @@ module _ {c : FabricConfig} {m : World} {x : Who} {now : ℕ} {w : Work} (sound 
 
   -- it is Discharged then, or ends
   kept_going : (i : ℕ) (l : Link) → slot_at i w.ring.slots ≡ Some l → Against l.state → (t : Tally) → SoundTally c x l.peer g.after.sent t →
-      AnsweredBy (machine_of c) g.after.sent x l.peer → (q : Bool) → Going c m x now (kept_discharged i (record l { tally = t }) w q)
-  kept_going i l at s t t_sound answered true = dropped_going i l at (wrongs_by l.state s) (by s)
+      AnsweredBy (machine_of c) g.after.sent x l.peer → (r q : Bool) → is_bare l || r ≡ q → Going c m x now (kept_discharged i (record l { tally = t }) w q)
+  kept_going i l at s t t_sound answered r true e = dropped_going i l at (wrongs_by l.state s) (by s)
     where
       by : Against l.state → (is_decided (state_of l.state) ≡ true) ⊎ ((state_of l.state ≡ Accused) × AnsweredBy (machine_of c) g.after.sent x l.peer)
       by (accused e) = inr (ap state_of e, answered)
       by (discharged e) = inl (ap (λ s. is_decided (state_of s)) e)
-  kept_going i l at s t t_sound answered false =
-      puts sound g i l at MajorityAnswered (tallies l.state s, answered) (record l { tally = t; state = state.Discharged }) [] refl refl
-      (let o = g.shows.slots.sound i l at in record { held = o.held; part = o.part; length = λ p. absurd (cc (p)); tally = λ h. t_sound })
+  kept_going i l at s t t_sound answered r false e =
+      puts sound g i l at MajorityAnswered (tallies l.state s, answered, claims l (g.shows.slots.sound i l at).held (first_fails (is_bare l) r e)) (record l { tally = t; state = state.Discharged }) [] refl refl
+      (let o = g.shows.slots.sound i l at in record { held = o.held; part = o.part; length = λ p. absurd (cc (p)); tally = λ h. t_sound; rounds = λ h. o.rounds (tallies l.state s) })
       (stays_alone g.shows.slots i l (record l { tally = t; state = state.Discharged }) at refl (λ h. absurd (cc (h))) (λ h. absurd (cc (h))))
       (λ h. absurd (not_bound l.state s h)) (λ h. wronged sound g i l at (wrongs_by l.state s)) _ _ _ (nothing_besides sound g [])
 
@@ -127,9 +132,35 @@ module _ {c : FabricConfig} {m : World} {x : Who} {now : ℕ} {w : Work} (sound 
       Going c m x now (put_slot i (record l { tally = t }) w)
   open_going i l at s t t_sound =
       puts sound g i l at AccuseAgain (tallies l.state s) (record l { tally = t }) (Accuse x l.peer ∷ []) refl refl
-      (let o = g.shows.slots.sound i l at in record { held = o.held; part = o.part; length = o.length; tally = λ h. t_sound })
+      (let o = g.shows.slots.sound i l at in record { held = o.held; part = o.part; length = o.length; tally = λ h. t_sound; rounds = o.rounds })
       (stays_alone g.shows.slots i l (record l { tally = t }) at refl (λ h. h) (λ h. h)) (λ h. h) (λ h. wronged sound g i l at (wrongs_by l.state s)) _ _ _
       (nothing_besides sound g (Accuse x l.peer ∷ []))
+
+  -- a majority keeps it, by their grants or in a later round
+  pub becomes_going : (i : ℕ) (l : Link) → slot_at i w.ring.slots ≡ Some l → Against l.state → (t : Tally) (u : RoundTally) →
+      AnsweredBy (machine_of c) g.after.sent x l.peer → HeirBy (machine_of c) g.after.sent x l.peer →
+      HasClaim (points_of l.held) (flight_of l.flight) →
+      Going c m x now (becomes_heir (settings_of c node) now i (record l { tally = t; rounds = u }) w)
+  becomes_going i l at s t u answered keeps claim =
+      puts sound g i l at MajorityKept (tallies l.state s, answered, keeps, claim) k [] refl refl
+      (let o = g.shows.slots.sound i l at in record {
+        held = o.held;
+        part = o.part;
+        length = λ p. absurd (cc (p));
+        tally = λ h. absurd (cc (h));
+        rounds = λ h. absurd (cc (h));
+      })
+      (stays_alone g.shows.slots i l k at refl (λ h. absurd (cc (h))) (λ h. absurd (cc (h))))
+      (λ h. absurd (not_bound l.state s h)) (λ h. wronged sound g i l at (wrongs_by l.state s)) _ _
+      (w.told ++ report.Heir l.peer (ripe_at (settings_of c node) now l) ∷ []) (record {
+        stays = g.stays;
+        sends = λ h. h;
+        leads = λ n P h. moved_and x w.told n w.ring.token.next_flight P _ (report.Heir l.peer (ripe_at (settings_of c node) now l)) h tt tt;
+        over = λ h. over_and (machine_of c) g.after w.told (report.Heir l.peer (ripe_at (settings_of c node) now l)) h tt;
+      })
+    where
+      k : Link
+      k = record l { tally = t; rounds = u; state = state.Heir; ripe = ripe_at (settings_of c node) now l }
 
   -- a majority granted
   heir_going : (i : ℕ) (l : Link) → slot_at i w.ring.slots ≡ Some l → Against l.state → (t : Tally) → SoundTally c x l.peer g.after.sent t → is_heir t ≡ true →
@@ -137,7 +168,7 @@ module _ {c : FabricConfig} {m : World} {x : Who} {now : ℕ} {w : Work} (sound 
   heir_going i l at s t t_sound granted true bare = dropped_going_told
     where
       may : Against l.state → (is_decided (state_of l.state) ≡ true) ⊎ ((state_of l.state ≡ Accused) × AnsweredBy (machine_of c) g.after.sent x l.peer)
-      may (accused e) = inr (ap state_of e, granted_answered c (granted_by t t_sound granted))
+      may (accused e) = inr (ap state_of e, heir_answered t t_sound granted)
       may (discharged e) = inl (ap (λ s. is_decided (state_of s)) e)
 
       dropped_going_told : Going c m x now (made_heir (settings_of c node) now i (record l { tally = t }) w true)
@@ -150,19 +181,8 @@ module _ {c : FabricConfig} {m : World} {x : Who} {now : ℕ} {w : Work} (sound 
             over = λ h. over_and (machine_of c) g.after w.told (report.Discharged l.peer) h tt;
           })
   heir_going i l at s t t_sound granted false bare =
-      puts sound g i l at MajorityGranted (tallies l.state s, granted_by t t_sound granted, claims l (g.shows.slots.sound i l at).held bare) k [] refl refl
-      (let o = g.shows.slots.sound i l at in record { held = o.held; part = o.part; length = λ p. absurd (cc (p)); tally = λ h. absurd (cc (h)) })
-      (stays_alone g.shows.slots i l k at refl (λ h. absurd (cc (h))) (λ h. absurd (cc (h))))
-      (λ h. absurd (not_bound l.state s h)) (λ h. wronged sound g i l at (wrongs_by l.state s)) _ _
-      (w.told ++ report.Heir l.peer (ripe_at (settings_of c node) now (record l { tally = t })) ∷ []) (record {
-        stays = g.stays;
-        sends = λ h. h;
-        leads = λ n P h. moved_and x w.told n w.ring.token.next_flight P _ (report.Heir l.peer (ripe_at (settings_of c node) now (record l { tally = t }))) h tt tt;
-        over = λ h. over_and (machine_of c) g.after w.told (report.Heir l.peer (ripe_at (settings_of c node) now (record l { tally = t }))) h tt;
-      })
-    where
-      k : Link
-      k = record l { tally = t; state = state.Heir; ripe = ripe_at (settings_of c node) now (record l { tally = t }) }
+      becomes_going i l at s t l.rounds (heir_answered t t_sound granted) (granted_by t t_sound granted)
+      (claims l (g.shows.slots.sound i l at).held bare)
 
 module _ {c : FabricConfig} {m : World} {x : Who} {now : ℕ} {w : Work} (sound : IsSound (machine_of c)) (node : ℕ) (g : Going c m x now w) where
   -- the verdict on a slot
@@ -182,11 +202,13 @@ module _ {c : FabricConfig} {m : World} {x : Who} {now : ℕ} {w : Work} (sound 
       let told : Going c m x now (tell (report.Discharged l.peer) w) = tells sound g (report.Discharged l.peer) tt tt refl refl tt in
       let t_sound = noted_sound sound node told i l at (accused is) a ruling from to came in
       on (kept_going sound node told i l at (accused is) (noted l.tally a ruling) t_sound (answered_by (noted l.tally a ruling) t_sound rests)
-      (is_bare l || not (may_be_heir (noted l.tally a ruling))))
+      (not (may_succeed (settings_of c node) (record l { tally = noted l.tally a ruling })))
+      (is_bare l || not (may_succeed (settings_of c node) (record l { tally = noted l.tally a ruling }))) refl)
   judged_went i l at state.Discharged is s a ruling from to came verdict.Discharged rests =
       let t_sound = noted_sound sound node g i l at (discharged is) a ruling from to came in
       on (kept_going sound node g i l at (discharged is) (noted l.tally a ruling) t_sound (answered_by (noted l.tally a ruling) t_sound rests)
-      (is_bare l || not (may_be_heir (noted l.tally a ruling))))
+      (not (may_succeed (settings_of c node) (record l { tally = noted l.tally a ruling })))
+      (is_bare l || not (may_succeed (settings_of c node) (record l { tally = noted l.tally a ruling }))) refl)
   judged_went i l at state.Hello is s a ruling from to came verdict.Discharged rests = absurd (let h = tallies state.Hello s in cc (h))
   judged_went i l at state.Offered is s a ruling from to came verdict.Discharged rests = absurd (let h = tallies state.Offered s in cc (h))
   judged_went i l at state.Bound is s a ruling from to came verdict.Discharged rests = absurd (let h = tallies state.Bound s in cc (h))

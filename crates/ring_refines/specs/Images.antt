@@ -19,7 +19,7 @@ use Rattle.ring_machine.specs.Points.{Points}
 use Rattle.ring_machine.specs.Ends.{end_of}
 use Rattle.ring_machine.specs.Slots.{Slot, Flight, State, Asking, Offered, Bound, Parting, Accused, Discharged, Heir}
 use Rattle.ring_machine.specs.Tokens.{Token, Freeze}
-use Rattle.ring_machine.specs.Frames.{Frame, Hello, Offer, Take, Renew, RenewAck, Transfer, Gone, Accuse, Ruled}
+use Rattle.ring_machine.specs.Frames.{Frame, Hello, Offer, Take, Renew, RenewAck, Transfer, Gone, Accuse, Ruled, RoundClaim, Kept}
 use Rattle.ring_machine.specs.World.{Settings}
 
 abbrev pub machine_of : FabricConfig → Settings
@@ -83,6 +83,8 @@ frame_of lease from to (body.Transfer mine yours flight ranges) = Some (Transfer
 frame_of lease from to (body.Gone mine yours got bound) = Some (Gone (end_of from mine) (end_of to yours) got bound)
 frame_of lease from to (body.Accuse victim) = Some (Accuse from victim)
 frame_of lease from to (body.Ruled victim ruling) = Some (Ruled (from.actor - arbiter_actor 0) to victim ruling)
+frame_of lease from to (body.Claim victim round) = Some (RoundClaim from victim round)
+frame_of lease from to (body.Kept victim round claimer) = Some (Kept (from.actor - arbiter_actor 0) victim round claimer)
 frame_of lease from to _ = None
 
 -- the machine has sent it, if it knows it

@@ -30,6 +30,7 @@ pub record Beside (w : World) (x : Who) (v : World) : Type 0 where
   pub time : v.time ≡ w.time
   pub starts : v.starts ≡ w.starts
   pub first_accuser : v.first_accuser ≡ w.first_accuser
+  pub first_claimer : v.first_claimer ≡ w.first_claimer
   pub reading : (v.instance x).reading ≡ (w.instance x).reading
   pub pairs : (v.instance x).pairs ≡ (w.instance x).pairs
   pub others : (y : Who) → same_who x y ≡ false → v.instance y ≡ w.instance y

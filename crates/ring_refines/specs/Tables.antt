@@ -6,16 +6,18 @@ use Rattle.ring_points.specs.Ranges.{rises_from}
 use Rattle.fabric_terms.specs.declared.config.FabricConfig.{FabricConfig}
 use Rattle.arbiter_quorum.specs.Counted.{are_counted}
 use Rattle.arbiter_quorum.specs.Tallies.{Tally}
+use Rattle.heir_rounds.specs.Rounds.{RoundTally}
 use Rattle.ring_rules.specs.declared.link.Link.{Link}
 use Rattle.ring_rules.specs.declared.link.LinkState.{LinkState}
 use Rattle.ring_rules.specs.declared.link.LinkState.TheVariants as state
 use Rattle.ring_rules.specs.Links.{flight_part}
 use Rattle.ring_rules.specs.Rings.{Slots}
 use Rattle.ring_rules.specs.Slots.{slot_at, is_hello, bars_link}
+use Rattle.ring_machine.specs.Arbitration.{IsOpen}
 use Rattle.ring_machine.specs.Members.{IsMember}
 use Rattle.ring_machine.specs.Slots.{Slot, State, Unused, Accused, Discharged, Heir, Abandoned, Parted, Ended, is_tallying}
-use Rattle.ring_machine.specs.Frames.{Frame, Ruled}
-use Rattle.ring_refines.specs.Images.{state_of, slot_of}
+use Rattle.ring_machine.specs.Frames.{Frame, Ruled, Kept}
+use Rattle.ring_refines.specs.Images.{machine_of, state_of, slot_of}
 
 -- no slot of the table has the number any more, or not yet
 abbrev pub is_over : State → Bool
@@ -45,6 +47,14 @@ pub record SoundTally (c : FabricConfig) (x victim : Who) (sent : List Frame) (t
   pub counted : IsTrue (are_counted t.arbitrators t.answers)
   pub each : (a : ℕ) (ruling : Ruling) → IsMember (a, ruling) t.answers → IsMember (Ruled a x victim ruling) sent
 
+-- x's answers to the present round about the victim: each counts once, and was sent; the round may be claimed
+pub record SoundRounds (c : FabricConfig) (x victim : Who) (sent : List Frame) (t : RoundTally) : Type 0 where
+  pub me : t.me ≡ x
+  pub arbitrators : t.arbitrators ≡ length c.arbiters
+  pub counted : IsTrue (are_counted (length c.arbiters) t.answers)
+  pub each : (a : ℕ) (z : Who) → IsMember (a, z) t.answers → IsMember (Kept a victim t.round z) sent
+  pub is_open : IsOpen (machine_of c) sent victim t.round
+
 -- what holds of each link of x
 pub record SoundLink (c : FabricConfig) (x : Who) (sent : List Frame) (l : Link) : Type 0 where
   -- its points are lists of sets
@@ -53,6 +63,7 @@ pub record SoundLink (c : FabricConfig) (x : Who) (sent : List Frame) (l : Link)
   -- by frame version 1 it proposes the configured length
   pub length : is_proposing l.state ≡ true → l.wire == 2 ≡ false → l.len ≡ c.lease
   pub tally : is_tallying (state_of l.state) ≡ true → SoundTally c x l.peer sent l.tally
+  pub rounds : is_tallying (state_of l.state) ≡ true → SoundRounds c x l.peer sent l.rounds
 
 -- the table has a slot of this number
 pub record Has (slots : Slots) (number : ℕ) : Type 0 where

@@ -9,24 +9,25 @@ use Rattle.ring_points.specs.declared.interval.Interval.{Interval}
 use Rattle.ring_points.specs.declared.point.Point.{Point}
 use Rattle.ring_points.specs.declared.who.Ruling.{Ruling}
 use Rattle.ring_points.specs.declared.who.Who.{Who}
-use Rattle.ring_rules.specs.Arbiters.{Accusations, accusation_kept, accusation_ruled, first_accuser, first_kept, ruling_by}
+use Rattle.ring_rules.specs.Arbiters.{Accusations, Table, accusation_kept, accusation_ruled, claim_kept, claim_settled, claimer_kept, first_accuser, first_claimer, first_kept, kept_by, ruling_by}
+use Rattle.ring_rules.specs.Claims.{kept_received, kept_where}
 use Rattle.ring_rules.specs.Commands.{give_commanded, give_if, join_commanded, join_unless, link_commanded, part_commanded, part_seen}
 use Rattle.ring_rules.specs.Deeds.{answer_unknown, counted, in_found, in_session, refuse, tell, then_unless_left}
-use Rattle.ring_rules.specs.Firing.{accuse_if, discharged_due, discharged_fired, fired_at, freeze_given, give_frozen, peer_accused, place_sought, search_by, slot_fired, slots_fired, timer_fired}
+use Rattle.ring_rules.specs.Firing.{accuse_if, discharged_due, discharged_fired, fired_at, freeze_given, give_frozen, peer_accused, place_sought, rounds_time, search_by, slot_fired, slots_fired, timer_fired}
 use Rattle.ring_rules.specs.Flights.{gone_elsewhere, gone_received, gone_seen, transfer_received, transfer_seen}
 use Rattle.ring_rules.specs.Frames.{frame_received, frame_row}
 use Rattle.ring_rules.specs.Handshakes.{greet, hello_meets, hello_received, offer_received, offer_seen, take_received, take_seen}
 use Rattle.ring_rules.specs.Links.{greeting_link, offered_link}
 use Rattle.ring_rules.specs.Renewals.{ack_received, ack_seen, renew_received, renew_seen}
 use Rattle.ring_rules.specs.Rings.{Ring, Settings, Work, accused_limit, hop_limit, slot_count, ◌▷◌}
-use Rattle.ring_rules.specs.Rulings.{ruling_received, ruling_seen}
+use Rattle.ring_rules.specs.Rulings.{has_rounds, ruling_received, ruling_seen}
 use Rattle.ring_rules.specs.Seeks.{find_by, find_commanded, found_received, greet_holder, hop_from, seek_on, seek_received, seeks_own}
 use Rattle.ring_rules.specs.Slots.{greets_node_by, may_part, of_instance, of_node, slot_at, slot_where}
 use Rattle.ring_rules.specs.Starts.{begun, node_started, start_if}
 use Rattle.ring_rules.specs.Steps.{command_received, command_row, ring_step, step_if}
 use Rattle.ring_rules.specs.declared.input.Input.{Input}
 use Rattle.ring_rules.specs.declared.link.Link.{Link}
-use Rattle.std.specs.Prelude.{Bool, List, None, Some, length, nat_le, nat_lt, refl, suc, zero, ℕ, ◌+◌, ◌-◌, ◌≡◌}
+use Rattle.std.specs.Prelude.{Bool, List, None, Some, length, nat_le, nat_lt, refl, suc, zero, ℕ, ◌+◌, ◌-◌, ◌==◌, ◌≡◌}
 use Rattle.fabric_terms.specs.declared.report.Report.TheVariants as report
 use Rattle.fabric_terms.specs.declared.report.Verb.TheVariants as verb
 
@@ -34,7 +35,7 @@ pub peer_accused-is : (c : Settings) (i : ℕ) (l : Link) (w : Work) → peer_ac
 unfolding peer_accused
 peer_accused-is c i l w = refl
 
-pub discharged_fired-is : (c : Settings) (now : ℕ) (i : ℕ) (l : Link) (w : Work) → discharged_fired c now i l w ≡ discharged_due c i l w (nat_le (l.until + c.answer) now)
+pub discharged_fired-is : (c : Settings) (now : ℕ) (i : ℕ) (l : Link) (w : Work) → discharged_fired c now i l w ≡ discharged_due c i l w (nat_le (l.until + c.answer + rounds_time c l) now)
 unfolding discharged_fired
 discharged_fired-is c now i l w = refl
 
@@ -86,6 +87,10 @@ pub ruling_received-is : (c : Settings) (now : ℕ) (from : Who) (victim : Who) 
 unfolding ruling_received
 ruling_received-is c now from victim ruling w = refl
 
+pub kept_received-is : (c : Settings) (now : ℕ) (from : Who) (victim : Who) (round : ℕ) (claimer : Who) (w : Work) → kept_received c now from victim round claimer w ≡ kept_where c now (from.actor - arbiter_actor 0) victim round claimer w (has_rounds c)
+unfolding kept_received
+kept_received-is c now from victim round claimer w = refl
+
 pub link_commanded-is : (c : Settings) (now : ℕ) (node : ℕ) (wire : ℕ) (len : ℕ) (w : Work) → link_commanded c now node wire len w ≡ greet (greeting_link c now w.ring node wire len) (refuse verb.Link) w
 unfolding link_commanded
 link_commanded-is c now node wire len w = refl
@@ -121,6 +126,14 @@ accusation_ruled-is table accuser victim = refl
 pub accusation_kept-is : (table : Accusations) (accuser : Who) (victim : Who) → accusation_kept table accuser victim ≡ first_kept accuser victim (first_accuser accuser table) (first_accuser victim table)
 unfolding accusation_kept
 accusation_kept-is table accuser victim = refl
+
+pub claim_settled-is : (table : Table) (claimer : Who) (victim : Who) (round : ℕ) → claim_settled table claimer victim round ≡ kept_by claimer (first_accuser victim table.accusations) (first_claimer victim round table.claims) (round == 1)
+unfolding claim_settled
+claim_settled-is table claimer victim round = refl
+
+pub claim_kept-is : (table : Table) (claimer : Who) (victim : Who) (round : ℕ) → claim_kept table claimer victim round ≡ claimer_kept claimer victim round (first_accuser victim table.accusations) (first_claimer victim round table.claims) (round == 1)
+unfolding claim_kept
+claim_kept-is table claimer victim round = refl
 
 pub node_started-is : (c : FabricConfig) (me : Who) (spent : Bool) → node_started c me spent ≡ start_if c me spent
 unfolding node_started

@@ -1,5 +1,5 @@
 -- A firing of a node's timer: each slot in its order, then a freeze that is ready, then the search for a place or for near nodes.
-use Rattle.std.specs.Prelude.{ℕ, zero, suc, ◌+◌, Bool, true, false, ◌&&◌, List, [], ◌∷◌, ◌++◌, length, Option, Some, None, nat_le, nat_lt}
+use Rattle.std.specs.Prelude.{ℕ, zero, suc, ◌+◌, ◌-◌, ◌*◌, Bool, true, false, ◌&&◌, List, [], ◌∷◌, ◌++◌, length, Option, Some, None, nat_le, nat_lt}
 use Rattle.std.specs.List.{list_all}
 use Rattle.ring_points.specs.declared.interval.Interval.{Interval}
 use Rattle.ring_points.specs.declared.who.Flight.{Flight}
@@ -21,6 +21,7 @@ use Rattle.ring_rules.specs.Links.{accused_link, flight_part, hello_body, offer_
 use Rattle.ring_rules.specs.Deeds.{on_ring, put_slot, drop_slot, set_token, set_phase, send, tell, undo_freeze, leave, then_unless_left, counted, say_gone}
 use Rattle.ring_rules.specs.Handshakes.{greet_plainly}
 use Rattle.ring_rules.specs.Commands.{seek_place}
+use Rattle.ring_rules.specs.Claims.{claim_round}
 
 -- An arbitrator that has not answered is asked about the peer.
 abbrev pub ask_if : ℕ → Link → Work → Bool → Work
@@ -88,14 +89,18 @@ parting_fired c now i l w = leased c now i l (say_gone l) w
 abbrev pub accused_fired : Settings → Link → Work → Work
 accused_fired c l w = ask_arbiters c l w
 
--- A discharged slot too, until the peer's fence must be over.
+-- A discharged slot too, and it claims the present round, until each round had its time after the peer's fence.
+
+-- how long after the peer's fence a discharged slot is kept for later rounds
+abbrev pub rounds_time : Settings → Link → ℕ
+rounds_time c l = (c.rounds - 1) * (l.len + c.answer)
 
 abbrev pub discharged_due : Settings → ℕ → Link → Work → Bool → Work
 discharged_due c i l w true = drop_slot i w
-discharged_due c i l w false = ask_arbiters c l w
+discharged_due c i l w false = w ▷ ask_arbiters c l ▷ claim_round c l
 
 unfoldable pub discharged_fired : Settings → ℕ → ℕ → Link → Work → Work
-discharged_fired c now i l w = discharged_due c i l w (nat_le (l.until + c.answer) now)
+discharged_fired c now i l w = discharged_due c i l w (nat_le (l.until + c.answer + rounds_time c l) now)
 
 -- An heir that is ripe takes over what it does not own yet of its record and its flight, where that fits.
 

@@ -13,6 +13,7 @@ use Rattle.ring_rules.specs.Handshakes.{hello_received, offer_received, take_rec
 use Rattle.ring_rules.specs.Renewals.{renew_received, ack_received}
 use Rattle.ring_rules.specs.Flights.{transfer_received, gone_received}
 use Rattle.ring_rules.specs.Rulings.{ruling_received}
+use Rattle.ring_rules.specs.Claims.{kept_received}
 use Rattle.ring_rules.specs.Seeks.{seek_received, found_received}
 
 -- it is for this instance, or for whichever runs
@@ -83,6 +84,7 @@ frame_row c now from (body.Gone mine yours got bound) w = gone_received from min
 frame_row c now from (body.Seek origin key hops) w = seek_received origin key hops w
 frame_row c now from (body.Found key holder) w = found_received c now key holder w
 frame_row c now from (body.Ruled victim ruling) w = ruling_received c now from victim ruling w
+frame_row c now from (body.Kept victim round claimer) w = kept_received c now from victim round claimer w
 frame_row c now from _ w = w
 
 unfoldable pub frame_received : Settings → ℕ → Who → Body → Work → Work

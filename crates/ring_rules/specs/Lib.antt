@@ -6,6 +6,7 @@ pub mod Handshakes
 pub mod Renewals
 pub mod Flights
 pub mod Rulings
+pub mod Claims
 pub mod Commands
 pub mod Seeks
 pub mod Firing

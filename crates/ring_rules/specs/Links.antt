@@ -10,6 +10,7 @@ use Rattle.join_phases.specs.Phases.{is_linked}
 use Rattle.token_core.specs.Tokens.{announced}
 use Rattle.token_core.specs.Calls.{is_empty}
 use Rattle.arbiter_quorum.specs.Tallies.{no_answers}
+use Rattle.heir_rounds.specs.Rounds.{no_rounds}
 use Rattle.ring_rules.specs.declared.link.Link.{Link}
 use Rattle.ring_rules.specs.declared.link.LinkState.{LinkState}
 use Rattle.ring_rules.specs.declared.link.LinkState.TheVariants as state
@@ -31,6 +32,7 @@ new_link c now r peer theirs first wire len =
       got = 0;
       flight = None;
       tally = no_answers r.me peer c.arbitrators;
+      rounds = no_rounds r.me c.arbitrators c.rounds;
       len = len;
       wire = wire;
     }
@@ -78,7 +80,7 @@ parting_link l = record l { state = state.Parting; held = [] }
 
 -- it accuses the peer, and no arbitrator has answered
 abbrev pub accused_link : Settings → Who → Link → Link
-accused_link c me l = record l { state = state.Accused; tally = no_answers me l.peer c.arbitrators }
+accused_link c me l = record l { state = state.Accused; tally = no_answers me l.peer c.arbitrators; rounds = no_rounds me c.arbitrators c.rounds }
 
 abbrev pub has_flight : Link → Bool
 has_flight l = is_some l.flight

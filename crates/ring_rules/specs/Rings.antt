@@ -20,13 +20,14 @@ pub record Settings : Type 0 where
   pub bound : Bound
   pub near : ℕ
   pub arbitrators : ℕ
+  pub rounds : ℕ
 
 abbrev pub longest_of : ℕ → List NodeEntry → ℕ
 longest_of node nodes = option_map_or (λ e. e.longest) (find (λ e. e.node == node) nodes) 0
 
 abbrev pub settings_of : FabricConfig → ℕ → Settings
 settings_of c node =
-    record { lease = c.lease; longest = longest_of node c.nodes; answer = c.answer; bound = c.bound; near = c.near; arbitrators = length c.arbiters }
+    record { lease = c.lease; longest = longest_of node c.nodes; answer = c.answer; bound = c.bound; near = c.near; arbitrators = length c.arbiters; rounds = c.rounds }
 
 -- the point of each configured node
 abbrev pub points_of : List NodeEntry → List (ℕ × ℕ)

@@ -1,4 +1,5 @@
 use arbiter_quorum::Tally;
+use heir_rounds::RoundTally;
 use ring_points::{Flight, RangeSet, Who};
 
 /// How far a link has come, as one side knows it.
@@ -16,7 +17,8 @@ pub enum LinkState {
     Parting,
     /// This side has accused the peer, hears nothing of it any more, and waits for a majority of arbitrators.
     Accused,
-    /// A majority has freed this side of the peer, and another may be the peer's heir.
+    /// A majority has freed this side of the peer, and another may be the peer's heir, or this side by a later ruling or
+    /// round.
     Discharged,
     /// This side is the peer's heir, and takes over once the slot is ripe.
     Heir,
@@ -48,6 +50,8 @@ pub struct Link {
     pub flight: Option<Flight>,
     /// The arbitrators' answers on the peer.
     pub tally: Tally,
+    /// The arbitrators' answers to claims of the rounds about the peer.
+    pub rounds: RoundTally,
     /// The length of the lease.
     pub len: u64,
     /// The frame version by which the link was agreed: 1 with the configured length, 2 with a length of its own.

@@ -31,7 +31,7 @@ use Rattle.world_rules.proofs.Rows.{node_step-is}
 use Rattle.ring_safety.specs.Above.{KeepsOut, StaysAbove, is_ring_frame}
 use Rattle.ring_safety.proofs.Follows.{Follows, known_said, known_other, all_said, none_passes, places_in, next_of}
 use Rattle.ring_safety.proofs.Happens.{CameTo}
-use Rattle.ring_safety.proofs.Kept.{boots_still, no_boots, no_accusations}
+use Rattle.ring_safety.proofs.Kept.{boots_still, no_boots, no_entries}
 use Rattle.ring_safety.proofs.Moves.{moves, moved_quietly, over_quietly, others_move}
 use Rattle.ring_safety.proofs.NodeFollows.{Named, Follow, node_follows}
 use Rattle.ring_safety.proofs.Steps.{Acted, acted_told, acts_out, ring_stepped}
@@ -91,7 +91,8 @@ module _ (a : Upper) (c : FabricConfig) (w : World a) (t : Told) (m : machine.Wo
       others = r.beside.others;
       sent = r.beside.sent;
       tables = r.beside.first_accuser;
-      accuses = λ z. no_accusations z u.records out.records;
+      claims = r.beside.first_claimer;
+      accuses = λ z. no_entries z u.records out.records;
       says = λ z h.
           ⊎_elim (λ g. known_said c.lease r.after.sent x z.0 z.1 one (all_said c.lease r.after.sent x k.sent z r.sent g))
           (λ g. known_other c.lease r.after.sent x z.0 z.1 (none_passes (λ q. is_ring_frame q.1) u.sent z out.sends g))

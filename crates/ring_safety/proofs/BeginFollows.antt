@@ -23,7 +23,7 @@ use Rattle.ring_refines.specs.Images.{machine_of}
 use Rattle.ring_refines.proofs.Starting.{spent_is_left_lem, start_is_shown_lem}
 use Rattle.ring_refines.specs.Moves.{MovedBy}
 use Rattle.ring_refines.specs.Shown.{Shows}
-use Rattle.ring_rules.specs.Arbiters.{Accusations, accusations_after}
+use Rattle.ring_rules.specs.Arbiters.{Table, table_after}
 use Rattle.ring_rules.specs.Rings.{Work}
 use Rattle.ring_rules.specs.Slots.{fence_of}
 use Rattle.ring_rules.specs.Starts.{node_started, start_first}
@@ -57,10 +57,10 @@ spent_left : (c : FabricConfig) (me : Who) → is_left (node_started c me true).
 unfolding node_started
 spent_left c me = refl
 
-boot_accuses : (recs : List Record) (table : Accusations) → accusations_after table (boot_kept recs) ≡ table
+boot_accuses : (recs : List Record) (table : Table) → table_after table (boot_kept recs) ≡ table
 boot_accuses recs table = go (is_spent recs)
   where
-    go : (b : Bool) → accusations_after table (cond b [] (Boot (instance_begun recs) ∷ [])) ≡ table
+    go : (b : Bool) → table_after table (cond b [] (Boot (instance_begun recs) ∷ [])) ≡ table
     go true = refl
     go false = refl
 
@@ -147,6 +147,7 @@ module _ (a : Upper) (c : FabricConfig) (w : World a) (t : Told) (m : machine.Wo
     others = λ y apart. refl;
     sent = λ g e. e;
     tables = refl;
+    claims = refl;
     accuses = boot_accuses recs;
     says = λ s e. absurd e;
     moved = none_moves me d.told (next_of m me) (places_in c m) told_moves;
@@ -191,6 +192,7 @@ module _ (a : Upper) (c : FabricConfig) (w : World a) (t : Told) (m : machine.Wo
     others = λ y apart. ap (λ b. cond b first (m.instance y)) apart;
     sent = λ g e. e;
     tables = refl;
+    claims = refl;
     accuses = boot_accuses recs;
     says = λ s e. absurd e;
     moved =

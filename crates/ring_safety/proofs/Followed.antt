@@ -70,7 +70,7 @@ module _ (a : Upper) (stays : StaysAbove a) (is_frame : List ℕ → Bool) (c : 
     shows = λ node s there. absurd (cc (there));
     clock = λ node s there. absurd (cc (there));
     runs = λ x h. absurd (cc (h));
-    tables = λ arbiter victim. refl;
+    tables = record { accusers = λ arbiter victim. refl; claimers = λ arbiter victim round later. refl };
     frames = λ g k. absurd k;
     placed = λ p.
         cond_both (is_point p) (machine.At (first_instance c)) machine.Outside (λ o. With (first_instance c) ≡ place_of (first_instance c) o)

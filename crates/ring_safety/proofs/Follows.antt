@@ -1,6 +1,6 @@
 -- A world of the machine that follows the real one, and what of it stays while others act.
 use Rattle.std.proofs.Common.{◌≡◌, ℕ, ◌<◌, Bool, true, false, ◌||◌, List, [], ◌∷◌, Option, Some, None, refl, sym, ap, ◌∙◌, subst, ◌⊎◌, inl, inr, ⊎_elim}
-use Rattle.std.specs.Prelude.{length}
+use Rattle.std.specs.Prelude.{length, ◌==◌}
 use Rattle.std.specs.List.{list_any}
 use Rattle.std.proofs.lemmas.Bool.{both_ways}
 use Rattle.fabric_terms.specs.declared.config.FabricConfig.{FabricConfig}
@@ -25,7 +25,7 @@ use Rattle.ring_refines.specs.Moves.{places_of}
 use Rattle.ring_refines.specs.Refined.{Said, AllSaid}
 use Rattle.ring_refines.specs.Shown.{Shows, ShowsAs, ShowsInstance}
 use Rattle.ring_refines.proofs.Changes.{shows_later}
-use Rattle.ring_rules.specs.Arbiters.{first_accuser}
+use Rattle.ring_rules.specs.Arbiters.{Table, first_accuser, first_claimer}
 use Rattle.ring_rules.specs.Rings.{Ring}
 use Rattle.world_rules.specs.Maps.{at}
 use Rattle.world_rules.specs.Nodes.{boots_of}
@@ -73,6 +73,12 @@ pub record Known (lease : ℕ) (sent : List Frame) (f : Message) : Type 0 where
   pub posted : Posted lease sent f.from f.to f.body
   pub by_instance : is_accusation f.body ≡ true → f.from.instance ≡ 0 → ⊥
 
+-- the machine's tables of arbitrators are these; of the first round no claimer is kept
+pub record ShowsTables (accuser : ℕ → Who → Option Who) (claimer : ℕ → Who → ℕ → Option Who) (table : ℕ → Table) : Type 0 where
+  pub accusers : (arbiter : ℕ) (victim : Who) → accuser arbiter victim ≡ first_accuser victim (table arbiter).accusations
+  pub claimers : (arbiter : ℕ) (victim : Who) (round : ℕ) → (round == 1) ≡ false →
+      claimer arbiter victim round ≡ first_claimer victim round (table arbiter).claims
+
 -- m follows the world w in which this was told
 pub record Follows {a : Upper} (c : FabricConfig) (w : World a) (t : Told) (m : machine.World) : Type 0 where
   pub inv : Invariant (machine_of c) m
@@ -82,7 +88,7 @@ pub record Follows {a : Upper} (c : FabricConfig) (w : World a) (t : Told) (m : 
   pub clock : (node : ℕ) (s : real.Running a) → at node w.nodes ≡ Some s → is_left s.node.ring.phase ≡ false →
       ShowsClock (m.instance s.node.ring.me) s.reading s.pairs
   pub runs : (x : Who) → (m.instance x).phase ≡ Running → Runs w x
-  pub tables : (arbiter : ℕ) (victim : Who) → m.first_accuser arbiter victim ≡ first_accuser victim (table_of w (arbiter_actor arbiter))
+  pub tables : ShowsTables m.first_accuser m.first_claimer (λ arbiter. table_of w (arbiter_actor arbiter))
   pub frames : (f : Message) → IsMember f w.frames → Known c.lease m.sent f
   -- what was told
   pub placed : (p : ℕ) → place_of (first_instance c) t p ≡ places_in c m p
@@ -166,6 +172,8 @@ known_other lease sent from to b h = record { posted = go b h; by_instance = λ 
     go (body.Gone mine yours got bound) e = absurd (cc (e))
     go (body.Accuse victim) e = absurd (cc (e))
     go (body.Ruled victim ruling) e = absurd (cc (e))
+    go (body.Claim victim round) e = absurd (cc (e))
+    go (body.Kept victim round claimer) e = absurd (cc (e))
     go b e = record { image = tt; rises = refl; to_one = λ i. absurd (cc (i)) }
 
     ring : (b : Body) → is_accusation b ≡ true → is_ring_frame b ≡ true

@@ -8,7 +8,7 @@ use Rattle.fabric_terms.specs.declared.message.Body.{Body}
 use Rattle.fabric_terms.specs.declared.record.Record.{Record}
 use Rattle.fabric_terms.specs.declared.record.Record.TheVariants as kept
 use Rattle.ring_points.specs.declared.who.Who.{Who}
-use Rattle.ring_rules.specs.Arbiters.{Accusations, accusations_after, accused_after}
+use Rattle.ring_rules.specs.Arbiters.{Table, table_after, table_with}
 use Rattle.world_rules.specs.Maps.{at, put, without}
 use Rattle.world_rules.specs.Nodes.{is_boot, boots_of}
 use Rattle.world_rules.specs.Uppers.{Upper}
@@ -103,17 +103,18 @@ no_boots (r ∷ rs) h =
     go true e f = absurd (cc (e))
     go false e f = omega arith
 
-no_accusation : (table : Accusations) (r : Record) → is_ring_record r ≡ false → accused_after table r ≡ table
-no_accusation table (kept.AccusedBy victim first) h = absurd (cc (h))
-no_accusation table r h = refl
+no_entry : (table : Table) (r : Record) → is_ring_record r ≡ false → table_with table r ≡ table
+no_entry table (kept.AccusedBy victim first) h = absurd (cc (h))
+no_entry table (kept.ClaimedBy victim round claimer) h = absurd (cc (h))
+no_entry table r h = refl
 
-pub no_accusations : (table : Accusations) (rs : List Record) → list_any is_ring_record rs ≡ false → accusations_after table rs ≡ table
-no_accusations table [] h = refl
-no_accusations table (r ∷ rs) h =
+pub no_entries : (table : Table) (rs : List Record) → list_any is_ring_record rs ≡ false → table_after table rs ≡ table
+no_entries table [] h = refl
+no_entries table (r ∷ rs) h =
     let parts = not_ring r rs h in
-    ap (λ t. accusations_after t rs) (no_accusation table r parts.0) ∙ no_accusations table rs parts.1
+    ap (λ t. table_after t rs) (no_entry table r parts.0) ∙ no_entries table rs parts.1
 
-pub accusations_append : (table : Accusations) (rs more : List Record) →
-    accusations_after table (rs ++ more) ≡ accusations_after (accusations_after table rs) more
-accusations_append table [] more = refl
-accusations_append table (r ∷ rs) more = accusations_append (accused_after table r) rs more
+pub table_append : (table : Table) (rs more : List Record) →
+    table_after table (rs ++ more) ≡ table_after (table_after table rs) more
+table_append table [] more = refl
+table_append table (r ∷ rs) more = table_append (table_with table r) rs more

@@ -16,6 +16,9 @@ pub mod ActFollows
 pub mod BeginFollows
 pub mod StopFollows
 pub mod TickFollows
+pub mod Rules
+pub mod AccuseFollows
+pub mod ClaimFollows
 pub mod RuleFollows
 pub mod Followed
 pub mod Clocks

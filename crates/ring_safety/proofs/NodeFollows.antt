@@ -21,7 +21,7 @@ use Rattle.ring_machine.proofs.Whos.{test, same_who-true, same_who-false, same_w
 use Rattle.ring_refines.specs.Images.{machine_of}
 use Rattle.ring_refines.specs.Moves.{MovedBy, AreOver}
 use Rattle.ring_refines.specs.Shown.{Shows, ShowsAs}
-use Rattle.ring_rules.specs.Arbiters.{Accusations, accusations_after, first_accuser}
+use Rattle.ring_rules.specs.Arbiters.{Table, table_after, first_accuser, first_claimer}
 use Rattle.ring_rules.specs.Rings.{Ring}
 use Rattle.world_rules.specs.Maps.{at, put}
 use Rattle.world_rules.specs.Nodes.{NodeState, boots_of}
@@ -60,7 +60,8 @@ pub record Follow {a : Upper} (c : FabricConfig) (w : World a) (t : Told) (m v :
   pub others : (y : Who) → same_who x y ≡ false → v.instance y ≡ m.instance y
   pub sent : (f : Frame) → IsMember f m.sent → IsMember f v.sent
   pub tables : v.first_accuser ≡ m.first_accuser
-  pub accuses : (z : Accusations) → accusations_after z d.records ≡ z
+  pub claims : v.first_claimer ≡ m.first_claimer
+  pub accuses : (z : Table) → table_after z d.records ≡ z
   pub says : (s : Who × Body) → IsMember s d.sent → Known c.lease v.sent (record { from = x; to = s.0; body = s.1 })
   pub moved : MovedBy x d.told (next_of m x) (places_in c m) (next_of v x) (places_in c v)
   pub dies : (y : Who) → Dead (machine_of c) (m.instance y) → Dead (machine_of c) (v.instance y)
@@ -151,10 +152,16 @@ module _ {a : Upper} (c : FabricConfig) (w : World a) (t : Told) (m v : machine.
         clock_still (m.instance y) (v.instance y) s.reading s.pairs (e.others y (other q s apart there)) (f.clock q s there stay));
     runs = λ y. test (same_who x y)
         (λ h. subst (λ y. (v.instance y).phase ≡ Running → Runs after y) (same_who-true x y h) it_runs) (λ h. other_runs y h);
-    tables = λ arbiter victim.
-        (λ i. e.tables i arbiter victim)
-        ∙ (f.tables arbiter victim
-        ∙ ap (first_accuser victim) (sym (table_stays w d.state.ring.me d.records d.sent e.accuses (arbiter_actor arbiter))));
+    tables = record {
+      accusers = λ arbiter victim.
+          (λ i. e.tables i arbiter victim)
+          ∙ (f.tables.accusers arbiter victim
+          ∙ ap (λ (z : Table). first_accuser victim z.accusations) (sym (table_stays w d.state.ring.me d.records d.sent e.accuses (arbiter_actor arbiter))));
+      claimers = λ arbiter victim round later.
+          (λ i. e.claims i arbiter victim round)
+          ∙ (f.tables.claimers arbiter victim round later
+          ∙ ap (λ (z : Table). first_claimer victim round z.claims) (sym (table_stays w d.state.ring.me d.records d.sent e.accuses (arbiter_actor arbiter))));
+    };
     frames = known_frames;
     placed = subst (λ y. (p : ℕ) → place_of (first_instance c) (told_on y d.told t) p ≡ places_in c v p) (sym e.name) so_far.placed;
     moved = subst (λ y. AllMoved (first_instance c) (told_on y d.told t)) (sym e.name) so_far.moved;

@@ -29,7 +29,7 @@ use Rattle.ring_rules.specs.Seeks as k
 use Rattle.ring_rules.specs.Firing as g
 use Rattle.ring_rules.specs.Steps as s
 use Rattle.ring_safety.proofs.Said.{Says, says_tell, says_refuse, says_holding, says_leave, says_counted, says_then}
-use Rattle.ring_safety.proofs.SessionRows.{greet_says}
+use Rattle.ring_safety.proofs.SessionRows.{greet_says, claims_say}
 
 -- what an heir does not own yet
 abbrev added_by : Work → Link → List Interval
@@ -172,7 +172,7 @@ module _ (m0 : Who) where
     where
       due : (t : Bool) → Fine (g.discharged_due set i l w t)
       due true = a
-      due false = ask_says set.arbitrators l w a
+      due false = claims_say m0 set l (g.ask_arbiters set l w) (ask_says set.arbitrators l w a)
 
   pub fired_says : (set : Settings) (now i : ℕ) (w : Work) → Fine w → Fine (g.slot_fired set now i w)
   unfolding g.slot_fired

@@ -13,7 +13,7 @@ use Rattle.ring_rules.specs.Frames as m
 use Rattle.ring_rules.specs.Steps as s
 use Rattle.ring_rules.specs.Starts.{begun}
 use Rattle.ring_safety.proofs.Said.{Says, says_leave, says_counted}
-use Rattle.ring_safety.proofs.SessionRows.{hello_says, offer_says, take_says, renew_says, ack_says, transfer_says, gone_says, ruling_says}
+use Rattle.ring_safety.proofs.SessionRows.{hello_says, offer_says, take_says, renew_says, ack_says, transfer_says, gone_says, ruling_says, kept_says}
 use Rattle.ring_safety.proofs.NodeRows.{seek_says, found_received_says, command_says, timer_says}
 
 module _ (m0 : Who) where
@@ -39,6 +39,7 @@ module _ (m0 : Who) where
       row (body.Seek origin key hops) = seek_says m0 origin key hops w a
       row (body.Found key holder) = found_received_says m0 set now key holder w a
       row (body.Ruled victim ruling) = ruling_says m0 set now from victim ruling w a
+      row (body.Kept victim round claimer) = kept_says m0 set now from victim round claimer w a
       row b = a
 
   pub heard_says : (now : ℕ) (from : Who) (w : Work) → Fine w → Fine (m.sender_heard now from w)

@@ -3,6 +3,7 @@ use Rattle.std.proofs.Common.{◌≡◌, ℕ, zero, suc, ◌+◌, ◌-◌, ◌^�
 use Rattle.std.specs.Prelude.{drop}
 use Rattle.std.proofs.lemmas.Bool.{lt-ltb}
 use Rattle.fabric_terms.specs.declared.config.FabricConfig.{FabricConfig}
+use Rattle.fabric_terms.specs.declared.message.Body.TheVariants as body
 use Rattle.fabric_terms.specs.declared.report.Report.{Report}
 use Rattle.fabric_terms.specs.Places.{With, IsLive, PlaceKept, TakesFrom, gave_number, has_left, place_of}
 use Rattle.fabric_terms.specs.Reports.{Told, told}
@@ -15,8 +16,8 @@ use Rattle.ring_points.specs.declared.who.Ruling.TheVariants.{Granted, Taken}
 use Rattle.ring_points.specs.declared.who.Who.{Who}
 use Rattle.ring_points.specs.Ranges.{in_ranges}
 use Rattle.ring_points.specs.Whos.{node_instance}
-use Rattle.ring_machine.specs.Arbitration.{GrantedBy, AnsweredBy}
-use Rattle.ring_machine.specs.Frames.{Ruled}
+use Rattle.ring_machine.specs.Arbitration.{HeirBy, AnsweredBy, Tells, by_kept, by_grant}
+use Rattle.ring_machine.specs.Frames.{Ruled, Kept}
 use Rattle.ring_machine.specs.Members.{IsMember}
 use Rattle.ring_machine.specs.Points.{is_point}
 use Rattle.ring_machine.specs.World as machine
@@ -28,9 +29,10 @@ use Rattle.ring_refines.specs.Moves as moves
 use Rattle.world_rules.specs.Runs.{History, world_after, run_of}
 use Rattle.world_rules.specs.Schedules.{Valid}
 use Rattle.world_rules.specs.Uppers.{Upper}
-use Rattle.world_rules.specs.Worlds.{World}
+use Rattle.world_rules.specs.Worlds.{World, arbiter_who}
 use Rattle.ring_safety.specs.Above.{StaysAbove}
-use Rattle.ring_safety.specs.Answers.{MajorityGranted, MajorityAnswered, answer_of}
+use Rattle.ring_safety.specs.Answers as answers
+use Rattle.ring_safety.specs.Answers.{MajorityKept, MajorityAnswered, answer_of}
 use Rattle.ring_safety.specs.Laws.{RingIsSafe, LeavesBeforeTakeOver, PlacesAreKept, AnswersExclude, OneHeir}
 use Rattle.ring_safety.proofs.ActFollows.{Followed}
 use Rattle.ring_safety.proofs.Followed.{followed}
@@ -175,9 +177,21 @@ module _ (a : Upper) (stays : StaysAbove a) (is_frame : List ℕ → Bool) (c : 
     most = k.most;
   }
 
-  granted : {w : World a} {t : Told} (m : machine.World) → Follows c w t m → (x y : Who) → MajorityGranted c w.frames x y →
-      GrantedBy (machine_of c) m.sent x y
-  granted m f x y k = record { by = k.by; answers = λ arbiter h. answer_sent m f arbiter x y Granted (k.answers arbiter h); most = k.most }
+  told_of : {w : World a} {t : Told} (m : machine.World) → Follows c w t m → (arbiter : ℕ) (y : Who) (round : ℕ) (x : Who) →
+      answers.Tells w.frames arbiter y round x → Tells m.sent arbiter y round x
+  told_of m f arbiter y round x (answers.by_kept to k) =
+      by_kept (subst (λ n. IsMember (Kept n y round x) m.sent) number (f.frames (record { from = arbiter_who arbiter; to = to; body = body.Kept y round x }) k).posted.image)
+    where
+      number : (32768 + arbiter) - 32768 ≡ arbiter
+      number = omega arith
+  told_of m f arbiter y round x (answers.by_grant one k) = by_grant one (answer_sent m f arbiter x y Granted k)
+
+  heir_by : {w : World a} {t : Told} (m : machine.World) → Follows c w t m → (x y : Who) → MajorityKept c w.frames x y →
+      HeirBy (machine_of c) m.sent x y
+  heir_by m f x y k = record {
+    round = k.round;
+    kept = record { by = k.by; tells = λ arbiter h. told_of m f arbiter y k.round x (k.tells arbiter h); most = k.most };
+  }
 
   pub exclude : (h : History) → Valid a is_frame c h → (x y : Who) → MajorityAnswered c (world_after a c h).frames x y →
       MajorityAnswered c (world_after a c h).frames y x → ⊥
@@ -185,11 +199,11 @@ module _ (a : Upper) (stays : StaysAbove a) (is_frame : List ℕ → Bool) (c : 
       let m = after h valid in
       no_crossing m.follows.inv x y (answered m.world m.follows x y k) (answered m.world m.follows y x l)
 
-  pub unique : (h : History) → Valid a is_frame c h → (x y victim : Who) → MajorityGranted c (world_after a c h).frames x victim →
-      MajorityGranted c (world_after a c h).frames y victim → x ≡ y
+  pub unique : (h : History) → Valid a is_frame c h → (x y victim : Who) → MajorityKept c (world_after a c h).frames x victim →
+      MajorityKept c (world_after a c h).frames y victim → x ≡ y
   unique h valid x y victim k l =
       let m = after h valid in
-      one_heir m.follows.inv x y victim (granted m.world m.follows x victim k) (granted m.world m.follows y victim l)
+      one_heir m.follows.inv x y victim (heir_by m.world m.follows x victim k) (heir_by m.world m.follows y victim l)
 
 module _ (a : Upper) (stays : StaysAbove a) where
   pub ring_is_safe_lem : RingIsSafe a

@@ -1,5 +1,5 @@
 -- What the rows of a session, and of a ruling about one, say of their node.
-use Rattle.std.proofs.Common.{ℕ, ◌-◌, Bool, true, false, not, ◌&&◌, ◌||◌, List, Option, Some, None, refl}
+use Rattle.std.proofs.Common.{ℕ, zero, suc, ◌-◌, Bool, true, false, not, ◌&&◌, ◌||◌, List, Option, Some, None, refl}
 use Rattle.std.specs.Prelude.{◌==◌, nat_le, nat_lt}
 use Rattle.ring_points.specs.declared.interval.Interval.{Interval}
 use Rattle.ring_points.specs.declared.who.Flight.{Flight}
@@ -12,7 +12,7 @@ use Rattle.fabric_terms.specs.declared.report.Reason.{Reason}
 use Rattle.fabric_terms.specs.declared.report.Reason.TheVariants as reason
 use Rattle.fabric_terms.specs.declared.report.Report.TheVariants as report
 use Rattle.fabric_terms.specs.declared.report.Why.TheVariants.{Lost}
-use Rattle.arbiter_quorum.specs.Tallies.{noted, verdict_of, may_be_heir}
+use Rattle.arbiter_quorum.specs.Tallies.{noted, verdict_of}
 use Rattle.arbiter_quorum.specs.declared.verdict.Verdict.{Verdict}
 use Rattle.arbiter_quorum.specs.declared.verdict.Verdict.TheVariants as verdict
 use Rattle.token_core.specs.Tokens.{gained, can_gain}
@@ -27,6 +27,10 @@ use Rattle.ring_rules.specs.Handshakes as h
 use Rattle.ring_rules.specs.Renewals as n
 use Rattle.ring_rules.specs.Flights as f
 use Rattle.ring_rules.specs.Rulings as r
+use Rattle.ring_rules.specs.Claims as q
+use Rattle.heir_rounds.specs.Rounds.{round_noted, round_verdict}
+use Rattle.heir_rounds.specs.declared.verdict.RoundVerdict.{RoundVerdict}
+use Rattle.heir_rounds.specs.declared.verdict.RoundVerdict.TheVariants as rounds
 use Rattle.ring_safety.proofs.Said.{Says, says_tell, says_bound, says_holding, says_leave}
 
 -- the link with the ruling noted
@@ -240,7 +244,7 @@ module _ (m0 : Who) where
 
       judges : (i : ℕ) (l : Link) (before : LinkState) (v : Verdict) → Fine (r.judged set now i l before v w)
       judges i l before verdict.Heir = heir i l (is_bare l)
-      judges i l before verdict.Discharged = keeps i l (r.tell_discharge before l w) (is_bare l || not (may_be_heir l.tally)) (tells before l)
+      judges i l before verdict.Discharged = keeps i l (r.tell_discharge before l w) (is_bare l || not (r.may_succeed set l)) (tells before l)
       judges i l before verdict.Lost = says_leave m0 Lost w a
       judges i l before verdict.Open = a
 
@@ -248,3 +252,43 @@ module _ (m0 : Who) where
       inside i l state.Accused = judges i (noting from ruling l) state.Accused (verdict_of (noting from ruling l).tally)
       inside i l state.Discharged = judges i (noting from ruling l) state.Discharged (verdict_of (noting from ruling l).tally)
       inside i l st = a
+
+  -- claims of rounds
+
+  pub claims_say : (set : Settings) (l : Link) (w : Work) → Fine w → Fine (q.claim_round set l w)
+  claims_say set l w a = where_rounds (r.has_rounds set)
+    where
+      one : (n : ℕ) (v : Work) (t : Bool) → Fine v → Fine (q.claim_if n l v t)
+      one n v true b = b
+      one n v false b = b
+
+      first : (k : ℕ) → Fine (q.claim_first k l w)
+      first zero = a
+      first (suc k) = one (suc k) (q.claim_first k l w) (q.owes_round (suc k) l) (first k)
+
+      where_rounds : (t : Bool) → Fine (q.claim_where set l w t)
+      where_rounds true = first set.arbitrators
+      where_rounds false = a
+
+  pub kept_says : (set : Settings) (now : ℕ) (from victim : Who) (round : ℕ) (claimer : Who) (w : Work) → Fine w →
+      Fine (q.kept_received set now from victim round claimer w)
+  unfolding q.kept_received
+  kept_says set now from victim round claimer w a = where_rounds (r.has_rounds set)
+    where
+      judges : (i : ℕ) (l : Link) (v : RoundVerdict) → Fine (q.round_judged set now i l v w)
+      judges i l rounds.Won =
+          says_tell m0 (report.Heir l.peer (r.ripe_at set now l)) (d.put_slot i (record l { state = state.Heir; ripe = r.ripe_at set now l }) w) refl refl a
+      judges i l (rounds.Next n) = claims_say set l (d.put_slot i l w) a
+      judges i l rounds.Over = a
+      judges i l rounds.Open = a
+
+      inside : (i : ℕ) (l : Link) (st : LinkState) → Fine (q.kept_seen set now (from.actor - arbiter_actor 0) round claimer i l st w)
+      inside i l state.Discharged =
+          judges i (record l { rounds = round_noted l.rounds round (from.actor - arbiter_actor 0) claimer })
+          (round_verdict l.rounds round (from.actor - arbiter_actor 0) claimer)
+      inside i l st = a
+
+      where_rounds : (t : Bool) → Fine (q.kept_where set now (from.actor - arbiter_actor 0) victim round claimer w t)
+      where_rounds true =
+          found_says (q.kept_seen set now (from.actor - arbiter_actor 0) round claimer) (λ v. v) (slot_where (of_instance victim) w.ring.slots) w inside a a
+      where_rounds false = a

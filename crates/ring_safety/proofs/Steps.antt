@@ -15,7 +15,7 @@ use Rattle.fabric_terms.specs.Runs.{Owned, owned_after, last_own}
 use Rattle.join_phases.specs.Phases.{is_left}
 use Rattle.ring_points.specs.declared.interval.Interval.{Interval}
 use Rattle.ring_points.specs.declared.who.Who.{Who}
-use Rattle.ring_rules.specs.Arbiters.{Accusations, accusations_after}
+use Rattle.ring_rules.specs.Arbiters.{Table, table_after}
 use Rattle.ring_rules.specs.declared.input.Input.{Input}
 use Rattle.ring_rules.specs.Owns.{own_after, own_unless, is_same_own, same_ranges, same_fence}
 use Rattle.ring_rules.specs.Rings.{Ring, Settings, Work, settings_of}
@@ -254,11 +254,11 @@ begun_positive records = go (is_spent records) refl
     go true h = let le = leb-true last_number (boots_of records) h in omega arith
     go false h = omega arith
 
-pub begun_accuses : (a : Upper) (c : FabricConfig) (node : ℕ) (records : List Record) (table : Accusations) →
-    accusations_after table (node_begun a c node records).records ≡ table
+pub begun_accuses : (a : Upper) (c : FabricConfig) (node : ℕ) (records : List Record) (table : Table) →
+    table_after table (node_begun a c node records).records ≡ table
 unfolding node_begun
 begun_accuses a c node records table = go (is_spent records)
   where
-    go : (b : Bool) → accusations_after table (cond b [] (Boot (instance_begun records) ∷ [])) ≡ table
+    go : (b : Bool) → table_after table (cond b [] (Boot (instance_begun records) ∷ [])) ≡ table
     go true = refl
     go false = refl

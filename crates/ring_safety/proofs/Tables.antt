@@ -8,7 +8,7 @@ use Rattle.fabric_terms.specs.declared.message.Body.{Body}
 use Rattle.fabric_terms.specs.declared.record.Record.{Record}
 use Rattle.ring_points.specs.Whos.{arbiter_actor}
 use Rattle.ring_points.specs.declared.who.Who.{Who}
-use Rattle.ring_rules.specs.Arbiters.{Accusations, accusations_after}
+use Rattle.ring_rules.specs.Arbiters.{Table, no_table, table_after}
 use Rattle.drift_clock.specs.Within.{Pair}
 use Rattle.world_rules.specs.Arbiters.{ArbiterState, arbiter_begun, arbiter_step}
 use Rattle.world_rules.specs.Events.{arbiter_number}
@@ -23,24 +23,24 @@ use Rattle.ring_safety.specs.Above.{StaysAbove}
 use Rattle.ring_safety.specs.Laws.{TableIsKept}
 use Rattle.ring_safety.proofs.ArbiterSteps.{Answered, arbiter_stepped}
 use Rattle.ring_safety.proofs.Happens.{Cases, by_cases}
-use Rattle.ring_safety.proofs.Kept.{put_cases, without_cases, kept_here, kept_there, no_accusations, accusations_append}
+use Rattle.ring_safety.proofs.Kept.{put_cases, without_cases, kept_here, kept_there, no_entries, table_append}
 use Rattle.ring_safety.proofs.Steps.{node_acted-told, begun_accuses}
 
 -- the table of an actor's records
-abbrev pub table_of : {a : Upper} → World a → ℕ → Accusations
-table_of w actor = accusations_after [] (kept_of w actor)
+abbrev pub table_of : {a : Upper} → World a → ℕ → Table
+table_of w actor = table_after no_table (kept_of w actor)
 
 -- records without an accusation leave the table of an actor
 pub table_stays : {a : Upper} (w : World a) (who : Who) (records : List Record) (sent : List (Who × Body)) →
-    ((t : Accusations) → accusations_after t records ≡ t) → (q : ℕ) → table_of (with_outcome w who records sent) q ≡ table_of w q
+    ((t : Table) → table_after t records ≡ t) → (q : ℕ) → table_of (with_outcome w who records sent) q ≡ table_of w q
 table_stays w who records sent none q = go (who.actor == q) refl
   where
     go : (b : Bool) → (who.actor == q) ≡ b → table_of (with_outcome w who records sent) q ≡ table_of w q
     go true h =
         subst (λ q. table_of (with_outcome w who records sent) q ≡ table_of w q) (eqb-true who.actor q h)
-        (ap (accusations_after []) (kept_here w who records sent)
-        ∙ (accusations_append [] (kept_of w who.actor) records ∙ none (table_of w who.actor)))
-    go false h = ap (accusations_after []) (kept_there w who records sent q h)
+        (ap (table_after no_table) (kept_here w who records sent)
+        ∙ (table_append no_table (kept_of w who.actor) records ∙ none (table_of w who.actor)))
+    go false h = ap (table_after no_table) (kept_there w who records sent q h)
 
 -- the table of a running arbitrator
 abbrev pub Tabled : {a : Upper} → World a → Type 0
@@ -64,7 +64,7 @@ actor_of_number c w actor h =
     let same : 32768 + (actor - 32768) ≡ actor = omega arith in same
 
 module _ (a : Upper) (stays : StaysAbove a) (c : FabricConfig) (w : World a) (t : Tabled w) where
-  node_tabled : (node reading : ℕ) (pairs : List Pair) (d : Did (NodeState a)) → ((z : Accusations) → accusations_after z d.records ≡ z) →
+  node_tabled : (node reading : ℕ) (pairs : List Pair) (d : Did (NodeState a)) → ((z : Table) → table_after z d.records ≡ z) →
       Tabled (node_acted a w node reading pairs d).world
   node_tabled node reading pairs d none arbiter s h = t arbiter s h ∙ sym (table_stays w d.state.ring.me d.records d.sent none (arbiter_actor arbiter))
 
@@ -73,13 +73,13 @@ module _ (a : Upper) (stays : StaysAbove a) (c : FabricConfig) (w : World a) (t 
   rules_tabled arbiter old d there n q s h =
       put_cases (λ (z : ArbiterState a). z.table ≡ table_of (arbiter_acted a w arbiter d).world (arbiter_actor q)) arbiter d.state w.arbiters q s h
       (λ same. subst (λ q. d.state.table ≡ table_of (arbiter_acted a w arbiter d).world (arbiter_actor q)) same here)
-      (λ apart g. t q s g ∙ sym (ap (accusations_after []) (kept_there w (arbiter_who arbiter) d.records d.sent (arbiter_actor q) (two_arbiters arbiter q apart))))
+      (λ apart g. t q s g ∙ sym (ap (table_after no_table) (kept_there w (arbiter_who arbiter) d.records d.sent (arbiter_actor q) (two_arbiters arbiter q apart))))
     where
       here : d.state.table ≡ table_of (arbiter_acted a w arbiter d).world (arbiter_actor arbiter)
       here =
           n.table
-          ∙ (ap (λ z. accusations_after z d.records) (t arbiter old there)
-          ∙ sym (ap (accusations_after []) (kept_here w (arbiter_who arbiter) d.records d.sent) ∙ accusations_append [] (kept_of w (arbiter_actor arbiter)) d.records))
+          ∙ (ap (λ z. table_after z d.records) (t arbiter old there)
+          ∙ sym (ap (table_after no_table) (kept_here w (arbiter_who arbiter) d.records d.sent) ∙ table_append no_table (kept_of w (arbiter_actor arbiter)) d.records))
 
   begun_tabled : (actor : ℕ) → arbiter_actor (arbiter_number actor) ≡ actor →
       (q : ℕ) (s : ArbiterState a) → at q (put (arbiter_number actor) (arbiter_begun a c (arbiter_number actor) (kept_of w actor)) w.arbiters) ≡ Some s →
@@ -100,7 +100,7 @@ module _ (a : Upper) (stays : StaysAbove a) (c : FabricConfig) (w : World a) (t 
     ticks = λ advance readings h. t;
     acts = λ node i s there came.
         node_tabled node s.reading s.pairs (node_step a c s.reading i s.node)
-        (λ z. no_accusations z (node_step a c s.reading i s.node).records (node_acted-told a stays c s.reading i s.node).apart);
+        (λ z. no_entries z (node_step a c s.reading i s.node).records (node_acted-told a stays c s.reading i s.node).apart);
     table_begins = λ actor h.
         begun_tabled actor (actor_of_number c w actor (sym (is_there-start is_frame c w actor None) ∙ subst (λ e. is_there is_frame c w e ≡ true) h may.there));
     table_stops = λ arbiter s h q r g. let still = without_cases arbiter w.arbiters q r g in t q r still.1;

@@ -1,7 +1,7 @@
--- What arbitrators have answered to accusers, by the frames that were sent.
+-- What arbitrators have answered to accusers and claimers, by the frames that were sent.
 use Rattle.std.specs.Prelude.{◌≡◌, ℕ, Bool, true, List, ◌⊎◌}
 use Rattle.fabric_terms.specs.declared.config.FabricConfig.{FabricConfig}
-use Rattle.fabric_terms.specs.declared.message.Body.TheVariants.{Ruled}
+use Rattle.fabric_terms.specs.declared.message.Body.TheVariants.{Ruled, Kept}
 use Rattle.fabric_terms.specs.declared.message.Message.{Message}
 use Rattle.ring_points.specs.declared.who.Ruling.{Ruling}
 use Rattle.ring_points.specs.declared.who.Ruling.TheVariants.{Granted, Taken}
@@ -15,10 +15,16 @@ use Rattle.world_rules.specs.Worlds.{arbiter_who}
 abbrev pub answer_of : ℕ → Who → Who → Ruling → Message
 answer_of arbiter accuser victim ruling = record { from = arbiter_who arbiter; to = accuser; body = Ruled victim ruling }
 
--- a majority of the configured arbitrators granted x's accusation of y
-pub record MajorityGranted (c : FabricConfig) (frames : List Message) (x y : Who) : Type 0 where
+-- this arbitrator told somebody that it keeps x of the round about y; of the first round a grant tells it too
+pub data Tells (frames : List Message) (arbiter : ℕ) (y : Who) (round : ℕ) (x : Who) : Type 0 where
+  by_kept : (to : Who) → IsMember (record { from = arbiter_who arbiter; to = to; body = Kept y round x }) frames → Tells frames arbiter y round x
+  by_grant : round ≡ 1 → IsMember (answer_of arbiter x y Granted) frames → Tells frames arbiter y round x
+
+-- x is y's heir: a majority of the configured arbitrators keep it of one round
+pub record MajorityKept (c : FabricConfig) (frames : List Message) (x y : Who) : Type 0 where
+  pub round : ℕ
   pub by : ℕ → Bool
-  pub answers : (arbiter : ℕ) → by arbiter ≡ true → IsMember (answer_of arbiter x y Granted) frames
+  pub tells : (arbiter : ℕ) → by arbiter ≡ true → Tells frames arbiter y round x
   pub most : is_majority (machine_of c) by ≡ true
 
 -- a majority of them answered x about y, and none of these refused

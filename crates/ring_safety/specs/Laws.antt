@@ -1,5 +1,5 @@
 -- What the laws of this crate say, of whatever runs above the ring.
-use Rattle.std.specs.Prelude.{◌≡◌, ◌↔◌, ℕ, Bool, List, [], ◌∷◌, ◌++◌, Some}
+use Rattle.std.specs.Prelude.{◌≡◌, ◌↔◌, ℕ, Bool, List, ◌∷◌, ◌++◌, Some}
 use Rattle.fabric_terms.specs.declared.config.FabricConfig.{FabricConfig}
 use Rattle.fabric_terms.specs.declared.event.Event.{Event}
 use Rattle.fabric_terms.specs.declared.record.Record.{Record}
@@ -9,7 +9,7 @@ use Rattle.fabric_terms.specs.Runs.{RingSafe, clocks_of, own_of, reading_of}
 use Rattle.fabric_terms.specs.Sound.{IsSound}
 use Rattle.fabric_terms.specs.TakeOvers.{TakenAfterLeave}
 use Rattle.join_phases.specs.Phases.{is_left}
-use Rattle.ring_rules.specs.Arbiters.{accusations_after}
+use Rattle.ring_rules.specs.Arbiters.{no_table, table_after}
 use Rattle.ring_points.specs.declared.who.Who.{Who}
 use Rattle.ring_points.specs.Whos.{arbiter_actor, node_instance}
 use Rattle.world_rules.specs.Arbiters.{ArbiterState}
@@ -19,7 +19,7 @@ use Rattle.world_rules.specs.Runs.{History, world_after, run_of}
 use Rattle.world_rules.specs.Schedules.{Valid}
 use Rattle.world_rules.specs.Uppers.{Upper}
 use Rattle.world_rules.specs.Worlds.{Running, kept_of}
-use Rattle.ring_safety.specs.Answers.{MajorityGranted, MajorityAnswered}
+use Rattle.ring_safety.specs.Answers.{MajorityKept, MajorityAnswered}
 use Rattle.ring_safety.specs.Held.{RunsAt, owned_by}
 
 -- what a running instance told last is what its ring holds
@@ -56,7 +56,7 @@ RecordsGrow a =
 abbrev pub TableIsKept : Upper → Type 0
 TableIsKept a =
     (is_frame : List ℕ → Bool) (c : FabricConfig) (h : History) → Valid a is_frame c h → (arbiter : ℕ) (s : ArbiterState a) →
-    at arbiter (world_after a c h).arbiters ≡ Some s → s.table ≡ accusations_after [] (kept_of (world_after a c h) (arbiter_actor arbiter))
+    at arbiter (world_after a c h).arbiters ≡ Some s → s.table ≡ table_after no_table (kept_of (world_after a c h) (arbiter_actor arbiter))
 
 -- it holds of every valid history of every sound configuration
 abbrev pub OverValidRuns : Upper → (FabricConfig → History → Type 0) → Type 0
@@ -80,8 +80,8 @@ AnswersExclude a =
     OverValidRuns a
     (λ c h. (x y : Who) → MajorityAnswered c (world_after a c h).frames x y → MajorityAnswered c (world_after a c h).frames y x → ⊥)
 
--- one instance at most has a majority's grant about another
+-- one instance at most is kept by a majority about another, whatever the rounds
 abbrev pub OneHeir : Upper → Type 0
 OneHeir a =
     OverValidRuns a
-    (λ c h. (x y victim : Who) → MajorityGranted c (world_after a c h).frames x victim → MajorityGranted c (world_after a c h).frames y victim → x ≡ y)
+    (λ c h. (x y victim : Who) → MajorityKept c (world_after a c h).frames x victim → MajorityKept c (world_after a c h).frames y victim → x ≡ y)

@@ -57,7 +57,8 @@ pub fn answers_exclude<A: Above>()
     ensures { AnswersExclude A.upper }
 {}
 
-/// Uniqueness: never have two instances been sent a majority's Granted about one instance.
+/// Uniqueness: never has a majority of arbitrators told that it keeps one instance, and a majority that it keeps
+/// another, about one instance, each in some round, whatever the rounds; a Granted tells it of the first round.
 pub fn one_heir_at_most<A: Above>()
     ensures { OneHeir A.upper }
 {}

@@ -3,3 +3,4 @@ pub mod Joins
 pub mod TakeOvers
 pub mod Searches
 pub mod Lengths
+pub mod Rounds

@@ -6,6 +6,7 @@
 
 ghost use Rattle.rules_examples.specs.Joins.{Joins, TakesOnce};
 ghost use Rattle.rules_examples.specs.Lengths.{AgreesLength, CutsLength, TakesOverSooner};
+ghost use Rattle.rules_examples.specs.Rounds.{SettlesSplit, StaysSplit};
 ghost use Rattle.rules_examples.specs.Searches.{FindsItself, FindsPeer, JoinsThrough};
 ghost use Rattle.rules_examples.specs.TakeOvers.{BothLeave, LeavesBefore, RestartsEmpty, TakesNothing, TakesOver};
 
@@ -72,4 +73,14 @@ pub fn cuts_length()
 /// The heir of a shorter link waits a shorter time.
 pub fn takes_over_sooner()
     ensures { TakesOverSooner }
+{}
+
+/// Where arbitrators split their grants, the second round has one heir.
+pub fn settles_split()
+    ensures { SettlesSplit }
+{}
+
+/// With one round, split grants stay split.
+pub fn stays_split()
+    ensures { StaysSplit }
 {}

@@ -1,5 +1,5 @@
 -- What each step and each event does, and when an event may come. Nobody above unfolds these.
-use Rattle.std.specs.Prelude.{◌≡◌, refl, ℕ, ◌+◌, Bool, not, ◌&&◌, List, [], Option, nat_le}
+use Rattle.std.specs.Prelude.{◌≡◌, refl, ℕ, ◌+◌, Bool, not, ◌&&◌, List, Option, nat_le}
 use Rattle.fabric_terms.specs.declared.command.Command.{Command}
 use Rattle.fabric_terms.specs.declared.config.FabricConfig.{FabricConfig}
 use Rattle.fabric_terms.specs.declared.event.Event.TheVariants.{Start, Stop, Tick, Fire, Give, Do, Junk}
@@ -8,7 +8,7 @@ use Rattle.fabric_terms.specs.declared.message.Message.{Message}
 use Rattle.fabric_terms.specs.declared.record.Record.{Record}
 use Rattle.ring_points.specs.Whos.{node_instance}
 use Rattle.ring_rules.specs.declared.input.Input.{Input}
-use Rattle.ring_rules.specs.Arbiters.{accusations_after, takes_frame}
+use Rattle.ring_rules.specs.Arbiters.{no_table, table_after, takes_frame}
 use Rattle.ring_rules.specs.Rings.{settings_of}
 use Rattle.ring_rules.specs.Steps.{ring_step}
 use Rattle.world_rules.specs.Nodes.{NodeState, node_begun, node_step, instance_starts, instance_begun, ring_did}
@@ -28,7 +28,7 @@ module _ (a : Upper) (c : FabricConfig) where
   unfolding node_step
   node_step-is now i s = refl
 
-  pub arbiter_begun-is : (arbiter : ℕ) (records : List Record) → arbiter_begun a c arbiter records ≡ record { table = accusations_after [] records; beside = a.beside_begun c arbiter records }
+  pub arbiter_begun-is : (arbiter : ℕ) (records : List Record) → arbiter_begun a c arbiter records ≡ record { table = table_after no_table records; beside = a.beside_begun c arbiter records }
   unfolding arbiter_begun
   arbiter_begun-is arbiter records = refl
 

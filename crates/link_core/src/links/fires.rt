@@ -11,6 +11,7 @@ use crate::links::Links16;
 use crate::notes::{LinkNote, LinkNotes};
 use arbiter_quorum::Tally;
 use fabric_terms::Why;
+use heir_rounds::RoundTally;
 use ring_rules::LinkState;
 use ring_wire::Outbox;
 
@@ -30,6 +31,7 @@ impl Links16 {
         let peer = link.peer;
         link.state = LinkState::Accused;
         link.tally = Tally::new(self.me, peer, self.arbitrators);
+        link.rounds = RoundTally::new(self.me, self.arbitrators, self.rounds);
         ask_arbiters(link, self.arbitrators, out);
         self.accused.push(peer);
         LinkNotes::two(LinkNote::Undo(i), LinkNote::AccusedNow(peer))
@@ -69,6 +71,7 @@ impl Links16 {
             announce,
             answer: self.answer,
             arbitrators: self.arbitrators,
+            rounds: self.rounds,
         };
         spoken(slot, &mut self.slots[slot], &firing, out)
     }

@@ -10,6 +10,7 @@ use crate::part::part;
 use crate::refusal::LinkRefusal;
 use crate::{find, say};
 use arbiter_quorum::Tally;
+use heir_rounds::RoundTally;
 use ring_points::{RangeSet, Who};
 use ring_rules::{Link, LinkState};
 use ring_wire::Outbox;
@@ -64,6 +65,7 @@ impl Links16 {
             got: 0,
             flight: None,
             tally: Tally::new(self.me, peer, self.arbitrators),
+            rounds: RoundTally::new(self.me, self.arbitrators, self.rounds),
             len: beginning.len,
             wire: beginning.wire,
         }

@@ -6,6 +6,7 @@ ghost use Rattle.link_core.specs.Flights.{gone_elsewhere, gone_received, transfe
 ghost use Rattle.link_core.specs.Handshakes.{accept, hello_received, offer_again, offer_received, take_received};
 ghost use Rattle.link_core.specs.Links.{did, did_after, new_link, with_slot};
 ghost use Rattle.link_core.specs.Renewals.{ack_received, renew_received};
+ghost use Rattle.link_core.specs.Rounds.{kept_received};
 ghost use Rattle.link_core.specs.Rulings.{ruling_received};
 
 use crate::announce::Announce;
@@ -14,6 +15,7 @@ use crate::links::greets::Beginning;
 use crate::links::{LONGEST_TIME, Links16};
 use crate::notes::{LinkNote, LinkNotes};
 use crate::renewal::{self, Renewal};
+use crate::rounds::{self, Keeping};
 use crate::ruling::{self, Terms};
 use crate::{find, flight, handshake, say};
 use fabric_terms::Why;
@@ -286,8 +288,50 @@ impl Links16 {
         let terms = Terms {
             answer: self.answer,
             bound: self.bound,
+            rounds: self.rounds,
         };
         let arbitrator = (from.actor - ARBITERS) as u8;
         ruling::ruling_seen(&mut self.slots[i], now, terms, arbitrator, ruling)
+    }
+
+    /// Whom this arbitrator keeps of a round about the victim, where there are rounds after the first.
+    pub(crate) fn hear_kept(
+        &mut self,
+        now: u64,
+        from: Who,
+        victim: Who,
+        kept: (u8, Who),
+        out: &mut Outbox,
+    ) -> LinkNotes
+        requires now { now ≤ 1_000_000_000_000_000 }
+        requires first { arbiter_actor 1 ≤ from.actor }
+        requires last { from.actor ≤ arbiter_actor self.old.arbitrators }
+        requires room { length out.old + 9 ≤ 192 }
+        ensures { did self.new out.new result ≡ did_after out.old (kept_received now from victim kept.0 kept.1 self.old) }
+    {
+        if self.rounds <= 1 {
+            return LinkNotes::none();
+        }
+        let Some(i) = find::instance(&self.slots, victim) else {
+            return LinkNotes::none();
+        };
+        let terms = Terms {
+            answer: self.answer,
+            bound: self.bound,
+            rounds: self.rounds,
+        };
+        let keeping = Keeping {
+            arbitrator: (from.actor - ARBITERS) as u8,
+            round: kept.0,
+            claimer: kept.1,
+        };
+        rounds::kept_seen(
+            &mut self.slots[i],
+            now,
+            terms,
+            self.arbitrators,
+            keeping,
+            out,
+        )
     }
 }

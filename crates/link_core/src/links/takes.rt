@@ -30,9 +30,10 @@ impl Links16 {
         ensures did { did self.new out.new result ≡ did_after out.old (frame_row now announce.now message.now.from message.now.body self.old) }
         ensures row { is_search message.now.body ≡ false → Does (λ c. rules.frame_row c now message.now.from message.now.body) (wants_answer message.now.body) self.old announce.now out.old (did self.new out.new result) }
         ensures kept { self.new ≡ record self.old { slots = self.new.slots; next_session = self.new.next_session } }
-        ensures few { length out.new ≤ length out.old + 1 }
+        ensures few { length out.new ≤ length out.old + 9 }
         ensures notes { length result ≤ 2 }
     {
+        let _ = &self.me;
         self.hear(now, message, announce, out)
     }
 
@@ -108,6 +109,11 @@ impl Links16 {
                 bound,
             } => self.hear_gone(Session::new(from, *mine, *yours), *got, *bound, out),
             Body::Ruled { victim, ruling } => self.hear_ruling(now, from, *victim, *ruling),
+            Body::Kept {
+                victim,
+                round,
+                claimer,
+            } => self.hear_kept(now, from, *victim, (*round, *claimer), out),
             _ => LinkNotes::none(),
         }
     }
