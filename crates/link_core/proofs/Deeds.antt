@@ -1,5 +1,5 @@
 -- A call that is a row of links is a row of the rules.
-use Rattle.std.proofs.Common.{◌≡◌, ℕ, ◌+◌, ◌≤◌, Bool, false, List, ◌++◌, length, take, refl, sym, ap, ◌∙◌, arith, append_assoc, length-append}
+use Rattle.std.proofs.Common.{◌≡◌, ℕ, ◌+◌, ◌≤◌, false, List, ◌++◌, length, take, refl, sym, ap, ◌∙◌, arith, append_assoc, length-append}
 use Rattle.ring_points.specs.declared.who.Who.{Who}
 use Rattle.fabric_terms.specs.declared.message.Body.{Body}
 use Rattle.ring_rules.specs.Deeds.{counted}
@@ -11,27 +11,27 @@ use Rattle.link_core.specs.declared.announce.Announce.{Announce}
 use Rattle.link_core.specs.Links.{Links, Did, did_after}
 use Rattle.link_core.specs.Firing.{slot_fired}
 use Rattle.link_core.specs.Frames.{frame_row}
-use Rattle.link_core.specs.Ties.{Does, HasLinks, announce_of, finished, is_search, wants_answer, with_links, all_noted}
+use Rattle.link_core.specs.Ties.{quiet, Cause, Does, HasLinks, announce_of, finished, is_search, cause_of, with_links, all_noted}
 use Rattle.link_core.proofs.Few.{frame_few}
 use Rattle.link_core.proofs.FiredFew.{slot_fired_few}
 use Rattle.link_core.proofs.FiringTies.{fired_at_tie}
 use Rattle.link_core.proofs.FrameTies.{frame_tie}
 
-does_row : (row : Settings → Work → Work) (gone : Bool) (old : Links) (a : Announce) (out : List (Who × Body)) (d mine : Did) → d ≡ did_after out mine → ((c : Settings) (w : Work) → HasLinks old a c w.ring → counted w (row c w) ≡ counted w (finished gone mine w)) → Does row gone old a out d
-does_row row gone old a out d mine e h = λ c w before k s.
-    h c w k ∙ ap (λ (sent : List (Who × Body)). counted w (all_noted gone mine.notes (record w { ring = with_links mine.links w.ring; sent = sent })))
+does_row : (row : Settings → Work → Work) (cause : Cause) (old : Links) (a : Announce) (out : List (Who × Body)) (d mine : Did) → d ≡ did_after out mine → ((c : Settings) (w : Work) → HasLinks old a c w.ring → counted w (row c w) ≡ counted w (finished cause mine w)) → Does row cause old a out d
+does_row row cause old a out d mine e h = λ c w before k s.
+    h c w k ∙ ap (λ (sent : List (Who × Body)). counted w (all_noted cause mine.notes (record w { ring = with_links mine.links w.ring; sent = sent })))
     (ap (λ (x : List (Who × Body)). x ++ mine.sent) s ∙ append_assoc before out mine.sent)
-    ∙ ap (λ (x : Did). counted w (all_noted gone x.notes (record w { ring = with_links x.links w.ring; sent = before ++ x.sent }))) (sym e)
+    ∙ ap (λ (x : Did). counted w (all_noted cause x.notes (record w { ring = with_links x.links w.ring; sent = before ++ x.sent }))) (sym e)
 
-pub does_frame : (now : ℕ) (from : Who) (b : Body) (old : Links) (a : Announce) (out : List (Who × Body)) (d : Did) → d ≡ did_after out (frame_row now a from b old) → is_search b ≡ false → Does (λ c. rules.frame_row c now from b) (wants_answer b) old a out d
+pub does_frame : (now : ℕ) (from : Who) (b : Body) (old : Links) (a : Announce) (out : List (Who × Body)) (d : Did) → d ≡ did_after out (frame_row now a from b old) → is_search b ≡ false → Does (λ c. rules.frame_row c now from b) (cause_of b) old a out d
 does_frame now from b old a out d e s =
-    does_row (λ c. rules.frame_row c now from b) (wants_answer b) old a out d (frame_row now a from b old) e
+    does_row (λ c. rules.frame_row c now from b) (cause_of b) old a out d (frame_row now a from b old) e
     (λ c w k. frame_tie c now from b w k.numbers s ∙ rw (k.links, k.announce) refl)
 
-pub does_firing : (now i : ℕ) (old : Links) (a : Announce) (out : List (Who × Body)) (d : Did) → d ≡ did_after out (slot_fired now a i old) → Does (λ c w. rules_of_firing.fired_at c now i (slot_at i w.ring.slots) w) false old a out d
+pub does_firing : (now i : ℕ) (old : Links) (a : Announce) (out : List (Who × Body)) (d : Did) → d ≡ did_after out (slot_fired now a i old) → Does (λ c w. rules_of_firing.fired_at c now i (slot_at i w.ring.slots) w) quiet old a out d
 does_firing now i old a out d e =
-    does_row (λ c w. rules_of_firing.fired_at c now i (slot_at i w.ring.slots) w) false old a out d (slot_fired now a i old) e
-    (λ c w k. ap (counted w) (fired_at_tie c now i (slot_at i w.ring.slots) w refl) ∙ ap (λ (m : Links). counted w (finished false (slot_fired now (announce_of w.ring) i m) w)) k.links ∙ ap (λ (b : Announce). counted w (finished false (slot_fired now b i old) w)) k.announce)
+    does_row (λ c w. rules_of_firing.fired_at c now i (slot_at i w.ring.slots) w) quiet old a out d (slot_fired now a i old) e
+    (λ c w k. ap (counted w) (fired_at_tie c now i (slot_at i w.ring.slots) w refl) ∙ ap (λ (m : Links). counted w (finished quiet (slot_fired now (announce_of w.ring) i m) w)) k.links ∙ ap (λ (b : Announce). counted w (finished quiet (slot_fired now b i old) w)) k.announce)
 
 -- what a call keeps and how much it sends, by its row
 

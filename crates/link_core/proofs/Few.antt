@@ -1,7 +1,6 @@
 -- A frame is answered by nine frames at most, and changes slots and sessions alone.
 use Rattle.std.proofs.Common.{ℕ, ◌≤◌, Bool, true, false, List, length, Option, Some, None, refl, arith, nat_lt, min, ◌==◌, ◌-◌, not, ◌||◌, slice_set}
 use Rattle.ring_points.specs.declared.interval.Interval.{Interval}
-use Rattle.ring_points.specs.declared.who.Flight.{Flight}
 use Rattle.ring_points.specs.declared.who.Ruling.{Ruling}
 use Rattle.ring_points.specs.declared.who.Who.{Who}
 use Rattle.ring_points.specs.Whos.{arbiter_actor}
@@ -23,7 +22,7 @@ use Rattle.link_core.specs.Links.{Links, Turn, Did, SlotRow, is_spent, new_link,
 use Rattle.link_core.specs.Kept.{IsHeard}
 use Rattle.link_core.specs.Handshakes.{accept_counted, accept_free, accept, hello_crossed, hello_of_node, offer_same, offer_repeated_to, hello_repeated, hello_of_instance, offer_taken, take_again, offer_repeated, offer_seen, take_in, take_seen}
 use Rattle.link_core.specs.Renewals.{wanted_if, renew_in, renew_seen, ack_in, ack_seen}
-use Rattle.link_core.specs.Flights.{arrived_if, transfer_in, transfer_seen, answers, lost_flight, gone_heard, stands, gone_if, gone_seen, gone_greeting, gone_elsewhere}
+use Rattle.link_core.specs.Flights.{arrived_if, transfer_in, transfer_seen, answers, is_lost, gone_heard, stands, gone_if, gone_seen, gone_greeting, gone_elsewhere}
 use Rattle.link_core.specs.Rulings.{ripe_at, made_heir, discharge_told, may_succeed, kept_discharged, judged, awaits, ruling_if, ruling_seen}
 use Rattle.heir_rounds.specs.Rounds.{round_noted, round_verdict}
 use Rattle.heir_rounds.specs.declared.verdict.RoundVerdict.{RoundVerdict}
@@ -139,29 +138,29 @@ ack_seen_few stamp version i (Some l) = ack_in_few stamp version l l.state
 
 -- Transfer and Gone
 
-arrived_few : (i : ℕ) (l : Link) (number : ℕ) (part : List Interval) (above : Bool) → Few (arrived_if i l number part above)
-arrived_few i l number part true = record { sent = omega arith; notes = omega arith }
-arrived_few i l number part false = record { sent = omega arith; notes = omega arith }
+arrived_few : (i : ℕ) (l : Link) (above : Bool) → Few (arrived_if i l above)
+arrived_few i l true = record { sent = omega arith; notes = omega arith }
+arrived_few i l false = record { sent = omega arith; notes = omega arith }
 
-transfer_in_few : (number : ℕ) (part : List Interval) (i : ℕ) (l : Link) (was : LinkState) → Few (transfer_in number part i l was)
-transfer_in_few number part i l Bound = arrived_few i l number part (nat_lt l.got number)
-transfer_in_few number part i l Parting = record { sent = omega arith; notes = omega arith }
-transfer_in_few number part i l _ = record { sent = omega arith; notes = omega arith }
+transfer_in_few : (number : ℕ) (i : ℕ) (l : Link) (was : LinkState) → Few (transfer_in number i l was)
+transfer_in_few number i l Bound = arrived_few i l (nat_lt l.got number)
+transfer_in_few number i l Parting = record { sent = omega arith; notes = omega arith }
+transfer_in_few number i l _ = record { sent = omega arith; notes = omega arith }
 
-transfer_seen_few : (number : ℕ) (part : List Interval) (i : ℕ) (slot : Option Link) → Few (transfer_seen number part i slot)
-transfer_seen_few number part i None = record { sent = omega arith; notes = omega arith }
-transfer_seen_few number part i (Some l) = transfer_in_few number part i l l.state
+transfer_seen_few : (number : ℕ) (i : ℕ) (slot : Option Link) → Few (transfer_seen number i slot)
+transfer_seen_few number i None = record { sent = omega arith; notes = omega arith }
+transfer_seen_few number i (Some l) = transfer_in_few number i l l.state
 
 answers_few : (bound : Bool) (to : Who) (b : Body) → length (answers bound to b) ≤ 1
 answers_few true to b = omega arith
 answers_few false to b = omega arith
 
-heard_few : (i : ℕ) (l : Link) (bound : Bool) (lost : Option Flight) → Few (gone_heard i l bound lost)
-heard_few i l bound None = record { sent = omega (arith, answers_few bound l.peer (body.Gone l.mine l.yours l.got false)); notes = omega arith }
-heard_few i l bound (Some f) = record { sent = omega arith; notes = omega arith }
+heard_few : (i : ℕ) (l : Link) (bound lost : Bool) → Few (gone_heard i l bound lost)
+heard_few i l bound false = record { sent = omega (arith, answers_few bound l.peer (body.Gone l.mine l.yours l.got false)); notes = omega arith }
+heard_few i l bound true = record { sent = omega arith; notes = omega arith }
 
 gone_if_few : (got : ℕ) (bound : Bool) (i : ℕ) (l : Link) (stood : Bool) → Few (gone_if got bound i l stood)
-gone_if_few got bound i l true = heard_few i l bound (lost_flight got l.flight)
+gone_if_few got bound i l true = heard_few i l bound (is_lost got l.flight)
 gone_if_few got bound i l false = record { sent = omega arith; notes = omega arith }
 
 gone_seen_few : (got : ℕ) (bound : Bool) (i : ℕ) (slot : Option Link) → Few (gone_seen got bound i slot)
@@ -241,7 +240,7 @@ frame_few now a from (body.OfferFor mine yours length) k h = offer_seen_few now 
 frame_few now a from (body.Take mine yours) k h = found_few (λ i. take_seen now a) (unknown from mine yours k) k (slot_where (of_session from yours mine) k.slots) (take_seen_few now a) (unknown_few from mine yours k)
 frame_few now a from (body.Renew mine yours stamp version got want ranges) k h = found_few (renew_seen stamp version got want ranges) (unknown from mine yours k) k (slot_where (of_session from yours mine) k.slots) (renew_seen_few stamp version got want ranges) (unknown_few from mine yours k)
 frame_few now a from (body.RenewAck mine yours stamp version) k h = found_few (λ i. ack_seen stamp version) (same k) k (slot_where (of_session from yours mine) k.slots) (ack_seen_few stamp version) (same_few k)
-frame_few now a from (body.Transfer mine yours flight ranges) k h = found_few (transfer_seen flight ranges) (unknown from mine yours k) k (slot_where (of_session from yours mine) k.slots) (transfer_seen_few flight ranges) (unknown_few from mine yours k)
+frame_few now a from (body.Transfer mine yours flight ranges) k h = found_few (transfer_seen flight) (unknown from mine yours k) k (slot_where (of_session from yours mine) k.slots) (transfer_seen_few flight) (unknown_few from mine yours k)
 frame_few now a from (body.Gone mine yours got bound) k h = found_few (gone_seen got bound) (gone_elsewhere from mine yours bound k) k (slot_where (of_session from yours mine) k.slots) (gone_seen_few got bound) (greeting_few from mine yours bound k (slot_where (greets_by yours) k.slots))
 frame_few now a from (body.Ruled victim ruling) k h = found_few (λ i. ruling_seen now k.bound k.answer k.rounds (from.actor - arbiter_actor 0) ruling) (same k) k (slot_where (of_instance victim) k.slots) (ruling_seen_few now k.bound k.answer k.rounds (from.actor - arbiter_actor 0) ruling) (same_few k)
 frame_few now a from (body.Kept victim round claimer) k h = kept_few now (from.actor - arbiter_actor 0) victim round claimer k (nat_lt 1 k.rounds) h

@@ -19,7 +19,7 @@ use Rattle.ring_rules.specs.Slots.{slot_at}
 use Rattle.ring_rules.proofs.Rows.{slot_fired-is, peer_accused-is, discharged_fired-is}
 use Rattle.link_core.specs.Links.{in_place, turn}
 use Rattle.link_core.specs.Firing.{accuse_if, accusing, asked, asked_first, asked_if, discharged_due, discharged_end, fired_at, fired_if, heir_due, hello_due, leases, peer_accused, slot_fired, transfer_again}
-use Rattle.link_core.specs.Ties.{links_of, announce_of, finished}
+use Rattle.link_core.specs.Ties.{quiet, links_of, announce_of, finished}
 use Rattle.link_core.proofs.Asked.{asked_first-zero, asked_first-suc, claimed_first-zero, claimed_first-suc}
 use Rattle.link_core.proofs.Places.{set_here}
 use Rattle.link_core.proofs.SessionTies.{same_tie, stays_tie, gone_said_tie}
@@ -55,29 +55,29 @@ both_tie : (c : Settings) (l : Link) (w : Work) → rules_of_claims.claim_round 
 both_tie c l w = ap (rules_of_claims.claim_round c l) (ask_first_tie c.arbitrators l w) ∙ claims_tie c l (sending (asked c.arbitrators l) w) ∙ rw append_assoc refl
 
 -- the slot asks again
-asked_tie : (c : Settings) (i : ℕ) (l : Link) (w : Work) → slot_at i w.ring.slots ≡ Some l → rules.ask_arbiters c l w ≡ finished false (in_place i (turn (Some l) (asked c.arbitrators l) []) (links_of c w.ring)) w
+asked_tie : (c : Settings) (i : ℕ) (l : Link) (w : Work) → slot_at i w.ring.slots ≡ Some l → rules.ask_arbiters c l w ≡ finished quiet (in_place i (turn (Some l) (asked c.arbitrators l) []) (links_of c w.ring)) w
 asked_tie c i l w e = rw (set_here w.ring.slots i (Some l) e) (ask_first_tie c.arbitrators l w)
 
-accuse_tie : (c : Settings) (i : ℕ) (l : Link) (w : Work) (room : Bool) → rules.accuse_if c i l w room ≡ finished false (accuse_if i l (links_of c w.ring) room) w
+accuse_tie : (c : Settings) (i : ℕ) (l : Link) (w : Work) (room : Bool) → rules.accuse_if c i l w room ≡ finished quiet (accuse_if i l (links_of c w.ring) room) w
 accuse_tie c i l w true = ask_first_tie c.arbitrators (accusing (links_of c w.ring) l) _
 accuse_tie c i l w false = rw append-nil refl
 
-accused_tie : (c : Settings) (i : ℕ) (l : Link) (w : Work) → rules.peer_accused c i l w ≡ finished false (peer_accused i l (links_of c w.ring)) w
+accused_tie : (c : Settings) (i : ℕ) (l : Link) (w : Work) → rules.peer_accused c i l w ≡ finished quiet (peer_accused i l (links_of c w.ring)) w
 accused_tie c i l w = peer_accused-is c i l w ∙ accuse_tie c i l w (nat_lt (length w.ring.accused) accused_limit)
 
-hello_due_tie : (c : Settings) (i : ℕ) (l : Link) (w : Work) (over : Bool) → slot_at i w.ring.slots ≡ Some l → rules.hello_due i l w over ≡ finished false (in_place i (hello_due l over) (links_of c w.ring)) w
+hello_due_tie : (c : Settings) (i : ℕ) (l : Link) (w : Work) (over : Bool) → slot_at i w.ring.slots ≡ Some l → rules.hello_due i l w over ≡ finished quiet (in_place i (hello_due l over) (links_of c w.ring)) w
 hello_due_tie c i l w true e = rw append-nil refl
 hello_due_tie c i l w false e = rw (set_here w.ring.slots i (Some l) e) refl
 
-discharged_due_tie : (c : Settings) (i : ℕ) (l : Link) (w : Work) (over : Bool) → slot_at i w.ring.slots ≡ Some l → rules.discharged_due c i l w over ≡ finished false (in_place i (discharged_due c.rounds c.arbitrators l over) (links_of c w.ring)) w
+discharged_due_tie : (c : Settings) (i : ℕ) (l : Link) (w : Work) (over : Bool) → slot_at i w.ring.slots ≡ Some l → rules.discharged_due c i l w over ≡ finished quiet (in_place i (discharged_due c.rounds c.arbitrators l over) (links_of c w.ring)) w
 discharged_due_tie c i l w true e = rw append-nil refl
 discharged_due_tie c i l w false e = rw (set_here w.ring.slots i (Some l) e) (both_tie c l w)
 
-heir_due_tie : (c : Settings) (i : ℕ) (l : Link) (w : Work) (ripe : Bool) → slot_at i w.ring.slots ≡ Some l → rules.heir_due i l w ripe ≡ finished false (in_place i (heir_due i l ripe) (links_of c w.ring)) w
+heir_due_tie : (c : Settings) (i : ℕ) (l : Link) (w : Work) (ripe : Bool) → slot_at i w.ring.slots ≡ Some l → rules.heir_due i l w ripe ≡ finished quiet (in_place i (heir_due i l ripe) (links_of c w.ring)) w
 heir_due_tie c i l w true e = rw (set_here w.ring.slots i (Some l) e, append-nil, e) refl
-heir_due_tie c i l w false e = stays_tie c false i (Some l) w e
+heir_due_tie c i l w false e = stays_tie c quiet i (Some l) w e
 
-offered_tie : (c : Settings) (now i : ℕ) (l : Link) (w : Work) (over : Bool) → slot_at i w.ring.slots ≡ Some l → rules.lease_over c i l (λ v. send l.peer (offer_body l) v) w over ≡ finished false (fired_if now (announce_of w.ring) i l Offered (links_of c w.ring) over) w
+offered_tie : (c : Settings) (now i : ℕ) (l : Link) (w : Work) (over : Bool) → slot_at i w.ring.slots ≡ Some l → rules.lease_over c i l (λ v. send l.peer (offer_body l) v) w over ≡ finished quiet (fired_if now (announce_of w.ring) i l Offered (links_of c w.ring) over) w
 offered_tie c now i l w true e = accused_tie c i l w
 offered_tie c now i l w false e = rw (set_here w.ring.slots i (Some l) e) refl
 
@@ -85,15 +85,15 @@ transfer_again_tie : (l : Link) (first : Who × Body) (flight : Option Flight) (
 transfer_again_tie l first None w = refl
 transfer_again_tie l first (Some f) w = rw append_assoc refl
 
-bound_tie : (c : Settings) (now i : ℕ) (l : Link) (w : Work) (over : Bool) → slot_at i w.ring.slots ≡ Some l → rules.lease_over c i l (λ v. v ▷ send l.peer (renew_body now l v.ring) ▷ rules.transfer_again l l.flight) w over ≡ finished false (fired_if now (announce_of w.ring) i l Bound (links_of c w.ring) over) w
+bound_tie : (c : Settings) (now i : ℕ) (l : Link) (w : Work) (over : Bool) → slot_at i w.ring.slots ≡ Some l → rules.lease_over c i l (λ v. v ▷ send l.peer (renew_body now l v.ring) ▷ rules.transfer_again l l.flight) w over ≡ finished quiet (fired_if now (announce_of w.ring) i l Bound (links_of c w.ring) over) w
 bound_tie c now i l w true e = accused_tie c i l w
 bound_tie c now i l w false e = rw (set_here w.ring.slots i (Some l) e) (transfer_again_tie l (l.peer, renew_body now l w.ring) l.flight w)
 
-parting_tie : (c : Settings) (now i : ℕ) (l : Link) (w : Work) (over : Bool) → slot_at i w.ring.slots ≡ Some l → rules.lease_over c i l (say_gone l) w over ≡ finished false (fired_if now (announce_of w.ring) i l Parting (links_of c w.ring) over) w
+parting_tie : (c : Settings) (now i : ℕ) (l : Link) (w : Work) (over : Bool) → slot_at i w.ring.slots ≡ Some l → rules.lease_over c i l (say_gone l) w over ≡ finished quiet (fired_if now (announce_of w.ring) i l Parting (links_of c w.ring) over) w
 parting_tie c now i l w true e = accused_tie c i l w
-parting_tie c now i l w false e = gone_said_tie c false i l w e
+parting_tie c now i l w false e = gone_said_tie c quiet i l w e
 
-fired_in_tie : (c : Settings) (now i : ℕ) (l : Link) (was : LinkState) (w : Work) → slot_at i w.ring.slots ≡ Some l → rules.fired_in c now i l was w ≡ finished false (fired_if now (announce_of w.ring) i l was (links_of c w.ring) (leases was (nat_le l.until now))) w
+fired_in_tie : (c : Settings) (now i : ℕ) (l : Link) (was : LinkState) (w : Work) → slot_at i w.ring.slots ≡ Some l → rules.fired_in c now i l was w ≡ finished quiet (fired_if now (announce_of w.ring) i l was (links_of c w.ring) (leases was (nat_le l.until now))) w
 fired_in_tie c now i l Hello w e = hello_due_tie c i l w (nat_le l.until now) e
 fired_in_tie c now i l Offered w e = offered_tie c now i l w (nat_le l.until now) e
 fired_in_tie c now i l Bound w e = bound_tie c now i l w (nat_le l.until now) e
@@ -102,9 +102,9 @@ fired_in_tie c now i l Accused w e = asked_tie c i l w e
 fired_in_tie c now i l Discharged w e = discharged_fired-is c now i l w ∙ discharged_due_tie c i l w (nat_le (discharged_end c.answer c.rounds l) now) e
 fired_in_tie c now i l Heir w e = heir_due_tie c i l w (nat_le l.ripe now) e
 
-pub fired_at_tie : (c : Settings) (now i : ℕ) (slot : Option Link) (w : Work) → slot_at i w.ring.slots ≡ slot → rules.fired_at c now i slot w ≡ finished false (fired_at now (announce_of w.ring) i slot (links_of c w.ring)) w
-fired_at_tie c now i None w e = same_tie c false w
+pub fired_at_tie : (c : Settings) (now i : ℕ) (slot : Option Link) (w : Work) → slot_at i w.ring.slots ≡ slot → rules.fired_at c now i slot w ≡ finished quiet (fired_at now (announce_of w.ring) i slot (links_of c w.ring)) w
+fired_at_tie c now i None w e = same_tie c quiet w
 fired_at_tie c now i (Some l) w e = fired_in_tie c now i l l.state w e
 
-pub firing_tie : (c : Settings) (now i : ℕ) (w : Work) → rules.slot_fired c now i w ≡ counted w (finished false (slot_fired now (announce_of w.ring) i (links_of c w.ring)) w)
+pub firing_tie : (c : Settings) (now i : ℕ) (w : Work) → rules.slot_fired c now i w ≡ counted w (finished quiet (slot_fired now (announce_of w.ring) i (links_of c w.ring)) w)
 firing_tie c now i w = slot_fired-is c now i w ∙ ap (counted w) (fired_at_tie c now i (slot_at i w.ring.slots) w refl)

@@ -1,6 +1,5 @@
 -- How ranges move, and how a session ends: Transfer and Gone.
-use Rattle.std.specs.Prelude.{ℕ, Bool, true, false, List, [], ◌∷◌, Option, Some, None, nat_le, nat_lt}
-use Rattle.ring_points.specs.declared.interval.Interval.{Interval}
+use Rattle.std.specs.Prelude.{ℕ, Bool, true, false, List, [], ◌∷◌, Option, Some, None, nat_lt}
 use Rattle.ring_points.specs.declared.who.Flight.{Flight}
 use Rattle.ring_points.specs.declared.who.Who.{Who}
 use Rattle.fabric_terms.specs.declared.message.Body.{Body}
@@ -14,22 +13,22 @@ use Rattle.link_core.specs.Links.{Links, Turn, Did, SlotRow, turn, did, stays, w
 
 -- A flight arrives once, with a number above the last one taken; the caller's token takes it where it fits.
 
-abbrev pub arrived_if : ℕ → Link → ℕ → List Interval → Bool → Turn
-arrived_if i l number part true = turn (Some l) [] (Arrived i (record { number = number; part = part }) ∷ [])
-arrived_if i l number part false = stays (Some l)
+abbrev pub arrived_if : ℕ → Link → Bool → Turn
+arrived_if i l true = turn (Some l) [] (Arrived i ∷ [])
+arrived_if i l false = stays (Some l)
 
-abbrev pub transfer_in : ℕ → List Interval → ℕ → Link → LinkState → Turn
-transfer_in number part i l state.Bound = arrived_if i l number part (nat_lt l.got number)
-transfer_in number part i l state.Parting = gone_said l
-transfer_in number part i l _ = stays (Some l)
+abbrev pub transfer_in : ℕ → ℕ → Link → LinkState → Turn
+transfer_in number i l state.Bound = arrived_if i l (nat_lt l.got number)
+transfer_in number i l state.Parting = gone_said l
+transfer_in number i l _ = stays (Some l)
 
-abbrev pub transfer_seen : ℕ → List Interval → ℕ → SlotRow
-transfer_seen number part i None = stays None
-transfer_seen number part i (Some l) = transfer_in number part i l l.state
+abbrev pub transfer_seen : ℕ → ℕ → SlotRow
+transfer_seen number i None = stays None
+transfer_seen number i (Some l) = transfer_in number i l l.state
 
-abbrev pub transfer_received : Who → ℕ → ℕ → ℕ → List Interval → Links → Did
-transfer_received from theirs own number part k =
-    in_found (transfer_seen number part) (unknown from theirs own k) k (slot_where (of_session from own theirs) k.slots)
+abbrev pub transfer_received : Who → ℕ → ℕ → ℕ → Links → Did
+transfer_received from theirs own number k =
+    in_found (transfer_seen number) (unknown from theirs own k) k (slot_where (of_session from own theirs) k.slots)
 
 -- The peer has no record and never will. A flight that it did not get comes back to the caller's token where it fits. Else
 -- the peer gets its answer if it wants one, the slot ends, and a freeze for it is the caller's to undo.
@@ -45,18 +44,14 @@ last_words l bound = answers bound l.peer (body.Gone l.mine l.yours l.got false)
 abbrev pub closed : ℕ → Link → Bool → Turn
 closed i l bound = turn None (last_words l bound) (Undo i ∷ [])
 
-abbrev pub lost_if : Flight → Bool → Option Flight
-lost_if f true = None
-lost_if f false = Some f
+-- a flight to the peer stands that it did not get
+abbrev pub is_lost : ℕ → Option Flight → Bool
+is_lost got None = false
+is_lost got (Some f) = nat_lt got f.number
 
--- the flight to the peer that it did not get
-abbrev pub lost_flight : ℕ → Option Flight → Option Flight
-lost_flight got None = None
-lost_flight got (Some f) = lost_if f (nat_le f.number got)
-
-abbrev pub gone_heard : ℕ → Link → Bool → Option Flight → Turn
-gone_heard i l bound None = closed i l bound
-gone_heard i l bound (Some f) = turn (Some l) [] (Return i f ∷ [])
+abbrev pub gone_heard : ℕ → Link → Bool → Bool → Turn
+gone_heard i l bound false = closed i l bound
+gone_heard i l bound true = turn (Some l) [] (Return i ∷ [])
 
 -- a slot that stands
 abbrev pub stands : LinkState → Bool
@@ -66,7 +61,7 @@ stands state.Parting = true
 stands _ = false
 
 abbrev pub gone_if : ℕ → Bool → ℕ → Link → Bool → Turn
-gone_if got bound i l true = gone_heard i l bound (lost_flight got l.flight)
+gone_if got bound i l true = gone_heard i l bound (is_lost got l.flight)
 gone_if got bound i l false = stays (Some l)
 
 abbrev pub gone_seen : ℕ → Bool → ℕ → SlotRow

@@ -15,7 +15,7 @@ use Rattle.link_core.specs.Calls.{part_call}
 use Rattle.link_core.specs.Firing.{slot_fired}
 use Rattle.link_core.specs.Frames.{frame_row}
 use Rattle.link_core.specs.Handshakes.{greet, greeting}
-use Rattle.link_core.specs.Ties.{links_of, announce_of, finished, wants_answer, is_search, greeted, parted}
+use Rattle.link_core.specs.Ties.{links_of, announce_of, finished, cause_of, is_search, quiet, greeted, parted}
 
 -- a frame
 abbrev pub Hearing : Type 0
@@ -23,13 +23,13 @@ Hearing =
     (c : Settings) (now : ℕ) (from : Who) (b : Body) (w : Work) →
     IsTrue (has_numbers w.ring) →
     is_search b ≡ false →
-    counted w (rules_of_frames.frame_row c now from b w) ≡ counted w (finished (wants_answer b) (frame_row now (announce_of w.ring) from b (links_of c w.ring)) w)
+    counted w (rules_of_frames.frame_row c now from b w) ≡ counted w (finished (cause_of b) (frame_row now (announce_of w.ring) from b (links_of c w.ring)) w)
 
 -- a firing at one slot
 abbrev pub Firing : Type 0
 Firing =
     (c : Settings) (now i : ℕ) (w : Work) →
-    rules.slot_fired c now i w ≡ counted w (finished false (slot_fired now (announce_of w.ring) i (links_of c w.ring)) w)
+    rules.slot_fired c now i w ≡ counted w (finished quiet (slot_fired now (announce_of w.ring) i (links_of c w.ring)) w)
 
 -- a greeting
 abbrev pub Greeting : Type 0

@@ -1,5 +1,6 @@
 -- How the rows of links are the rows of a node's ring: what a node has of links, and what it does for a note.
 use Rattle.std.specs.Prelude.{◌≡◌, ℕ, Bool, IsTrue, true, false, List, [], ◌∷◌, ◌++◌, Option, Some, None, Result, Ok, Err}
+use Rattle.ring_points.specs.declared.interval.Interval.{Interval}
 use Rattle.ring_points.specs.declared.who.Flight.{Flight}
 use Rattle.ring_points.specs.declared.who.Who.{Who}
 use Rattle.fabric_terms.specs.declared.message.Body.{Body}
@@ -64,35 +65,64 @@ abbrev pub arrived_at : ℕ → Flight → Option Link → Work → Work
 arrived_at i f None w = w
 arrived_at i f (Some l) w = take_flight i l f.number f.part w (can_gain w.ring.token f.part)
 
-abbrev pub returned_at : ℕ → Flight → Bool → Option Link → Work → Work
-returned_at i f gone None w = w
-returned_at i f gone (Some l) w = flight_returned i l f gone w (can_gain w.ring.token f.part)
+-- What the notes of a row answer: whether the peer is gone and wants an answer, and the flight that it brings.
+pub record Cause : Type 0 where
+  pub gone : Bool
+  pub flight : Option Flight
+
+-- a firing, and a frame that says neither
+abbrev pub quiet : Cause
+quiet = record { gone = false; flight = None }
+
+abbrev pub parts_from : Bool → Cause
+parts_from bound = record { gone = bound; flight = None }
+
+abbrev pub brings : ℕ → List Interval → Cause
+brings number part = record { gone = false; flight = Some (record { number = number; part = part }) }
+
+abbrev pub cause_of : Body → Cause
+cause_of (body.Gone mine yours got bound) = parts_from bound
+cause_of (body.Transfer mine yours flight ranges) = brings flight ranges
+cause_of _ = quiet
+
+-- the flight that came, where one did
+abbrev pub arrived_in : ℕ → Option Flight → Option Link → Work → Work
+arrived_in i None l w = w
+arrived_in i (Some f) l w = arrived_at i f l w
+
+abbrev pub returned_by : ℕ → Link → Bool → Option Flight → Work → Work
+returned_by i l gone None w = w
+returned_by i l gone (Some f) w = flight_returned i l f gone w (can_gain w.ring.token f.part)
+
+-- the flight of the slot, where one stands
+abbrev pub returned_in : ℕ → Bool → Option Link → Work → Work
+returned_in i gone None w = w
+returned_in i gone (Some l) w = returned_by i l gone l.flight w
 
 abbrev pub ripe_in : ℕ → Option Link → Work → Work
 ripe_in i None w = w
 ripe_in i (Some l) w = inherit i l (inherited w.ring.token l.held (flight_part l.flight)) w
 
--- the flag says whether the peer that is gone wants an answer
-abbrev pub noted : Bool → LinkNote → Work → Work
-noted gone BoundNow w = set_phase bound_phase w
-noted gone (Wanted i) w = wanted_at i (slot_at i w.ring.slots) w
-noted gone (Arrived i f) w = arrived_at i f (slot_at i w.ring.slots) w
-noted gone (Return i f) w = returned_at i f gone (slot_at i w.ring.slots) w
-noted gone (Undo i) w = undo_freeze i w
-noted gone (AccusedNow who) w = tell (report.Accused who) w
-noted gone (DischargedNow who) w = tell (report.Discharged who) w
-noted gone (HeirNow who ripe) w = tell (report.Heir who ripe) w
-noted gone (Ripe i) w = ripe_in i (slot_at i w.ring.slots) w
-noted gone (Leave why) w = leave why w
+abbrev pub noted : Cause → LinkNote → Work → Work
+noted cause BoundNow w = set_phase bound_phase w
+noted cause (Wanted i) w = wanted_at i (slot_at i w.ring.slots) w
+noted cause (Arrived i) w = arrived_in i cause.flight (slot_at i w.ring.slots) w
+noted cause (Return i) w = returned_in i cause.gone (slot_at i w.ring.slots) w
+noted cause (Undo i) w = undo_freeze i w
+noted cause (AccusedNow who) w = tell (report.Accused who) w
+noted cause (DischargedNow who) w = tell (report.Discharged who) w
+noted cause (HeirNow who ripe) w = tell (report.Heir who ripe) w
+noted cause (Ripe i) w = ripe_in i (slot_at i w.ring.slots) w
+noted cause (Leave why) w = leave why w
 
 -- in their order
-abbrev pub all_noted : Bool → List LinkNote → Work → Work
-all_noted gone [] w = w
-all_noted gone (n ∷ ns) w = all_noted gone ns (noted gone n w)
+abbrev pub all_noted : Cause → List LinkNote → Work → Work
+all_noted cause [] w = w
+all_noted cause (n ∷ ns) w = all_noted cause ns (noted cause n w)
 
 -- a step with what a row did, once its notes are done
-abbrev pub finished : Bool → Did → Work → Work
-finished gone d w = all_noted gone d.notes (with_did d w)
+abbrev pub finished : Cause → Did → Work → Work
+finished cause d w = all_noted cause d.notes (with_did d w)
 
 -- the ring of a step has these links and announces this, and no number of it is past the last
 pub record HasLinks (k : Links) (a : Announce) (c : Settings) (r : Ring) : Type 0 where
@@ -102,17 +132,12 @@ pub record HasLinks (k : Links) (a : Announce) (c : Settings) (r : Ring) : Type 
 
 -- A call on links is a row of the rules: in any step whose ring has these links and whose frames so far end with these,
 -- the row comes to the same as the links and the frames after the call, once the notes are done.
-abbrev pub Does : (Settings → Work → Work) → Bool → Links → Announce → List (Who × Body) → Did → Type 0
-Does row gone old a out d =
+abbrev pub Does : (Settings → Work → Work) → Cause → Links → Announce → List (Who × Body) → Did → Type 0
+Does row cause old a out d =
     (c : Settings) (w : Work) (before : List (Who × Body)) →
     HasLinks old a c w.ring →
     w.sent ≡ before ++ out →
-    counted w (row c w) ≡ counted w (all_noted gone d.notes (record w { ring = with_links d.links w.ring; sent = before ++ d.sent }))
-
--- whether a frame says that its sender is gone and wants an answer
-abbrev pub wants_answer : Body → Bool
-wants_answer (body.Gone mine yours got bound) = bound
-wants_answer _ = false
+    counted w (row c w) ≡ counted w (all_noted cause d.notes (record w { ring = with_links d.links w.ring; sent = before ++ d.sent }))
 
 -- a frame of a search is no row of links
 abbrev pub is_search : Body → Bool

@@ -1,12 +1,12 @@
 ghost use Rattle.std.specs.Prelude.{◌≡◌, ◌<◌, ◌++◌, [], Some, length};
 ghost use Rattle.link_core.specs.Calls.{flight_sent, flight_taken, slot_closed};
-ghost use Rattle.link_core.specs.Flights.{gone_seen, last_words, lost_flight, stands, transfer_seen};
+ghost use Rattle.link_core.specs.Flights.{gone_seen, is_lost, last_words, stands, transfer_seen};
 ghost use Rattle.link_core.specs.Links.{turn, turn_after};
 
 use crate::notes::{LinkNote, LinkNotes};
 use crate::say::{self, say_gone};
 use fabric_terms::Body;
-use ring_points::{Flight, RangeSet};
+use ring_points::Flight;
 use ring_rules::{Link, LinkState};
 use ring_wire::Outbox;
 
@@ -15,23 +15,16 @@ pub(crate) fn transfer_seen(
     i: usize,
     slot: &mut Option<Link>,
     number: u32,
-    part: &RangeSet,
     out: &mut Outbox,
 ) -> LinkNotes
     requires { length out.old < 192 }
-    ensures { turn slot.new out.new result ≡ turn_after out.old (transfer_seen number part.now i slot.old) }
+    ensures { turn slot.new out.new result ≡ turn_after out.old (transfer_seen number i slot.old) }
 {
     let Some(link) = slot else {
         return LinkNotes::none();
     };
     match link.state {
-        LinkState::Bound if link.got < number => LinkNotes::one(LinkNote::Arrived(
-            i,
-            Flight {
-                number,
-                part: part.copy(),
-            },
-        )),
+        LinkState::Bound if link.got < number => LinkNotes::one(LinkNote::Arrived(i)),
         LinkState::Parting => {
             say_gone(link, out);
             LinkNotes::none()
@@ -54,13 +47,13 @@ fn last_words(link: &Link, bound: bool, out: &mut Outbox)
     say::answer(bound, link.peer, gone, out);
 }
 
-/// The flight to the peer that it did not get.
-fn lost_flight(link: &Link, got: u32) -> Option<Flight>
-    ensures { result ≡ lost_flight got link.now.flight }
+/// A flight to the peer stands that it did not get.
+fn is_lost(link: &Link, got: u32) -> bool
+    ensures { result ≡ is_lost got link.now.flight }
 {
     match &link.flight {
-        Some(flight) if got < flight.number => Some(flight.copy()),
-        _ => None,
+        Some(flight) => got < flight.number,
+        None => false,
     }
 }
 
@@ -91,8 +84,8 @@ pub(crate) fn gone_seen(
     if !stands(link.state) {
         return LinkNotes::none();
     }
-    if let Some(flight) = lost_flight(link, got) {
-        return LinkNotes::one(LinkNote::Return(i, flight));
+    if is_lost(link, got) {
+        return LinkNotes::one(LinkNote::Return(i));
     }
     last_words(link, bound, out);
     *slot = None;

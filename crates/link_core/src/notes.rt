@@ -2,7 +2,7 @@ ghost use Rattle.std.specs.Prelude.{◌≡◌, ◌≤◌, [], ◌∷◌, length}
 
 use arrayvec::ArrayVec;
 use fabric_terms::Why;
-use ring_points::{Flight, Who};
+use ring_points::Who;
 use std::default::Default;
 use std::marker::Model;
 
@@ -13,11 +13,11 @@ pub enum LinkNote {
     BoundNow,
     /// The peer wants ranges: where the node may, it freezes the nearer part for the slot.
     Wanted(usize),
-    /// A flight of the peer has arrived: where the token takes it, `took` follows.
-    Arrived(usize, Flight),
-    /// The peer did not get this flight: where the token takes it back, a freeze for the slot is undone, and `close`
-    /// follows with the Gone's flag.
-    Return(usize, Flight),
+    /// The flight of the frame has arrived: where the token takes it, `took` follows.
+    Arrived(usize),
+    /// The peer did not get the slot's flight: where the token takes it back, a freeze for the slot is undone, and
+    /// `close` follows with the Gone's flag.
+    Return(usize),
     /// A freeze for the slot, if there is one, is undone.
     Undo(usize),
     /// This instance is accused.

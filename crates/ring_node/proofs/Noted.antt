@@ -7,7 +7,7 @@ use Rattle.fabric_terms.specs.declared.report.Report.{Report}
 use Rattle.fabric_terms.specs.declared.report.Report.TheVariants.{Returned}
 use Rattle.link_core.specs.declared.notes.LinkNote.{LinkNote}
 use Rattle.link_core.specs.declared.notes.LinkNote.TheVariants as note
-use Rattle.link_core.specs.Ties.{all_noted, arrived_at, noted, returned_at, ripe_in, wanted_at}
+use Rattle.link_core.specs.Ties.{Cause, all_noted, arrived_at, arrived_in, noted, returned_by, returned_in, ripe_in, wanted_at}
 use Rattle.ring_node.specs.Nodes.{IsBroken, IsBrokenOff, Step, by}
 use Rattle.ring_points.specs.declared.interval.Interval.{Interval}
 use Rattle.ring_points.specs.declared.who.Flight.{Flight}
@@ -103,9 +103,17 @@ keeps_returned_if i l f gone w true =
     keeps_both w (returning l f w) (close i l gone (returning l f w)) (record { me = refl; accused = refl; sessions = refl; routes = refl; target = refl; flights = refl; version = omega arith; sent = take-length w.sent; told = take-append_seam w.told (Returned l.peer f.number f.part ∷ []) }) (keeps_close i l gone (returning l f w))
 keeps_returned_if i l f gone w false = keeps w
 
-keeps_returned : (i : ℕ) (f : Flight) (gone : Bool) (slot : Option Link) (w : Work) → Keeps w (returned_at i f gone slot w)
-keeps_returned i f gone None w = keeps w
-keeps_returned i f gone (Some l) w = keeps_returned_if i l f gone w (can_gain w.ring.token f.part)
+keeps_arrived_in : (i : ℕ) (f : Option Flight) (slot : Option Link) (w : Work) → Keeps w (arrived_in i f slot w)
+keeps_arrived_in i None slot w = keeps w
+keeps_arrived_in i (Some f) slot w = keeps_arrived i f slot w
+
+keeps_returned_by : (i : ℕ) (l : Link) (gone : Bool) (f : Option Flight) (w : Work) → Keeps w (returned_by i l gone f w)
+keeps_returned_by i l gone None w = keeps w
+keeps_returned_by i l gone (Some f) w = keeps_returned_if i l f gone w (can_gain w.ring.token f.part)
+
+keeps_returned : (i : ℕ) (gone : Bool) (slot : Option Link) (w : Work) → Keeps w (returned_in i gone slot w)
+keeps_returned i gone None w = keeps w
+keeps_returned i gone (Some l) w = keeps_returned_by i l gone l.flight w
 
 keeps_take_over : (i : ℕ) (l : Link) (added : List Interval) (w : Work) (may : Bool) → Keeps w (take_over i l added w may)
 keeps_take_over i l added w true = record { me = refl; accused = refl; sessions = refl; routes = refl; target = refl; flights = refl; version = omega arith; sent = take-length w.sent; told = take-append_seam w.told _ }
@@ -119,21 +127,21 @@ keeps_ripe i (Some l) w = let added = inherited w.ring.token l.held (flight_part
 keeps_told : (w : Work) (r : Report) → Keeps w (record w { told = w.told ++ r ∷ [] })
 keeps_told w r = record { me = refl; accused = refl; sessions = refl; routes = refl; target = refl; flights = refl; version = omega arith; sent = take-length w.sent; told = take-append_seam w.told (r ∷ []) }
 
-pub noted_keeps : (gone : Bool) (n : LinkNote) (w : Work) → Keeps w (noted gone n w)
-noted_keeps gone note.BoundNow w = record { me = refl; accused = refl; sessions = refl; routes = refl; target = refl; flights = refl; version = omega arith; sent = take-length w.sent; told = take-length w.told }
-noted_keeps gone (note.Wanted i) w = keeps_wanted i (slot_at i w.ring.slots) w
-noted_keeps gone (note.Arrived i f) w = keeps_arrived i f (slot_at i w.ring.slots) w
-noted_keeps gone (note.Return i f) w = keeps_returned i f gone (slot_at i w.ring.slots) w
-noted_keeps gone (note.Undo i) w = keeps_undo i w
-noted_keeps gone (note.AccusedNow who) w = keeps_told w _
-noted_keeps gone (note.DischargedNow who) w = keeps_told w _
-noted_keeps gone (note.HeirNow who ripe) w = keeps_told w _
-noted_keeps gone (note.Ripe i) w = keeps_ripe i (slot_at i w.ring.slots) w
-noted_keeps gone (note.Leave why) w = record { me = refl; accused = refl; sessions = refl; routes = refl; target = refl; flights = refl; version = omega arith; sent = take-length w.sent; told = take-append_seam w.told _ }
+pub noted_keeps : (cause : Cause) (n : LinkNote) (w : Work) → Keeps w (noted cause n w)
+noted_keeps cause note.BoundNow w = record { me = refl; accused = refl; sessions = refl; routes = refl; target = refl; flights = refl; version = omega arith; sent = take-length w.sent; told = take-length w.told }
+noted_keeps cause (note.Wanted i) w = keeps_wanted i (slot_at i w.ring.slots) w
+noted_keeps cause (note.Arrived i) w = keeps_arrived_in i cause.flight (slot_at i w.ring.slots) w
+noted_keeps cause (note.Return i) w = keeps_returned i cause.gone (slot_at i w.ring.slots) w
+noted_keeps cause (note.Undo i) w = keeps_undo i w
+noted_keeps cause (note.AccusedNow who) w = keeps_told w _
+noted_keeps cause (note.DischargedNow who) w = keeps_told w _
+noted_keeps cause (note.HeirNow who ripe) w = keeps_told w _
+noted_keeps cause (note.Ripe i) w = keeps_ripe i (slot_at i w.ring.slots) w
+noted_keeps cause (note.Leave why) w = record { me = refl; accused = refl; sessions = refl; routes = refl; target = refl; flights = refl; version = omega arith; sent = take-length w.sent; told = take-append_seam w.told _ }
 
-pub all_noted_keeps : (gone : Bool) (ns : List LinkNote) (w : Work) → Keeps w (all_noted gone ns w)
-all_noted_keeps gone [] w = keeps w
-all_noted_keeps gone (n ∷ ns) w = keeps_both w (noted gone n w) (all_noted gone ns (noted gone n w)) (noted_keeps gone n w) (all_noted_keeps gone ns (noted gone n w))
+pub all_noted_keeps : (cause : Cause) (ns : List LinkNote) (w : Work) → Keeps w (all_noted cause ns w)
+all_noted_keeps cause [] w = keeps w
+all_noted_keeps cause (n ∷ ns) w = keeps_both w (noted cause n w) (all_noted cause ns (noted cause n w)) (noted_keeps cause n w) (all_noted_keeps cause ns (noted cause n w))
 
 no_numbers : (a b s f : ℕ) → a ≤ b → (nat_le a 4294967295 && nat_le s 4294967296 && nat_le f 4294967296) ≡ false → (nat_le b 4294967295 && nat_le s 4294967296 && nat_le f 4294967296) ≡ false
 no_numbers a b s f h e = grind (arith, nat_tests)
@@ -143,25 +151,25 @@ pub no_numbers_kept : (w v : Work) → Keeps w v → has_numbers w.ring ≡ fals
 no_numbers_kept w v k h = rw (k.sessions, k.flights) (no_numbers w.ring.token.version v.ring.token.version w.ring.next_session w.ring.token.next_flight k.version h)
 
 -- the notes up to this place are done: the others are left to do
-pub record SoFar (gone : Bool) (notes : List LinkNote) (i : ℕ) (s t : Step) : Type 0 where
-  pub rest : by (λ c. all_noted gone (drop i notes)) t ≡ by (λ c. all_noted gone notes) s
+pub record SoFar (cause : Cause) (notes : List LinkNote) (i : ℕ) (s t : Step) : Type 0 where
+  pub rest : by (λ c. all_noted cause (drop i notes)) t ≡ by (λ c. all_noted cause notes) s
   pub settings : t.settings ≡ s.settings
   pub keeps : Keeps s.work t.work
 
-pub so_far_more : (gone : Bool) (notes : List LinkNote) (i : ℕ) (n : LinkNote) (s t u : Step) → i < length notes → n ≡ get_or notes i n → SoFar gone notes i s t → u ≡ by (λ c. noted gone n) t → SoFar gone notes (i + 1) s u
-so_far_more gone notes i n s t u h e k f = record {
-  rest = rw f (ap (λ (m : LinkNote). by (λ c. all_noted gone (m ∷ drop (i + 1) notes)) t) e ∙ sym (at_drop_more (λ (ns : List LinkNote). by (λ c. all_noted gone ns) t) notes i n h) ∙ k.rest);
+pub so_far_more : (cause : Cause) (notes : List LinkNote) (i : ℕ) (n : LinkNote) (s t u : Step) → i < length notes → n ≡ get_or notes i n → SoFar cause notes i s t → u ≡ by (λ c. noted cause n) t → SoFar cause notes (i + 1) s u
+so_far_more cause notes i n s t u h e k f = record {
+  rest = rw f (ap (λ (m : LinkNote). by (λ c. all_noted cause (m ∷ drop (i + 1) notes)) t) e ∙ sym (at_drop_more (λ (ns : List LinkNote). by (λ c. all_noted cause ns) t) notes i n h) ∙ k.rest);
   settings = ap (λ (x : Step). x.settings) f ∙ k.settings;
-  keeps = rw f (keeps_both s.work t.work (noted gone n t.work) k.keeps (noted_keeps gone n t.work));
+  keeps = rw f (keeps_both s.work t.work (noted cause n t.work) k.keeps (noted_keeps cause n t.work));
 }
 
-pub so_far_broken : (gone : Bool) (notes : List LinkNote) (i : ℕ) (n : LinkNote) (s t u : Step) → i < length notes → n ≡ get_or notes i n → SoFar gone notes i s t → IsBroken (λ c. noted gone n) t u → IsBrokenOff (λ c. all_noted gone notes) s u
-so_far_broken gone notes i n s t u h e k b =
-    let v = noted gone n t.work in
-    let same : by (λ c. all_noted gone (drop (i + 1) notes)) (by (λ c. noted gone n) t) ≡ by (λ c. all_noted gone notes) s =
-    ap (λ (m : LinkNote). by (λ c. all_noted gone (m ∷ drop (i + 1) notes)) t) e ∙ sym (at_drop_more (λ (ns : List LinkNote). by (λ c. all_noted gone ns) t) notes i n h) ∙ k.rest in
+pub so_far_broken : (cause : Cause) (notes : List LinkNote) (i : ℕ) (n : LinkNote) (s t u : Step) → i < length notes → n ≡ get_or notes i n → SoFar cause notes i s t → IsBroken (λ c. noted cause n) t u → IsBrokenOff (λ c. all_noted cause notes) s u
+so_far_broken cause notes i n s t u h e k b =
+    let v = noted cause n t.work in
+    let same : by (λ c. all_noted cause (drop (i + 1) notes)) (by (λ c. noted cause n) t) ≡ by (λ c. all_noted cause notes) s =
+    ap (λ (m : LinkNote). by (λ c. all_noted cause (m ∷ drop (i + 1) notes)) t) e ∙ sym (at_drop_more (λ (ns : List LinkNote). by (λ c. all_noted cause ns) t) notes i n h) ∙ k.rest in
     record {
-      numbers = sym (ap (λ (x : Step). has_numbers x.work.ring) same) ∙ no_numbers_kept v (all_noted gone (drop (i + 1) notes) v) (all_noted_keeps gone (drop (i + 1) notes) v) b.numbers;
+      numbers = sym (ap (λ (x : Step). has_numbers x.work.ring) same) ∙ no_numbers_kept v (all_noted cause (drop (i + 1) notes) v) (all_noted_keeps cause (drop (i + 1) notes) v) b.numbers;
       patched = record {
         settings = ap (λ (x : Step). x.settings) b.rest ∙ k.settings;
         me = ap (λ (x : Step). x.work.ring.me) b.rest ∙ k.keeps.me;

@@ -8,7 +8,7 @@ use Rattle.fabric_terms.specs.declared.report.Why.TheVariants.{Counters}
 use Rattle.link_core.specs.declared.notes.LinkNote.{LinkNote}
 use Rattle.link_core.specs.Links.{Did, Links, did, did_after}
 use Rattle.link_core.specs.declared.announce.Announce.{Announce}
-use Rattle.link_core.specs.Ties.{Does, all_noted, announce_of}
+use Rattle.link_core.specs.Ties.{Cause, Does, all_noted, announce_of}
 use Rattle.join_phases.specs.declared.phases.Phase.{Phase}
 use Rattle.ring_route.specs.Routes.{Routes}
 use Rattle.token_core.specs.Tokens.{Token}
@@ -52,7 +52,7 @@ abbrev stepped : Settings → Work → Step
 stepped c w = record { settings = c; work = w }
 
 -- a row whose notes are done
-pub row_done : (row : Settings → Work → Work) (gone : Bool) (notes : List LinkNote) (old mid new : Step) → counted old.work (row old.settings old.work) ≡ counted old.work (all_noted gone notes mid.work) → mid.settings ≡ old.settings → new ≡ by (λ c. all_noted gone notes) mid → IsTrue (has_numbers new.work.ring) → new ≡ by (λ c w. counted w (row c w)) old
+pub row_done : (row : Settings → Work → Work) (gone : Cause) (notes : List LinkNote) (old mid new : Step) → counted old.work (row old.settings old.work) ≡ counted old.work (all_noted gone notes mid.work) → mid.settings ≡ old.settings → new ≡ by (λ c. all_noted gone notes) mid → IsTrue (has_numbers new.work.ring) → new ≡ by (λ c w. counted w (row c w)) old
 row_done row gone notes old mid new e s f h =
     let x = all_noted gone notes mid.work in
     let w : new.work ≡ x = ap (λ (t : Step). t.work) f in
@@ -61,7 +61,7 @@ row_done row gone notes old mid new e s f h =
     f ∙ ap (λ (c : Settings). stepped c x) s ∙ ap (stepped old.settings) (sym (e ∙ kept))
 
 -- a row whose notes broke off
-pub row_broken : (row : Settings → Work → Work) (gone : Bool) (notes : List LinkNote) (old mid cur new : Step) → counted old.work (row old.settings old.work) ≡ counted old.work (all_noted gone notes mid.work) → IsBrokenOff (λ c. all_noted gone notes) mid cur → new ≡ by (λ c. leave Counters) old → new ≡ by (λ c w. counted w (row c w)) old
+pub row_broken : (row : Settings → Work → Work) (gone : Cause) (notes : List LinkNote) (old mid cur new : Step) → counted old.work (row old.settings old.work) ≡ counted old.work (all_noted gone notes mid.work) → IsBrokenOff (λ c. all_noted gone notes) mid cur → new ≡ by (λ c. leave Counters) old → new ≡ by (λ c w. counted w (row c w)) old
 row_broken row gone notes old mid cur new e b f =
     let x = all_noted gone notes mid.work in
     let t : has_numbers x.ring ≡ false = b.numbers in
@@ -79,23 +79,23 @@ mid_of n K k token routes phase target near out told e kept =
     ∙ ap (λ (m : Node). step (node_of (links_of (with_links k m)) token routes phase target near) out told) e
     ∙ sym (ap (λ (m : Node). step (with_links k m) out told) e)
 
-does_is : (row : Row) (flag : Bool) (n : Node) (k : Links) (a : Announce) (out out' : List (Who × Body)) (told : List Report) (notes : List LinkNote) → Does row flag (links_of n) a out (did k out' notes) → a ≡ announce_of n.ring → IsTrue (has_numbers n.ring) → counted (step n out told).work (row n.settings (step n out told).work) ≡ counted (step n out told).work (all_noted flag notes (step (with_links k n) out' told).work)
+does_is : (row : Row) (flag : Cause) (n : Node) (k : Links) (a : Announce) (out out' : List (Who × Body)) (told : List Report) (notes : List LinkNote) → Does row flag (links_of n) a out (did k out' notes) → a ≡ announce_of n.ring → IsTrue (has_numbers n.ring) → counted (step n out told).work (row n.settings (step n out told).work) ≡ counted (step n out told).work (all_noted flag notes (step (with_links k n) out' told).work)
 does_is row flag n k a out out' told notes d e h = d n.settings (step n out told).work [] (record { links = refl; announce = sym e; numbers = h }) refl
 
-pub links_ok : (row : Row) (flag : Bool) (n : Node) (K k : Links) (token : Token) (routes : Routes) (phase : Phase) (target : Option ℕ) (near : ℕ) (a : Announce) (gone : Bool) (notes ns : List LinkNote) (out out' : List (Who × Body)) (told : List Report) (new : Step) → n ≡ node_of K token routes phase target near → Does row flag K a out (did k out' notes) → k ≡ links_of (with_links k n) → a ≡ announce_of n.ring → IsTrue (has_numbers n.ring) → gone ≡ flag → ns ≡ notes → new ≡ by (λ c. all_noted gone ns) (step (node_of k token routes phase target near) out' told) → IsTrue (has_numbers new.work.ring) → new ≡ by (λ c w. counted w (row c w)) (step n out told)
+pub links_ok : (row : Row) (flag : Cause) (n : Node) (K k : Links) (token : Token) (routes : Routes) (phase : Phase) (target : Option ℕ) (near : ℕ) (a : Announce) (gone : Cause) (notes ns : List LinkNote) (out out' : List (Who × Body)) (told : List Report) (new : Step) → n ≡ node_of K token routes phase target near → Does row flag K a out (did k out' notes) → k ≡ links_of (with_links k n) → a ≡ announce_of n.ring → IsTrue (has_numbers n.ring) → gone ≡ flag → ns ≡ notes → new ≡ by (λ c. all_noted gone ns) (step (node_of k token routes phase target near) out' told) → IsTrue (has_numbers new.work.ring) → new ≡ by (λ c w. counted w (row c w)) (step n out told)
 links_ok row flag n K k token routes phase target near a gone notes ns out out' told new e d kept f h g m r q =
     row_done row flag notes (step n out told) (step (with_links k n) out' told) new
     (does_is row flag n k a out out' told notes (let P : Links → Type 0 = λ x. Does row flag x a out (did k out' notes) in subst P (sym (ap links_of e)) d) f h)
     refl
-    (r ∙ ap (λ (b : Bool). by (λ c. all_noted b ns) (step (node_of k token routes phase target near) out' told)) g
+    (r ∙ ap (λ (b : Cause). by (λ c. all_noted b ns) (step (node_of k token routes phase target near) out' told)) g
     ∙ ap (λ (xs : List LinkNote). by (λ c. all_noted flag xs) (step (node_of k token routes phase target near) out' told)) m
     ∙ ap (by (λ c. all_noted flag notes)) (mid_of n K k token routes phase target near out' told e kept))
     q
 
-pub links_broken : (row : Row) (flag : Bool) (n : Node) (K k : Links) (token : Token) (routes : Routes) (phase : Phase) (target : Option ℕ) (near : ℕ) (a : Announce) (gone : Bool) (notes ns : List LinkNote) (out out' : List (Who × Body)) (told : List Report) (mine : Did) (cur : Node) (out2 : List (Who × Body)) (told2 : List Report) (version sessions accused sent made : ℕ) → n ≡ node_of K token routes phase target near → Does row flag K a out (did k out' notes) → k ≡ links_of (with_links k n) → take (length n.ring.accused) k.accused ≡ n.ring.accused → did k out' notes ≡ did_after out mine → a ≡ announce_of n.ring → IsTrue (has_numbers n.ring) → gone ≡ flag → ns ≡ notes → IsBrokenOff (λ c. all_noted gone ns) (step (node_of k token routes phase target near) out' told) (step cur out2 told2) → version ≡ n.ring.token.version → sessions + 1 ≡ n.ring.next_session → accused ≡ length n.ring.accused → sent ≡ length out → made ≡ length told → step (left_at Counters version sessions accused cur) (take sent out2) (take made told2 ++ LeftRing Counters ∷ []) ≡ by (λ c w. counted w (row c w)) (step n out told)
+pub links_broken : (row : Row) (flag : Cause) (n : Node) (K k : Links) (token : Token) (routes : Routes) (phase : Phase) (target : Option ℕ) (near : ℕ) (a : Announce) (gone : Cause) (notes ns : List LinkNote) (out out' : List (Who × Body)) (told : List Report) (mine : Did) (cur : Node) (out2 : List (Who × Body)) (told2 : List Report) (version sessions accused sent made : ℕ) → n ≡ node_of K token routes phase target near → Does row flag K a out (did k out' notes) → k ≡ links_of (with_links k n) → take (length n.ring.accused) k.accused ≡ n.ring.accused → did k out' notes ≡ did_after out mine → a ≡ announce_of n.ring → IsTrue (has_numbers n.ring) → gone ≡ flag → ns ≡ notes → IsBrokenOff (λ c. all_noted gone ns) (step (node_of k token routes phase target near) out' told) (step cur out2 told2) → version ≡ n.ring.token.version → sessions + 1 ≡ n.ring.next_session → accused ≡ length n.ring.accused → sent ≡ length out → made ≡ length told → step (left_at Counters version sessions accused cur) (take sent out2) (take made told2 ++ LeftRing Counters ∷ []) ≡ by (λ c w. counted w (row c w)) (step n out told)
 links_broken row flag n K k token routes phase target near a gone notes ns out out' told mine cur out2 told2 version sessions accused sent made e d kept acc D f h g m b v s q o t =
     let mid = mid_of n K k token routes phase target near out' told e kept in
-    let c1 : IsBrokenOff (λ c. all_noted flag ns) (step (node_of k token routes phase target near) out' told) (step cur out2 told2) = let P : Bool → Type 0 = λ x. IsBrokenOff (λ c. all_noted x ns) (step (node_of k token routes phase target near) out' told) (step cur out2 told2) in subst P g b in
+    let c1 : IsBrokenOff (λ c. all_noted flag ns) (step (node_of k token routes phase target near) out' told) (step cur out2 told2) = let P : Cause → Type 0 = λ x. IsBrokenOff (λ c. all_noted x ns) (step (node_of k token routes phase target near) out' told) (step cur out2 told2) in subst P g b in
     let c2 : IsBrokenOff (λ c. all_noted flag notes) (step (node_of k token routes phase target near) out' told) (step cur out2 told2) = let P : List LinkNote → Type 0 = λ x. IsBrokenOff (λ c. all_noted flag x) (step (node_of k token routes phase target near) out' told) (step cur out2 told2) in subst P m c1 in
     let c3 : IsBrokenOff (λ c. all_noted flag notes) (step (with_links k n) out' told) (step cur out2 told2) = let P : Step → Type 0 = λ x. IsBrokenOff (λ c. all_noted flag notes) x (step cur out2 told2) in subst P mid c2 in
     let p : IsPatched (step n out told) (step cur out2 told2) = patched_both (step n out told) (step (with_links k n) out' told) (step cur out2 told2) (with_links_patched n k out told (did k out' notes) mine acc D) c3.patched in

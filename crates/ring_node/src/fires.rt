@@ -10,11 +10,14 @@ use crate::acked::all_acked;
 use crate::node::RingNode;
 use crate::reports::Reports;
 use crate::tokens::Spent;
-use fabric_terms::Report;
+use fabric_terms::{Body, Report};
 use join_phases::Phase;
 use link_core::SLOTS;
 use ring_wire::Outbox;
 use token_core::TokenRefusal;
+
+/// What notes of a firing answer: a frame that neither ends a session nor brings a flight.
+const NO_FRAME: Body = Body::Hello { mine: 0 };
 
 impl RingNode {
     /// What a firing does at this slot, whether it is free or not.
@@ -31,7 +34,7 @@ impl RingNode {
         let mark = self.mark(out, told);
         let announce = self.announce();
         let notes = self.links.due(i, now, &announce, out);
-        match self.notes(false, notes.as_slice(), out, told) {
+        match self.notes(&NO_FRAME, notes.as_slice(), out, told) {
             Ok(()) => {
                 let _ = self.is_left();
             }
@@ -164,7 +167,11 @@ impl RingNode {
         ensures short { length out.new ≤ length out.old + 8 }
     {
         if self.is_routing() {
-            return self.greet_near(now, out);
+            return if self.near == 0 {
+                Ok(())
+            } else {
+                self.greet_near(now, out)
+            };
         }
         if let Some(member) = self.target {
             self.seek_place(member, out);

@@ -1,6 +1,6 @@
 ghost use Rattle.std.specs.Prelude.{◌≡◌, ◌+◌, ◌<◌, ◌≤◌, IsTrue, false, length};
 ghost use Rattle.link_core.specs.Frames.{may_come};
-ghost use Rattle.link_core.specs.Ties.{is_search, wants_answer};
+ghost use Rattle.link_core.specs.Ties.{cause_of, is_search};
 ghost use Rattle.ring_node.specs.Nodes.{by, step};
 ghost use Rattle.ring_rules.specs.Deeds.{counted};
 ghost use Rattle.ring_rules.specs.Frames.{frame_row};
@@ -11,8 +11,8 @@ use fabric_terms::{Body, Message};
 use ring_wire::Outbox;
 
 /// Whether a frame says that its sender is gone and wants an answer.
-fn wants_answer(body: &Body) -> bool
-    ensures { result ≡ wants_answer body.now }
+pub(crate) fn wants_answer(body: &Body) -> bool
+    ensures { result ≡ (cause_of body.now).gone }
 {
     matches!(body, Body::Gone { bound: true, .. })
 }
@@ -37,9 +37,8 @@ impl RingNode {
     {
         let mark = self.mark(out, told);
         let announce = self.announce();
-        let gone = wants_answer(&message.body);
         let notes = self.links.on_frame(now, message, &announce, out);
-        match self.notes(gone, notes.as_slice(), out, told) {
+        match self.notes(&message.body, notes.as_slice(), out, told) {
             Ok(()) => {
                 let _ = self.is_left();
             }

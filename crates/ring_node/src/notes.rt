@@ -6,7 +6,7 @@ ghost use Rattle.fabric_terms.specs.declared.message.Body.{Body};
 ghost use Rattle.join_phases.specs.Phases.{is_routing};
 ghost use Rattle.link_core.specs.Calls.{call_in, slot_closed};
 ghost use Rattle.link_core.specs.Links.{did, did_after};
-ghost use Rattle.link_core.specs.Ties.{all_noted, arrived_at, noted, returned_at, ripe_in, wanted_at};
+ghost use Rattle.link_core.specs.Ties.{all_noted, arrived_at, arrived_in, cause_of, noted, returned_in, ripe_in, wanted_at};
 ghost use Rattle.ring_node.specs.Grants.{part_for};
 ghost use Rattle.ring_node.specs.Nodes.{IsBroken, IsBrokenOff, Rings, RingsBroken, by, links_of, step, with_links, with_token};
 ghost use Rattle.ring_points.specs.declared.who.Who.{Who};
@@ -16,9 +16,10 @@ use crate::near::nearer_part;
 use crate::node::RingNode;
 use crate::reports::Reports;
 use crate::tokens::Spent;
-use fabric_terms::Report;
+use crate::hears::wants_answer;
+use fabric_terms::{Body, Report};
 use link_core::LinkNote;
-use ring_points::{Flight, RangeSet, Who};
+use ring_points::{RangeSet, Who};
 use ring_wire::Outbox;
 use token_core::TokenRefusal;
 
@@ -76,20 +77,26 @@ impl RingNode {
     }
 
     /// A flight has arrived.
-    fn arrive(&mut self, i: usize, flight: &Flight, told: &mut Reports) -> Result<(), Spent>
+    fn arrive(
+        &mut self,
+        i: usize,
+        number: u32,
+        part: &RangeSet,
+        told: &mut Reports,
+    ) -> Result<(), Spent>
         requires { length told.old < 64 }
-        ensures ok { OnOk result ((sent : List (Who × Body)) → step self.new sent told.new ≡ by (λ c w. arrived_at i flight.now (slot_at i w.ring.slots) w) (step self.old sent told.old)) }
-        ensures err { OnErr result ((sent : List (Who × Body)) → IsBroken (λ c w. arrived_at i flight.now (slot_at i w.ring.slots) w) (step self.old sent told.old) (step self.new sent told.new)) }
+        ensures ok { OnOk result ((sent : List (Who × Body)) → step self.new sent told.new ≡ by (λ c w. arrived_at i (record { number = number; part = part.now }) (slot_at i w.ring.slots) w) (step self.old sent told.old)) }
+        ensures err { OnErr result ((sent : List (Who × Body)) → IsBroken (λ c w. arrived_at i (record { number = number; part = part.now }) (slot_at i w.ring.slots) w) (step self.old sent told.old) (step self.new sent told.new)) }
         ensures few { length told.new ≤ length told.old + 1 }
     {
         let Some(peer) = self.peer(i) else {
             return Ok(());
         };
-        match self.token.take(&flight.part) {
+        match self.token.take(part) {
             Ok(()) => {
-                self.links.took(i, flight.number);
+                self.links.took(i, number);
                 self.hold();
-                told.tell(Report::Took(peer, flight.number, flight.part.copy()));
+                told.tell(Report::Took(peer, number, part.copy()));
                 Ok(())
             }
             Err(TokenRefusal::Counters) => Err(Spent),
@@ -117,33 +124,51 @@ impl RingNode {
         }
     }
 
-    /// A flight comes back, and its slot ends.
+    /// The flight of the frame has arrived.
+    fn arrive_by(&mut self, i: usize, body: &Body, told: &mut Reports) -> Result<(), Spent>
+        requires { length told.old < 64 }
+        ensures ok { OnOk result ((sent : List (Who × Body)) → step self.new sent told.new ≡ by (λ c w. arrived_in i (cause_of body.now).flight (slot_at i w.ring.slots) w) (step self.old sent told.old)) }
+        ensures err { OnErr result ((sent : List (Who × Body)) → IsBroken (λ c w. arrived_in i (cause_of body.now).flight (slot_at i w.ring.slots) w) (step self.old sent told.old) (step self.new sent told.new)) }
+        ensures few { length told.new ≤ length told.old + 1 }
+    {
+        match body {
+            Body::Transfer { flight, ranges, .. } => self.arrive(i, *flight, ranges, told),
+            _ => Ok(()),
+        }
+    }
+
+    /// The flight of the slot comes back, and its slot ends.
     fn take_back(
         &mut self,
         i: usize,
-        flight: &Flight,
         gone: bool,
         out: &mut Outbox,
         told: &mut Reports,
     ) -> Result<(), Spent>
         requires room { length out.old < 192 }
         requires place { length told.old < 64 }
-        ensures ok { OnOk result (step self.new out.new told.new ≡ by (λ c w. returned_at i flight.now gone (slot_at i w.ring.slots) w) (step self.old out.old told.old)) }
-        ensures err { OnErr result (IsBroken (λ c w. returned_at i flight.now gone (slot_at i w.ring.slots) w) (step self.old out.old told.old) (step self.new out.new told.new)) }
+        ensures ok { OnOk result (step self.new out.new told.new ≡ by (λ c w. returned_in i gone (slot_at i w.ring.slots) w) (step self.old out.old told.old)) }
+        ensures err { OnErr result (IsBroken (λ c w. returned_in i gone (slot_at i w.ring.slots) w) (step self.old out.old told.old) (step self.new out.new told.new)) }
         ensures few { length told.new ≤ length told.old + 1 }
         ensures short { length out.new ≤ length out.old + 1 }
     {
-        let Some(peer) = self.peer(i) else {
+        let Some(Some(link)) = self.links.slots().get(i) else {
+            return Ok(());
+        };
+        let Some(flight) = &link.flight else {
             return Ok(());
         };
         match self.token.take(&flight.part) {
-            Ok(()) => match self.end(i, gone, out) {
-                Ok(()) => {
-                    told.tell(Report::Returned(peer, flight.number, flight.part.copy()));
-                    Ok(())
+            Ok(()) => {
+                let report = Report::Returned(link.peer, flight.number, flight.part.copy());
+                match self.end(i, gone, out) {
+                    Ok(()) => {
+                        told.tell(report);
+                        Ok(())
+                    }
+                    Err(spent) => Err(spent),
                 }
-                Err(spent) => Err(spent),
-            },
+            }
             Err(TokenRefusal::Counters) => Err(Spent),
             Err(_) => Ok(()),
         }
@@ -175,23 +200,23 @@ impl RingNode {
     /// Does what a note leaves to the node.
     fn note(
         &mut self,
-        gone: bool,
+        body: &Body,
         note: &LinkNote,
         out: &mut Outbox,
         told: &mut Reports,
     ) -> Result<(), Spent>
         requires room { length out.old < 192 }
         requires place { length told.old < 64 }
-        ensures ok { OnOk result (step self.new out.new told.new ≡ by (λ c. noted gone note.now) (step self.old out.old told.old)) }
-        ensures err { OnErr result (IsBroken (λ c. noted gone note.now) (step self.old out.old told.old) (step self.new out.new told.new)) }
+        ensures ok { OnOk result (step self.new out.new told.new ≡ by (λ c. noted (cause_of body.now) note.now) (step self.old out.old told.old)) }
+        ensures err { OnErr result (IsBroken (λ c. noted (cause_of body.now) note.now) (step self.old out.old told.old) (step self.new out.new told.new)) }
         ensures few { length told.new ≤ length told.old + 1 }
         ensures short { length out.new ≤ length out.old + 1 }
     {
         match note {
             LinkNote::BoundNow => self.bind(),
             LinkNote::Wanted(i) => return self.grant(*i),
-            LinkNote::Arrived(i, flight) => return self.arrive(*i, flight, told),
-            LinkNote::Return(i, flight) => return self.take_back(*i, flight, gone, out, told),
+            LinkNote::Arrived(i) => return self.arrive_by(*i, body, told),
+            LinkNote::Return(i) => return self.take_back(*i, wants_answer(body), out, told),
             LinkNote::Undo(i) => return self.undo(*i),
             LinkNote::AccusedNow(who) => told.tell(Report::Accused(*who)),
             LinkNote::DischargedNow(who) => told.tell(Report::Discharged(*who)),
@@ -202,23 +227,23 @@ impl RingNode {
         Ok(())
     }
 
-    /// Does what the notes leave to the node, in their order.
+    /// Does what the notes leave to the node, in their order. The body is that of the frame whose row it is.
     pub(crate) fn notes(
         &mut self,
-        gone: bool,
+        body: &Body,
         notes: &[LinkNote],
         out: &mut Outbox,
         told: &mut Reports,
     ) -> Result<(), Spent>
         requires room { length out.old + length notes.now ≤ 192 }
         requires place { length told.old + length notes.now ≤ 64 }
-        ensures ok { OnOk result (step self.new out.new told.new ≡ by (λ c. all_noted gone notes.now) (step self.old out.old told.old)) }
-        ensures err { OnErr result (IsBrokenOff (λ c. all_noted gone notes.now) (step self.old out.old told.old) (step self.new out.new told.new)) }
+        ensures ok { OnOk result (step self.new out.new told.new ≡ by (λ c. all_noted (cause_of body.now) notes.now) (step self.old out.old told.old)) }
+        ensures err { OnErr result (IsBrokenOff (λ c. all_noted (cause_of body.now) notes.now) (step self.old out.old told.old) (step self.new out.new told.new)) }
         ensures few { length told.new ≤ length told.old + length notes.now }
         ensures short { length out.new ≤ length out.old + length notes.now }
     {
         for note in notes {
-            match self.note(gone, note, out, told) {
+            match self.note(body, note, out, told) {
                 Ok(()) => {}
                 Err(spent) => return Err(spent),
             }

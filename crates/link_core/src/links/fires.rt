@@ -3,7 +3,7 @@ ghost use Rattle.ring_rules.specs.Firing as rules;
 ghost use Rattle.ring_rules.specs.Slots.{slot_at};
 ghost use Rattle.link_core.specs.Firing.{peer_accused, slot_fired};
 ghost use Rattle.link_core.specs.Links.{did, did_after};
-ghost use Rattle.link_core.specs.Ties.{Does};
+ghost use Rattle.link_core.specs.Ties.{Does, quiet};
 
 use crate::announce::Announce;
 use crate::firing::{Firing, ask_arbiters, is_over, spoken};
@@ -44,7 +44,7 @@ impl Links16 {
         requires now { now ≤ 1_000_000_000_000_000 }
         requires room { length out.old + 9 ≤ 192 }
         ensures did { did self.new out.new result ≡ did_after out.old (slot_fired now announce.now slot self.old) }
-        ensures row { Does (λ c w. rules.fired_at c now slot (slot_at slot w.ring.slots) w) false self.old announce.now out.old (did self.new out.new result) }
+        ensures row { Does (λ c w. rules.fired_at c now slot (slot_at slot w.ring.slots) w) quiet self.old announce.now out.old (did self.new out.new result) }
         ensures kept { self.new ≡ record self.old { slots = self.new.slots; accused = self.new.accused } }
         ensures accused { take (length self.old.accused) self.new.accused ≡ self.old.accused }
         ensures few { length out.new ≤ length out.old + 9 }

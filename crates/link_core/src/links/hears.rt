@@ -19,7 +19,7 @@ use crate::rounds::{self, Keeping};
 use crate::ruling::{self, Terms};
 use crate::{find, flight, handshake, say};
 use fabric_terms::Why;
-use ring_points::{RangeSet, Ruling, Who};
+use ring_points::{Ruling, Who};
 use ring_rules::LinkState;
 use ring_wire::Outbox;
 
@@ -222,14 +222,13 @@ impl Links16 {
         &mut self,
         session: Session,
         number: u32,
-        part: &RangeSet,
         out: &mut Outbox,
     ) -> LinkNotes
         requires { length out.old < 192 }
-        ensures { did self.new out.new result ≡ did_after out.old (transfer_received session.from session.theirs session.own number part.now self.old) }
+        ensures { did self.new out.new result ≡ did_after out.old (transfer_received session.from session.theirs session.own number self.old) }
     {
         match self.session(session) {
-            Some(i) => flight::transfer_seen(i, &mut self.slots[i], number, part, out),
+            Some(i) => flight::transfer_seen(i, &mut self.slots[i], number, out),
             None => {
                 session.say_unknown(out);
                 LinkNotes::none()

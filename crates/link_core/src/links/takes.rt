@@ -2,7 +2,7 @@ ghost use Rattle.std.specs.Prelude.{◌≡◌, ◌≤◌, ◌+◌, IsTrue, false
 ghost use Rattle.ring_rules.specs.Frames as rules;
 ghost use Rattle.link_core.specs.Frames.{frame_row, may_come};
 ghost use Rattle.link_core.specs.Links.{did, did_after};
-ghost use Rattle.link_core.specs.Ties.{Does, is_search, wants_answer};
+ghost use Rattle.link_core.specs.Ties.{Does, cause_of, is_search};
 
 use crate::announce::Announce;
 use crate::links::Links16;
@@ -28,7 +28,7 @@ impl Links16 {
         requires frame { IsTrue (may_come self.old.arbitrators message.now.from message.now.body) }
         requires room { length out.old + 9 ≤ 192 }
         ensures did { did self.new out.new result ≡ did_after out.old (frame_row now announce.now message.now.from message.now.body self.old) }
-        ensures row { is_search message.now.body ≡ false → Does (λ c. rules.frame_row c now message.now.from message.now.body) (wants_answer message.now.body) self.old announce.now out.old (did self.new out.new result) }
+        ensures row { is_search message.now.body ≡ false → Does (λ c. rules.frame_row c now message.now.from message.now.body) (cause_of message.now.body) self.old announce.now out.old (did self.new out.new result) }
         ensures kept { self.new ≡ record self.old { slots = self.new.slots; next_session = self.new.next_session } }
         ensures few { length out.new ≤ length out.old + 9 }
         ensures notes { length result ≤ 2 }
@@ -100,8 +100,8 @@ impl Links16 {
                 mine,
                 yours,
                 flight,
-                ranges,
-            } => self.hear_transfer(Session::new(from, *mine, *yours), *flight, ranges, out),
+                ..
+            } => self.hear_transfer(Session::new(from, *mine, *yours), *flight, out),
             Body::Gone {
                 mine,
                 yours,

@@ -1,8 +1,8 @@
-use Rattle.std.proofs.Common.{◌∙◌, sym, ap}
+use Rattle.std.proofs.Common.{◌∙◌, sym, ap, refl}
 use Rattle.std.proofs.Math.Seq.{take-length}
 use Rattle.link_core.specs.Frames as links
 use Rattle.link_core.specs.Links.{Links}
-use Rattle.link_core.specs.Ties.{wants_answer}
+use Rattle.link_core.specs.Ties.{cause_of}
 use Rattle.ring_node.specs.Nodes.{step}
 use Rattle.ring_node.proofs.Stays.{accused_kept, kept_heard, kept_links, landed}
 use Rattle.ring_node.proofs.Rows.{links_broken, links_ok}
@@ -15,8 +15,8 @@ returns-in-Ok-clause-row c =
     let n = c.args.self.now in
     let k = c.on_frame-notes.new.self in
     let e = sym c.self.view_is in
-    links_ok (λ s. frame_row s c.args.now c.args.message.now.from c.args.message.now.body) (wants_answer c.args.message.now.body) n i.links k i.token i.routes i.phase i.target i.near c.announce-announce.result c.wants_answer-gone.result c.on_frame-notes.result c.as_slice.result.now c.args.out.now c.on_frame-notes.new.out c.args.told.now (step c.notes.new.self c.notes.new.out c.notes.new.told)
-    e (c.on_frame-notes.ensures.row c.requires.link) (kept_links n i.links k i.token i.routes i.phase i.target i.near e (kept_heard i.links k c.on_frame-notes.ensures.kept)) c.announce-announce.ensures c.mark-mark.ensures.numbers c.wants_answer-gone.ensures c.as_slice.ensures.value c.in-Ok.ensures.ok c.is_left.ensures.numbers
+    links_ok (λ s. frame_row s c.args.now c.args.message.now.from c.args.message.now.body) (cause_of c.args.message.now.body) n i.links k i.token i.routes i.phase i.target i.near c.announce-announce.result (cause_of c.args.message.now.body) c.on_frame-notes.result c.as_slice.result.now c.args.out.now c.on_frame-notes.new.out c.args.told.now (step c.notes.new.self c.notes.new.out c.notes.new.told)
+    e (c.on_frame-notes.ensures.row c.requires.link) (kept_links n i.links k i.token i.routes i.phase i.target i.near e (kept_heard i.links k c.on_frame-notes.ensures.kept)) c.announce-announce.ensures c.mark-mark.ensures.numbers refl c.as_slice.ensures.value c.in-Ok.ensures.ok c.is_left.ensures.numbers
 
 pub returns-in-Err-clause-row : goal.returns-in-Err-clause-row
 returns-in-Err-clause-row c =
@@ -27,5 +27,5 @@ returns-in-Err-clause-row c =
     let m = c.mark-mark in
     let same = ap (λ (x : Links). x.accused) c.on_frame-notes.ensures.kept in
     landed _ _ _ _ _ _ c.roll_back.ensures.node c.roll_back.ensures.sent c.roll_back.ensures.told
-    ∙ links_broken (λ s. frame_row s c.args.now c.args.message.now.from c.args.message.now.body) (wants_answer c.args.message.now.body) n i.links k i.token i.routes i.phase i.target i.near c.announce-announce.result c.wants_answer-gone.result c.on_frame-notes.result c.as_slice.result.now c.args.out.now c.on_frame-notes.new.out c.args.told.now (links.frame_row c.args.now c.announce-announce.result c.args.message.now.from c.args.message.now.body i.links) c.notes.new.self c.notes.new.out c.notes.new.told m.result.version m.result.last_session m.result.accused m.result.sent m.result.told
-    e (c.on_frame-notes.ensures.row c.requires.link) (kept_links n i.links k i.token i.routes i.phase i.target i.near e (kept_heard i.links k c.on_frame-notes.ensures.kept)) (accused_kept n i.links k i.token i.routes i.phase i.target i.near e (rw same (take-length i.links.accused))) c.on_frame-notes.ensures.did c.announce-announce.ensures m.ensures.numbers c.wants_answer-gone.ensures c.as_slice.ensures.value c.in-Err.ensures.err m.ensures.version m.ensures.sessions m.ensures.accused m.ensures.sent m.ensures.told
+    ∙ links_broken (λ s. frame_row s c.args.now c.args.message.now.from c.args.message.now.body) (cause_of c.args.message.now.body) n i.links k i.token i.routes i.phase i.target i.near c.announce-announce.result (cause_of c.args.message.now.body) c.on_frame-notes.result c.as_slice.result.now c.args.out.now c.on_frame-notes.new.out c.args.told.now (links.frame_row c.args.now c.announce-announce.result c.args.message.now.from c.args.message.now.body i.links) c.notes.new.self c.notes.new.out c.notes.new.told m.result.version m.result.last_session m.result.accused m.result.sent m.result.told
+    e (c.on_frame-notes.ensures.row c.requires.link) (kept_links n i.links k i.token i.routes i.phase i.target i.near e (kept_heard i.links k c.on_frame-notes.ensures.kept)) (accused_kept n i.links k i.token i.routes i.phase i.target i.near e (rw same (take-length i.links.accused))) c.on_frame-notes.ensures.did c.announce-announce.ensures m.ensures.numbers refl c.as_slice.ensures.value c.in-Err.ensures.err m.ensures.version m.ensures.sessions m.ensures.accused m.ensures.sent m.ensures.told
