@@ -21,7 +21,7 @@ use Rattle.ring_machine.specs.World as machine
 use Rattle.ring_machine.specs.World.{Instance, Running, Place, Dead, first_of}
 use Rattle.ring_machine.proofs.Histories.{event_done}
 use Rattle.ring_machine.proofs.Whos.{same_who-true}
-use Rattle.ring_refines.specs.Images.{machine_of, IsSent, frame_of}
+use Rattle.ring_refinement.specs.Images.{machine_of, IsSent, frame_of}
 use Rattle.ring_rules.specs.Arbiters.{Accusations, Table, no_table, accusation_kept, accusation_ruled, first_accuser, first_claimer, first_kept, ruling_by, table_after}
 use Rattle.ring_rules.proofs.Rows.{accusation_kept-is, accusation_ruled-is}
 use Rattle.world_rules.specs.Arbiters.{ArbiterState, accused_by}

@@ -12,10 +12,10 @@ use Rattle.ring_machine.proofs.Lists.{IsMember-append_cases}
 use Rattle.ring_machine.specs.World as machine
 use Rattle.ring_machine.specs.World.{first_of}
 use Rattle.ring_machine.specs.Events as events
-use Rattle.ring_refines.specs.Images.{machine_of}
-use Rattle.ring_refines.proofs.Steps.{step_is_deeds_lem}
-use Rattle.ring_refines.specs.Laws.{Comes}
-use Rattle.ring_refines.specs.Refined.{Refined}
+use Rattle.ring_refinement.specs.Images.{machine_of}
+use Rattle.ring_refinement.proofs.Steps.{step_is_deeds_lem}
+use Rattle.ring_refinement.specs.Laws.{Comes}
+use Rattle.ring_refinement.specs.Refined.{Refined}
 use Rattle.ring_rules.specs.declared.input.Input.{Input}
 use Rattle.ring_rules.specs.declared.input.Input.TheVariants as input
 use Rattle.ring_rules.specs.Owns.{own_after, own_unless, is_same_own}

@@ -19,10 +19,10 @@ use Rattle.ring_machine.specs.Events as events
 use Rattle.ring_machine.specs.Events.{Starts, next_instance, started}
 use Rattle.ring_machine.proofs.Histories.{EventDone, event_done}
 use Rattle.ring_machine.proofs.Whos.{same_who-refl}
-use Rattle.ring_refines.specs.Images.{machine_of}
-use Rattle.ring_refines.proofs.Starting.{spent_is_left_lem, start_is_shown_lem}
-use Rattle.ring_refines.specs.Moves.{MovedBy}
-use Rattle.ring_refines.specs.Shown.{Shows}
+use Rattle.ring_refinement.specs.Images.{machine_of}
+use Rattle.ring_refinement.proofs.Starting.{spent_is_left_lem, start_is_shown_lem}
+use Rattle.ring_refinement.specs.Moves.{MovedBy}
+use Rattle.ring_refinement.specs.Shown.{Shows}
 use Rattle.ring_rules.specs.Arbiters.{Table, table_after}
 use Rattle.ring_rules.specs.Rings.{Work}
 use Rattle.ring_rules.specs.Slots.{fence_of}

@@ -21,7 +21,7 @@ use Rattle.ring_machine.specs.World.{Instance, Running, Place, Dead, first_of}
 use Rattle.ring_machine.proofs.Lists.{IsMember-append_right}
 use Rattle.ring_machine.proofs.Histories.{event_done}
 use Rattle.ring_machine.proofs.Whos.{test, same_who-refl, updated_cases, replaced_cases}
-use Rattle.ring_refines.specs.Images.{machine_of, IsSent, frame_of}
+use Rattle.ring_refinement.specs.Images.{machine_of, IsSent, frame_of}
 use Rattle.ring_rules.specs.Arbiters.{RoundClaims, Table, no_table, claim_answer, claim_kept, claim_settled, claimer_kept, first_accuser, first_claimer, is_round_of, kept_by, table_after}
 use Rattle.ring_rules.proofs.Rows.{claim_kept-is, claim_settled-is}
 use Rattle.world_rules.specs.Arbiters.{ArbiterState, claimed_by}

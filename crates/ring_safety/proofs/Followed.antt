@@ -11,8 +11,8 @@ use Rattle.ring_machine.specs.World as machine
 use Rattle.ring_machine.specs.World.{first_of}
 use Rattle.ring_machine.specs.Events as events
 use Rattle.ring_machine.proofs.Histories.{empty_sound}
-use Rattle.ring_refines.specs.Images.{machine_of}
-use Rattle.ring_refines.specs.Moves.{place_of}
+use Rattle.ring_refinement.specs.Images.{machine_of}
+use Rattle.ring_refinement.specs.Moves.{place_of}
 use Rattle.world_rules.specs.Events.{arbiter_number}
 use Rattle.world_rules.specs.Arbiters.{arbiter_begun}
 use Rattle.world_rules.specs.Maps.{put, without}

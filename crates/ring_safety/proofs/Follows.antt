@@ -20,11 +20,11 @@ use Rattle.ring_machine.specs.World as machine
 use Rattle.ring_machine.specs.World.{Instance, Running, Dead, first_of}
 use Rattle.ring_machine.specs.Events as events
 use Rattle.ring_machine.specs.Invariant.{Invariant}
-use Rattle.ring_refines.specs.Images.{machine_of, Posted, IsSent, frame_of, is_ruling}
-use Rattle.ring_refines.specs.Moves.{places_of}
-use Rattle.ring_refines.specs.Refined.{Said, AllSaid}
-use Rattle.ring_refines.specs.Shown.{Shows, ShowsAs, ShowsInstance}
-use Rattle.ring_refines.proofs.Changes.{shows_later}
+use Rattle.ring_refinement.specs.Images.{machine_of, Posted, IsSent, frame_of, is_ruling}
+use Rattle.ring_refinement.specs.Moves.{places_of}
+use Rattle.ring_refinement.specs.Refined.{Said, AllSaid}
+use Rattle.ring_refinement.specs.Shown.{Shows, ShowsAs, ShowsInstance}
+use Rattle.ring_refinement.proofs.Changes.{shows_later}
 use Rattle.ring_rules.specs.Arbiters.{Table, first_accuser, first_claimer}
 use Rattle.ring_rules.specs.Rings.{Ring}
 use Rattle.world_rules.specs.Maps.{at}

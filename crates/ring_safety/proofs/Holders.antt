@@ -12,9 +12,9 @@ use Rattle.ring_machine.specs.Slots.{Slot, State}
 use Rattle.ring_machine.specs.World as machine
 use Rattle.ring_machine.specs.World.{Instance, Live, Running}
 use Rattle.ring_machine.proofs.States.{excluded}
-use Rattle.ring_refines.specs.Images.{machine_of, slot_of, state_of}
-use Rattle.ring_refines.specs.Shown.{ShowsAs, ShowsInstance}
-use Rattle.ring_refines.specs.Tables.{Has, is_over}
+use Rattle.ring_refinement.specs.Images.{machine_of, slot_of, state_of}
+use Rattle.ring_refinement.specs.Shown.{ShowsAs, ShowsInstance}
+use Rattle.ring_refinement.specs.Tables.{Has, is_over}
 use Rattle.ring_rules.specs.declared.link.Link.{Link}
 use Rattle.ring_rules.specs.declared.link.LinkState.{LinkState}
 use Rattle.ring_rules.specs.declared.link.LinkState.TheVariants as state

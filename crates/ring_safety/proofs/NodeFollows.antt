@@ -18,9 +18,9 @@ use Rattle.ring_machine.specs.World as machine
 use Rattle.ring_machine.specs.World.{Instance, Running, Dead, first_of}
 use Rattle.ring_machine.specs.Invariant.{Invariant}
 use Rattle.ring_machine.proofs.Whos.{test, same_who-true, same_who-false, same_who_from}
-use Rattle.ring_refines.specs.Images.{machine_of}
-use Rattle.ring_refines.specs.Moves.{MovedBy, AreOver}
-use Rattle.ring_refines.specs.Shown.{Shows, ShowsAs}
+use Rattle.ring_refinement.specs.Images.{machine_of}
+use Rattle.ring_refinement.specs.Moves.{MovedBy, AreOver}
+use Rattle.ring_refinement.specs.Shown.{Shows, ShowsAs}
 use Rattle.ring_rules.specs.Arbiters.{Table, table_after, first_accuser, first_claimer}
 use Rattle.ring_rules.specs.Rings.{Ring}
 use Rattle.world_rules.specs.Maps.{at, put}

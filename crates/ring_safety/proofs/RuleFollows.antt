@@ -13,7 +13,7 @@ use Rattle.ring_machine.specs.Events.{Answers, Keeps}
 use Rattle.ring_machine.specs.Members.{IsMember}
 use Rattle.ring_machine.specs.World as machine
 use Rattle.ring_machine.specs.World.{Instance, Running, Place, Dead, first_of}
-use Rattle.ring_refines.specs.Images.{machine_of}
+use Rattle.ring_refinement.specs.Images.{machine_of}
 use Rattle.ring_rules.specs.Arbiters.{accusation_kept, accusation_ruled, claim_kept, claim_settled, first_accuser, takes_frame}
 use Rattle.world_rules.specs.Arbiters.{ArbiterState, arbiter_step, arbiter_takes, accused_by, claimed_by, beside_did}
 use Rattle.world_rules.specs.Uppers.{Upper, Did, idle}

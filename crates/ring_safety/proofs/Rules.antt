@@ -11,8 +11,8 @@ use Rattle.ring_machine.specs.Invariant.{Invariant}
 use Rattle.ring_machine.specs.Members.{IsMember}
 use Rattle.ring_machine.specs.World as machine
 use Rattle.ring_machine.specs.World.{Instance, Running, Place, Dead, first_of}
-use Rattle.ring_refines.specs.Images.{machine_of}
-use Rattle.ring_refines.specs.Moves.{place_of}
+use Rattle.ring_refinement.specs.Images.{machine_of}
+use Rattle.ring_refinement.specs.Moves.{place_of}
 use Rattle.ring_rules.specs.Arbiters.{Table, first_accuser, first_claimer, table_after}
 use Rattle.world_rules.specs.Arbiters.{ArbiterState, beside_did}
 use Rattle.world_rules.specs.Nodes.{boots_of}

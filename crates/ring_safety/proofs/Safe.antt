@@ -24,8 +24,8 @@ use Rattle.ring_machine.specs.World as machine
 use Rattle.ring_machine.specs.World.{first_of}
 use Rattle.ring_machine.proofs.Exclusions.{no_crossing, one_heir}
 use Rattle.ring_machine.proofs.LawProofs.{one_holder}
-use Rattle.ring_refines.specs.Images.{machine_of}
-use Rattle.ring_refines.specs.Moves as moves
+use Rattle.ring_refinement.specs.Images.{machine_of}
+use Rattle.ring_refinement.specs.Moves as moves
 use Rattle.world_rules.specs.Runs.{History, world_after, run_of}
 use Rattle.world_rules.specs.Schedules.{Valid}
 use Rattle.world_rules.specs.Uppers.{Upper}

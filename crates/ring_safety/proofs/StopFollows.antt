@@ -16,8 +16,8 @@ use Rattle.ring_machine.specs.Events as events
 use Rattle.ring_machine.specs.Events.{Stops, in_phase}
 use Rattle.ring_machine.proofs.Histories.{EventDone, event_done}
 use Rattle.ring_machine.proofs.Whos.{test, same_who-true, same_who-false, same_who_from}
-use Rattle.ring_refines.specs.Images.{machine_of}
-use Rattle.ring_refines.specs.Shown.{ShowsAs}
+use Rattle.ring_refinement.specs.Images.{machine_of}
+use Rattle.ring_refinement.specs.Shown.{ShowsAs}
 use Rattle.world_rules.specs.Arbiters.{ArbiterState}
 use Rattle.world_rules.specs.Events.{node_stops}
 use Rattle.world_rules.specs.Maps.{at, without}

@@ -15,8 +15,8 @@ use Rattle.ring_machine.specs.World.{Instance, Running, first_of, has_clock}
 use Rattle.ring_machine.specs.Events as events
 use Rattle.ring_machine.specs.Events.{Ticks, passed}
 use Rattle.ring_machine.proofs.Histories.{EventDone, event_done}
-use Rattle.ring_refines.specs.Images.{machine_of}
-use Rattle.ring_refines.specs.Shown.{Shows, ShowsAs, ShowsInstance}
+use Rattle.ring_refinement.specs.Images.{machine_of}
+use Rattle.ring_refinement.specs.Shown.{Shows, ShowsAs, ShowsInstance}
 use Rattle.ring_rules.specs.Rings.{Ring}
 use Rattle.world_rules.specs.Events.{shows, ticked, ticks}
 use Rattle.world_rules.specs.Maps.{at}

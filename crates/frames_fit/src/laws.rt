@@ -1,0 +1,17 @@
+ghost use Rattle.frames_fit.specs.Laws.{FramesAreInFormat};
+ghost use Rattle.world_rules.specs.Nothing.{nothing};
+
+use crate::above::{InFormat, Nothing};
+
+/// In every valid schedule of a sound configuration whose events are in their ranges, every frame that is ever sent is
+/// in the ranges of frames.
+pub fn frames_are_in_format<A: InFormat>()
+    ensures { FramesAreInFormat A.upper }
+{}
+
+/// Every frame is in the ranges of frames where nothing runs above the ring.
+pub fn frames_are_in_format_with_nothing_above()
+    ensures { FramesAreInFormat nothing }
+{
+    frames_are_in_format::<Nothing>()
+}

@@ -1,5 +1,0 @@
-use Rattle.ring_refines.proofs.Steps.{step_is_deeds_lem}
-use Rattle.ring_refines.proofs.laws.each_step_is_deeds.Goals as goal
-
-pub returns : goal.returns
-returns c = step_is_deeds_lem

@@ -1,5 +1,0 @@
-use Rattle.rules_examples.proofs.Computed.{stays_split}
-use Rattle.rules_examples.proofs.stays_split.Goals as goal
-
-pub returns : goal.returns
-returns c = stays_split
