@@ -2,6 +2,7 @@
 use Rattle.std.specs.Prelude.{ℕ, ◌+◌, ◌-◌, Bool, true, false, ◌&&◌, ◌||◌, List, [], length, ◌==◌, Option, Some, None, find, option_map, nat_eq}
 use Rattle.std.specs.List.{list_any}
 use lib.Pointwise.{pointwise}
+use Rattle.ring_points.specs.Epochs.{same_epoch}
 use Rattle.ring_points.specs.declared.unit.Epoch.{Epoch}
 use Rattle.ring_points.specs.declared.unit.Config.{Config}
 use Rattle.arbiter_quorum.specs.declared.verdict.VoteVerdict.{VoteVerdict}
@@ -19,9 +20,6 @@ no_votes arbitrators = record { arbitrators = arbitrators; answers = [] }
 
 abbrev pub vote_noted : VoteTally → ℕ → Config → VoteTally
 vote_noted t a kept = record t { answers = with_answer a kept t.answers }
-
-abbrev pub same_epoch : Epoch → Epoch → Bool
-same_epoch d e = d.data_loss == e.data_loss && d.configuration == e.configuration
 
 -- the same in every field
 abbrev pub same_config : Config → Config → Bool

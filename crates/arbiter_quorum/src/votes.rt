@@ -1,7 +1,8 @@
 ghost use Rattle.std.specs.Prelude.{◌≡◌, ◌≤◌, ◌==◌, find, length, option_map};
 ghost use Rattle.std.specs.List.{list_any};
 ghost use Rattle.arbiter_quorum.specs.Tallies.{has_answered};
-ghost use Rattle.arbiter_quorum.specs.Votes.{has_majority, kept_count, may_win, no_votes, one_may_win, same_config, same_epoch, unanswered, vote_noted, vote_verdict_of};
+ghost use Rattle.ring_points.specs.Epochs.{same_epoch};
+ghost use Rattle.arbiter_quorum.specs.Votes.{has_majority, kept_count, may_win, no_votes, one_may_win, same_config, unanswered, vote_noted, vote_verdict_of};
 
 use crate::quorum::is_majority;
 use crate::verdict::VoteVerdict;

@@ -10,7 +10,7 @@ pub const MAX_READING: u64 = 1_000_000_000_000_000;
 /// The greatest true time, in ticks.
 pub const MAX_TRUE_TIME: u64 = 2_000_000_000_000_000;
 
-/// How far a clock may be from the true time (this project's own): `d` per mille of every span, and
+/// How far a clock may be from the true time: `d` per mille of every span, and
 /// `grain` ticks beside.
 #[derive(Clone, Copy, Debug, PartialEq, Eq)]
 pub struct Bound {

@@ -15,7 +15,7 @@ pub struct DriftBroken {
     pub now: (u64, u64),
 }
 
-/// What a clock has shown since it began (this project's own).
+/// What a clock has shown since it began.
 ///
 /// It stands for all true times and readings so far, and keeps of them the last, the one at which the
 /// clock was furthest behind, and the one at which it was furthest ahead. A clock that is within its

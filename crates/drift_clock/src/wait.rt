@@ -4,7 +4,7 @@ ghost use Rattle.drift_clock.specs.Wait.{wait};
 use crate::bound::{Bound, MAX_DRIFT, MAX_GRAIN, MAX_READING};
 
 /// How many ticks to wait by one clock within the bound, so that at least `x` ticks have passed on
-/// every other (this project's own).
+/// every other.
 ///
 /// It errs on the side of longer: the clock that waits may be the fastest, the other the slowest.
 pub fn wait_of(bound: Bound, x: u64) -> u64

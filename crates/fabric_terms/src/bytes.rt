@@ -41,8 +41,16 @@ impl Payload {
         Payload { bytes: copy }
     }
 
+    /// The same bytes again.
+    pub fn copy(&self) -> Self
+        ensures { result ≡ self.now }
+    {
+        Payload::from_slice(self.bytes.as_slice())
+    }
+
     pub fn as_slice(&self) -> &[u8]
-        ensures { result.now ≡ self.now }
+        ensures bytes { result.now ≡ self.now }
+        ensures short { length result.now ≤ 512 }
     {
         self.bytes.as_slice()
     }

@@ -1,4 +1,5 @@
 use crate::bytes::Payload;
+use crate::names::NameText;
 use ring_points::{Interval, Point};
 
 /// What an operator tells a node to do.
@@ -30,4 +31,8 @@ pub enum Command {
     Write(u16, Payload),
     /// List the known partitions of a range.
     Units(Interval),
+    /// Ask a partition's name service what a name stands for.
+    Resolve(u16, NameText),
+    /// Ask a partition's name service for the names with a point in a range.
+    Names(u16, Interval),
 }

@@ -12,6 +12,8 @@ mod config;
 mod event;
 mod memory;
 mod message;
+mod names;
+mod outbox;
 mod record;
 mod report;
 
@@ -21,5 +23,7 @@ pub use config::{Address, Arbiters, FabricConfig, NodeEntry, Nodes};
 pub use event::{Event, JunkBytes, Readings};
 pub use memory::OutOfMemory;
 pub use message::{Body, Message};
+pub use names::{NameText, NameTexts, NameValue};
+pub use outbox::{OUTBOX_LIMIT, Outbox};
 pub use record::Record;
 pub use report::{Head, Partitions, Reason, Report, Verb, Why};

@@ -1,5 +1,6 @@
 ghost use Rattle.std.specs.Prelude.{◌≡◌};
 
+use crate::names::{NameText, NameTexts, NameValue};
 use ring_points::{Epoch, Point, RangeSet, Who};
 use std::default::Default;
 use std::marker::Model;
@@ -29,6 +30,8 @@ pub enum Verb {
     Heal,
     Lose,
     Write,
+    Resolve,
+    Names,
 }
 
 /// Why a command is refused.
@@ -58,6 +61,8 @@ pub enum Reason {
     NotMember,
     /// The node is not the primary.
     NotPrimary,
+    /// This primary has committed nothing yet.
+    NotReady,
     /// A counter reached its last number.
     Counters,
     /// Only so many fault domains have a node that is up.
@@ -135,6 +140,12 @@ pub enum Report {
     Superseded(u16, Epoch),
     /// The known partitions of a range.
     UnitList(Partitions),
+    /// What a name of a partition's name service stands for.
+    Resolved(u16, NameText, NameValue),
+    /// A name stands for nothing.
+    Unresolved(u16, NameText),
+    /// The first names with a point in a range, at most 64.
+    NameList(u16, NameTexts),
     /// A command was refused.
     Refused(Verb, Reason),
 }

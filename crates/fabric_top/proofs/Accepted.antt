@@ -8,7 +8,8 @@ use Rattle.fabric_terms.specs.declared.config.FabricConfig.{FabricConfig}
 use Rattle.fabric_terms.specs.declared.event.Event.{Event}
 use Rattle.fabric_terms.specs.Sound.{IsSound}
 use Rattle.ring_world.specs.Answers.{is_frame, ruled}
-use Rattle.sched_text.specs.Lines.{Fits, event_of, lines_of}
+use Rattle.fabric_terms.specs.Ranges.{Fits}
+use Rattle.sched_text.specs.Lines.{event_of, lines_of}
 use Rattle.sched_text.proofs.LineLaws.{read_is_spelled}
 use Rattle.world_rules.specs.Nothing.{nothing}
 use Rattle.world_rules.specs.Runs.{History}

@@ -4,10 +4,9 @@ use Rattle.fabric_terms.specs.declared.config.FabricConfig.{FabricConfig}
 use Rattle.fabric_terms.specs.Runs.{Holds, RingSafe}
 use Rattle.fabric_terms.specs.TakeOvers.{TakenAfterLeave}
 use Rattle.ring_points.specs.declared.who.Who.{Who}
-use Rattle.ring_safety.specs.Nothing.{nothing_stays}
+use Rattle.world_rules.specs.Nothing.{nothing_stays, nothing}
 use Rattle.ring_safety.proofs.Safe.{ring_is_safe_lem, leaves_before_take_over_lem, places_are_kept_lem}
 use Rattle.ring_world.specs.Answers.{is_frame}
-use Rattle.world_rules.specs.Nothing.{nothing}
 use Rattle.world_rules.specs.Runs.{History}
 use Rattle.fabric_top.specs.Laws.{IsValidHistory}
 use Rattle.fabric_top.specs.Output.{run_judged}

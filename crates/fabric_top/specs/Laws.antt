@@ -3,7 +3,7 @@ use Rattle.std.specs.Prelude.{◌≡◌, ℕ, List, Some, All}
 use Rattle.fabric_terms.specs.Sound.{IsSound}
 use Rattle.fabric_terms.specs.declared.config.FabricConfig.{FabricConfig}
 use Rattle.ring_world.specs.Answers.{is_frame}
-use Rattle.sched_text.specs.Lines.{Fits}
+use Rattle.fabric_terms.specs.Ranges.{Fits}
 use Rattle.world_rules.specs.Nothing.{nothing}
 use Rattle.world_rules.specs.Runs.{History}
 use Rattle.world_rules.specs.Schedules.{Valid}

@@ -3,7 +3,8 @@ ghost use Rattle.std.specs.Prelude.{◌≡◌, ◌++◌, ◌∷◌, [], ℕ, Lis
 ghost use Rattle.fabric_terms.specs.Sound.{IsSound};
 ghost use Rattle.fabric_terms.specs.declared.config.FabricConfig.{FabricConfig as Configuration};
 ghost use Rattle.ring_world.specs.Answers.{IsWorld, ruled};
-ghost use Rattle.sched_text.specs.Lines.{Fits, event_of, lines_of};
+ghost use Rattle.fabric_terms.specs.Ranges.{Fits};
+ghost use Rattle.sched_text.specs.Lines.{event_of, lines_of};
 ghost use Rattle.world_rules.specs.Runs.{History};
 ghost use Rattle.fabric_top.specs.Codes.{status_of};
 ghost use Rattle.fabric_top.specs.Follows.{At, IsAlong, Follows};

@@ -9,7 +9,8 @@ use Rattle.std.proofs.Math.Seq.{take-append_seam}
 use Rattle.std.proofs.lemmas.List.Elements.{All-append}
 use Rattle.std.proofs.lemmas.Option.{slice_get-get_or, slice_get-map, get_or_from_slice_get}
 use Rattle.fabric_terms.specs.declared.message.Message.{Message}
-use Rattle.ring_wire.specs.Frames.{is_sound, spelling}
+use Rattle.fabric_terms.specs.Messages.{is_sound}
+use Rattle.ring_wire.specs.Frames.{spelling}
 use Rattle.ring_wire.specs.Kinds.{message_of}
 use Rattle.ring_wire.proofs.FrameLaws.{message_again}
 use Rattle.frame_bag.specs.Stored.{ends_of, messages_in, AreFrames}

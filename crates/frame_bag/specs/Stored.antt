@@ -2,7 +2,8 @@
 use Rattle.std.specs.Prelude.{◌≡◌, ℕ, ◌+◌, List, [], ◌∷◌, length, map, slice_range, All, IsTrue}
 use Rattle.std.specs.List.{filter_map, concat}
 use Rattle.fabric_terms.specs.declared.message.Message.{Message}
-use Rattle.ring_wire.specs.Frames.{is_sound, spelling}
+use Rattle.fabric_terms.specs.Messages.{is_sound}
+use Rattle.ring_wire.specs.Frames.{spelling}
 use Rattle.ring_wire.specs.Kinds.{message_of}
 
 -- the bytes of each frame: from where the frame before it ends to where it ends

@@ -1,6 +1,6 @@
 ghost use Rattle.std.specs.Prelude.{◌≡◌, ◌≤◌, ◌<◌, ◌+◌, ◌∷◌, [], OnOk, OnErr, IsTrue, length, slice_index, slice_range};
 ghost use Rattle.frame_bag.specs.Bags.{frame_of};
-ghost use Rattle.ring_wire.specs.Frames.{is_sound};
+ghost use Rattle.fabric_terms.specs.Messages.{is_sound};
 
 use bytes::BytesMut;
 use fabric_terms::{Message, OutOfMemory};

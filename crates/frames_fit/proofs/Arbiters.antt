@@ -13,8 +13,8 @@ use Rattle.ring_points.specs.declared.who.Ruling.{Ruling}
 use Rattle.ring_points.specs.declared.who.Who.{Who}
 use Rattle.ring_points.specs.Whos.{arbiter_actor}
 use Rattle.ring_rules.specs.Arbiters.{accusation_kept, accusation_ruled, first_accuser, first_kept, takes_frame}
-use Rattle.ring_wire.specs.Fields.{is_addressee, is_sender, is_who}
-use Rattle.ring_wire.specs.Frames.{is_sound, is_sound_body}
+use Rattle.fabric_terms.specs.Fields.{is_addressee, is_sender, is_who}
+use Rattle.fabric_terms.specs.Messages.{is_sound, is_sound_body}
 use Rattle.world_rules.specs.Arbiters.{ArbiterState, arbiter_step, arbiter_takes, beside_did}
 use Rattle.world_rules.specs.Uppers.{Upper, Did}
 use Rattle.world_rules.specs.Worlds.{arbiter_who}

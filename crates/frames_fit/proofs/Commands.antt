@@ -19,9 +19,8 @@ use Rattle.ring_rules.specs.Renewals.{may_freeze, owns_none}
 use Rattle.ring_rules.specs.Rings.{Settings, Work}
 use Rattle.ring_rules.specs.Slots.{is_bound, is_hello, may_part, of_node, slot_at, slot_where}
 use Rattle.ring_rules.specs.Steps.{command_row}
-use Rattle.ring_wire.specs.Fields.{is_lease, is_node}
-use Rattle.sched_text.specs.Commands.{FitsCommand, IsLease}
-use Rattle.sched_text.specs.Numbers.{IsNode}
+use Rattle.fabric_terms.specs.Fields.{is_lease, is_node}
+use Rattle.fabric_terms.specs.Ranges.{FitsCommand, IsLease, IsNode}
 use Rattle.frames_fit.specs.InRange.{IsInRange, holds_bound}
 use Rattle.frames_fit.proofs.Facts.{node_addressed, within_from}
 use Rattle.frames_fit.proofs.Going.{Going, freezes, puts, routes, undoes}

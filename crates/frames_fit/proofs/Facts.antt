@@ -8,7 +8,7 @@ use Rattle.ring_points.specs.declared.point.Point.{Point}
 use Rattle.ring_points.specs.declared.who.Who.{Who}
 use Rattle.ring_points.specs.Ranges.{is_proper}
 use Rattle.ring_points.specs.Whos.{arbiter_actor, node_instance}
-use Rattle.ring_wire.specs.Fields.{is_addressee, is_arbiter, is_counted, is_hops, is_lease, is_long, is_node, is_part, is_sender, is_session, is_stamp, is_who, is_within, is_word}
+use Rattle.fabric_terms.specs.Fields.{is_addressee, is_arbiter, is_counted, is_hops, is_lease, is_long, is_node, is_part, is_sender, is_session, is_stamp, is_who, is_within, is_word}
 use Rattle.frames_fit.specs.Formats.{in_format}
 
 -- Numbers.

@@ -26,7 +26,7 @@ use Rattle.ring_rules.specs.Handshakes.{greet_plainly}
 use Rattle.ring_rules.specs.Links.{accused_link, flight_part, hello_body, offer_body, renew_body, transfer_body}
 use Rattle.ring_rules.specs.Rings.{Settings, Work, accused_limit, slot_count, ◌▷◌}
 use Rattle.ring_rules.specs.Slots.{is_bound, is_hello, slot_at}
-use Rattle.ring_wire.specs.Fields.{is_counted, is_part, is_stamp, is_who}
+use Rattle.fabric_terms.specs.Fields.{is_counted, is_part, is_stamp, is_who}
 use Rattle.token_core.specs.Tokens.{Freeze, can_gain, gained, given, inherited}
 use Rattle.frames_fit.specs.InRange.{FlightInRange, FreezeInRange, IsInRange, LinkInRange, TargetInRange, holds_bound, is_frozen_for_bound, names_peer}
 use Rattle.frames_fit.proofs.Facts.{accuse_format, arbiter_addressed, counted_from}

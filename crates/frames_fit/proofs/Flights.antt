@@ -18,7 +18,7 @@ use Rattle.ring_rules.specs.Flights as rows
 use Rattle.ring_rules.specs.Flights.{close, gone_received, transfer_received}
 use Rattle.ring_rules.specs.Rings.{Work}
 use Rattle.ring_rules.specs.Slots.{greets_by, is_hello, of_session, slot_at, slot_where}
-use Rattle.ring_wire.specs.Fields.{is_counted, is_part, is_session, is_who}
+use Rattle.fabric_terms.specs.Fields.{is_counted, is_part, is_session, is_who}
 use Rattle.token_core.specs.Tokens.{can_gain, gained}
 use Rattle.frames_fit.specs.Formats.{in_format}
 use Rattle.frames_fit.specs.InRange.{FlightInRange, IsInRange, holds_bound}

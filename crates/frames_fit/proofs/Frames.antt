@@ -14,8 +14,8 @@ use Rattle.ring_route.specs.Routes.{heard_in, is_among, point_of}
 use Rattle.ring_rules.specs.Frames as rows
 use Rattle.ring_rules.specs.Frames.{frame_received, frame_row, is_arbiters_answer, is_between_nodes, is_for, may_send, passes, sender_heard}
 use Rattle.ring_rules.specs.Rings.{Ring, Settings, Work}
-use Rattle.ring_wire.specs.Fields.{is_addressee, is_counted, is_hops, is_lease, is_long, is_part, is_sender, is_session, is_stamp, is_who, is_word}
-use Rattle.ring_wire.specs.Frames.{is_sound, is_sound_body}
+use Rattle.fabric_terms.specs.Fields.{is_addressee, is_counted, is_hops, is_lease, is_long, is_part, is_sender, is_session, is_stamp, is_who, is_word}
+use Rattle.fabric_terms.specs.Messages.{is_sound, is_sound_body}
 use Rattle.frames_fit.specs.InRange.{IsInRange}
 use Rattle.frames_fit.proofs.Facts.{node_sends}
 use Rattle.frames_fit.proofs.Flights.{gone_going, transfer_going}

@@ -17,7 +17,7 @@ use Rattle.ring_rules.specs.Deeds.{counted, counted_if, drop_slot, has_numbers, 
 use Rattle.ring_rules.specs.Handshakes.{count_session}
 use Rattle.ring_rules.specs.Rings.{Ring, Work, no_slots}
 use Rattle.ring_rules.specs.Slots.{is_bound, slot_at}
-use Rattle.ring_wire.specs.Fields.{is_counted}
+use Rattle.fabric_terms.specs.Fields.{is_counted}
 use Rattle.token_core.specs.Tokens.{Freeze, Token, frozen, gained, can_gain, last_number, unfrozen}
 use Rattle.ring_rules.specs.Renewals.{may_freeze, owns_none}
 use Rattle.frames_fit.specs.Formats.{in_format}

@@ -18,7 +18,7 @@ use Rattle.ring_rules.specs.Handshakes.{greet, greet_plainly, hello_received, of
 use Rattle.ring_rules.specs.Links.{bound_link, greeting_link, hello_body, offer_body, offered_link, renew_body}
 use Rattle.ring_rules.specs.Rings.{Ring, Settings, Work}
 use Rattle.ring_rules.specs.Slots.{bars_link, greets_node_by, is_free, is_hello, of_instance, of_node, of_session, slot_at, slot_where}
-use Rattle.ring_wire.specs.Fields.{is_addressee, is_counted, is_lease, is_node, is_session, is_stamp, is_who}
+use Rattle.fabric_terms.specs.Fields.{is_addressee, is_counted, is_lease, is_node, is_session, is_stamp, is_who}
 use Rattle.frames_fit.specs.InRange.{IsInRange, LinkInRange, holds_bound}
 use Rattle.frames_fit.proofs.Facts.{node_addressed, session_from, take_format, who_addressed, within_from, within_parts}
 use Rattle.frames_fit.proofs.Going.{Going, begins, drops, phases, puts, sends}

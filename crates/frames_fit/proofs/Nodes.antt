@@ -14,8 +14,8 @@ use Rattle.ring_rules.specs.declared.input.Input.{Input}
 use Rattle.ring_rules.specs.Rings.{Settings, Work, settings_of}
 use Rattle.ring_rules.specs.Starts.{begun, node_started}
 use Rattle.ring_rules.specs.Steps.{ring_step, step_if}
-use Rattle.ring_wire.specs.Fields.{is_counted, is_node, is_who}
-use Rattle.sched_text.specs.Numbers.{IsNumber}
+use Rattle.fabric_terms.specs.Fields.{is_counted, is_node, is_who}
+use Rattle.fabric_terms.specs.Ranges.{IsNumber}
 use Rattle.token_core.specs.Tokens.{last_number}
 use Rattle.world_rules.specs.Nodes.{NodeState, above_acts, above_if, boot_kept, boots_of, both_did, comes_above, instance_begun, is_spent, node_begun, node_step}
 use Rattle.world_rules.specs.Schedules.{is_configured_node}

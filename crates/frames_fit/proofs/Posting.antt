@@ -7,9 +7,9 @@ use Rattle.fabric_terms.specs.declared.message.Body.{Body}
 use Rattle.fabric_terms.specs.declared.message.Message.{Message}
 use Rattle.fabric_terms.specs.declared.record.Record.{Record}
 use Rattle.ring_points.specs.declared.who.Who.{Who}
-use Rattle.ring_wire.specs.Fields.{is_addressee, is_sender}
-use Rattle.ring_wire.specs.Frames.{is_sound, is_sound_body}
-use Rattle.world_rules.specs.Maps.{at, put, put_here, without}
+use Rattle.fabric_terms.specs.Fields.{is_addressee, is_sender}
+use Rattle.fabric_terms.specs.Messages.{is_sound, is_sound_body}
+use Rattle.fabric_lemmas.specs.Maps.{at, put, put_here, without}
 use Rattle.world_rules.specs.Uppers.{Did}
 use Rattle.world_rules.specs.Worlds.{posted}
 use Rattle.frames_fit.specs.Formats.{in_format}

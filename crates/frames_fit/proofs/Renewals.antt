@@ -19,12 +19,13 @@ use Rattle.ring_rules.specs.Renewals as rows
 use Rattle.ring_rules.specs.Renewals.{ack_received, grant_wanted, may_freeze, near_part, owns_none, renew_received}
 use Rattle.ring_rules.specs.Rings.{Ring, Work}
 use Rattle.ring_rules.specs.Slots.{is_bound, is_hello, of_session, slot_at, slot_where}
-use Rattle.ring_wire.specs.Fields.{is_session, is_stamp, is_who, is_word}
+use Rattle.fabric_terms.specs.Fields.{is_session, is_stamp, is_who, is_word}
 use Rattle.frames_fit.specs.InRange.{FlightInRange, IsInRange, LinkInRange, holds_bound}
 use Rattle.frames_fit.proofs.Going.{Going, freezes, phases, puts, sends}
 use Rattle.frames_fit.proofs.Places.{set_at}
 use Rattle.frames_fit.proofs.Saying.{ack_said, answers, found, in_session_of, link_in_range, says_gone, still_bound}
-use Rattle.frames_fit.proofs.Tokens.{Rises, nearer_rises, owned_rises}
+use Rattle.frames_fit.proofs.Tokens.{Rises, owned_rises}
+use Rattle.ring_points.proofs.NearerPart.{nearer_part_rises}
 
 -- a flight that is confirmed stands no more
 confirmed_in_range : (o : Option Flight) (got : ℕ) → FlightInRange o → FlightInRange (confirmed o got)
@@ -59,7 +60,7 @@ renewed_in_range l version got ranges h met k = by_test (nat_lt l.held_version v
 
 pub near_rises : {c : FabricConfig} (r : Ring) (l : Link) → IsInRange c r → Rises (near_part r l)
 near_rises r l h =
-    nearer_rises r.token.ranges (point_of r.me.actor r.routes.points) (point_of l.peer.actor r.routes.points) (owned_rises r.token h.token)
+    nearer_part_rises r.token.ranges (point_of r.me.actor r.routes.points) (point_of l.peer.actor r.routes.points) (owned_rises r.token h.token)
 
 module _ (c : FabricConfig) (w : Work) (a : Going c w) where
   -- the nearer part is frozen for a link that is bound

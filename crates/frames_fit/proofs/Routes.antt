@@ -8,7 +8,7 @@ use Rattle.ring_route.specs.declared.hop.Hop.{Hop}
 use Rattle.ring_route.specs.declared.hop.Hop.TheVariants.{To, Nowhere}
 use Rattle.ring_route.specs.declared.known.Known.{Known}
 use Rattle.ring_route.specs.Routes.{Routes, heard_again, heard_in, hop_to, is_among, may_hop, near_nodes, nearer_known, nearest_of, next_hop, point_of, put_by, sorted_by, without_repeats}
-use Rattle.ring_wire.specs.Fields.{is_node, is_who}
+use Rattle.fabric_terms.specs.Fields.{is_node, is_who}
 use Rattle.frames_fit.specs.InRange.{KnownInRange}
 use Rattle.frames_fit.proofs.Facts.{who_parts}
 

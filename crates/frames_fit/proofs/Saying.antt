@@ -13,7 +13,7 @@ use Rattle.ring_rules.specs.Deeds.{SessionRow, answer_unknown, in_found, in_slot
 use Rattle.ring_rules.specs.Links.{hello_body, hello_by, offer_body, offer_by, renew_body, transfer_body}
 use Rattle.ring_rules.specs.Rings.{Ring, Settings, Slots, Work}
 use Rattle.ring_rules.specs.Slots.{is_bound, is_hello, slot_at}
-use Rattle.ring_wire.specs.Fields.{is_addressee, is_counted, is_lease, is_part, is_session, is_stamp, is_who, is_word}
+use Rattle.fabric_terms.specs.Fields.{is_addressee, is_counted, is_lease, is_part, is_session, is_stamp, is_who, is_word}
 use Rattle.token_core.specs.Tokens.{announced}
 use Rattle.frames_fit.specs.Formats.{in_format}
 use Rattle.frames_fit.specs.InRange.{IsInRange, LinkInRange, SlotInRange, holds_bound, names_peer}

@@ -18,7 +18,7 @@ use Rattle.ring_rules.specs.Deeds.{on_ring, tell}
 use Rattle.ring_rules.specs.Rings.{Settings, Work, hop_limit}
 use Rattle.ring_rules.specs.Seeks as rows
 use Rattle.ring_rules.specs.Seeks.{find_commanded, found_received, hop_from, seek_received, seeks_own}
-use Rattle.ring_wire.specs.Fields.{is_long, is_node, is_who}
+use Rattle.fabric_terms.specs.Fields.{is_long, is_node, is_who}
 use Rattle.frames_fit.specs.InRange.{IsInRange}
 use Rattle.frames_fit.proofs.Facts.{found_format, node_addressed, seek_format, who_addressed, who_parts}
 use Rattle.frames_fit.proofs.Going.{Going, routes, sends}

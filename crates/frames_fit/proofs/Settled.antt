@@ -9,7 +9,7 @@ use Rattle.fabric_terms.specs.declared.config.NodeEntry.{NodeEntry}
 use Rattle.fabric_terms.specs.Sound.{IsSound, IsSoundNode, Within}
 use Rattle.ring_route.specs.Routes.{point_of}
 use Rattle.ring_rules.specs.Rings.{longest_of, points_of, settings_of}
-use Rattle.ring_wire.specs.Fields.{is_lease, is_long, is_node}
+use Rattle.fabric_terms.specs.Fields.{is_lease, is_long, is_node}
 use Rattle.world_rules.specs.Schedules.{is_configured_node}
 use Rattle.frames_fit.proofs.Facts.{within_from}
 use Rattle.frames_fit.proofs.Saying.{SettingsInRange}

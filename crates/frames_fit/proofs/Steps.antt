@@ -19,9 +19,8 @@ use Rattle.ring_rules.specs.Slots.{fence_of, is_past}
 use Rattle.ring_rules.specs.Starts.{begun, new_ring, node_started, start_first}
 use Rattle.ring_rules.specs.Steps as rows
 use Rattle.ring_rules.specs.Steps.{command_received, command_row, ring_step}
-use Rattle.ring_wire.specs.Fields.{is_stamp, is_who}
-use Rattle.sched_text.specs.Commands.{FitsCommand}
-use Rattle.sched_text.specs.Numbers.{IsNumber}
+use Rattle.fabric_terms.specs.Fields.{is_stamp, is_who}
+use Rattle.fabric_terms.specs.Ranges.{FitsCommand, IsNumber}
 use Rattle.world_rules.specs.Schedules.{is_configured_node}
 use Rattle.frames_fit.specs.Formats.{InputInFormat, in_format}
 use Rattle.frames_fit.specs.InRange.{IsInRange, KnownInRange}

@@ -9,12 +9,12 @@ use Rattle.ring_points.specs.Ranges.{fits, is_proper, rises_from}
 use Rattle.ring_points.specs.Sets.{span, arc, nearer_from, nearer_arc, nearer_part_of, union_of, minus_of, meet_of}
 use Rattle.ring_points.proofs.Cuts.{rises_from-minus_of}
 use Rattle.ring_points.proofs.Joins.{rises_from-union_of}
-use Rattle.ring_points.proofs.Meets.{rises_from-meet_of}
+use Rattle.ring_points.proofs.NearerPart.{nearer_part_rises}
 use Rattle.ring_points.proofs.Rising.{rises_from-append}
 use Rattle.ring_points.proofs.Spans.{in_ranges-span, rises_from-span}
 use Rattle.ring_rules.specs.Deeds.{undone, undone_at, undone_if}
 use Rattle.ring_rules.specs.Renewals.{may_freeze, owns_none}
-use Rattle.ring_wire.specs.Fields.{is_part, is_some}
+use Rattle.fabric_terms.specs.Fields.{is_part, is_some}
 use Rattle.token_core.specs.Calls.{is_empty}
 use Rattle.token_core.specs.Tokens.{Freeze, Token, announced, can_freeze, can_gain, frozen, frozen_part, gained, given, inherited, unfrozen}
 use Rattle.frames_fit.specs.InRange.{FreezeInRange, TokenInRange}
@@ -38,33 +38,6 @@ part_rises is h = proper_rises is (and_parts (is_proper is) (is_some is) h).0
 some_from : (is : List Interval) → is_empty is ≡ false → IsTrue (is_some is)
 some_from [] h = absurd (cc (h))
 some_from (i ∷ is) h = refl
-
--- an arc that leaves a gap rises
-rises_from-gap : (lo hi : ℕ) → hi < 2 ^ 64 → (hi < lo → hi + 2 ≤ lo) → Rises (arc lo hi)
-rises_from-gap lo hi k gap = chosen (nat_le lo hi) refl
-  where
-    chosen : (b : Bool) → nat_le lo hi ≡ b → Rises (cond b (span lo hi) (span 0 hi ++ span lo (2 ^ 64 - 1)))
-    chosen true e = rises_from-span lo hi k
-    chosen false e =
-        let wide : hi + 2 ≤ lo = gap (grind (arith, nat_tests)) in
-        rises_from-append 0 (span 0 hi) (span lo (2 ^ 64 - 1)) (rises_from-span 0 hi k) (rises_from-span lo (2 ^ 64 - 1) (omega arith))
-        (λ p q l n. let front = in_ranges-span p 0 hi in let back = in_ranges-span q lo (2 ^ 64 - 1) in grind (arith, nat_tests))
-
--- whatever the two points are, the nearer points are an arc
-nearer_from_rises : (mine d : ℕ) (tie : Bool) → d < 2 ^ 64 → Rises (nearer_from mine d tie)
-nearer_from_rises mine d true k =
-    let lo = (mine + (d + 1) / 2) % 2 ^ 64 in
-    let hi = (mine + (2 ^ 64 + d) / 2) % 2 ^ 64 in
-    let last : hi < 2 ^ 64 = omega arith in
-    rises_from-gap lo hi last (λ lt. omega arith)
-nearer_from_rises mine d false k =
-    let lo = (mine + (d / 2 + 1)) % 2 ^ 64 in
-    let hi = (mine + (2 ^ 64 + d - 1) / 2) % 2 ^ 64 in
-    let last : hi < 2 ^ 64 = omega arith in
-    rises_from-gap lo hi last (λ lt. omega arith)
-
-pub nearer_rises : (is : List Interval) (mine other : ℕ) → Rises is → Rises (nearer_part_of is mine other)
-nearer_rises is mine other h = rises_from-meet_of 0 0 is (nearer_arc mine other) h (nearer_from_rises mine (ahead_of other mine) (nat_lt other mine) (omega arith))
 
 -- Calls.
 

@@ -12,11 +12,10 @@ use Rattle.fabric_terms.specs.Sound.{IsSound}
 use Rattle.drift_clock.specs.Within.{Pair}
 use Rattle.ring_rules.specs.declared.input.Input.{Input}
 use Rattle.ring_rules.specs.declared.input.Input.TheVariants as input
-use Rattle.sched_text.specs.Lines.{Fits, IsReading}
-use Rattle.sched_text.specs.Numbers.{IsNumber}
+use Rattle.fabric_terms.specs.Ranges.{Fits, IsReading, IsNumber}
 use Rattle.world_rules.specs.Arbiters.{ArbiterState, arbiter_begun, arbiter_step}
 use Rattle.world_rules.specs.Events.{acts_at, arbiter_number, arbiter_stops, arrives, arrives_at, arrives_at_arbiter, arrives_at_node, arrives_if, is_arbiter_actor, node_stops, starts, stops, ticked, ticks, world_step}
-use Rattle.world_rules.specs.Maps.{at, put}
+use Rattle.fabric_lemmas.specs.Maps.{at, put}
 use Rattle.world_rules.specs.Nodes.{NodeState, node_begun, node_step}
 use Rattle.world_rules.specs.Schedules.{MayCome, is_configured_node, may_start, node_runs}
 use Rattle.world_rules.specs.Uppers.{Upper, Did}

@@ -8,9 +8,9 @@ use Rattle.fabric_terms.specs.Sound.{IsSound}
 use Rattle.ring_points.specs.declared.who.Who.{Who}
 use Rattle.ring_rules.specs.declared.input.Input.{Input}
 use Rattle.ring_rules.specs.Rings.{Ring}
-use Rattle.ring_wire.specs.Fields.{is_counted, is_who}
-use Rattle.ring_wire.specs.Frames.{is_sound}
-use Rattle.sched_text.specs.Numbers.{IsNumber}
+use Rattle.fabric_terms.specs.Fields.{is_counted, is_who}
+use Rattle.fabric_terms.specs.Messages.{is_sound}
+use Rattle.fabric_terms.specs.Ranges.{IsNumber}
 use Rattle.world_rules.specs.Uppers.{Upper, Did}
 use Rattle.frames_fit.specs.Formats.{InputInFormat, in_format}
 use Rattle.frames_fit.specs.InRange.{IsInRange}

@@ -4,9 +4,9 @@ use Rattle.fabric_terms.specs.declared.message.Body.{Body}
 use Rattle.ring_points.specs.declared.who.Who.{Who}
 use Rattle.ring_rules.specs.declared.input.Input.{Input}
 use Rattle.ring_rules.specs.declared.input.Input.TheVariants as input
-use Rattle.ring_wire.specs.Fields.{is_addressee}
-use Rattle.ring_wire.specs.Frames.{is_sound, is_sound_body}
-use Rattle.sched_text.specs.Commands.{FitsCommand}
+use Rattle.fabric_terms.specs.Fields.{is_addressee}
+use Rattle.fabric_terms.specs.Messages.{is_sound, is_sound_body}
+use Rattle.fabric_terms.specs.Ranges.{FitsCommand}
 
 -- what is sent goes to an actor and says something in the grammar
 abbrev pub in_format : Who × Body → Bool

@@ -9,7 +9,7 @@ use Rattle.ring_rules.specs.declared.link.Link.{Link}
 use Rattle.ring_rules.specs.Deeds.{has_numbers}
 use Rattle.ring_rules.specs.Rings.{Ring, Slots, points_of}
 use Rattle.ring_rules.specs.Slots.{slot_at, is_bound, is_hello}
-use Rattle.ring_wire.specs.Fields.{is_addressee, is_counted, is_lease, is_node, is_part, is_who, is_word}
+use Rattle.fabric_terms.specs.Fields.{is_addressee, is_counted, is_lease, is_node, is_part, is_who, is_word}
 use Rattle.token_core.specs.Tokens.{Freeze, Token, announced}
 use Rattle.world_rules.specs.Schedules.{is_configured_node}
 

@@ -2,8 +2,8 @@
 use Rattle.std.specs.Prelude.{ℕ, Bool, List, IsTrue, All}
 use Rattle.fabric_terms.specs.declared.config.FabricConfig.{FabricConfig}
 use Rattle.fabric_terms.specs.Sound.{IsSound}
-use Rattle.ring_wire.specs.Frames.{is_sound}
-use Rattle.sched_text.specs.Lines.{Fits}
+use Rattle.fabric_terms.specs.Messages.{is_sound}
+use Rattle.fabric_terms.specs.Ranges.{Fits}
 use Rattle.world_rules.specs.Runs.{History, world_after}
 use Rattle.world_rules.specs.Schedules.{Valid}
 use Rattle.world_rules.specs.Uppers.{Upper}

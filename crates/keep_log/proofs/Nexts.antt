@@ -8,7 +8,7 @@ use Rattle.ring_points.specs.declared.who.Who.{Who}
 use Rattle.fabric_terms.specs.declared.record.Record.{Record}
 use Rattle.fabric_terms.specs.declared.record.Record.TheVariants.{Boot, AccusedBy}
 use Rattle.ring_rules.specs.Arbiters.{first_accuser, accusations_after}
-use Rattle.ring_wire.specs.Fields.{is_who}
+use Rattle.fabric_terms.specs.Fields.{is_who}
 use Rattle.ring_wire.specs.Stands.{StandsAt}
 use Rattle.ring_wire.specs.Texts.{who_bytes}
 use Rattle.ring_wire.proofs.FieldLaws.{who_is}

@@ -5,7 +5,7 @@ use Rattle.std.proofs.lemmas.Bool.{and_parts}
 use Rattle.std.proofs.lemmas.List.{append-nil}
 use Rattle.ring_points.specs.declared.who.Who.{Who}
 use Rattle.fabric_terms.specs.declared.record.Record.TheVariants.{Boot, AccusedBy}
-use Rattle.ring_wire.specs.Fields.{is_counted, is_who}
+use Rattle.fabric_terms.specs.Fields.{is_counted, is_who}
 use Rattle.ring_wire.specs.Readers.{Field}
 use Rattle.ring_wire.specs.Texts.{number_bytes, who_bytes}
 use Rattle.ring_wire.proofs.Forms.{IsField}

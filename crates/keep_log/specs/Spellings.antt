@@ -2,7 +2,7 @@
 use Rattle.std.specs.Prelude.{ℕ, Bool, false, ◌&&◌, List, [], ◌∷◌, ◌++◌}
 use Rattle.fabric_terms.specs.declared.record.Record.{Record}
 use Rattle.fabric_terms.specs.declared.record.Record.TheVariants.{Boot, AccusedBy}
-use Rattle.ring_wire.specs.Fields.{is_counted, is_who}
+use Rattle.fabric_terms.specs.Fields.{is_counted, is_who}
 use Rattle.ring_wire.specs.Texts.{number_bytes, who_bytes}
 
 -- the record is of a kind that is kept, and what it names is in its range

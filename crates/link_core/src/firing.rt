@@ -7,10 +7,9 @@ use crate::announce::Announce;
 use crate::notes::{LinkNote, LinkNotes};
 use crate::rounds::claim_round;
 use crate::say::{self, say_gone};
-use fabric_terms::Body;
+use fabric_terms::{Body, Outbox};
 use ring_points::Who;
 use ring_rules::{Link, LinkState};
-use ring_wire::Outbox;
 
 /// Arbitrator a is the actor of this number plus a.
 pub(crate) const ARBITERS: u16 = 32768;

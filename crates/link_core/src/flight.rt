@@ -5,10 +5,9 @@ ghost use Rattle.link_core.specs.Links.{turn, turn_after};
 
 use crate::notes::{LinkNote, LinkNotes};
 use crate::say::{self, say_gone};
-use fabric_terms::Body;
+use fabric_terms::{Body, Outbox};
 use ring_points::Flight;
 use ring_rules::{Link, LinkState};
-use ring_wire::Outbox;
 
 /// A Transfer in this session.
 pub(crate) fn transfer_seen(

@@ -6,10 +6,9 @@ ghost use Rattle.link_core.specs.Handshakes.{offer_repeated, offer_taken, hello_
 use crate::announce::Announce;
 use crate::notes::{LinkNote, LinkNotes};
 use crate::say::{self, say_gone};
-use fabric_terms::Body;
+use fabric_terms::{Body, Outbox};
 use ring_points::Who;
 use ring_rules::{Link, LinkState};
-use ring_wire::Outbox;
 
 /// A Hello of an instance that has a link: one that was accepted before gets its Offer again.
 pub(crate) fn hello_repeated(slot: &mut Option<Link>, theirs: u32, out: &mut Outbox)

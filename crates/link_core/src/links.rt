@@ -15,7 +15,7 @@ use arrayvec::ArrayVec;
 use drift_clock::Bound;
 use ring_points::{Flight, Who};
 use ring_rules::Link;
-use ring_wire::Outbox;
+use fabric_terms::Outbox;
 use std::marker::Model;
 
 /// How many slots a node has.
@@ -103,14 +103,14 @@ impl Links16 {
         }
     }
 
-    /// Whose links they are. (This project's own.)
+    /// Whose links they are.
     pub fn me(&self) -> Who
         ensures { result ≡ self.now.me }
     {
         self.me
     }
 
-    /// The lease of a link that names no length, at most 1,000,000,000 ticks. (This project's own.)
+    /// The lease of a link that names no length, at most 1,000,000,000 ticks.
     pub fn lease(&self) -> u64
         ensures value { result ≡ self.now.lease }
         ensures short { result ≤ LONGEST_TIME }
@@ -118,7 +118,7 @@ impl Links16 {
         self.lease
     }
 
-    /// How many arbitrators there are, at most nine. (This project's own.)
+    /// How many arbitrators there are, at most nine.
     pub fn arbitrators(&self) -> u8
         ensures value { result ≡ self.now.arbitrators }
         ensures few { result ≤ 9 }
@@ -180,7 +180,7 @@ impl Links16 {
         flight::close(place, bound, out);
     }
 
-    /// The number of the last session, 0 where there was none. (This project's own.)
+    /// The number of the last session, 0 where there was none.
     pub fn last_session(&self) -> u32
         ensures { result + 1 ≡ self.now.next_session }
     {
@@ -188,8 +188,9 @@ impl Links16 {
     }
 
     /// Every slot is free, as of a node that leaves; of the sessions and the accusations only those up to these
-    /// numbers count. (This project's own.)
+    /// numbers count.
     pub fn leave(&mut self, last_session: u32, accused: usize)
+        requires { last_session < self.old.next_session }
         ensures { self.new ≡ record self.old { slots = no_slots; next_session = last_session + 1; accused = take accused self.old.accused } }
     {
         self.slots = free_slots();

@@ -5,7 +5,7 @@ use crate::refusal::LinkRefusal;
 use crate::say::say_gone;
 use ring_points::RangeSet;
 use ring_rules::{Link, LinkState};
-use ring_wire::Outbox;
+use fabric_terms::Outbox;
 
 /// The slot gives up its record and says so to the peer, unless a flight of it stands.
 pub(crate) fn part(slot: &mut Option<Link>, out: &mut Outbox) -> Result<(), LinkRefusal>

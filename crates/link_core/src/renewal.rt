@@ -6,10 +6,9 @@ ghost use Rattle.link_core.specs.Renewals.{ack_seen, renew_seen, wanted_if};
 
 use crate::notes::{LinkNote, LinkNotes};
 use crate::say::say_gone;
-use fabric_terms::Body;
+use fabric_terms::{Body, Outbox};
 use ring_points::RangeSet;
 use ring_rules::{Link, LinkState};
-use ring_wire::Outbox;
 
 /// What a Renew says beside the numbers of its session.
 #[derive(Drop)]

@@ -7,11 +7,10 @@ ghost use Rattle.link_core.specs.Rounds.{claimed_first, claimed_if, claims, is_d
 use crate::firing::ARBITERS;
 use crate::notes::LinkNotes;
 use crate::ruling::{Terms, becomes_heir, ripe_at};
-use fabric_terms::Body;
+use fabric_terms::{Body, Outbox};
 use heir_rounds::RoundVerdict;
 use ring_points::Who;
 use ring_rules::{Link, LinkState};
-use ring_wire::Outbox;
 
 /// Whether the arbitrator has ruled, and has not answered in this round.
 fn owes_round(link: &Link, arbitrator: u8) -> bool

@@ -6,10 +6,9 @@ ghost use Rattle.link_core.specs.Handshakes.{renew_body};
 ghost use Rattle.link_core.specs.Links.{turn, turn_after, gone_said};
 
 use crate::announce::Announce;
-use fabric_terms::Body;
+use fabric_terms::{Body, Outbox};
 use ring_points::{Flight, Who};
 use ring_rules::Link;
-use ring_wire::Outbox;
 
 /// The greeting of a link, by its frame version.
 pub(crate) fn hello(link: &Link) -> Body

@@ -3,9 +3,8 @@ ghost use Rattle.link_core.specs.Frames.{may_come};
 
 use crate::{Announce, LinkNote, LinkRefusal, Links16};
 use drift_clock::Bound;
-use fabric_terms::{Body, Message};
+use fabric_terms::{Body, Message, Outbox};
 use ring_points::{Flight, RangeSet, Who};
-use ring_wire::Outbox;
 
 fn instance(actor: u16) -> Who
     ensures { result ≡ record { actor = actor; instance = 1 } }

@@ -16,8 +16,8 @@ use Rattle.ring_rules.specs.Owns.{own_after}
 use Rattle.ring_rules.specs.Rings.{Ring, Settings, Work, settings_of}
 use Rattle.ring_rules.specs.Starts.{node_started, start_first, start_if}
 use Rattle.ring_rules.specs.Steps.{ring_step}
-use Rattle.ring_safety.proofs.Steps.{ring_stepped}
-use Rattle.ring_wire.specs.Sent.{from_all}
+use Rattle.run_facts.proofs.Steps.{ring_stepped}
+use Rattle.fabric_terms.specs.Sent.{from_all}
 use Rattle.token_core.specs.Tokens.{last_number}
 use Rattle.world_rules.specs.Nodes.{NodeState, above_if, boots_of, both_did, comes_above, instance_begun, is_spent, node_begun, node_step}
 use Rattle.world_rules.specs.Nothing.{nothing}

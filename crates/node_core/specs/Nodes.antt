@@ -5,9 +5,9 @@ use Rattle.ring_rules.specs.declared.input.Input.{Input}
 use Rattle.ring_rules.specs.declared.input.Input.TheVariants as input
 use Rattle.ring_rules.specs.Rings.{settings_of}
 use Rattle.ring_node.specs.Nodes.{Node}
-use Rattle.ring_wire.specs.Frames.{is_sound}
-use Rattle.ring_wire.specs.Sent.{from_all}
-use Rattle.sched_text.specs.Commands.{FitsCommand}
+use Rattle.fabric_terms.specs.Messages.{is_sound}
+use Rattle.fabric_terms.specs.Sent.{from_all}
+use Rattle.fabric_terms.specs.Ranges.{FitsCommand}
 use Rattle.world_rules.specs.Nodes.{NodeState}
 use Rattle.world_rules.specs.Nothing.{nothing}
 use Rattle.world_rules.specs.Uppers.{Did}

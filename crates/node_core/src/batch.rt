@@ -2,7 +2,7 @@ ghost use Rattle.std.specs.Prelude.{◌≡◌};
 
 use std::marker::Model;
 
-/// A list that a step leaves. Contracts see it as its list. (This project's own.)
+/// A list that a step leaves. Contracts see it as its list.
 #[derive(Drop)]
 pub struct Batch<T> {
     items: Vec<T>,

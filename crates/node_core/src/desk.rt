@@ -10,7 +10,7 @@ use std::alloc::Global;
 pub(crate) const MOST_TOLD: usize = 64;
 
 /// Where a node puts what a step sends and reports, and room for what the step leaves. It is clear between steps.
-/// (This project's own.)
+///
 #[derive(Drop)]
 pub(crate) struct Desk {
     pub(crate) out: Outbox,

@@ -2,8 +2,7 @@
 use Rattle.std.proofs.Common.{◌≡◌, true, false, arith}
 use Rattle.std.proofs.lemmas.Bool.Decides.{nat_tests}
 use Rattle.ring_points.specs.declared.unit.Epoch.{Epoch}
-use Rattle.ring_points.specs.Epochs.{is_older}
-use Rattle.replica_core.specs.Replicas.{same_epoch}
+use Rattle.ring_points.specs.Epochs.{is_older, same_epoch}
 
 pub not_itself : (a : Epoch) → is_older a a ≡ false
 not_itself a = grind (arith, nat_tests)

@@ -2,12 +2,12 @@
 use Rattle.std.proofs.Common.{◌≡◌, ℕ, Bool, true, false, List, Some, Ok, refl, subst}
 use Rattle.std.specs.Prelude.{◌+◌, ◌==◌, ◌&&◌, ◌||◌, not, nat_lt, length}
 use Rattle.ring_points.specs.declared.unit.Epoch.{Epoch}
-use Rattle.ring_points.specs.Epochs.{is_older}
+use Rattle.ring_points.specs.Epochs.{is_older, same_epoch}
 use Rattle.replica_core.specs.declared.entry.Entry.{Entry}
 use Rattle.replica_core.specs.declared.refusal.Done.{Done}
 use Rattle.replica_core.specs.declared.refusal.Done.TheVariants.{New, Held}
 use Rattle.replica_core.specs.declared.refusal.ReplicaRefusal.{ReplicaRefusal}
-use Rattle.replica_core.specs.Replicas.{Replica, same_epoch, collected_in}
+use Rattle.replica_core.specs.Replicas.{Replica, collected_in}
 use Rattle.replica_core.specs.declared.role.Role.{Role}
 use Rattle.replica_core.specs.Roles.{is_idle, is_member, role_of}
 use Rattle.ring_points.specs.declared.unit.Config.{Config}

@@ -3,11 +3,11 @@ use Rattle.std.proofs.Common.{◌≡◌, ℕ, ◌+◌, Bool, true, false, List, 
 use Rattle.std.specs.Prelude.{◌==◌, ◌&&◌, nat_lt, not, length}
 use Rattle.ring_points.specs.declared.unit.Config.{Config}
 use Rattle.ring_points.specs.declared.unit.Epoch.{Epoch}
-use Rattle.ring_points.specs.Epochs.{is_older}
+use Rattle.ring_points.specs.Epochs.{is_older, same_epoch}
 use Rattle.replica_core.specs.declared.entry.Entry.{Entry}
 use Rattle.replica_core.specs.declared.refusal.Done.{Done}
 use Rattle.replica_core.specs.declared.refusal.ReplicaRefusal.{ReplicaRefusal}
-use Rattle.replica_core.specs.Replicas.{Replica, same_epoch, collected_in, collected_with}
+use Rattle.replica_core.specs.Replicas.{Replica, collected_in, collected_with}
 use Rattle.replica_core.specs.Calls.{Outcome, unless, held_if, own_adopted, collected_call, is_collected, is_ahead, is_gap, is_empty, promise_call, append_call, adopt_own_call, adopt_call, adopt_collected_call, idle_call, activate_call}
 use Rattle.replica_core.specs.Roles.{is_idle, is_member}
 use Rattle.replica_core.specs.Histories.{Call, Promise, Append, AdoptOwn, Adopt, AdoptCollected, DropCollected, Idle, Activate, after}

@@ -2,7 +2,7 @@
 use Rattle.std.specs.Prelude.{◌≡◌, ◌≢◌, ℕ, ◌+◌, Bool, true, false, not, ◌&&◌, ◌||◌, ◌==◌, nat_lt, List, [], ◌∷◌, length, Result, Ok, Err, if◌then◌else◌}
 use Rattle.ring_points.specs.declared.unit.Config.{Config}
 use Rattle.ring_points.specs.declared.unit.Epoch.{Epoch}
-use Rattle.ring_points.specs.Epochs.{is_older}
+use Rattle.ring_points.specs.Epochs.{is_older, same_epoch}
 use Rattle.replica_core.specs.declared.entry.Entry.{Entry}
 use Rattle.replica_core.specs.declared.refusal.Done.{Done}
 use Rattle.replica_core.specs.declared.refusal.Done.TheVariants.{New, Held}
@@ -11,7 +11,7 @@ use Rattle.replica_core.specs.declared.refusal.ReplicaRefusal.TheVariants.{Older
 use Rattle.replica_core.specs.declared.role.Role.{Role}
 use Rattle.replica_core.specs.declared.role.Role.TheVariants.{IdleSecondary}
 use Rattle.replica_core.specs.Roles.{is_idle, is_member, role_of}
-use Rattle.replica_core.specs.Replicas.{Replica, same_epoch, same_entry, raised, written, adopted, settled, collected_in, collecting}
+use Rattle.replica_core.specs.Replicas.{Replica, same_entry, raised, written, adopted, settled, collected_in, collecting}
 
 -- the answer of a call, and the replica after it
 abbrev pub Outcome : Type 0 → Type 0

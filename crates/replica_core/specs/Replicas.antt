@@ -2,7 +2,7 @@
 use Rattle.std.specs.Prelude.{◌≡◌, ℕ, ◌+◌, ◌≤◌, Bool, true, false, ◌&&◌, ◌==◌, nat_eq, List, [], ◌∷◌, ◌++◌, length, IsTrue, if◌then◌else◌}
 use lib.Pointwise.{pointwise}
 use Rattle.ring_points.specs.declared.unit.Epoch.{Epoch}
-use Rattle.ring_points.specs.Epochs.{is_older}
+use Rattle.ring_points.specs.Epochs.{same_epoch, is_older}
 use Rattle.replica_core.specs.declared.entry.Entry.{Entry}
 use Rattle.replica_core.specs.declared.role.Role.{Role}
 use Rattle.replica_core.specs.declared.role.Role.TheVariants.{None as NoRole}
@@ -23,9 +23,6 @@ first_epoch = record { data_loss = 0; configuration = 0 }
 
 abbrev pub first_replica : ℕ → Replica
 first_replica partition = record { partition = partition; promised = first_epoch; at = first_epoch; log = []; role = NoRole; collected = [] }
-
-abbrev pub same_epoch : Epoch → Epoch → Bool
-same_epoch a b = a.data_loss == b.data_loss && a.configuration == b.configuration
 
 abbrev pub same_entry : Entry → Entry → Bool
 same_entry a b = same_epoch a.epoch b.epoch && a.lsn == b.lsn && pointwise nat_eq a.bytes b.bytes

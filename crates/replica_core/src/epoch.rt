@@ -1,6 +1,6 @@
 ghost use Rattle.std.specs.Prelude.{◌≡◌};
-ghost use Rattle.ring_points.specs.Epochs.{is_older};
-ghost use Rattle.replica_core.specs.Replicas.{first_epoch, same_epoch};
+ghost use Rattle.ring_points.specs.Epochs.{is_older, same_epoch};
+ghost use Rattle.replica_core.specs.Replicas.{first_epoch};
 
 use ring_points::Epoch;
 

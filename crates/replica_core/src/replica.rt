@@ -97,7 +97,8 @@ impl Replica {
 
     /// How many entries are collected in the promised epoch and not yet made the log.
     pub fn collected(&self) -> u32
-        ensures { result ≡ length self.now.collected }
+        ensures count { result ≡ length self.now.collected }
+        ensures sound { IsSound self.now }
     {
         self.collected.len() as u32
     }

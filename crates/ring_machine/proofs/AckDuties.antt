@@ -1,7 +1,7 @@
 -- An acknowledgement is heard: it prolongs the lease.
 use Rattle.std.proofs.Common.{◌≡◌, ℕ, ◌+◌, ◌<◌, ◌≤◌, max, true, [], refl, sym, subst, inl, ⊎_elim, arith}
 use Rattle.std.proofs.lemmas.Bool.{both_ways, cases_lt}
-use Rattle.ring_machine.specs.Members.{IsMember}
+use Rattle.fabric_lemmas.specs.Members.{IsMember}
 use Rattle.ring_machine.specs.Ends.{End}
 use Rattle.ring_machine.specs.Slots.{Slot, guards, is_engaged, stands}
 use Rattle.ring_machine.specs.Tokens.{Token}

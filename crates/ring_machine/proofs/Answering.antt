@@ -4,14 +4,15 @@ use Rattle.ring_points.specs.declared.who.Who.{Who}
 use Rattle.ring_points.specs.declared.who.Ruling.{Ruling}
 use Rattle.ring_points.specs.declared.who.Ruling.TheVariants.{Granted, Taken, Refused}
 use Rattle.ring_points.specs.Whos.{same_who}
-use Rattle.ring_machine.specs.Members.{IsMember}
+use Rattle.fabric_lemmas.specs.Members.{IsMember}
 use Rattle.ring_machine.specs.Ends.{updated}
 use Rattle.ring_machine.specs.Frames.{Frame, Ruled}
 use Rattle.ring_machine.specs.World.{Settings, World}
 use Rattle.ring_machine.specs.Arbitration.{ruling_of, first_after, ruled, Answered, kept_of}
 use Rattle.ring_machine.specs.SoundFrames.{SoundRuling, SoundFrame}
 use Rattle.ring_machine.specs.Invariant.{Invariant}
-use Rattle.ring_machine.proofs.Whos.{same_who-true, same_who-false, updated_cases, replaced_cases}
+use Rattle.ring_points.proofs.Whos.{same_who-true, same_who-false}
+use Rattle.ring_machine.proofs.Whos.{updated_cases, replaced_cases}
 use Rattle.ring_machine.proofs.Later.{Later, open_later}
 use Rattle.ring_machine.proofs.Arbitrated.{is_answer, arbitrated_later, arbitrated_keeps}
 

@@ -2,7 +2,7 @@
 use Rattle.std.proofs.Common.{◌≡◌, ℕ, ◌==◌, Bool, true, false, cond, Option, Some, None, refl, sym, ap, ◌∙◌, subst, inl, inr, ⊎_elim}
 use Rattle.ring_points.specs.declared.who.Who.{Who}
 use Rattle.ring_points.specs.declared.who.Ruling.TheVariants.{Granted, Taken}
-use Rattle.ring_machine.specs.Members.{IsMember}
+use Rattle.fabric_lemmas.specs.Members.{IsMember}
 use Rattle.ring_machine.specs.Ends.{updated, replaced}
 use Rattle.ring_machine.specs.Frames.{Frame, Ruled, Kept}
 use Rattle.ring_machine.specs.World.{Settings, World}
@@ -10,7 +10,8 @@ use Rattle.ring_machine.specs.Arbitration.{kept_of, kept_after, kept_answer, cla
 use Rattle.ring_machine.specs.SoundFrames.{SoundRuling, SoundFrame}
 use Rattle.ring_machine.specs.Invariant.{Invariant}
 use Rattle.ring_machine.proofs.Lists.{IsMember-append_cases}
-use Rattle.ring_machine.proofs.Whos.{same_who-false, updated_cases, replaced_cases}
+use Rattle.ring_points.proofs.Whos.{same_who-false}
+use Rattle.ring_machine.proofs.Whos.{updated_cases, replaced_cases}
 use Rattle.ring_machine.proofs.Later.{Later, open_later}
 use Rattle.ring_machine.proofs.Arbitrated.{is_answer, arbitrated_later, arbitrated_keeps}
 

@@ -9,7 +9,7 @@ use Rattle.ring_machine.specs.World.{Settings, World}
 use Rattle.ring_machine.specs.Arbitration.{Answered, AnsweredBy, Tells, by_kept, by_grant, KeptIn, HeirBy, may_keep, IsSplit, IsOpen, kept_of}
 use Rattle.ring_machine.specs.SoundFrames.{SoundRuling, SoundKept}
 use Rattle.ring_machine.specs.Invariant.{Invariant}
-use Rattle.ring_machine.proofs.Whos.{same_who-refl}
+use Rattle.ring_points.proofs.Whos.{same_who-refl}
 use Rattle.ring_machine.proofs.Majorities.{majorities_meet, majority_more}
 
 -- the first round may always be claimed

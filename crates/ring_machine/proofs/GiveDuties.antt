@@ -16,7 +16,8 @@ use Rattle.ring_machine.specs.SoundSlots.{Freed, by_answers, by_closing}
 use Rattle.ring_machine.specs.SoundFlights.{IsWhole, SoundFlight, SoundToken, Pending, SoundFreeze}
 use Rattle.ring_machine.specs.SoundFrames.{SoundRenew}
 use Rattle.ring_machine.specs.Invariant.{Invariant}
-use Rattle.ring_machine.proofs.Whos.{test, same_who-false}
+use Rattle.ring_points.proofs.Whos.{same_who-false}
+use Rattle.ring_machine.proofs.Whos.{test}
 use Rattle.ring_machine.proofs.States.{implied}
 use Rattle.ring_machine.proofs.Duty.{Sent, TokenDuty, PlaceDuty, Duty}
 use Rattle.ring_machine.proofs.Acting.{Acting, good, here, back, NoRenewal, is_renewal, no_renew, no_ack, each_of_one, frozen_more, claim_before, freeze_theirs}

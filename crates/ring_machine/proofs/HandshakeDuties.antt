@@ -1,7 +1,7 @@
 -- Deeds that begin a session: ask, offer, take the offer, give up.
 use Rattle.std.proofs.Common.{◌≡◌, ℕ, ◌+◌, ◌<◌, ◌≤◌, min, Bool, true, false, List, [], ◌∷◌, refl, sym, ap, subst, inl, inr, arith}
 use Rattle.ring_points.specs.Whos.{same_who}
-use Rattle.ring_machine.specs.Members.{IsMember}
+use Rattle.fabric_lemmas.specs.Members.{IsMember}
 use Rattle.ring_machine.specs.Ends.{End, any_of}
 use Rattle.ring_machine.specs.Slots.{Slot, State, Unused, Asking, Offered, Bound, Abandoned, fresh_slot, guards, is_used, is_settled, is_engaged, is_active, is_willing}
 use Rattle.ring_machine.specs.Tokens.{Token}
@@ -12,7 +12,7 @@ use Rattle.ring_machine.specs.Effects.{outcome, begun, hello_begun, offer_begun}
 use Rattle.ring_machine.specs.Sessions.{Tied, BothTied, over}
 use Rattle.ring_machine.specs.SoundSlots.{AsksFor}
 use Rattle.ring_machine.specs.SoundFrames.{SoundHello, SoundOffer}
-use Rattle.ring_machine.proofs.Whos.{same_who-false, same_who_from}
+use Rattle.ring_points.proofs.Whos.{same_who-false, same_who_from}
 use Rattle.ring_machine.proofs.States.{implied}
 use Rattle.ring_machine.proofs.Duty.{Sent, Duty}
 use Rattle.ring_machine.proofs.Acting.{Acting, good, is_renewal, NoRenewal, each_of_one, each_of_answer}

@@ -1,7 +1,7 @@
 -- A Renew is heard: what it announces is recorded if it is newer, and a flight that it confirms stands no more.
 use Rattle.std.proofs.Common.{◌≡◌, ℕ, ◌<◌, ◌≤◌, Bool, true, false, cond, ltb, leb, [], ◌∷◌, Option, None, Some, ◌⊎◌, refl, subst, inl, inr, ⊎_elim, arith}
 use Rattle.std.proofs.lemmas.Bool.{both_ways, ltb-true, ltb-false, leb-false}
-use Rattle.ring_machine.specs.Members.{IsMember}
+use Rattle.fabric_lemmas.specs.Members.{IsMember}
 use Rattle.ring_machine.specs.Points.{Points}
 use Rattle.ring_machine.specs.Ends.{End}
 use Rattle.ring_machine.specs.Slots.{Slot, Flight, Bound, guards, is_engaged, is_active, is_willing}

@@ -2,7 +2,7 @@
 use Rattle.std.proofs.Common.{◌≡◌, ℕ, ◌+◌, ◌<◌, Bool, true, false, Option, None, refl, sym, ap, ◌∙◌, subst, inl, arith}
 use Rattle.std.proofs.lemmas.Bool.{both_ways}
 use Rattle.ring_points.specs.Whos.{same_who}
-use Rattle.ring_machine.specs.Members.{IsMember}
+use Rattle.fabric_lemmas.specs.Members.{IsMember}
 use Rattle.ring_machine.specs.Ends.{End}
 use Rattle.ring_machine.specs.Slots.{Slot, Flight, State, Asking, Bound, Parting, Discharged, Heir, Parted, HasClaim, guards, is_used, is_settled, is_engaged, is_active, is_willing}
 use Rattle.ring_machine.specs.Frames.{Frame, RenewAck}

@@ -2,7 +2,7 @@
 use Rattle.std.proofs.Common.{◌≡◌, ℕ, ◌≤◌, true, false, List, ◌⊎◌, refl, sym, ap, ◌∙◌, inl, inr, ⊎_elim, arith}
 use Rattle.std.proofs.lemmas.Bool.{both_ways, false_from_ne_true}
 use Rattle.ring_points.specs.declared.who.Who.{Who}
-use Rattle.ring_machine.specs.Members.{IsMember}
+use Rattle.fabric_lemmas.specs.Members.{IsMember}
 use Rattle.ring_machine.specs.Ends.{End}
 use Rattle.ring_machine.specs.Slots.{Slot, Asking, is_used, is_settled, is_engaged, is_willing}
 use Rattle.ring_machine.specs.Frames.{Frame}

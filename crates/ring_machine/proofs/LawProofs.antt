@@ -8,7 +8,8 @@ use Rattle.ring_machine.specs.Guards.{MayInSlot}
 use Rattle.ring_machine.specs.Events.{Event, Does, IsSound, Can, after, Valid, world_after}
 use Rattle.ring_machine.specs.Invariant.{Invariant}
 use Rattle.ring_machine.specs.Laws.{Exclusion, Uniqueness, RingSafe, TakenAfterLeave, OwnsItsPlaces, MovesInSlot, Moves, EachMovesFromItsPlace, GivesFlight, NumberedOnce, InvariantHolds}
-use Rattle.ring_machine.proofs.Whos.{same_who-false, updated_cases}
+use Rattle.ring_points.proofs.Whos.{same_who-false}
+use Rattle.ring_machine.proofs.Whos.{updated_cases}
 use Rattle.ring_machine.proofs.Later.{Later}
 use Rattle.ring_machine.proofs.Exclusions.{one_heir, no_crossing}
 use Rattle.ring_machine.proofs.Acting.{Acting}

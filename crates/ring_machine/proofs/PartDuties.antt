@@ -1,7 +1,7 @@
 -- Deeds that end a session without an accusation: part, and hear of the other's Gone where no flight returns.
 use Rattle.std.proofs.Common.{◌≡◌, ℕ, Bool, true, false, [], ◌∷◌, None, refl, inl, arith}
 use Rattle.std.proofs.lemmas.Bool.{both_ways}
-use Rattle.ring_machine.specs.Members.{IsMember}
+use Rattle.fabric_lemmas.specs.Members.{IsMember}
 use Rattle.ring_machine.specs.Points.{no_points}
 use Rattle.ring_machine.specs.Ends.{End}
 use Rattle.ring_machine.specs.Slots.{Slot, Parting, Parted, guards, is_engaged, is_active, is_willing, stands}

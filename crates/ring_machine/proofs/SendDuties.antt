@@ -1,6 +1,6 @@
 -- Deeds that only send.
 use Rattle.std.proofs.Common.{◌≡◌, ℕ, ◌≤◌, true, false, [], ◌∷◌, Option, Some, ◌⊎◌, refl, sym, ap, subst, inl, inr, ⊎_elim, arith}
-use Rattle.ring_machine.specs.Members.{IsMember}
+use Rattle.fabric_lemmas.specs.Members.{IsMember}
 use Rattle.ring_machine.specs.Ends.{End}
 use Rattle.ring_machine.specs.Slots.{Slot, Flight, Asking, Offered, Bound, Parting, is_used, is_engaged, is_settled, is_willing, is_tallying}
 use Rattle.ring_machine.specs.Frames.{Frame, Hello, Offer, Take, Renew, Transfer, Gone, Accuse, RoundClaim, ends_of}

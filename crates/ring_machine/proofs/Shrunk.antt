@@ -1,6 +1,6 @@
 -- Deeds that give up claims, or none, and move no point: versions and counters stay, no Renew is sent.
 use Rattle.std.proofs.Common.{◌≡◌, ◌+◌, ℕ, ◌≤◌, Bool, true, false, cond, ◌==◌, List, ◌++◌, Option, Some, None, refl, sym, subst, inl, arith}
-use Rattle.ring_machine.specs.Members.{IsMember}
+use Rattle.fabric_lemmas.specs.Members.{IsMember}
 use Rattle.ring_machine.specs.Points.{Points, no_points}
 use Rattle.ring_machine.specs.Ends.{End}
 use Rattle.ring_machine.specs.Slots.{Slot, Flight, State, HasClaim, of_record, of_flight, is_used, is_willing}

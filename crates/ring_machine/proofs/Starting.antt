@@ -3,7 +3,7 @@ use Rattle.std.proofs.Common.{◌≡◌, ◌+◌, ℕ, ◌<◌, ◌≤◌, true,
 use Rattle.std.proofs.lemmas.Bool.{and_parts, and_from}
 use Rattle.ring_points.specs.declared.who.Who.{Who}
 use Rattle.ring_points.specs.Whos.{same_who}
-use Rattle.ring_machine.specs.Members.{IsMember}
+use Rattle.fabric_lemmas.specs.Members.{IsMember}
 use Rattle.ring_machine.specs.Points.{is_point}
 use Rattle.ring_machine.specs.Tokens.{Freeze}
 use Rattle.drift_clock.specs.Within.{Within}
@@ -11,7 +11,8 @@ use Rattle.ring_machine.specs.World.{Settings, Instance, World, Unborn, Running,
 use Rattle.ring_machine.specs.SoundFlights.{SoundToken}
 use Rattle.ring_machine.specs.Events.{next_instance, started}
 use Rattle.ring_machine.specs.Invariant.{Invariant}
-use Rattle.ring_machine.proofs.Whos.{same_who-true, same_who-refl, updated_cases, replaced_cases}
+use Rattle.ring_points.proofs.Whos.{same_who-true, same_who-refl}
+use Rattle.ring_machine.proofs.Whos.{updated_cases, replaced_cases}
 use Rattle.ring_machine.proofs.Waits.{Within-refl}
 use Rattle.ring_machine.proofs.Later.{Later}
 use Rattle.ring_machine.proofs.Unmoved.{Unmoved, unmoved_later, slots_unmoved, frames_unmoved, backed_unmoved, flights_unmoved, freezes_unmoved, single_unmoved}

@@ -2,7 +2,7 @@
 use Rattle.std.proofs.Common.{◌≡◌, ℕ, ◌≤◌, true, false, ◌⊎◌, refl, sym, ap, ◌∙◌, subst, arith}
 use Rattle.ring_points.specs.declared.who.Who.{Who}
 use Rattle.ring_points.specs.Whos.{same_who}
-use Rattle.ring_machine.specs.Members.{IsMember}
+use Rattle.fabric_lemmas.specs.Members.{IsMember}
 use Rattle.ring_machine.specs.Ends.{End}
 use Rattle.ring_machine.specs.Slots.{Slot, Asking, is_used, is_settled, is_engaged, is_willing}
 use Rattle.ring_machine.specs.Frames.{Frame}
@@ -10,7 +10,8 @@ use Rattle.ring_machine.specs.World.{Settings, Instance, World, Dead, slot}
 use Rattle.ring_machine.specs.Effects.{Outcome, changed, stepped}
 use Rattle.ring_machine.specs.Sessions.{Tied, Quiet}
 use Rattle.ring_machine.proofs.Lists.{IsMember-append_right, IsMember-append_cases}
-use Rattle.ring_machine.proofs.Whos.{same_who-false, updated_cases, replaced_cases, apart_ends}
+use Rattle.ring_points.proofs.Whos.{same_who-false}
+use Rattle.ring_machine.proofs.Whos.{updated_cases, replaced_cases, apart_ends}
 use Rattle.ring_machine.proofs.Later.{Later, AskedBefore}
 use Rattle.ring_machine.proofs.Duty.{Deeded}
 

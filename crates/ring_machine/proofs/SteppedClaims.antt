@@ -1,7 +1,7 @@
 -- After a deed each claim is backed.
 use Rattle.std.proofs.Common.{◌≡◌, ℕ, false, ◌++◌, refl, sym, ◌∙◌, subst, ⊎_elim, arith}
 use Rattle.std.proofs.lemmas.Bool.{both_ways}
-use Rattle.ring_machine.specs.Members.{IsMember}
+use Rattle.fabric_lemmas.specs.Members.{IsMember}
 use Rattle.ring_machine.specs.Points.{Points}
 use Rattle.ring_machine.specs.Ends.{End}
 use Rattle.ring_machine.specs.Slots.{Slot, is_engaged, is_settled}

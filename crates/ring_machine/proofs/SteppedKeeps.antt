@@ -1,6 +1,6 @@
 -- A deed that does its duty keeps the invariant, and leaves its instance live.
 use Rattle.std.proofs.Common.{◌≡◌, ℕ, ◌+◌, ◌<◌, true, Some, sym, subst, arith}
-use Rattle.ring_machine.specs.Members.{IsMember}
+use Rattle.fabric_lemmas.specs.Members.{IsMember}
 use Rattle.ring_machine.specs.Points.{is_point}
 use Rattle.ring_machine.specs.Ends.{End}
 use Rattle.ring_machine.specs.Slots.{guards}

@@ -1,6 +1,6 @@
 -- After a deed each slot is sound, and an instance has one open session at most with another.
 use Rattle.std.proofs.Common.{◌≡◌, ℕ, ◌<◌, true, refl, sym, ap, ◌∙◌, subst, ⊎_elim, arith}
-use Rattle.ring_machine.specs.Members.{IsMember}
+use Rattle.fabric_lemmas.specs.Members.{IsMember}
 use Rattle.ring_machine.specs.Ends.{End}
 use Rattle.ring_machine.specs.Slots.{Slot, Asking, HasClaim, of_record, of_flight, guards, is_engaged, is_settled, is_active, is_willing}
 use Rattle.ring_machine.specs.Frames.{RenewAck}

@@ -3,7 +3,7 @@ use Rattle.std.proofs.Common.{◌≡◌, ◌+◌, ℕ, ◌<◌, ◌≤◌, Bool,
 use Rattle.std.proofs.lemmas.Bool.{both_ways, or_cases, or_left, or_right, cases_lt}
 use Rattle.ring_points.specs.declared.who.Who.{Who}
 use Rattle.ring_points.specs.Whos.{same_who}
-use Rattle.ring_machine.specs.Members.{IsMember}
+use Rattle.fabric_lemmas.specs.Members.{IsMember}
 use Rattle.ring_machine.specs.Points.{Points, no_points, union}
 use Rattle.ring_machine.specs.Ends.{End}
 use Rattle.ring_machine.specs.Slots.{Slot, Flight, Bound, Parted, is_engaged, is_willing, stands}
@@ -15,7 +15,7 @@ use Rattle.ring_machine.specs.Sessions.{Tied, BothTied, flew, Closed, elsewhere,
 use Rattle.ring_machine.specs.Claims.{Claim, by_record, by_renew, by_flight}
 use Rattle.ring_machine.specs.SoundFlights.{IsWhole, SoundToken, Pending, FrozenTo}
 use Rattle.ring_machine.specs.SoundFrames.{SoundTransfer, SoundGone}
-use Rattle.ring_machine.proofs.Whos.{same_who-false}
+use Rattle.ring_points.proofs.Whos.{same_who-false}
 use Rattle.ring_machine.proofs.Duty.{Sent, TokenDuty, PlaceDuty, Duty}
 use Rattle.ring_machine.proofs.Acting.{Acting, good, here, back, NoRenewal, is_renewal, no_renew, no_ack, each_of_answer, frozen_more, claim_before, far_differs, freeze_mine, freeze_theirs}
 use Rattle.ring_machine.proofs.Kept.{kept_duty, bound_link}

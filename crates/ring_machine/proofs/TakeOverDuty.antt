@@ -12,7 +12,8 @@ use Rattle.ring_machine.specs.Sessions.{Tied, BothTied, Closed, elsewhere, over}
 use Rattle.ring_machine.specs.Claims.{Barred, other_heir, discharged, Backed, claimant_dead, barred, of_owner, Claim, by_record, by_renew, by_flight}
 use Rattle.ring_machine.specs.Leases.{Leased, SoundHeir}
 use Rattle.ring_machine.specs.SoundSlots.{Freed, by_answers, by_closing}
-use Rattle.ring_machine.proofs.Whos.{test, same_who-false, same_who_from}
+use Rattle.ring_points.proofs.Whos.{same_who-false, same_who_from}
+use Rattle.ring_machine.proofs.Whos.{test}
 use Rattle.ring_machine.proofs.States.{implied}
 use Rattle.ring_machine.proofs.Waits.{wait_covers}
 use Rattle.ring_machine.proofs.Exclusions.{one_heir, no_crossing}

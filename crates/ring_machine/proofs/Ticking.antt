@@ -1,7 +1,7 @@
 -- Time passes within the bound of each running clock, and the invariant is kept.
 use Rattle.std.proofs.Common.{◌≡◌, ℕ, ◌+◌, ◌<◌, ◌≤◌, Bool, true, false, ◌∷◌, Some, refl, sym, ap, subst, inl, inr, ⊎_elim, arith}
 use Rattle.ring_points.specs.declared.who.Who.{Who}
-use Rattle.ring_machine.specs.Members.{IsMember}
+use Rattle.fabric_lemmas.specs.Members.{IsMember}
 use Rattle.ring_machine.specs.Points.{is_point}
 use Rattle.ring_machine.specs.Tokens.{Freeze}
 use Rattle.drift_clock.specs.Within.{Within, FitsAll}

@@ -2,7 +2,7 @@
 use Rattle.std.proofs.Common.{◌≡◌, ℕ, ◌≤◌, true, false, Some, refl, sym, ap, ◌∙◌, subst, inl, arith}
 use Rattle.ring_points.specs.declared.who.Who.{Who}
 use Rattle.ring_points.specs.declared.who.Ruling.TheVariants.{Granted, Taken, Refused}
-use Rattle.ring_machine.specs.Members.{IsMember}
+use Rattle.fabric_lemmas.specs.Members.{IsMember}
 use Rattle.ring_machine.specs.Ends.{End}
 use Rattle.ring_machine.specs.Slots.{Slot, Flight, Asking, guards, is_used, is_settled, is_engaged, is_active, is_willing}
 use Rattle.ring_machine.specs.Tokens.{Freeze}

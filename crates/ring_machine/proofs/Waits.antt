@@ -4,7 +4,7 @@ use Rattle.drift_clock.specs.declared.bound.Bound.{Bound}
 use Rattle.drift_clock.specs.Wait.{wait}
 use Rattle.drift_clock.specs.Within.{Pair, Within, FitsAll}
 use Rattle.drift_clock.proofs.Waits.{waits_cover}
-use Rattle.ring_machine.specs.Members.{IsMember}
+use Rattle.fabric_lemmas.specs.Members.{IsMember}
 
 -- the heir's clock showed `begun` since a moment, and shows `ripe` now; the other showed a stamp no later, and shows `reading` now
 pub wait_covers : (bound : Bound) (x since begun now ripe taken stamp reading : ℕ) → bound.d ≤ 100 →

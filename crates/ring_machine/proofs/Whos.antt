@@ -1,28 +1,15 @@
--- Equal instances and ends, and functions changed at one of them.
+-- Equal ends, and functions changed at one of them.
 use Rattle.std.proofs.Common.{◌≡◌, ◌≢◌, ℕ, Bool, true, false, cond, ◌==◌, ◌⊎◌, refl, ap, subst, inl, inr}
 use Rattle.std.proofs.lemmas.Bool.{eqb-true, eqb-false, eq-eqb, and_parts, and_from, both_ways}
 use Rattle.ring_points.specs.declared.who.Who.{Who}
 use Rattle.ring_points.specs.Whos.{same_who}
+use Rattle.ring_points.proofs.Whos.{same_who-true, same_who-refl, same_who-false}
 use Rattle.ring_machine.specs.Ends.{End, same_end, updated, replaced}
 
 -- a test is true or false, with the equation
 pub test : {X : Type 0} (b : Bool) → (b ≡ true → X) → (b ≡ false → X) → X
 test true on off = on refl
 test false on off = off refl
-
-pub same_who-true : (a b : Who) → same_who a b ≡ true → a ≡ b
-same_who-true a b e =
-    let h : (a.actor == b.actor ≡ true) × (a.instance == b.instance ≡ true) = and_parts (a.actor == b.actor) (a.instance == b.instance) e in
-    λ i. record { actor = eqb-true a.actor b.actor h.0 i; instance = eqb-true a.instance b.instance h.1 i }
-
-pub same_who-refl : (a : Who) → same_who a a ≡ true
-same_who-refl a = and_from (a.actor == a.actor) (a.instance == a.instance) (eq-eqb a.actor a.actor refl) (eq-eqb a.instance a.instance refl)
-
-pub same_who-false : (a b : Who) → same_who a b ≡ false → a ≢ b
-same_who-false a b e h = both_ways (same_who a b) e (subst (λ z. same_who a z ≡ true) h (same_who-refl a))
-
-pub same_who_from : (a b : Who) → a ≢ b → same_who a b ≡ false
-same_who_from a b n = test (same_who a b) (λ e. absurd (n (same_who-true a b e))) (λ e. e)
 
 -- what holds of an updated function, by cases
 pub updated_cases : {A : Type 0} (P : A → Type 0) (f : Who → A) (x y : Who) (value : A) → (x ≡ y → P value) →

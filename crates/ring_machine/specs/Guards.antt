@@ -2,7 +2,7 @@
 use Rattle.std.specs.Prelude.{◌≡◌, ℕ, ◌<◌, ◌≤◌, true, false, List, None, Some, ◌⊎◌}
 use Rattle.ring_points.specs.declared.who.Who.{Who}
 use Rattle.ring_points.specs.Whos.{same_who}
-use Rattle.ring_machine.specs.Members.{IsMember}
+use Rattle.fabric_lemmas.specs.Members.{IsMember}
 use Rattle.ring_machine.specs.Points.{union}
 use Rattle.ring_machine.specs.Ends.{End, end_of}
 use Rattle.ring_machine.specs.Slots.{Slot, Asking, Offered, Bound, Parting, Accused, Heir, Abandoned, Parted, HasClaim, part_of, guards, is_active, is_settled, is_willing, stands, is_tallying, is_decided}

@@ -1,6 +1,6 @@
 -- The invariant on leases: on which stamp each promise rests, and what an heir knows of the accused one's clock.
 use Rattle.std.specs.Prelude.{◌≡◌, ℕ, ◌+◌, ◌≤◌, true, List}
-use Rattle.ring_machine.specs.Members.{IsMember}
+use Rattle.fabric_lemmas.specs.Members.{IsMember}
 use Rattle.ring_machine.specs.Ends.{End}
 use Rattle.ring_machine.specs.Slots.{guards}
 use Rattle.ring_machine.specs.Frames.{RenewAck}

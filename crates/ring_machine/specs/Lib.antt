@@ -1,5 +1,4 @@
 pub mod Points
-pub mod Members
 pub mod Ends
 pub mod Slots
 pub mod Tokens

@@ -7,7 +7,7 @@ use Rattle.link_core.specs.Frames.{may_come}
 use Rattle.ring_points.specs.declared.who.Who.{Who}
 use Rattle.ring_rules.specs.Frames.{is_arbiters_answer, is_between_nodes, may_send, passes}
 use Rattle.ring_rules.specs.Rings.{Ring, Settings}
-use Rattle.ring_wire.specs.Frames.{is_sound, is_sound_body}
+use Rattle.fabric_terms.specs.Messages.{is_sound, is_sound_body}
 
 both : (a b : Bool) → (a && b) ≡ true → (a ≡ true) × (b ≡ true)
 both true true h = (refl, refl)

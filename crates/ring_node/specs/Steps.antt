@@ -13,7 +13,7 @@ use Rattle.ring_rules.specs.Owns.{own_after, own_of_ring}
 use Rattle.ring_rules.specs.Rings.{Settings, Work, settings_of}
 use Rattle.ring_rules.specs.Starts.{node_started}
 use Rattle.ring_rules.specs.Steps.{ring_step}
-use Rattle.ring_wire.specs.Frames.{is_sound}
+use Rattle.fabric_terms.specs.Messages.{is_sound}
 
 -- a frame that comes in is in the grammar
 abbrev pub is_sound_input : Input → Bool

@@ -9,8 +9,7 @@ use crate::node::RingNode;
 use crate::refusals::{refuse, refuse_for};
 use crate::reports::Reports;
 use crate::tokens::Spent;
-use fabric_terms::{Command, Reason, Verb};
-use ring_wire::Outbox;
+use fabric_terms::{Command, Outbox, Reason, Verb};
 
 impl RingNode {
     /// The command to link with a node.

@@ -10,10 +10,9 @@ use crate::acked::all_acked;
 use crate::node::RingNode;
 use crate::reports::Reports;
 use crate::tokens::Spent;
-use fabric_terms::{Body, Report};
+use fabric_terms::{Body, Outbox, Report};
 use join_phases::Phase;
 use link_core::SLOTS;
-use ring_wire::Outbox;
 use token_core::TokenRefusal;
 
 /// What notes of a firing answer: a frame that neither ends a session nor brings a flight.

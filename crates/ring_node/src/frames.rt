@@ -4,14 +4,13 @@ ghost use Rattle.link_core.specs.Frames.{may_come};
 ghost use Rattle.ring_node.specs.Nodes.{Rings, by, step};
 ghost use Rattle.ring_rules.specs.Frames as rules;
 ghost use Rattle.ring_rules.specs.Steps.{frame_if};
-ghost use Rattle.ring_wire.specs.Frames.{is_sound};
+ghost use Rattle.fabric_terms.specs.Messages.{is_sound};
 
 use crate::node::RingNode;
 use crate::reports::Reports;
 use crate::up::is_among;
-use fabric_terms::{Body, Message};
+use fabric_terms::{Body, Message, Outbox};
 use ring_points::{Point, Who};
-use ring_wire::Outbox;
 
 /// The actor of arbitrator a is a above this.
 const ARBITERS: u16 = 32768;

@@ -9,7 +9,7 @@ use crate::node::RingNode;
 use crate::refusals::pass_over;
 use crate::tokens::Spent;
 use link_core::LinkRefusal;
-use ring_wire::Outbox;
+use fabric_terms::Outbox;
 
 impl RingNode {
     /// Greets a node.

@@ -7,8 +7,7 @@ ghost use Rattle.ring_rules.specs.Frames.{frame_row};
 
 use crate::node::RingNode;
 use crate::reports::Reports;
-use fabric_terms::{Body, Message};
-use ring_wire::Outbox;
+use fabric_terms::{Body, Message, Outbox};
 
 /// Whether a frame says that its sender is gone and wants an answer.
 pub(crate) fn wants_answer(body: &Body) -> bool

@@ -7,8 +7,7 @@ ghost use Rattle.token_core.specs.Tokens.{last_number};
 use crate::node::{Mark, RingNode};
 use crate::phase;
 use crate::reports::Reports;
-use fabric_terms::{Report, Why};
-use ring_wire::Outbox;
+use fabric_terms::{Outbox, Report, Why};
 
 impl RingNode {
     /// The node leaves, as it was before a row: it owns nothing and has no links any more.

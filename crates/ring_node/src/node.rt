@@ -12,7 +12,7 @@ use join_phases::Phase;
 use link_core::{Announce, Links16};
 use ring_points::{Point, Who};
 use ring_route::RouteTable;
-use ring_wire::Outbox;
+use fabric_terms::Outbox;
 use std::marker::Model;
 use std::mem;
 use token_core::Token;

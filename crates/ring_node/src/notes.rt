@@ -17,10 +17,9 @@ use crate::node::RingNode;
 use crate::reports::Reports;
 use crate::tokens::Spent;
 use crate::hears::wants_answer;
-use fabric_terms::{Body, Report};
+use fabric_terms::{Body, Outbox, Report};
 use link_core::LinkNote;
 use ring_points::{RangeSet, Who};
-use ring_wire::Outbox;
 use token_core::TokenRefusal;
 
 impl RingNode {

@@ -5,7 +5,7 @@ ghost use Rattle.ring_rules.specs.Slots.{fence_of, is_past};
 use crate::node::RingNode;
 use ring_points::{Interval, Point, RangeSet};
 
-/// What a node owned at a moment. (This project's own.)
+/// What a node owned at a moment.
 #[derive(Drop)]
 pub struct Owned {
     pub ranges: RangeSet,

@@ -10,10 +10,9 @@ ghost use Rattle.ring_rules.specs.Seeks.{find_by, found_received, hop_from, seek
 use crate::node::RingNode;
 use crate::reports::Reports;
 use crate::tokens::Spent;
-use fabric_terms::{Body, Report};
+use fabric_terms::{Body, Outbox, Report};
 use ring_points::{Point, Who};
 use ring_route::Hop;
-use ring_wire::Outbox;
 
 /// How many hops a Seek makes at most.
 const MAX_HOPS: u8 = 64;

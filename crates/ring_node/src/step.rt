@@ -8,12 +8,11 @@ ghost use Rattle.ring_rules.specs.Steps.{before_fence, input_taken};
 use crate::node::RingNode;
 use crate::owns::{Owned, same_fence, same_ranges};
 use crate::reports::Reports;
-use fabric_terms::{Report, Why};
+use fabric_terms::{Outbox, Report, Why};
 use ring_rules::Input;
-use ring_wire::Outbox;
 
 impl RingNode {
-    /// What the node owns now, to tell later what has changed. (This project's own.)
+    /// What the node owns now, to tell later what has changed.
     pub fn owned(&self) -> Owned
         ensures { result ≡ owned_of self.now }
     {
@@ -33,7 +32,7 @@ impl RingNode {
     }
 
     /// Tells what the node owns, where the ranges or the fence are others than before, or the node has left since.
-    /// (This project's own.)
+    ///
     pub fn tell_own(&self, before: &Owned, told: &mut Reports)
         requires { length told.old < 64 }
         ensures own { told.new ≡ told.old ++ own_since before.now self.now }
@@ -55,7 +54,7 @@ impl RingNode {
         *owned = self.owned();
     }
 
-    /// Tells what the node owns as `tell_own` does, and keeps it for the next time. (This project's own.)
+    /// Tells what the node owns as `tell_own` does, and keeps it for the next time.
     pub fn tell_change(&self, owned: &mut Owned, told: &mut Reports)
         requires { length told.old < 64 }
         ensures own { told.new ≡ told.old ++ own_since owned.old self.now }
@@ -87,7 +86,7 @@ impl RingNode {
     }
 
     /// The step of an input, but for what is owned, which `tell_own` tells last. The outbox and the reports are empty
-    /// before it, the reading is at most 10^15, and a frame is in the grammar. (This project's own.)
+    /// before it, the reading is at most 10^15, and a frame is in the grammar.
     #[tactic(auto, unfolding(ring_rules::specs::Steps::ring_step))]
     pub fn advance(&mut self, now: u64, input: &Input, out: &mut Outbox, told: &mut Reports)
         requires now { now ≤ 1_000_000_000_000_000 }
@@ -110,7 +109,7 @@ impl RingNode {
 
     /// The step of an input, in these reports: the row of the rules, and at last what is owned, where that has changed
     /// or the node has left. The outbox and the reports are empty before it, the reading is at most 10^15, and a frame
-    /// is in the grammar. It sends at most 192 messages and makes at most 64 reports. (This project's own.)
+    /// is in the grammar. It sends at most 192 messages and makes at most 64 reports.
     pub fn act(&mut self, now: u64, input: &Input, out: &mut Outbox, told: &mut Reports)
         requires now { now ≤ 1_000_000_000_000_000 }
         requires sound { IsTrue (is_sound_input input.now) }
@@ -126,7 +125,7 @@ impl RingNode {
     }
 
     /// The step of an input as `act` makes it, where the caller keeps what the node owns from step to step, so that no
-    /// ranges are copied where none change. (This project's own.)
+    /// ranges are copied where none change.
     pub fn act_from(
         &mut self,
         now: u64,

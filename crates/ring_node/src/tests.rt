@@ -5,12 +5,11 @@ ghost use Rattle.ring_points.specs.Whos.{node_instance};
 use crate::{Input, Reports, RingNode};
 use arrayvec::ArrayVec;
 use drift_clock::Bound;
-use fabric_terms::{Body, Command, Message, Reason, Report, Verb};
+use fabric_terms::{Body, Command, Message, Outbox, Reason, Report, Verb};
 use join_phases::{Booting, Phase};
 use link_core::Links16;
 use ring_points::{Point, RangeSet, Who};
 use ring_route::RouteTable;
-use ring_wire::Outbox;
 use token_core::Token;
 
 /// The points of nodes 2 and 3; node 1 stands at 0.

@@ -9,3 +9,5 @@ pub mod Ahead
 pub mod Swept
 pub mod Fitting
 pub mod Answered
+pub mod Whos
+pub mod NearerPart

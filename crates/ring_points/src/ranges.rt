@@ -125,7 +125,7 @@ impl RangeSet {
     }
 
     /// The points that are in one of the first two sets and not in the third. It is `TooMany` where the
-    /// result needs more than 32 intervals, however many the union alone would need. (This project's own.)
+    /// result needs more than 32 intervals, however many the union alone would need.
     pub fn union_without(&self, other: &RangeSet, without: &RangeSet) -> Result<RangeSet, TooMany>
         ensures points { IfOk result (λ r. (p : ℕ) →
             in_ranges p r ≡ ((in_ranges p self.now || in_ranges p other.now) && not (in_ranges p without.now))) }

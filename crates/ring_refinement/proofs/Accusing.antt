@@ -18,7 +18,7 @@ use Rattle.ring_rules.specs.Links.{accused_link}
 use Rattle.ring_rules.specs.Rings.{Work, settings_of, accused_limit}
 use Rattle.ring_rules.specs.Slots.{slot_at, bars_link}
 use Rattle.ring_rules.proofs.Rows.{peer_accused-is}
-use Rattle.ring_machine.specs.Members.{IsMember}
+use Rattle.fabric_lemmas.specs.Members.{IsMember}
 use Rattle.ring_machine.specs.Slots.{stands, is_tallying}
 use Rattle.ring_machine.specs.Frames.{Frame, Accuse}
 use Rattle.ring_machine.specs.World.{World}

@@ -9,7 +9,7 @@ use Rattle.ring_rules.specs.declared.link.LinkState.{LinkState}
 use Rattle.ring_rules.specs.declared.link.LinkState.TheVariants as state
 use Rattle.ring_rules.specs.Rings.{Slots}
 use Rattle.ring_rules.specs.Slots.{slot_at, guards, is_hello, bars_link}
-use Rattle.ring_machine.specs.Members.{IsMember}
+use Rattle.fabric_lemmas.specs.Members.{IsMember}
 use Rattle.ring_machine.specs.Ends.{replaced}
 use Rattle.ring_machine.specs.Slots as machine
 use Rattle.ring_machine.specs.Slots.{Slot, State, Unused, Abandoned, Parted, Ended}

@@ -18,7 +18,7 @@ use Rattle.ring_rules.specs.Rings.{Work, settings_of}
 use Rattle.ring_rules.specs.Rulings.{has_rounds}
 use Rattle.ring_rules.specs.Slots.{slot_at, slot_where, of_instance}
 use Rattle.ring_rules.proofs.Rows.{kept_received-is}
-use Rattle.ring_machine.specs.Members.{IsMember}
+use Rattle.fabric_lemmas.specs.Members.{IsMember}
 use Rattle.ring_machine.specs.Ends.{end_of}
 use Rattle.ring_machine.specs.Slots.{Slot, Discharged, HasClaim, is_tallying, is_decided}
 use Rattle.ring_machine.specs.Frames.{Frame, Accuse, RoundClaim, Kept}
@@ -26,7 +26,7 @@ use Rattle.ring_machine.specs.World.{World}
 use Rattle.ring_machine.specs.Arbitration.{AnsweredBy}
 use Rattle.ring_machine.specs.Deeds.{AccuseAgain, RoundClaimed}
 use Rattle.ring_machine.specs.Events.{IsSound}
-use Rattle.ring_machine.proofs.Whos.{same_who-true}
+use Rattle.ring_points.proofs.Whos.{same_who-true}
 use Rattle.ring_refinement.specs.Images.{machine_of, state_of, points_of, flight_of, slot_of}
 use Rattle.ring_refinement.specs.Tables.{is_wronged, SoundRounds}
 use Rattle.ring_refinement.specs.Refined.{AllSaid}

@@ -28,7 +28,8 @@ use Rattle.ring_machine.specs.Events.{IsSound}
 use Rattle.ring_refinement.specs.Images.{machine_of, state_of, flight_of, slot_of}
 use Rattle.ring_refinement.proofs.Places.{none_is, found_at}
 use Rattle.ring_refinement.proofs.Changes.{stays, stays_alone}
-use Rattle.ring_refinement.proofs.Ranges.{Rises, nearer_part_rises}
+use Rattle.ring_refinement.proofs.Ranges.{Rises}
+use Rattle.ring_points.proofs.NearerPart.{nearer_part_rises}
 use Rattle.ring_refinement.proofs.Telling.{all_said_both}
 use Rattle.ring_refinement.proofs.Going.{Going}
 use Rattle.ring_refinement.proofs.Greetings.{greet_going}

@@ -20,7 +20,7 @@ use Rattle.ring_rules.specs.Slots.{slot_at, slot_where, is_hello, greets_by, of_
 use Rattle.ring_rules.specs.Deeds.{answer_unknown, drop_slot, undone}
 use Rattle.ring_rules.specs.Flights.{take_flight, transfer_seen, transfer_received, close, flight_returned, flight_settled, gone_heard, gone_seen, gone_unknown, gone_greeting, gone_elsewhere, gone_received}
 use Rattle.ring_rules.proofs.Rows.{transfer_received-is, gone_received-is}
-use Rattle.ring_machine.specs.Members.{IsMember}
+use Rattle.fabric_lemmas.specs.Members.{IsMember}
 use Rattle.ring_machine.specs.Ends.{end_of}
 use Rattle.ring_machine.specs.Slots.{Flight, Asking, Abandoned, stands, Bound}
 use Rattle.ring_machine.specs.Frames.{Frame, Transfer, Gone}

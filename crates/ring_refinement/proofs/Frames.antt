@@ -13,7 +13,7 @@ use Rattle.ring_rules.specs.Frames.{is_for, is_between_nodes, is_arbiters_answer
 use Rattle.ring_rules.specs.Rings.{Work, settings_of}
 use Rattle.ring_rules.specs.Steps.{frame_if}
 use Rattle.ring_rules.proofs.Rows.{frame_received-is}
-use Rattle.ring_machine.specs.Members.{IsMember}
+use Rattle.fabric_lemmas.specs.Members.{IsMember}
 use Rattle.ring_machine.specs.Ends.{End, end_of}
 use Rattle.ring_machine.specs.Slots.{is_used}
 use Rattle.ring_machine.specs.Frames.{Hello, Offer, Take, Renew, RenewAck, Transfer, Gone, Ruled}
@@ -21,7 +21,7 @@ use Rattle.ring_machine.specs.World.{World, slot}
 use Rattle.ring_machine.specs.Events.{IsSound}
 use Rattle.ring_machine.specs.Sessions.{BothTied}
 use Rattle.ring_machine.specs.SoundFrames.{SoundOffer, SoundRenew, SoundAck, SoundTransfer, SoundGone}
-use Rattle.ring_machine.proofs.Whos.{same_who_from, same_who-refl}
+use Rattle.ring_points.proofs.Whos.{same_who_from, same_who-refl}
 use Rattle.ring_refinement.specs.Images.{machine_of, points_of, Posted}
 use Rattle.ring_refinement.proofs.Going.{Going}
 use Rattle.ring_refinement.proofs.Leaving.{Went, on, counted_went}

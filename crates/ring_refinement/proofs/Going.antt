@@ -13,7 +13,7 @@ use Rattle.ring_rules.specs.declared.link.Link.{Link}
 use Rattle.ring_rules.specs.Rings.{Slots, Work}
 use Rattle.ring_rules.specs.Slots.{slot_at}
 use Rattle.ring_rules.specs.Deeds.{send}
-use Rattle.ring_machine.specs.Members.{IsMember}
+use Rattle.fabric_lemmas.specs.Members.{IsMember}
 use Rattle.ring_machine.specs.Ends.{end_of, replaced}
 use Rattle.ring_machine.specs.Slots.{Slot}
 use Rattle.ring_machine.specs.Tokens as machine
@@ -26,7 +26,8 @@ use Rattle.ring_machine.specs.Events.{IsSound}
 use Rattle.ring_machine.specs.Invariant.{Invariant}
 use Rattle.ring_machine.proofs.DeedSteps.{DeedsDone, deed_done}
 use Rattle.ring_machine.proofs.Lists.{IsMember-append_right}
-use Rattle.ring_machine.proofs.Whos.{same_who-false, updated_cases, replaced_cases}
+use Rattle.ring_points.proofs.Whos.{same_who-false}
+use Rattle.ring_machine.proofs.Whos.{updated_cases, replaced_cases}
 use Rattle.ring_refinement.specs.Images.{machine_of, slot_of, token_of}
 use Rattle.ring_refinement.specs.Tables.{is_wronged, ShowsSlots}
 use Rattle.ring_refinement.specs.Shown.{IsFrozenFor, ShowsInstance}

@@ -14,7 +14,7 @@ use Rattle.ring_rules.specs.Slots.{slot_at, slot_where, is_free, is_hello, bars_
 use Rattle.ring_rules.specs.Links.{greeting_link, offered_link, hello_by, offer_by, offer_body}
 use Rattle.ring_rules.specs.Deeds.{drop_slot, send}
 use Rattle.ring_rules.specs.Handshakes.{greet, greet_unless, greet_free, greet_plainly, hello_accepted, accept_free, hello_crossed, hello_of_node, offer_same, offer_again, hello_repeated, hello_of_instance, hello_received}
-use Rattle.ring_machine.specs.Members.{IsMember}
+use Rattle.fabric_lemmas.specs.Members.{IsMember}
 use Rattle.ring_machine.specs.Ends.{end_of}
 use Rattle.ring_machine.specs.Slots.{Abandoned}
 use Rattle.ring_machine.specs.Tokens as machine
@@ -25,7 +25,7 @@ use Rattle.ring_machine.specs.Guards.{May}
 use Rattle.ring_machine.specs.Effects.{outcome, hello_begun, offer_begun, stepped, done}
 use Rattle.ring_machine.specs.Events.{IsSound}
 use Rattle.ring_machine.proofs.DeedSteps.{DeedsDone, deed_done}
-use Rattle.ring_machine.proofs.Whos.{same_who-refl}
+use Rattle.ring_points.proofs.Whos.{same_who-refl}
 use Rattle.ring_rules.proofs.Rows.{hello_received-is}
 use Rattle.ring_refinement.specs.Images.{machine_of, slot_of, token_of, state_of}
 use Rattle.ring_refinement.specs.Tables.{is_proposing}

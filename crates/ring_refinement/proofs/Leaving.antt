@@ -13,7 +13,8 @@ use Rattle.ring_machine.specs.World.{Instance, World, Phase, Left, Dead}
 use Rattle.ring_machine.specs.Events.{IsSound, Leaves, in_phase}
 use Rattle.ring_machine.specs.Invariant.{Invariant}
 use Rattle.ring_machine.proofs.Histories.{event_done, EventDone}
-use Rattle.ring_machine.proofs.Whos.{same_who-false, updated_cases}
+use Rattle.ring_points.proofs.Whos.{same_who-false}
+use Rattle.ring_machine.proofs.Whos.{updated_cases}
 use Rattle.ring_refinement.specs.Images.{machine_of}
 use Rattle.ring_refinement.specs.Shown.{ShowsAs, ShowsInstance}
 use Rattle.ring_refinement.specs.Moves.{places_of, MovedBy, AreOver}

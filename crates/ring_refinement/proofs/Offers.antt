@@ -14,7 +14,7 @@ use Rattle.ring_rules.specs.Slots.{slot_at, slot_where, is_hello, bars_link, gre
 use Rattle.ring_rules.specs.Deeds.{put_slot, answer_unknown}
 use Rattle.ring_rules.specs.Handshakes.{offer_taken, offer_repeated, offer_seen, offer_received, take_seen, take_received}
 use Rattle.ring_rules.proofs.Rows.{offer_received-is, take_received-is}
-use Rattle.ring_machine.specs.Members.{IsMember}
+use Rattle.fabric_lemmas.specs.Members.{IsMember}
 use Rattle.ring_machine.specs.Ends.{End, end_of}
 use Rattle.ring_machine.specs.Slots.{Slot, Asking, is_active, is_used}
 use Rattle.ring_machine.specs.Frames.{Offer, Take}

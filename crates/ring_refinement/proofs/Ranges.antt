@@ -91,30 +91,3 @@ module _ (slots : Slots) (t : token.Token) (h : IsRising t) where
       points_of (token.inherited t held flight) ≡ minus (union (points_of held) (points_of flight)) (points_of t.ranges)
   inherited_is held flight k l =
       minus_is (union_of held flight) t.ranges (rises_from-union_of 0 0 held flight k l) h.ranges ∙ ap (λ q. minus q (points_of t.ranges)) (union_is held flight k l)
-
--- an arc that leaves a gap rises
-rises_from-gap : (lo hi : ℕ) → hi < 2 ^ 64 → (hi < lo → hi + 2 ≤ lo) → Rises (arc lo hi)
-rises_from-gap lo hi k gap = chosen (nat_le lo hi) refl
-  where
-    chosen : (b : Bool) → nat_le lo hi ≡ b → Rises (cond b (span lo hi) (span 0 hi ++ span lo (2 ^ 64 - 1)))
-    chosen true e = rises_from-span lo hi k
-    chosen false e =
-        let wide : hi + 2 ≤ lo = gap (grind (arith, nat_tests)) in
-        rises_from-append 0 (span 0 hi) (span lo (2 ^ 64 - 1)) (rises_from-span 0 hi k) (rises_from-span lo (2 ^ 64 - 1) (omega arith))
-        (λ p q l n. let front = in_ranges-span p 0 hi in let back = in_ranges-span q lo (2 ^ 64 - 1) in grind (arith, nat_tests))
-
--- whatever the two points are, the nearer points are an arc
-nearer_from_rises : (mine d : ℕ) (tie : Bool) → d < 2 ^ 64 → Rises (nearer_from mine d tie)
-nearer_from_rises mine d true k =
-    let lo = (mine + (d + 1) / 2) % 2 ^ 64 in
-    let hi = (mine + (2 ^ 64 + d) / 2) % 2 ^ 64 in
-    let last : hi < 2 ^ 64 = omega arith in
-    rises_from-gap lo hi last (λ lt. omega arith)
-nearer_from_rises mine d false k =
-    let lo = (mine + (d / 2 + 1)) % 2 ^ 64 in
-    let hi = (mine + (2 ^ 64 + d - 1) / 2) % 2 ^ 64 in
-    let last : hi < 2 ^ 64 = omega arith in
-    rises_from-gap lo hi last (λ lt. omega arith)
-
-pub nearer_part_rises : (is : List Interval) (mine other : ℕ) → Rises is → Rises (nearer_part_of is mine other)
-nearer_part_rises is mine other h = rises_from-meet_of 0 0 is (nearer_arc mine other) h (nearer_from_rises mine (ahead_of other mine) (nat_lt other mine) (omega arith))

@@ -19,7 +19,7 @@ use Rattle.ring_rules.specs.Slots.{slot_at, bars_link}
 use Rattle.ring_rules.specs.Deeds.{put_slot, set_token, answer_unknown}
 use Rattle.ring_rules.specs.Renewals.{near_part, freeze_if, grant_if, grant_wanted, renew_heard, renew_seen, renew_received, ack_seen, ack_received}
 use Rattle.ring_rules.proofs.Rows.{renew_received-is, ack_received-is}
-use Rattle.ring_machine.specs.Members.{IsMember}
+use Rattle.fabric_lemmas.specs.Members.{IsMember}
 use Rattle.ring_machine.specs.Ends.{end_of}
 use Rattle.ring_machine.specs.Points.{meet}
 use Rattle.ring_machine.specs.Slots.{is_willing, stands, Bound}
@@ -33,7 +33,8 @@ use Rattle.ring_refinement.specs.Images.{machine_of, state_of, points_of, flight
 use Rattle.ring_refinement.specs.Tables.{is_wronged, SoundLink}
 use Rattle.ring_refinement.proofs.Places.{none_is, set_same, used_within}
 use Rattle.ring_refinement.proofs.Changes.{stays_alone}
-use Rattle.ring_refinement.proofs.Ranges.{Rises, frozen_is, frozen_rises, nearer_part_rises}
+use Rattle.ring_refinement.proofs.Ranges.{Rises, frozen_is, frozen_rises}
+use Rattle.ring_points.proofs.NearerPart.{nearer_part_rises}
 use Rattle.ring_refinement.proofs.Going.{Going, slot_deed, same_slots, kept_new}
 use Rattle.ring_refinement.proofs.SlotRows.{one_said, bound_stays, nothing_besides, puts, wronged, in_its_session}
 use Rattle.ring_refinement.proofs.Saying.{tied_used, tied_asks, phase_going, gone_again_going}

@@ -12,13 +12,14 @@ use Rattle.arbiter_quorum.proofs.Majorities.{are_counted-push, few_counted}
 use Rattle.heir_rounds.specs.Rounds.{RoundTally, kept_count, unanswered, has_majority, may_win, is_won, one_may_win, after_split, round_verdict_of, round_counted, gone_on}
 use Rattle.heir_rounds.specs.declared.verdict.RoundVerdict.{RoundVerdict}
 use Rattle.heir_rounds.specs.declared.verdict.RoundVerdict.TheVariants as verdict
-use Rattle.ring_machine.specs.Members.{IsMember}
+use Rattle.fabric_lemmas.specs.Members.{IsMember}
 use Rattle.ring_machine.specs.Frames.{Frame, Kept}
 use Rattle.ring_machine.specs.Arbitration as machine
 use Rattle.ring_machine.specs.Arbitration.{by_kept, HeirBy, may_keep, IsSplit, IsOpen, count_to}
 use Rattle.ring_machine.proofs.Counts.{is_in, count_to-same, count_to-more}
 use Rattle.ring_machine.proofs.Lists.{IsMember-append_cases}
-use Rattle.ring_machine.proofs.Whos.{test, same_who-true}
+use Rattle.ring_points.proofs.Whos.{same_who-true}
+use Rattle.ring_machine.proofs.Whos.{test}
 use Rattle.ring_refinement.specs.Images.{machine_of}
 use Rattle.ring_refinement.specs.Tables.{SoundRounds}
 use Rattle.ring_refinement.proofs.Tallies.{chosen, chosen_gave, chosen_most}

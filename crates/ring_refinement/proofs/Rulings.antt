@@ -26,7 +26,7 @@ use Rattle.ring_rules.specs.Rings.{Work, settings_of}
 use Rattle.ring_rules.specs.Rulings.{ripe_at, becomes_heir, made_heir, may_succeed, kept_discharged, judged, ruling_seen, ruling_received}
 use Rattle.ring_rules.specs.Slots.{slot_at, slot_where, of_instance}
 use Rattle.ring_rules.proofs.Rows.{ruling_received-is}
-use Rattle.ring_machine.specs.Members.{IsMember}
+use Rattle.fabric_lemmas.specs.Members.{IsMember}
 use Rattle.ring_machine.specs.Slots.{Accused, HasClaim, of_record, of_flight, is_tallying, is_decided}
 use Rattle.ring_machine.specs.Frames.{Accuse, Ruled}
 use Rattle.ring_machine.specs.World.{World}
@@ -34,7 +34,7 @@ use Rattle.ring_machine.specs.Arbitration.{AnsweredBy, HeirBy}
 use Rattle.ring_machine.specs.Deeds.{AccuseAgain, MajorityAnswered, MajorityKept, SessionDropped}
 use Rattle.ring_machine.specs.Effects.{ended}
 use Rattle.ring_machine.specs.Events.{IsSound}
-use Rattle.ring_machine.proofs.Whos.{same_who-true}
+use Rattle.ring_points.proofs.Whos.{same_who-true}
 use Rattle.ring_refinement.specs.Images.{machine_of, state_of, points_of, flight_of, slot_of}
 use Rattle.ring_refinement.specs.Tables.{is_wronged, SoundTally}
 use Rattle.ring_refinement.proofs.Places.{found_at}

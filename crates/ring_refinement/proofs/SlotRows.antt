@@ -18,7 +18,7 @@ use Rattle.ring_rules.specs.declared.link.LinkState.TheVariants as state
 use Rattle.ring_rules.specs.Rings.{Work}
 use Rattle.ring_rules.specs.Slots.{slot_at, slot_where, of_session}
 use Rattle.ring_rules.specs.Deeds.{SessionRow, in_slot, in_found, in_session}
-use Rattle.ring_machine.specs.Members.{IsMember}
+use Rattle.fabric_lemmas.specs.Members.{IsMember}
 use Rattle.ring_machine.specs.Ends.{End, end_of}
 use Rattle.ring_machine.specs.Slots.{Slot, is_active}
 use Rattle.ring_machine.specs.Frames.{Frame}
@@ -29,7 +29,7 @@ use Rattle.ring_machine.specs.Effects.{Outcome, outcome, effect, stepped}
 use Rattle.ring_machine.specs.Events.{IsSound}
 use Rattle.ring_machine.proofs.DeedSteps.{DeedsDone}
 use Rattle.ring_machine.proofs.Lists.{IsMember-append_right}
-use Rattle.ring_machine.proofs.Whos.{same_who-true}
+use Rattle.ring_points.proofs.Whos.{same_who-true}
 use Rattle.ring_refinement.specs.Images.{machine_of, state_of, slot_of, token_of, number_of, freeze_of}
 use Rattle.ring_refinement.specs.Tables.{is_over, is_wronged, SoundLink}
 use Rattle.ring_refinement.specs.Moves.{places_of, MovedBy, AreOver}

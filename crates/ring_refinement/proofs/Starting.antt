@@ -17,7 +17,8 @@ use Rattle.ring_machine.specs.Points.{Points, is_point}
 use Rattle.ring_machine.specs.Frames.{Frame}
 use Rattle.ring_machine.specs.World.{Instance, first_of, born}
 use Rattle.ring_machine.specs.Events.{next_instance, started}
-use Rattle.ring_machine.proofs.Whos.{same_who-false, updated_cases}
+use Rattle.ring_points.proofs.Whos.{same_who-false}
+use Rattle.ring_machine.proofs.Whos.{updated_cases}
 use Rattle.ring_refinement.specs.Images.{machine_of, points_of}
 use Rattle.ring_refinement.specs.Shown.{Shows, ShowsInstance}
 use Rattle.ring_refinement.specs.Laws.{StartIsShown, SpentIsLeft}

@@ -12,7 +12,7 @@ use Rattle.arbiter_quorum.specs.Tallies.{Tally, is_majority, has_answered, noted
 use Rattle.arbiter_quorum.specs.declared.verdict.Verdict.{Verdict}
 use Rattle.arbiter_quorum.specs.declared.verdict.Verdict.TheVariants as verdict
 use Rattle.arbiter_quorum.proofs.Majorities.{are_counted-push}
-use Rattle.ring_machine.specs.Members.{IsMember}
+use Rattle.fabric_lemmas.specs.Members.{IsMember}
 use Rattle.ring_machine.specs.Frames.{Frame, Ruled}
 use Rattle.ring_machine.specs.World.{Settings}
 use Rattle.ring_machine.specs.Arbitration as machine

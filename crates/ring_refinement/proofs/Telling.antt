@@ -4,7 +4,7 @@ use Rattle.ring_points.specs.declared.who.Who.{Who}
 use Rattle.fabric_terms.specs.declared.message.Body.{Body}
 use Rattle.fabric_terms.specs.declared.report.Report.{Report}
 use Rattle.fabric_terms.specs.Places.{Place, place_after, TakesFrom}
-use Rattle.ring_machine.specs.Members.{IsMember}
+use Rattle.fabric_lemmas.specs.Members.{IsMember}
 use Rattle.ring_machine.specs.Frames.{Frame}
 use Rattle.ring_machine.specs.World.{Settings, World, Dead}
 use Rattle.ring_refinement.specs.Images.{IsSent, frame_of}

@@ -11,7 +11,7 @@ use Rattle.ring_rules.specs.Rings.{Slots, Work}
 use Rattle.ring_rules.specs.declared.link.Link.{Link}
 use Rattle.ring_rules.specs.Slots.{is_hello, slot_at, slot_where, of_session}
 use Rattle.ring_rules.specs.Deeds.{answer_unknown}
-use Rattle.ring_machine.specs.Members.{IsMember}
+use Rattle.fabric_lemmas.specs.Members.{IsMember}
 use Rattle.ring_machine.specs.Ends.{End, end_of, replaced}
 use Rattle.ring_machine.specs.Slots.{Slot, State, Unused, Asking, Abandoned, Parted, Ended, is_used, is_settled}
 use Rattle.ring_machine.specs.Frames.{Frame, Gone, ends_of}
@@ -21,7 +21,8 @@ use Rattle.ring_machine.specs.Guards.{Came, IsUnknown, other_session, abandoned,
 use Rattle.ring_machine.specs.Effects.{outcome, stepped}
 use Rattle.ring_machine.specs.Events.{IsSound}
 use Rattle.ring_machine.proofs.DeedSteps.{DeedsDone, deed_done}
-use Rattle.ring_machine.proofs.Whos.{same_who-refl, replaced_cases}
+use Rattle.ring_points.proofs.Whos.{same_who-refl}
+use Rattle.ring_machine.proofs.Whos.{replaced_cases}
 use Rattle.ring_refinement.specs.Images.{machine_of, state_of, slot_of}
 use Rattle.ring_refinement.specs.Tables.{is_over, Has}
 use Rattle.ring_refinement.specs.Shown.{ShowsInstance}

@@ -7,7 +7,7 @@ use Rattle.fabric_terms.specs.declared.config.FabricConfig.{FabricConfig}
 use Rattle.fabric_terms.specs.declared.message.Body.{Body}
 use Rattle.join_phases.specs.Phases.{is_left}
 use Rattle.ring_rules.specs.Rings.{Work}
-use Rattle.ring_machine.specs.Members.{IsMember}
+use Rattle.fabric_lemmas.specs.Members.{IsMember}
 use Rattle.ring_machine.specs.Frames.{Frame}
 use Rattle.ring_machine.specs.World.{World, Live, Dead, first_of}
 use Rattle.ring_machine.specs.Invariant.{Invariant}

@@ -9,7 +9,7 @@ use Rattle.ring_rules.specs.declared.link.Link.{Link}
 use Rattle.ring_rules.specs.declared.link.LinkState.TheVariants as state
 use Rattle.ring_rules.specs.Rings.{Slots, Ring, no_slots}
 use Rattle.ring_rules.specs.Slots.{slot_at}
-use Rattle.ring_machine.specs.Members.{IsMember}
+use Rattle.fabric_lemmas.specs.Members.{IsMember}
 use Rattle.ring_machine.specs.Frames.{Frame}
 use Rattle.ring_machine.specs.World.{Instance, World, Running}
 use Rattle.ring_refinement.specs.Images.{token_of}

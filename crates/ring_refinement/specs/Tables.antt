@@ -14,7 +14,7 @@ use Rattle.ring_rules.specs.Links.{flight_part}
 use Rattle.ring_rules.specs.Rings.{Slots}
 use Rattle.ring_rules.specs.Slots.{slot_at, is_hello, bars_link}
 use Rattle.ring_machine.specs.Arbitration.{IsOpen}
-use Rattle.ring_machine.specs.Members.{IsMember}
+use Rattle.fabric_lemmas.specs.Members.{IsMember}
 use Rattle.ring_machine.specs.Slots.{Slot, State, Unused, Accused, Discharged, Heir, Abandoned, Parted, Ended, is_tallying}
 use Rattle.ring_machine.specs.Frames.{Frame, Ruled, Kept}
 use Rattle.ring_refinement.specs.Images.{machine_of, state_of, slot_of}

@@ -16,21 +16,21 @@ use Rattle.ring_machine.specs.Ends.{updated}
 use Rattle.ring_machine.specs.Events as events
 use Rattle.ring_machine.specs.Events.{Answers, Keeps}
 use Rattle.ring_machine.specs.Frames.{Accuse, Ruled}
-use Rattle.ring_machine.specs.Members.{IsMember}
+use Rattle.fabric_lemmas.specs.Members.{IsMember}
 use Rattle.ring_machine.specs.World as machine
 use Rattle.ring_machine.specs.World.{Instance, Running, Place, Dead, first_of}
 use Rattle.ring_machine.proofs.Histories.{event_done}
-use Rattle.ring_machine.proofs.Whos.{same_who-true}
+use Rattle.ring_points.proofs.Whos.{same_who-true}
 use Rattle.ring_refinement.specs.Images.{machine_of, IsSent, frame_of}
 use Rattle.ring_rules.specs.Arbiters.{Accusations, Table, no_table, accusation_kept, accusation_ruled, first_accuser, first_claimer, first_kept, ruling_by, table_after}
 use Rattle.ring_rules.proofs.Rows.{accusation_kept-is, accusation_ruled-is}
 use Rattle.world_rules.specs.Arbiters.{ArbiterState, accused_by}
 use Rattle.world_rules.specs.Uppers.{Upper, Did}
 use Rattle.world_rules.specs.Worlds.{World, kept_of as records_of, arbiter_who, arbiter_acted}
-use Rattle.ring_safety.proofs.ArbiterSteps.{kept_boots}
+use Rattle.run_facts.proofs.ArbiterSteps.{kept_boots}
 use Rattle.ring_safety.proofs.Follows.{Follows, Known, is_accusation}
-use Rattle.ring_safety.proofs.Kept.{kept_here, kept_there, table_append}
-use Rattle.ring_safety.proofs.Tables.{table_of, two_arbiters}
+use Rattle.run_facts.proofs.Kept.{kept_here, kept_there, table_append}
+use Rattle.run_facts.proofs.Tables.{table_of, two_arbiters}
 use Rattle.ring_safety.proofs.Rules.{Rule}
 
 -- who is found after one accusation more

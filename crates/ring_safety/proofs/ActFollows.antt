@@ -22,19 +22,19 @@ use Rattle.ring_rules.specs.Owns.{own_after, own_unless, is_same_own}
 use Rattle.ring_rules.specs.Rings.{Ring, Settings, Work, settings_of}
 use Rattle.ring_rules.specs.Steps.{ring_step}
 use Rattle.world_rules.specs.Events.{node_acts}
-use Rattle.world_rules.specs.Maps.{at}
+use Rattle.fabric_lemmas.specs.Maps.{at}
 use Rattle.world_rules.specs.Nodes.{NodeState, above_acts, both_did, boots_of}
 use Rattle.world_rules.specs.Uppers.{Upper, Did}
 use Rattle.world_rules.specs.Worlds as real
 use Rattle.world_rules.specs.Worlds.{World, kept_of, node_acted}
 use Rattle.world_rules.proofs.Rows.{node_step-is}
-use Rattle.ring_safety.specs.Above.{KeepsOut, StaysAbove, is_ring_frame}
+use Rattle.world_rules.specs.Above.{KeepsOut, StaysAbove, is_ring_frame}
 use Rattle.ring_safety.proofs.Follows.{Follows, known_said, known_other, all_said, none_passes, places_in, next_of}
-use Rattle.ring_safety.proofs.Happens.{CameTo}
-use Rattle.ring_safety.proofs.Kept.{boots_still, no_boots, no_entries}
+use Rattle.run_facts.proofs.Happens.{CameTo}
+use Rattle.run_facts.proofs.Kept.{boots_still, no_boots, no_entries}
 use Rattle.ring_safety.proofs.Moves.{moves, moved_quietly, over_quietly, others_move}
 use Rattle.ring_safety.proofs.NodeFollows.{Named, Follow, node_follows}
-use Rattle.ring_safety.proofs.Steps.{Acted, acted_told, acts_out, ring_stepped}
+use Rattle.run_facts.proofs.Steps.{Acted, acted_told, acts_out, ring_stepped}
 
 -- a world of the machine that follows
 pub record Followed {a : Upper} (c : FabricConfig) (w : World a) (t : Told) : Type 0 where

@@ -18,7 +18,7 @@ use Rattle.ring_machine.specs.World.{Instance, Running, Unborn, first_of, born}
 use Rattle.ring_machine.specs.Events as events
 use Rattle.ring_machine.specs.Events.{Starts, next_instance, started}
 use Rattle.ring_machine.proofs.Histories.{EventDone, event_done}
-use Rattle.ring_machine.proofs.Whos.{same_who-refl}
+use Rattle.ring_points.proofs.Whos.{same_who-refl}
 use Rattle.ring_refinement.specs.Images.{machine_of}
 use Rattle.ring_refinement.proofs.Starting.{spent_is_left_lem, start_is_shown_lem}
 use Rattle.ring_refinement.specs.Moves.{MovedBy}
@@ -27,7 +27,7 @@ use Rattle.ring_rules.specs.Arbiters.{Table, table_after}
 use Rattle.ring_rules.specs.Rings.{Work}
 use Rattle.ring_rules.specs.Slots.{fence_of}
 use Rattle.ring_rules.specs.Starts.{node_started, start_first}
-use Rattle.world_rules.specs.Maps.{at}
+use Rattle.fabric_lemmas.specs.Maps.{at}
 use Rattle.world_rules.specs.Nodes.{NodeState, boot_kept, boots_of, begun_as, instance_begun, is_spent, node_begun}
 use Rattle.world_rules.specs.Schedules.{may_start, is_configured_node, node_runs}
 use Rattle.world_rules.specs.Uppers.{Upper, Did}
@@ -36,10 +36,10 @@ use Rattle.world_rules.specs.Worlds.{World, kept_of, node_acted}
 use Rattle.world_rules.proofs.Rows.{node_begun-is}
 use Rattle.ring_safety.proofs.ActFollows.{Followed, Numbered, named}
 use Rattle.ring_safety.proofs.Follows.{Follows, ShowsClock, places_in, next_of}
-use Rattle.ring_safety.proofs.Kept.{kept_here, kept_there, boots_append}
+use Rattle.run_facts.proofs.Kept.{kept_here, kept_there, boots_append}
 use Rattle.ring_safety.proofs.Moves.{moves, none_moves, none_over}
 use Rattle.ring_safety.proofs.NodeFollows.{Follow, node_follows}
-use Rattle.ring_safety.proofs.Steps.{started_as}
+use Rattle.run_facts.proofs.Steps.{started_as}
 
 -- what a start tells moves nothing
 started_moves : (c : FabricConfig) (me : Who) (spent : Bool) → list_any moves (node_started c me spent).told ≡ false

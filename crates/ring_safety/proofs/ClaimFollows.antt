@@ -15,22 +15,23 @@ use Rattle.ring_machine.specs.Ends.{updated, replaced}
 use Rattle.ring_machine.specs.Events as events
 use Rattle.ring_machine.specs.Events.{Answers, Keeps}
 use Rattle.ring_machine.specs.Frames.{RoundClaim, Kept}
-use Rattle.ring_machine.specs.Members.{IsMember}
+use Rattle.fabric_lemmas.specs.Members.{IsMember}
 use Rattle.ring_machine.specs.World as machine
 use Rattle.ring_machine.specs.World.{Instance, Running, Place, Dead, first_of}
 use Rattle.ring_machine.proofs.Lists.{IsMember-append_right}
 use Rattle.ring_machine.proofs.Histories.{event_done}
-use Rattle.ring_machine.proofs.Whos.{test, same_who-refl, updated_cases, replaced_cases}
+use Rattle.ring_points.proofs.Whos.{same_who-refl}
+use Rattle.ring_machine.proofs.Whos.{test, updated_cases, replaced_cases}
 use Rattle.ring_refinement.specs.Images.{machine_of, IsSent, frame_of}
 use Rattle.ring_rules.specs.Arbiters.{RoundClaims, Table, no_table, claim_answer, claim_kept, claim_settled, claimer_kept, first_accuser, first_claimer, is_round_of, kept_by, table_after}
 use Rattle.ring_rules.proofs.Rows.{claim_kept-is, claim_settled-is}
 use Rattle.world_rules.specs.Arbiters.{ArbiterState, claimed_by}
 use Rattle.world_rules.specs.Uppers.{Upper, Did}
 use Rattle.world_rules.specs.Worlds.{World, kept_of as records_of, arbiter_who, arbiter_acted}
-use Rattle.ring_safety.proofs.ArbiterSteps.{claim_boots}
+use Rattle.run_facts.proofs.ArbiterSteps.{claim_boots}
 use Rattle.ring_safety.proofs.Follows.{Follows, Known}
-use Rattle.ring_safety.proofs.Kept.{kept_here, kept_there, table_append}
-use Rattle.ring_safety.proofs.Tables.{table_of, two_arbiters}
+use Rattle.run_facts.proofs.Kept.{kept_here, kept_there, table_append}
+use Rattle.run_facts.proofs.Tables.{table_of, two_arbiters}
 use Rattle.ring_safety.proofs.Rules.{Rule, aside}
 
 -- who is found after one claim more

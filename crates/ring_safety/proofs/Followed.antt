@@ -15,21 +15,21 @@ use Rattle.ring_refinement.specs.Images.{machine_of}
 use Rattle.ring_refinement.specs.Moves.{place_of}
 use Rattle.world_rules.specs.Events.{arbiter_number}
 use Rattle.world_rules.specs.Arbiters.{arbiter_begun}
-use Rattle.world_rules.specs.Maps.{put, without}
+use Rattle.fabric_lemmas.specs.Maps.{put, without}
 use Rattle.world_rules.specs.Runs.{History, world_after, run_of}
 use Rattle.world_rules.specs.Schedules.{is_there, keeps_bound, MayCome, Valid}
 use Rattle.world_rules.specs.Uppers.{Upper}
 use Rattle.world_rules.specs.Worlds.{World, Stepped, arbiter_who, empty_world, kept_of}
 use Rattle.world_rules.proofs.Rows.{is_there-start, is_there-tick, keeps_bound-tick}
-use Rattle.ring_safety.specs.Above.{StaysAbove}
+use Rattle.world_rules.specs.Above.{StaysAbove}
 use Rattle.ring_safety.proofs.ActFollows.{Followed, Numbered, acts_follow}
 use Rattle.ring_safety.proofs.BeginFollows.{begins_follow, nobody_runs}
 use Rattle.ring_safety.proofs.Follows.{Follows, first_instance}
-use Rattle.ring_safety.proofs.Happens.{Cases, by_cases}
-use Rattle.ring_safety.proofs.Orderly.{orderly}
+use Rattle.run_facts.proofs.Happens.{Cases, by_cases}
+use Rattle.run_facts.proofs.Orderly.{orderly}
 use Rattle.ring_safety.proofs.RuleFollows.{rules_follow}
 use Rattle.ring_safety.proofs.StopFollows.{arbiters_follow, silent_follows, stops_follow}
-use Rattle.ring_safety.proofs.Tables.{Tabled, tabled}
+use Rattle.run_facts.proofs.Tables.{Tabled, tabled}
 use Rattle.ring_safety.proofs.TickFollows.{ticks_follow}
 
 module _ (a : Upper) (stays : StaysAbove a) (is_frame : List ℕ → Bool) (c : FabricConfig) (sound : events.IsSound (machine_of c)) where

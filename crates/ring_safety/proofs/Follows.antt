@@ -15,7 +15,7 @@ use Rattle.join_phases.specs.Phases.{is_left}
 use Rattle.ring_points.specs.declared.who.Who.{Who}
 use Rattle.ring_points.specs.Whos.{arbiter_actor}
 use Rattle.ring_machine.specs.Frames.{Frame}
-use Rattle.ring_machine.specs.Members.{IsMember}
+use Rattle.fabric_lemmas.specs.Members.{IsMember}
 use Rattle.ring_machine.specs.World as machine
 use Rattle.ring_machine.specs.World.{Instance, Running, Dead, first_of}
 use Rattle.ring_machine.specs.Events as events
@@ -27,14 +27,14 @@ use Rattle.ring_refinement.specs.Shown.{Shows, ShowsAs, ShowsInstance}
 use Rattle.ring_refinement.proofs.Changes.{shows_later}
 use Rattle.ring_rules.specs.Arbiters.{Table, first_accuser, first_claimer}
 use Rattle.ring_rules.specs.Rings.{Ring}
-use Rattle.world_rules.specs.Maps.{at}
+use Rattle.fabric_lemmas.specs.Maps.{at}
 use Rattle.world_rules.specs.Nodes.{boots_of}
 use Rattle.world_rules.specs.Uppers.{Upper}
 use Rattle.world_rules.specs.Worlds as real
 use Rattle.world_rules.specs.Worlds.{World, kept_of, posted}
-use Rattle.ring_safety.specs.Above.{is_ring_frame}
+use Rattle.world_rules.specs.Above.{is_ring_frame}
 use Rattle.ring_safety.proofs.Moves.{AllMoved, AllNew, has_given}
-use Rattle.ring_safety.proofs.Tables.{table_of}
+use Rattle.run_facts.proofs.Tables.{table_of}
 
 -- the instance that the ring begins with
 abbrev pub first_instance : FabricConfig → Who

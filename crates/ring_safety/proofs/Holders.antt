@@ -20,16 +20,16 @@ use Rattle.ring_rules.specs.declared.link.LinkState.{LinkState}
 use Rattle.ring_rules.specs.declared.link.LinkState.TheVariants as state
 use Rattle.ring_rules.specs.Rings.{Ring, Slots}
 use Rattle.ring_rules.specs.Slots.{fence_if, fence_of, guards, slot_at}
-use Rattle.world_rules.specs.Maps.{at}
+use Rattle.fabric_lemmas.specs.Maps.{at}
 use Rattle.world_rules.specs.Runs.{History, world_after, run_of}
 use Rattle.world_rules.specs.Uppers.{Upper}
 use Rattle.world_rules.specs.Worlds as real
 use Rattle.world_rules.specs.Worlds.{World}
-use Rattle.ring_safety.specs.Above.{StaysAbove}
-use Rattle.ring_safety.specs.Held.{owned_by}
-use Rattle.ring_safety.proofs.Clocks.{reads}
+use Rattle.world_rules.specs.Above.{StaysAbove}
+use Rattle.run_facts.specs.Held.{owned_by}
+use Rattle.run_facts.proofs.Clocks.{reads}
 use Rattle.ring_safety.proofs.Follows.{Follows, ShowsClock}
-use Rattle.ring_safety.proofs.Orderly.{orderly}
+use Rattle.run_facts.proofs.Orderly.{orderly}
 
 -- a reading below the fence is below the end of each lease that counts
 below_each : (answer reading : ℕ) (ss : Slots) → IsBelow reading (fence_of answer ss) → (i : ℕ) (l : Link) → slot_at i ss ≡ Some l →

@@ -1,14 +1,3 @@
-pub mod Said
-pub mod SessionRows
-pub mod NodeRows
-pub mod Rows
-pub mod Happens
-pub mod Kept
-pub mod Steps
-pub mod ArbiterSteps
-pub mod Orderly
-pub mod Growth
-pub mod Tables
 pub mod Moves
 pub mod Follows
 pub mod NodeFollows
@@ -21,6 +10,5 @@ pub mod AccuseFollows
 pub mod ClaimFollows
 pub mod RuleFollows
 pub mod Followed
-pub mod Clocks
 pub mod Holders
 pub mod Safe

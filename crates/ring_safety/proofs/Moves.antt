@@ -12,9 +12,9 @@ use Rattle.ring_points.specs.declared.interval.Interval.{Interval}
 use Rattle.ring_points.specs.declared.who.Who.{Who}
 use Rattle.ring_points.specs.Whos.{same_who}
 use Rattle.ring_machine.specs.World as machine
-use Rattle.ring_machine.proofs.Whos.{same_who-true}
+use Rattle.ring_points.proofs.Whos.{same_who-true}
 use Rattle.ring_refinement.specs.Moves.{MovedBy, IsNext, next_after, IsOver, AreOver}
-use Rattle.ring_safety.specs.Above.{is_ring_report}
+use Rattle.world_rules.specs.Above.{is_ring_report}
 
 -- x gave the flight of this number
 abbrev pub has_given : Who → ℕ → Told → Bool

@@ -13,25 +13,26 @@ use Rattle.join_phases.specs.Phases.{is_left}
 use Rattle.ring_points.specs.declared.who.Who.{Who}
 use Rattle.ring_points.specs.Whos.{same_who, arbiter_actor}
 use Rattle.ring_machine.specs.Frames.{Frame}
-use Rattle.ring_machine.specs.Members.{IsMember}
+use Rattle.fabric_lemmas.specs.Members.{IsMember}
 use Rattle.ring_machine.specs.World as machine
 use Rattle.ring_machine.specs.World.{Instance, Running, Dead, first_of}
 use Rattle.ring_machine.specs.Invariant.{Invariant}
-use Rattle.ring_machine.proofs.Whos.{test, same_who-true, same_who-false, same_who_from}
+use Rattle.ring_points.proofs.Whos.{same_who-true, same_who-false, same_who_from}
+use Rattle.ring_machine.proofs.Whos.{test}
 use Rattle.ring_refinement.specs.Images.{machine_of}
 use Rattle.ring_refinement.specs.Moves.{MovedBy, AreOver}
 use Rattle.ring_refinement.specs.Shown.{Shows, ShowsAs}
 use Rattle.ring_rules.specs.Arbiters.{Table, table_after, first_accuser, first_claimer}
 use Rattle.ring_rules.specs.Rings.{Ring}
-use Rattle.world_rules.specs.Maps.{at, put}
+use Rattle.fabric_lemmas.specs.Maps.{at, put}
 use Rattle.world_rules.specs.Nodes.{NodeState, boots_of}
 use Rattle.world_rules.specs.Uppers.{Upper, Did}
 use Rattle.world_rules.specs.Worlds as real
 use Rattle.world_rules.specs.Worlds.{World, kept_of, posted, node_acted}
 use Rattle.ring_safety.proofs.Follows.{Follows, Runs, ShowsClock, Known, shows_still, known_still, clock_still, posted_cases, first_instance, places_in, next_of}
-use Rattle.ring_safety.proofs.Kept.{put_cases, at_put_same, at_put_other}
+use Rattle.run_facts.proofs.Kept.{put_cases, at_put_same, at_put_other}
 use Rattle.ring_safety.proofs.Moves.{AllMoved, AllNew, SoFar, told_so_far, given_elsewhere, over_told, has_given}
-use Rattle.ring_safety.proofs.Tables.{table_stays}
+use Rattle.run_facts.proofs.Tables.{table_stays}
 
 -- what is under each number
 abbrev pub Named : {a : Upper} → World a → Type 0

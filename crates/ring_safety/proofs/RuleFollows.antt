@@ -10,7 +10,7 @@ use Rattle.ring_points.specs.Whos.{arbiter_actor}
 use Rattle.ring_machine.specs.Arbitration.{ruled, claimed}
 use Rattle.ring_machine.specs.Events as events
 use Rattle.ring_machine.specs.Events.{Answers, Keeps}
-use Rattle.ring_machine.specs.Members.{IsMember}
+use Rattle.fabric_lemmas.specs.Members.{IsMember}
 use Rattle.ring_machine.specs.World as machine
 use Rattle.ring_machine.specs.World.{Instance, Running, Place, Dead, first_of}
 use Rattle.ring_refinement.specs.Images.{machine_of}
@@ -19,10 +19,10 @@ use Rattle.world_rules.specs.Arbiters.{ArbiterState, arbiter_step, arbiter_takes
 use Rattle.world_rules.specs.Uppers.{Upper, Did, idle}
 use Rattle.world_rules.specs.Worlds.{World, arbiter_acted}
 use Rattle.world_rules.proofs.Rows.{arbiter_step-is}
-use Rattle.ring_safety.specs.Above.{StaysAbove}
+use Rattle.world_rules.specs.Above.{StaysAbove}
 use Rattle.ring_safety.proofs.ActFollows.{Followed}
 use Rattle.ring_safety.proofs.Follows.{Follows}
-use Rattle.ring_safety.proofs.Tables.{table_of}
+use Rattle.run_facts.proofs.Tables.{table_of}
 use Rattle.ring_safety.proofs.Rules.{Rule, rule_follows, aside, beside}
 use Rattle.ring_safety.proofs.AccuseFollows.{answered}
 use Rattle.ring_safety.proofs.ClaimFollows.{ignored, answered_claim}

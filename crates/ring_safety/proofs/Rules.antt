@@ -8,7 +8,7 @@ use Rattle.ring_points.specs.declared.who.Who.{Who}
 use Rattle.ring_points.specs.Whos.{arbiter_actor}
 use Rattle.ring_machine.specs.Frames.{Frame}
 use Rattle.ring_machine.specs.Invariant.{Invariant}
-use Rattle.ring_machine.specs.Members.{IsMember}
+use Rattle.fabric_lemmas.specs.Members.{IsMember}
 use Rattle.ring_machine.specs.World as machine
 use Rattle.ring_machine.specs.World.{Instance, Running, Place, Dead, first_of}
 use Rattle.ring_refinement.specs.Images.{machine_of}
@@ -18,10 +18,10 @@ use Rattle.world_rules.specs.Arbiters.{ArbiterState, beside_did}
 use Rattle.world_rules.specs.Nodes.{boots_of}
 use Rattle.world_rules.specs.Uppers.{Upper, Did}
 use Rattle.world_rules.specs.Worlds.{World, posted, arbiter_who, arbiter_acted}
-use Rattle.ring_safety.specs.Above.{StaysAbove, is_ring_frame}
+use Rattle.world_rules.specs.Above.{StaysAbove, is_ring_frame}
 use Rattle.ring_safety.proofs.Follows.{Follows, ShowsTables, Known, shows_still, known_still, known_other, clock_still, none_passes, posted_cases, first_instance}
-use Rattle.ring_safety.proofs.Kept.{boots_still, no_boots, no_entries}
-use Rattle.ring_safety.proofs.Tables.{table_of, table_stays}
+use Rattle.run_facts.proofs.Kept.{boots_still, no_boots, no_entries}
+use Rattle.run_facts.proofs.Tables.{table_of, table_stays}
 
 -- what an arbitrator does, in the machine's worlds before and after
 pub record Rule {a : Upper} (c : FabricConfig) (w : World a) (m v : machine.World) (arbiter : ℕ) (d : Did (ArbiterState a)) : Type 0 where

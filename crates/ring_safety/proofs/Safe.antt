@@ -18,7 +18,7 @@ use Rattle.ring_points.specs.Ranges.{in_ranges}
 use Rattle.ring_points.specs.Whos.{node_instance}
 use Rattle.ring_machine.specs.Arbitration.{HeirBy, AnsweredBy, Tells, by_kept, by_grant}
 use Rattle.ring_machine.specs.Frames.{Ruled, Kept}
-use Rattle.ring_machine.specs.Members.{IsMember}
+use Rattle.fabric_lemmas.specs.Members.{IsMember}
 use Rattle.ring_machine.specs.Points.{is_point}
 use Rattle.ring_machine.specs.World as machine
 use Rattle.ring_machine.specs.World.{first_of}
@@ -30,7 +30,7 @@ use Rattle.world_rules.specs.Runs.{History, world_after, run_of}
 use Rattle.world_rules.specs.Schedules.{Valid}
 use Rattle.world_rules.specs.Uppers.{Upper}
 use Rattle.world_rules.specs.Worlds.{World, arbiter_who}
-use Rattle.ring_safety.specs.Above.{StaysAbove}
+use Rattle.world_rules.specs.Above.{StaysAbove}
 use Rattle.ring_safety.specs.Answers as answers
 use Rattle.ring_safety.specs.Answers.{MajorityKept, MajorityAnswered, answer_of}
 use Rattle.ring_safety.specs.Laws.{RingIsSafe, LeavesBeforeTakeOver, PlacesAreKept, AnswersExclude, OneHeir}
@@ -39,7 +39,7 @@ use Rattle.ring_safety.proofs.Followed.{followed}
 use Rattle.ring_safety.proofs.Follows.{Follows, sound_machine, first_instance}
 use Rattle.ring_safety.proofs.Holders.{Lives, Seen, seen, lives, holds_there}
 use Rattle.ring_safety.proofs.Moves.{AllMoved, AllNew, has_given}
-use Rattle.ring_safety.proofs.Orderly.{orderly}
+use Rattle.run_facts.proofs.Orderly.{orderly}
 
 -- an earlier run is that of an earlier history
 

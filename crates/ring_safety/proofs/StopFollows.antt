@@ -15,18 +15,19 @@ use Rattle.ring_machine.specs.World.{Instance, Running, first_of, has_clock}
 use Rattle.ring_machine.specs.Events as events
 use Rattle.ring_machine.specs.Events.{Stops, in_phase}
 use Rattle.ring_machine.proofs.Histories.{EventDone, event_done}
-use Rattle.ring_machine.proofs.Whos.{test, same_who-true, same_who-false, same_who_from}
+use Rattle.ring_points.proofs.Whos.{same_who-true, same_who-false, same_who_from}
+use Rattle.ring_machine.proofs.Whos.{test}
 use Rattle.ring_refinement.specs.Images.{machine_of}
 use Rattle.ring_refinement.specs.Shown.{ShowsAs}
 use Rattle.world_rules.specs.Arbiters.{ArbiterState}
 use Rattle.world_rules.specs.Events.{node_stops}
-use Rattle.world_rules.specs.Maps.{at, without}
+use Rattle.fabric_lemmas.specs.Maps.{at, without}
 use Rattle.world_rules.specs.Uppers.{Upper}
 use Rattle.world_rules.specs.Worlds as real
 use Rattle.world_rules.specs.Worlds.{World, kept_of}
 use Rattle.ring_safety.proofs.ActFollows.{Followed, Numbered, named}
 use Rattle.ring_safety.proofs.Follows.{Follows, Runs, shows_still, clock_still, first_instance, places_in, next_of}
-use Rattle.ring_safety.proofs.Kept.{without_cases, at_without_other}
+use Rattle.run_facts.proofs.Kept.{without_cases, at_without_other}
 use Rattle.ring_safety.proofs.Moves.{SoFar, moves, none_moves, none_over, told_so_far, given_elsewhere, over_told, has_given}
 
 -- reports that move nothing are followed by the same world

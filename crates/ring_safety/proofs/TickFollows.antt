@@ -9,7 +9,7 @@ use Rattle.fabric_terms.specs.Reports.{Told, told_in}
 use Rattle.join_phases.specs.Phases.{is_left}
 use Rattle.ring_points.specs.declared.who.Who.{Who}
 use Rattle.ring_machine.specs.Frames.{Frame}
-use Rattle.ring_machine.specs.Members.{IsMember}
+use Rattle.fabric_lemmas.specs.Members.{IsMember}
 use Rattle.ring_machine.specs.World as machine
 use Rattle.ring_machine.specs.World.{Instance, Running, first_of, has_clock}
 use Rattle.ring_machine.specs.Events as events
@@ -19,7 +19,7 @@ use Rattle.ring_refinement.specs.Images.{machine_of}
 use Rattle.ring_refinement.specs.Shown.{Shows, ShowsAs, ShowsInstance}
 use Rattle.ring_rules.specs.Rings.{Ring}
 use Rattle.world_rules.specs.Events.{shows, ticked, ticks}
-use Rattle.world_rules.specs.Maps.{at}
+use Rattle.fabric_lemmas.specs.Maps.{at}
 use Rattle.world_rules.specs.Schedules.{are_of, fits_pairs, readings_fit}
 use Rattle.world_rules.specs.Uppers.{Upper}
 use Rattle.world_rules.specs.Worlds as real

@@ -7,7 +7,7 @@ use Rattle.ring_points.specs.declared.who.Ruling.{Ruling}
 use Rattle.ring_points.specs.declared.who.Ruling.TheVariants.{Granted, Taken}
 use Rattle.ring_points.specs.declared.who.Who.{Who}
 use Rattle.ring_machine.specs.Arbitration.{is_majority}
-use Rattle.ring_machine.specs.Members.{IsMember}
+use Rattle.fabric_lemmas.specs.Members.{IsMember}
 use Rattle.ring_refinement.specs.Images.{machine_of}
 use Rattle.world_rules.specs.Worlds.{arbiter_who}
 

@@ -4,7 +4,8 @@ use Rattle.std.specs.Prelude.{IsTrue, ◌==◌, ◌&&◌}
 use Rattle.std.proofs.lemmas.List.{append-nil}
 use Rattle.std.proofs.lemmas.Bool.{eqb-true}
 use Rattle.fabric_terms.specs.declared.message.Body.{Body}
-use Rattle.ring_wire.specs.Frames.{is_sound_body, version_of, kind_of, body_bytes}
+use Rattle.fabric_terms.specs.Messages.{is_sound_body}
+use Rattle.ring_wire.specs.Frames.{version_of, kind_of, body_bytes}
 use Rattle.ring_wire.specs.Readers.{◌>>=◌, Field, is_nil, body_from}
 use Rattle.ring_wire.proofs.Numbers.{AreBytes}
 use Rattle.ring_wire.proofs.Forms.{IsField, bind_some, tested}

@@ -2,7 +2,8 @@
 use Rattle.std.proofs.Common.{◌≡◌, ◌≢◌, List, ℕ, Ok, Err, Result, ap}
 use Rattle.std.specs.Prelude.{IsTrue, MatchResult}
 use Rattle.fabric_terms.specs.declared.message.Message.{Message}
-use Rattle.ring_wire.specs.Frames.{is_sound, spelling}
+use Rattle.fabric_terms.specs.Messages.{is_sound}
+use Rattle.ring_wire.specs.Frames.{spelling}
 use Rattle.ring_wire.specs.Readers.{Gives}
 use Rattle.ring_wire.specs.Kinds.{message_of}
 use Rattle.ring_wire.proofs.Numbers.{AreBytes}

@@ -10,7 +10,7 @@ use Rattle.ring_points.specs.declared.who.Ruling.TheVariants.{Granted, Taken, Re
 use Rattle.ring_points.specs.declared.unit.Config.{Config}
 use Rattle.ring_points.specs.declared.interval.Interval.{Interval}
 use Rattle.ring_points.specs.Ranges.{is_proper, rises_from, fits}
-use Rattle.ring_wire.specs.Fields.{is_short, is_word, is_long, is_counted, is_session, is_stamp, is_lease, is_last, is_hops, is_round, is_node, is_who, is_arbiter, is_sender, is_addressee, is_some, is_part, is_epoch, is_unit, rises_above, has_members, is_config, is_done, is_payload}
+use Rattle.fabric_terms.specs.Fields.{is_short, is_word, is_long, is_counted, is_session, is_stamp, is_lease, is_last, is_hops, is_round, is_node, is_who, is_arbiter, is_sender, is_addressee, is_some, is_part, is_epoch, is_unit, rises_above, has_members, is_config, is_done, is_payload}
 use Rattle.ring_wire.specs.Readers.{◌>>=◌, Field, such, pair, made, number_at, byte_at, bytes_at, list_at, word_at, counted_at, last_at, stamp_at, lease_at, node_at, hops_at, round_at, flag_at, ruling_of, ruling_at, point_at, session_at, actor_at, is_numbered, who_at, sender_at, addressee_at, epoch_at, unit_at, interval_at, intervals_at, ranges_at, part_at, config_from, config_at, done_at, payload_at}
 use Rattle.ring_wire.specs.Texts.{number_bytes, one_byte, session_bytes, who_bytes, epoch_bytes, unit_bytes, interval_bytes, list_bytes, ranges_bytes, config_bytes, payload_bytes, flag_code, flag_bytes, ruling_code, ruling_bytes, done_bytes}
 use Rattle.ring_wire.proofs.Numbers.{AreBytes, bytes_behind}

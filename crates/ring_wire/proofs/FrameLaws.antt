@@ -7,9 +7,10 @@ use Rattle.fabric_terms.specs.declared.message.Body.{Body}
 use Rattle.fabric_terms.specs.declared.message.Body.TheVariants.{Hello, HelloFor, Offer, OfferFor, Take, Renew, RenewAck, Transfer, Gone, Seek, Found, Accuse, Ruled, Claim, Kept, Prepare, Prepared, NoPrepare, Vote, Voted, NoVote, DoneAsk, DoneKept, NoDone, Promise, Promised, Sync, Fetch, Piece, Adopted, Activate, Activated, Append, Appended, Older}
 use Rattle.ring_points.specs.declared.who.Who.{Who}
 use Rattle.ring_wire.specs.declared.read.Head.{Head}
-use Rattle.ring_wire.specs.Fields.{is_sender, is_addressee}
+use Rattle.fabric_terms.specs.Fields.{is_sender, is_addressee}
 use Rattle.ring_wire.specs.Texts.{one_byte, who_bytes}
-use Rattle.ring_wire.specs.Frames.{is_sound_body, is_sound, version_of, kind_of, body_bytes, spelling}
+use Rattle.fabric_terms.specs.Messages.{is_sound_body, is_sound}
+use Rattle.ring_wire.specs.Frames.{version_of, kind_of, body_bytes, spelling}
 use Rattle.ring_wire.specs.Readers.{◌>>=◌, Field, such, byte_at}
 use Rattle.ring_wire.specs.Kinds.{body_of, head_at, message_of}
 use Rattle.ring_wire.specs.Links.{links_of, leases_of}

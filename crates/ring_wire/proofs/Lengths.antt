@@ -12,9 +12,10 @@ use Rattle.ring_points.specs.declared.unit.Config.{Config}
 use Rattle.ring_points.specs.declared.who.Ruling.{Ruling}
 use Rattle.ring_points.specs.declared.interval.Interval.{Interval}
 use Rattle.ring_points.specs.Ranges.{is_proper, fits, rises_from}
-use Rattle.ring_wire.specs.Fields.{is_session, is_unit, is_word, is_counted, is_stamp, is_epoch, is_part, is_some, is_config, is_done, is_payload, is_sender, is_addressee, same_unit, has_members, is_short}
+use Rattle.fabric_terms.specs.Fields.{is_session, is_unit, is_word, is_counted, is_stamp, is_epoch, is_part, is_some, is_config, is_done, is_payload, is_sender, is_addressee, same_unit, has_members, is_short}
 use Rattle.ring_wire.specs.Texts.{number_bytes, one_byte, session_bytes, epoch_bytes, unit_bytes, interval_bytes, list_bytes, ranges_bytes, config_bytes, payload_bytes, flag_bytes, flag_code, ruling_bytes, done_bytes}
-use Rattle.ring_wire.specs.Frames.{is_sound_body, is_sound, body_bytes, spelling}
+use Rattle.fabric_terms.specs.Messages.{is_sound_body, is_sound}
+use Rattle.ring_wire.specs.Frames.{body_bytes, spelling}
 use Rattle.ring_wire.proofs.Puts.{number_length}
 use Rattle.ring_wire.proofs.Standing.{who_length, epoch_length}
 

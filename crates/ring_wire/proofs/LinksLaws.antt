@@ -5,8 +5,9 @@ use Rattle.std.proofs.lemmas.Bool.{and_parts, and_from}
 use Rattle.fabric_terms.specs.declared.message.Body.TheVariants.{Hello, HelloFor, Offer, OfferFor, Take, Renew, RenewAck, Transfer, Gone}
 use Rattle.ring_points.specs.declared.interval.Interval.{Interval}
 use Rattle.ring_points.specs.Ranges.{is_proper}
-use Rattle.ring_wire.specs.Fields.{is_session, is_stamp, is_word}
-use Rattle.ring_wire.specs.Frames.{is_sound_body, body_bytes}
+use Rattle.fabric_terms.specs.Fields.{is_session, is_stamp, is_word}
+use Rattle.fabric_terms.specs.Messages.{is_sound_body}
+use Rattle.ring_wire.specs.Frames.{body_bytes}
 use Rattle.ring_wire.specs.Links.{hello_of, hello_for_of, offer_of, offer_for_of, take_of, renew_of, renew_ack_of, transfer_of, gone_of, links_of, leases_of}
 use Rattle.ring_wire.proofs.Forms.{pair_is}
 use Rattle.ring_wire.proofs.FieldLaws.{counted_is, flag_is, lease_is, part_is, ranges_is, session_is, stamp_is, word_is}

@@ -1,13 +1,13 @@
 -- The law of each kind: partitions.
 use Rattle.std.proofs.Common.{◌≡◌, ℕ, Option, Some, refl}
-use Rattle.std.specs.Prelude.{IsTrue, ◌&&◌}
+use Rattle.std.specs.Prelude.{IsTrue, ◌&&◌, ◌++◌}
 use Rattle.std.proofs.lemmas.Bool.{and_parts, and_from}
 use Rattle.fabric_terms.specs.declared.message.Body.TheVariants.{Prepare, Prepared, NoPrepare, Vote, Voted, NoVote, DoneAsk, DoneKept, NoDone}
 use Rattle.ring_points.specs.declared.unit.Epoch.{Epoch}
 use Rattle.ring_points.specs.declared.unit.Config.{Config}
-use Rattle.ring_wire.specs.Fields.{is_unit, is_config, same_unit}
-use Rattle.ring_wire.specs.Frames.{is_sound_body, body_bytes}
-use Rattle.std.specs.Prelude.{◌++◌}
+use Rattle.fabric_terms.specs.Fields.{is_unit, is_config, same_unit}
+use Rattle.fabric_terms.specs.Messages.{is_sound_body}
+use Rattle.ring_wire.specs.Frames.{body_bytes}
 use Rattle.ring_wire.specs.Texts.{unit_bytes, config_bytes}
 use Rattle.ring_wire.specs.Readers.{such, pair, unit_at, config_at}
 use Rattle.ring_wire.specs.Partitions.{prepare_of, prepared_of, no_prepare_of, vote_of, voted_of, no_vote_of, done_ask_of, done_kept_of, no_done_of, partitions_of}

@@ -5,8 +5,9 @@ use Rattle.std.proofs.lemmas.Bool.{and_parts, and_from}
 use Rattle.fabric_terms.specs.declared.message.Body.TheVariants.{Accuse, Ruled, Claim, Kept}
 use Rattle.ring_points.specs.declared.who.Who.{Who}
 use Rattle.ring_points.specs.declared.who.Ruling.{Ruling}
-use Rattle.ring_wire.specs.Fields.{is_who}
-use Rattle.ring_wire.specs.Frames.{is_sound_body, body_bytes}
+use Rattle.fabric_terms.specs.Fields.{is_who}
+use Rattle.fabric_terms.specs.Messages.{is_sound_body}
+use Rattle.ring_wire.specs.Frames.{body_bytes}
 use Rattle.ring_wire.specs.Rulings.{accuse_of, ruled_of, claim_of, kept_of, rulings_of}
 use Rattle.ring_wire.proofs.Forms.{pair_is}
 use Rattle.ring_wire.proofs.FieldLaws.{round_is, ruling_is, who_is}

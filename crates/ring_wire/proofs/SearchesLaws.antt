@@ -4,7 +4,8 @@ use Rattle.std.specs.Prelude.{IsTrue}
 use Rattle.fabric_terms.specs.declared.message.Body.TheVariants.{Seek, Found}
 use Rattle.ring_points.specs.declared.who.Who.{Who}
 use Rattle.ring_points.specs.declared.point.Point.{Point}
-use Rattle.ring_wire.specs.Frames.{is_sound_body, body_bytes}
+use Rattle.fabric_terms.specs.Messages.{is_sound_body}
+use Rattle.ring_wire.specs.Frames.{body_bytes}
 use Rattle.ring_wire.specs.Searches.{seek_of, found_of, searches_of}
 use Rattle.ring_wire.proofs.Forms.{pair_is}
 use Rattle.ring_wire.proofs.FieldLaws.{hops_is, point_is, who_is}

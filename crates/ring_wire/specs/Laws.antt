@@ -1,7 +1,8 @@
 -- What holds of frames as bytes.
 use Rattle.std.specs.Prelude.{◌≡◌, ◌≤◌, length, IsTrue}
 use Rattle.fabric_terms.specs.declared.message.Message.{Message}
-use Rattle.ring_wire.specs.Frames.{is_sound, spelling}
+use Rattle.fabric_terms.specs.Messages.{is_sound}
+use Rattle.ring_wire.specs.Frames.{spelling}
 
 -- a message of the grammar has no spelling of another, and at most 1,200 bytes
 abbrev pub OneSpelling : Type 0

@@ -1,4 +1,3 @@
-pub mod Fields
 pub mod Texts
 pub mod Frames
 pub mod Stands
@@ -11,4 +10,3 @@ pub mod Replicas
 pub mod Kinds
 pub mod Writers
 pub mod Laws
-pub mod Sent

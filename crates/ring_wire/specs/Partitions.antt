@@ -3,7 +3,7 @@ use Rattle.std.specs.Prelude.{ℕ, List, Option, ◌==◌, if◌then◌else◌}
 use Rattle.fabric_terms.specs.declared.message.Body.{Body}
 use Rattle.fabric_terms.specs.declared.message.Body.TheVariants.{Prepare, Prepared, NoPrepare, Vote, Voted, NoVote, DoneAsk, DoneKept, NoDone}
 use Rattle.ring_wire.specs.Readers.{body_from, pair, such, config_at, done_at, epoch_at, unit_at}
-use Rattle.ring_wire.specs.Fields.{same_unit}
+use Rattle.fabric_terms.specs.Fields.{same_unit}
 use Rattle.ring_wire.specs.Replicas.{replicas_of}
 
 unfoldable pub prepare_of : List ℕ → Option Body

@@ -10,7 +10,7 @@ use Rattle.ring_points.specs.declared.unit.Epoch.{Epoch}
 use Rattle.ring_points.specs.declared.unit.Config.{Config}
 use Rattle.ring_points.specs.declared.interval.Interval.{Interval}
 use Rattle.ring_points.specs.Ranges.{is_proper}
-use Rattle.ring_wire.specs.Fields.{is_stamp, is_lease, is_last, is_hops, is_round, is_node, is_arbiter, is_some, has_members}
+use Rattle.fabric_terms.specs.Fields.{is_stamp, is_lease, is_last, is_hops, is_round, is_node, is_arbiter, is_some, has_members}
 
 -- a step that goes on with what the one before gave
 infixl 10 ◌>>=◌

@@ -1,7 +1,7 @@
 // The fields that other formats have in common with frames.
 
 ghost use Rattle.ring_points.specs.Ranges.{is_proper};
-ghost use Rattle.ring_wire.specs.Fields.{is_who, is_epoch, is_config};
+ghost use Rattle.fabric_terms.specs.Fields.{is_who, is_epoch, is_config};
 ghost use Rattle.ring_wire.specs.Stands.{ReadsAt, ReadsSized};
 ghost use Rattle.ring_wire.specs.Texts.{who_bytes, epoch_bytes, ranges_bytes, config_bytes};
 

@@ -9,16 +9,14 @@
 mod fields;
 mod laws;
 mod not_frame;
-mod outbox;
 mod read;
 #[cfg(test)]
 mod tests;
 mod write;
 
-pub use fabric_terms::{Body, Message};
+pub use fabric_terms::{Body, Message, OUTBOX_LIMIT, Outbox};
 pub use fields::{read_config_field, read_epoch, read_ranges, read_who};
 pub use laws::{one_spelling, short_spelling};
 pub use not_frame::NotFrame;
-pub use outbox::{OUTBOX_LIMIT, Outbox};
 pub use read::decode;
 pub use write::{FRAME_LIMIT, encode};

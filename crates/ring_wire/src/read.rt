@@ -2,7 +2,8 @@
 
 ghost use Rattle.std.specs.Prelude.{◌≡◌, ◌≢◌, IsTrue, MatchResult};
 ghost use Rattle.fabric_terms.specs.declared.message.Message.{Message};
-ghost use Rattle.ring_wire.specs.Frames.{is_sound, spelling};
+ghost use Rattle.fabric_terms.specs.Messages.{is_sound};
+ghost use Rattle.ring_wire.specs.Frames.{spelling};
 ghost use Rattle.ring_wire.specs.Readers.{Gives, Fills};
 ghost use Rattle.ring_wire.specs.Kinds.{head_at, body_of, message_of};
 

@@ -1,7 +1,8 @@
 // How frames are written.
 
 ghost use Rattle.std.specs.Prelude.{◌≡◌, ◌≤◌, ◌+◌, ◌++◌, [], ◌∷◌, length, drop, IsTrue};
-ghost use Rattle.ring_wire.specs.Frames.{is_sound, is_sound_body, version_of, kind_of, body_bytes, spelling};
+ghost use Rattle.fabric_terms.specs.Messages.{is_sound, is_sound_body};
+ghost use Rattle.ring_wire.specs.Frames.{version_of, kind_of, body_bytes, spelling};
 ghost use Rattle.ring_wire.specs.Texts.{who_bytes};
 ghost use Rattle.ring_wire.specs.Writers.{Puts};
 

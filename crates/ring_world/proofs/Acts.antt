@@ -1,11 +1,9 @@
 -- A node's step: the world stands for the world after it.
 use Rattle.std.proofs.Common.{◌≡◌, ℕ, zero, suc, ◌+◌, ◌≤◌, ◌<◌, ◌^◌, Bool, true, false, List, [], ◌∷◌, ◌++◌, Option, Some, refl, sym, ap, subst, ◌∙◌, arith, length, get_or}
-use Rattle.std.specs.Prelude.{◌&&◌, not, unwrap_or, slice_get, slice_set, slice_index, map, option_map, All}
+use Rattle.std.specs.Prelude.{◌&&◌, not, unwrap_or, slice_get, slice_set, slice_index, map, option_map, All, Vec, Box}
 use Rattle.std.proofs.lemmas.List.{length-set, set-get_or}
 use Rattle.std.proofs.lemmas.Option.{slice_get-map, slice_get_within, get_or_from_slice_get}
 use Rattle.drift_clock.specs.Extremes.{Kept, Stands as DriftStands}
-use Rattle.std.specs.Prelude.{Vec}
-use Rattle.std.specs.Prelude.{Box}
 use Rattle.std.specs.Box.{with_value}
 use Rattle.std.specs.Vec.{with_item}
 use Rattle.std.specs.declared.alloc.Global.{Global}
@@ -15,7 +13,7 @@ use Rattle.fabric_terms.specs.declared.message.Body.{Body}
 use Rattle.fabric_terms.specs.declared.message.Message.{Message}
 use Rattle.fabric_terms.specs.declared.report.Report.{Report}
 use Rattle.node_core.specs.Nodes.{Does, GoesBy, IsSmall, state_of}
-use Rattle.ring_wire.specs.Sent.{from_all}
+use Rattle.fabric_terms.specs.Sent.{from_all}
 use Rattle.node_core.specs.declared.outcome.Outcome.{Outcome}
 use Rattle.point_places.specs.Spots.{place_at}
 use Rattle.ring_node.specs.Nodes.{Node}
@@ -26,12 +24,12 @@ use Rattle.ring_rules.specs.Steps.{ring_step}
 use Rattle.join_phases.specs.Phases.{is_left}
 use Rattle.ring_rules.specs.declared.input.Input.{Input}
 use Rattle.world_rules.specs.Events.{node_acts}
-use Rattle.world_rules.specs.Maps.{at, put}
+use Rattle.fabric_lemmas.specs.Maps.{at, put}
 use Rattle.world_rules.specs.Nodes.{NodeState, node_step, above_if, comes_above, boots_of}
 use Rattle.world_rules.specs.Nothing.{nothing}
 use Rattle.world_rules.specs.Uppers.{Did}
 use Rattle.world_rules.specs.Worlds.{World as RuledWorld, Running as RuledRunning, kept_of, posted, numbers_of}
-use Rattle.world_rules.proofs.Maps.{rises-put}
+use Rattle.fabric_lemmas.proofs.Maps.{rises-put}
 use Rattle.ring_world.specs.Answers.{entry_of}
 use Rattle.ring_world.specs.Commits.{posted_all, numbers_after}
 use Rattle.ring_world.specs.Moves.{Moves, Same, placed_by}

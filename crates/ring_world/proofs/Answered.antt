@@ -10,7 +10,7 @@ use Rattle.fabric_terms.specs.declared.event.Event.{Event}
 use Rattle.fabric_terms.specs.declared.report.Report.{Report}
 use Rattle.ring_points.specs.Whos.{node_instance}
 use Rattle.ring_points.specs.declared.who.Who.{Who}
-use Rattle.sched_text.specs.Lines.{Fits}
+use Rattle.fabric_terms.specs.Ranges.{Fits}
 use Rattle.world_rules.specs.Events.{world_step}
 use Rattle.world_rules.specs.Nothing.{nothing}
 use Rattle.world_rules.specs.Runs.{History, run_of}

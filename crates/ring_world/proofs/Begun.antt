@@ -1,11 +1,10 @@
 -- A start of a node: the world stands for the world after it.
 use Rattle.std.proofs.Common.{◌≡◌, ℕ, zero, suc, ◌+◌, ◌≤◌, ◌<◌, ◌^◌, Bool, true, false, cond, List, [], ◌∷◌, ◌++◌, Option, Some, None, refl, sym, ap, subst, ◌∙◌, arith, length}
-use Rattle.std.specs.Prelude.{◌==◌, nat_lt, unwrap_or, slice_set, slice_index, insert, map}
+use Rattle.std.specs.Prelude.{◌==◌, nat_lt, unwrap_or, slice_set, slice_index, insert, map, Vec}
 use Rattle.std.proofs.lemmas.List.{append-nil, get_or-set_same, get_or-set_other, length-set}
 use Rattle.std.proofs.lemmas.List.Edits.{length-insert}
 use Rattle.std.proofs.lemmas.List.Sums.{sum_by-cons}
 use Rattle.std.proofs.lemmas.Bool.{eqb-true}
-use Rattle.std.specs.Prelude.{Vec}
 use Rattle.std.specs.declared.alloc.Global.{Global}
 use Rattle.fabric_terms.specs.declared.message.Message.{Message}
 use Rattle.drift_clock.specs.Extremes.{Kept, Stands as DriftStands}
@@ -15,19 +14,19 @@ use Rattle.fabric_terms.specs.declared.record.Record.{Record}
 use Rattle.fabric_terms.specs.declared.record.Record.TheVariants.{Boot}
 use Rattle.fabric_terms.specs.declared.report.Report.{Report}
 use Rattle.node_core.specs.Nodes.{Does, GoesBy, state_of}
-use Rattle.ring_wire.specs.Sent.{from_all}
+use Rattle.fabric_terms.specs.Sent.{from_all}
 use Rattle.node_core.specs.declared.outcome.Outcome.{Outcome}
 use Rattle.point_places.specs.Spots.{place_at}
 use Rattle.ring_node.specs.Nodes.{Node}
 use Rattle.ring_points.specs.Whos.{arbiter_actor, node_instance}
 use Rattle.ring_points.specs.declared.who.Who.{Who}
-use Rattle.ring_safety.proofs.Steps.{started_as}
-use Rattle.world_rules.specs.Maps.{at, put}
+use Rattle.run_facts.proofs.Steps.{started_as}
+use Rattle.fabric_lemmas.specs.Maps.{at, put}
 use Rattle.world_rules.specs.Nodes.{NodeState, boot_kept, boots_of, instance_begun, is_boot, is_spent, node_begun}
 use Rattle.world_rules.specs.Nothing.{nothing}
 use Rattle.world_rules.specs.Uppers.{Did}
 use Rattle.world_rules.specs.Worlds.{World as RuledWorld, Running as RuledRunning, kept_of, node_acted, numbers_of}
-use Rattle.world_rules.proofs.Maps.{rises-put}
+use Rattle.fabric_lemmas.proofs.Maps.{rises-put}
 use Rattle.world_rules.proofs.Rows.{node_begun-is}
 use Rattle.ring_world.specs.Answers.{entry_of}
 use Rattle.ring_world.specs.Commits.{numbers_after, posted_all}

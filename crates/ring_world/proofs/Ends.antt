@@ -9,7 +9,7 @@ use Rattle.ring_points.specs.declared.who.Who.{Who}
 use Rattle.world_rules.specs.Events.{node_stops}
 use Rattle.world_rules.specs.Nothing.{nothing}
 use Rattle.world_rules.specs.Worlds.{World as RuledWorld, Running as RuledRunning, Stepped}
-use Rattle.world_rules.proofs.Maps.{rises-without}
+use Rattle.fabric_lemmas.proofs.Maps.{rises-without}
 use Rattle.ring_world.specs.Answers.{entry_of}
 use Rattle.ring_world.specs.Moves.{Moves}
 use Rattle.ring_world.specs.Room.{most_events}

@@ -4,7 +4,7 @@ use Rattle.std.specs.Prelude.{◌&&◌, is_some}
 use Rattle.fabric_terms.specs.declared.command.Command.{Command}
 use Rattle.fabric_terms.specs.declared.event.Event.TheVariants.{Fire, Do}
 use Rattle.ring_rules.specs.declared.input.Input.TheVariants as input
-use Rattle.world_rules.specs.Maps.{at}
+use Rattle.fabric_lemmas.specs.Maps.{at}
 use Rattle.world_rules.specs.Nothing.{nothing}
 use Rattle.world_rules.specs.Schedules.{is_there, command_names}
 use Rattle.world_rules.specs.Worlds.{World as RuledWorld}

@@ -4,7 +4,7 @@ use Rattle.std.specs.Prelude.{◌&&◌, nat_le, slice_get}
 use Rattle.fabric_terms.specs.declared.event.Event.TheVariants.{Give}
 use Rattle.fabric_terms.specs.declared.message.Message.{Message}
 use Rattle.frame_bag.specs.Bags.{frame_of}
-use Rattle.sched_text.specs.Lines.{Fits}
+use Rattle.fabric_terms.specs.Ranges.{Fits}
 use Rattle.world_rules.specs.Events.{arrives, world_step}
 use Rattle.world_rules.specs.Nothing.{nothing}
 use Rattle.world_rules.specs.Schedules.{is_there}

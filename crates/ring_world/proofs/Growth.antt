@@ -8,13 +8,13 @@ use Rattle.fabric_terms.specs.declared.config.FabricConfig.{FabricConfig}
 use Rattle.fabric_terms.specs.declared.message.Body.{Body}
 use Rattle.fabric_terms.specs.declared.message.Message.{Message}
 use Rattle.fabric_terms.specs.declared.record.Record.{Record}
-use Rattle.ring_wire.specs.Sent.{from_all}
+use Rattle.fabric_terms.specs.Sent.{from_all}
 use Rattle.ring_points.specs.Whos.{arbiter_actor}
 use Rattle.ring_points.specs.declared.who.Who.{Who}
-use Rattle.world_rules.specs.Maps.{at, put}
+use Rattle.fabric_lemmas.specs.Maps.{at, put}
 use Rattle.world_rules.specs.Nothing.{nothing}
 use Rattle.world_rules.specs.Worlds.{World as RuledWorld, kept_of, posted, numbers_of}
-use Rattle.world_rules.proofs.Maps.{at-put}
+use Rattle.fabric_lemmas.proofs.Maps.{at-put}
 use Rattle.ring_world.specs.Commits.{posted_all, numbers_after}
 use Rattle.ring_world.specs.Room.{most_events}
 use Rattle.ring_world.specs.Seats.{IsSeat}

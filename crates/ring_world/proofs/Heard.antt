@@ -9,7 +9,7 @@ use Rattle.frame_bag.specs.Bags.{Bag}
 use Rattle.ring_points.specs.declared.who.Who.{Who}
 use Rattle.std.specs.Vec.{with_item}
 use Rattle.world_rules.specs.Arbiters.{ArbiterState}
-use Rattle.world_rules.specs.Maps.{at}
+use Rattle.fabric_lemmas.specs.Maps.{at}
 use Rattle.world_rules.specs.Nothing.{nothing}
 use Rattle.world_rules.specs.Worlds.{World as RuledWorld}
 use Rattle.ring_world.specs.Moves.{Same}

@@ -16,13 +16,12 @@ use Rattle.ring_points.specs.Ranges.{in_ranges}
 use Rattle.ring_points.specs.Whos.{same_who}
 use Rattle.ring_rules.specs.Rings.{Settings}
 use Rattle.ring_rules.specs.Slots.{fence_of}
-use Rattle.ring_safety.specs.Held.{owned_by}
-use Rattle.ring_safety.specs.Nothing.{nothing_stays}
-use Rattle.ring_safety.proofs.Clocks.{clocks_are, clocks_are_of_running_lem}
-use Rattle.ring_safety.proofs.Orderly.{last_own_is_held_lem}
-use Rattle.world_rules.specs.Maps.{at, rises}
+use Rattle.run_facts.specs.Held.{owned_by}
+use Rattle.world_rules.specs.Nothing.{nothing_stays, nothing}
+use Rattle.run_facts.proofs.Clocks.{clocks_are, clocks_are_of_running_lem}
+use Rattle.run_facts.proofs.Orderly.{last_own_is_held_lem}
+use Rattle.fabric_lemmas.specs.Maps.{at, rises}
 use Rattle.world_rules.specs.Nodes.{NodeState}
-use Rattle.world_rules.specs.Nothing.{nothing}
 use Rattle.world_rules.specs.Runs.{History, run_of}
 use Rattle.ring_world.specs.Answers.{StandsFor, ruled}
 use Rattle.ring_world.specs.Holders.{held_by, held_now, held_ranges, holder_of, holders_in, holders_of, holds_in, is_some_range}

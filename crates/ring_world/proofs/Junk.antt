@@ -2,7 +2,8 @@
 use Rattle.std.proofs.Common.{◌≡◌, ◌≢◌, ℕ, true, false, List, Option, Some, None, refl, sym, ap, ◌∙◌}
 use Rattle.std.specs.Prelude.{is_some, IsTrue}
 use Rattle.fabric_terms.specs.declared.message.Message.{Message}
-use Rattle.ring_wire.specs.Frames.{is_sound, spelling}
+use Rattle.fabric_terms.specs.Messages.{is_sound}
+use Rattle.ring_wire.specs.Frames.{spelling}
 use Rattle.ring_wire.specs.Kinds.{message_of}
 use Rattle.ring_wire.proofs.FrameLaws.{message_again, message_found}
 use Rattle.ring_wire.proofs.Numbers.{AreBytes}

@@ -3,7 +3,7 @@ use Rattle.std.proofs.Common.{◌≡◌, ℕ, zero, suc, ◌+◌, ◌≤◌, ◌
 use Rattle.std.specs.Prelude.{◌==◌, nat_lt, nat_le, slice_get, slice_set, insert, remove}
 use Rattle.std.proofs.lemmas.Bool.{and_parts, leb-true}
 use Rattle.std.proofs.lemmas.Bool.Decides.{nat_tests}
-use Rattle.world_rules.specs.Maps.{at, put, put_here, without, rises_from, rises}
+use Rattle.fabric_lemmas.specs.Maps.{at, put, put_here, without, rises_from, rises}
 use Rattle.ring_world.specs.Finds.{IsAt}
 
 pub unequal : (a b : ℕ) → (a ≡ b → ⊥) → (a == b) ≡ false

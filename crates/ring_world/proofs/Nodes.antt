@@ -9,7 +9,7 @@ use Rattle.std.proofs.lemmas.List.Sums.{fails_before_first}
 use Rattle.std.proofs.lemmas.Option.{slice_get-map, slice_get-get_or, slice_get_within, get_or_from_slice_get}
 use Rattle.fabric_terms.specs.declared.config.FabricConfig.{FabricConfig}
 use Rattle.ring_points.specs.declared.who.Who.{Who}
-use Rattle.world_rules.specs.Maps.{at, rises}
+use Rattle.fabric_lemmas.specs.Maps.{at, rises}
 use Rattle.world_rules.specs.Nothing.{nothing}
 use Rattle.world_rules.specs.Worlds.{World as RuledWorld, Running as RuledRunning}
 use Rattle.ring_world.specs.Finds.{IsAt, IsPlaceOf}

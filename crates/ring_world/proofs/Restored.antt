@@ -12,7 +12,7 @@ use Rattle.fabric_terms.specs.declared.record.Record.TheVariants as kind
 use Rattle.ring_points.specs.Whos.{arbiter_actor}
 use Rattle.ring_rules.specs.Arbiters.{Accusations, accusations_after, accused_after}
 use Rattle.world_rules.specs.Events.{world_step, starts_with, arbiter_number}
-use Rattle.world_rules.specs.Maps.{at}
+use Rattle.fabric_lemmas.specs.Maps.{at}
 use Rattle.world_rules.specs.Nothing.{nothing}
 use Rattle.world_rules.specs.Schedules.{is_there, is_configured_arbiter, arbiter_runs}
 use Rattle.world_rules.specs.Worlds.{World as RuledWorld, kept_of}

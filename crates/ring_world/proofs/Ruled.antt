@@ -18,9 +18,9 @@ use Rattle.point_places.specs.Spots.{place_at}
 use Rattle.ring_points.specs.Whos.{arbiter_actor}
 use Rattle.ring_points.specs.declared.who.Who.{Who}
 use Rattle.ring_rules.specs.Arbiters.{Accusations, accusation_kept, accusations_after, accused_after, first_accuser, first_kept, takes_frame}
-use Rattle.ring_wire.specs.Frames.{is_sound}
+use Rattle.fabric_terms.specs.Messages.{is_sound}
 use Rattle.world_rules.specs.Arbiters.{ArbiterState, arbiter_step, arbiter_takes}
-use Rattle.world_rules.specs.Maps.{at}
+use Rattle.fabric_lemmas.specs.Maps.{at}
 use Rattle.world_rules.specs.Nodes.{boots_of}
 use Rattle.world_rules.specs.Nothing.{nothing}
 use Rattle.world_rules.specs.Uppers.{Did}

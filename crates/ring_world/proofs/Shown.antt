@@ -1,9 +1,8 @@
 -- Clocks that show their readings, one after the other.
 use Rattle.std.proofs.Common.{◌≡◌, ℕ, zero, suc, ◌+◌, ◌≤◌, ◌<◌, true, List, [], ◌∷◌, Some, refl, sym, ap, subst, ◌∙◌, arith, length, get_or, add-one}
-use Rattle.std.specs.Prelude.{◌==◌, ◌&&◌, nat_le, map, slice_get, slice_set, option_map, unwrap_or}
+use Rattle.std.specs.Prelude.{◌==◌, ◌&&◌, nat_le, map, slice_get, slice_set, option_map, unwrap_or, Vec}
 use Rattle.std.proofs.lemmas.Bool.{and_parts, eqb-true}
 use Rattle.std.proofs.lemmas.Option.{slice_get-get_or, slice_get-map, slice_get_within}
-use Rattle.std.specs.Prelude.{Vec}
 use Rattle.std.specs.declared.alloc.Global.{Global}
 use Rattle.drift_clock.specs.Extremes.{Kept, Stands as DriftStands}
 use Rattle.drift_clock.specs.Within.{Pair, FitsAll, fits_all}
@@ -12,7 +11,7 @@ use Rattle.drift_clock.proofs.Decided.{fits_decided}
 use Rattle.fabric_terms.specs.declared.config.FabricConfig.{FabricConfig}
 use Rattle.ring_points.specs.declared.who.Who.{Who}
 use Rattle.world_rules.specs.Events.{shows, ticked}
-use Rattle.world_rules.specs.Maps.{at, rises_from}
+use Rattle.fabric_lemmas.specs.Maps.{at, rises_from}
 use Rattle.world_rules.specs.Nothing.{nothing}
 use Rattle.world_rules.specs.Schedules.{are_of, fits_pairs, readings_fit}
 use Rattle.world_rules.specs.Worlds.{World as RuledWorld}

@@ -1,19 +1,17 @@
 -- Starts of nodes: what they name.
-use Rattle.std.proofs.Common.{◌≡◌, ℕ, Bool, false, not, List, [], ◌∷◌, Option, Some, None, sym, ap, ◌∙◌}
+use Rattle.std.proofs.Common.{◌≡◌, ℕ, Bool, false, not, List, [], ◌∷◌, Option, Some, None, sym, ap, ◌∙◌, ◌+◌, subst}
 use Rattle.std.specs.Prelude.{◌&&◌, is_some}
 use Rattle.fabric_terms.specs.declared.event.Event.TheVariants.{Start}
 use Rattle.world_rules.specs.Events.{world_step}
-use Rattle.world_rules.specs.Maps.{at}
+use Rattle.fabric_lemmas.specs.Maps.{at}
 use Rattle.world_rules.specs.Nodes.{node_begun}
 use Rattle.world_rules.specs.Nothing.{nothing}
 use Rattle.world_rules.specs.Schedules.{is_configured_node, is_there, node_runs}
-use Rattle.world_rules.specs.Worlds.{World as RuledWorld, kept_of, node_acted}
+use Rattle.world_rules.specs.Worlds.{World as RuledWorld, kept_of, node_acted, Stepped}
 use Rattle.world_rules.proofs.Rows.{is_there-start, world_step-start}
 use Rattle.ring_world.specs.Answers.{is_frame}
 use Rattle.ring_world.specs.Finds.{IsPlaceOf}
 use Rattle.fabric_terms.specs.declared.config.FabricConfig.{FabricConfig}
-use Rattle.std.proofs.Common.{◌+◌, subst}
-use Rattle.world_rules.specs.Worlds.{Stepped}
 use Rattle.ring_world.specs.Moves.{Moves, Same, placed_in}
 use Rattle.ring_world.specs.Seen.{Seen}
 use Rattle.ring_world.specs.declared.world.Acted.{Acted}

@@ -4,7 +4,7 @@ use Rattle.std.specs.Prelude.{◌&&◌, not, is_some}
 use Rattle.std.proofs.lemmas.Bool.Decides.{nat_tests}
 use Rattle.fabric_terms.specs.declared.event.Event.TheVariants.{Stop, Junk}
 use Rattle.world_rules.specs.Events.{world_step, stops, node_stops, is_arbiter_actor}
-use Rattle.world_rules.specs.Maps.{at}
+use Rattle.fabric_lemmas.specs.Maps.{at}
 use Rattle.world_rules.specs.Nothing.{nothing}
 use Rattle.world_rules.specs.Schedules.{is_there, runs, runs_as}
 use Rattle.world_rules.specs.Worlds.{World as RuledWorld}

@@ -12,10 +12,10 @@ use Rattle.ring_rules.specs.Arbiters.{Accusations, accusations_after}
 use Rattle.world_rules.specs.Arbiters.{ArbiterState, arbiter_begun}
 use Rattle.world_rules.proofs.Rows.{arbiter_begun-is}
 use Rattle.world_rules.specs.Events.{arbiter_stops, starts_with, arbiter_number}
-use Rattle.world_rules.specs.Maps.{at, put, without}
+use Rattle.fabric_lemmas.specs.Maps.{at, put, without}
 use Rattle.world_rules.specs.Nothing.{nothing}
 use Rattle.world_rules.specs.Worlds.{World as RuledWorld, Stepped, kept_of}
-use Rattle.world_rules.proofs.Maps.{at-put, at-without}
+use Rattle.fabric_lemmas.proofs.Maps.{at-put, at-without}
 use Rattle.ring_world.specs.Answers.{entry_of}
 use Rattle.ring_world.specs.Moves.{Moves}
 use Rattle.ring_world.specs.Room.{most_events}

@@ -13,7 +13,7 @@ use Rattle.drift_clock.specs.declared.drift.DriftBroken.{DriftBroken}
 use Rattle.drift_clock.proofs.Kept.{latest_is}
 use Rattle.fabric_terms.specs.declared.config.FabricConfig.{FabricConfig}
 use Rattle.ring_points.specs.declared.who.Who.{Who}
-use Rattle.world_rules.specs.Maps.{at}
+use Rattle.fabric_lemmas.specs.Maps.{at}
 use Rattle.world_rules.specs.Nothing.{nothing}
 use Rattle.world_rules.specs.Schedules.{are_of, fits_pairs, readings_fit}
 use Rattle.world_rules.specs.Worlds.{World as RuledWorld, Running as RuledRunning}

@@ -7,7 +7,7 @@ use Rattle.fabric_terms.specs.declared.event.Event.TheVariants.{Tick}
 use Rattle.point_places.specs.Spots.{place_at}
 use Rattle.ring_points.specs.declared.who.Who.{Who}
 use Rattle.world_rules.specs.Events.{ticks, world_step}
-use Rattle.world_rules.specs.Maps.{rises_from}
+use Rattle.fabric_lemmas.specs.Maps.{rises_from}
 use Rattle.world_rules.specs.Nothing.{nothing}
 use Rattle.world_rules.specs.Schedules.{are_of, is_there, keeps_bound, readings_fit}
 use Rattle.world_rules.specs.Worlds.{World as RuledWorld, Stepped}

@@ -5,7 +5,7 @@ use Rattle.fabric_terms.specs.Sound.{IsSound}
 use Rattle.fabric_terms.specs.declared.config.FabricConfig.{FabricConfig}
 use Rattle.fabric_terms.specs.declared.event.Event.{Event}
 use Rattle.ring_wire.specs.Kinds.{message_of}
-use Rattle.sched_text.specs.Lines.{Fits}
+use Rattle.fabric_terms.specs.Ranges.{Fits}
 use Rattle.world_rules.specs.Events.{world_step}
 use Rattle.world_rules.specs.Nothing.{nothing}
 use Rattle.world_rules.specs.Runs.{History, world_after}

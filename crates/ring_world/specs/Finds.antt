@@ -1,7 +1,7 @@
 -- Where actors stand.
 use Rattle.std.specs.Prelude.{◌≡◌, ℕ, ◌+◌, ◌<◌, List, Option, Some, None, slice_get}
 use Rattle.ring_points.specs.Whos.{arbiter_actor}
-use Rattle.world_rules.specs.Maps.{at}
+use Rattle.fabric_lemmas.specs.Maps.{at}
 
 -- it stands at this place, with this value
 pub record IsAt {X : Type 0} (number place : ℕ) (es : List (ℕ × X)) : Type 0 where

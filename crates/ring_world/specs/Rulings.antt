@@ -8,7 +8,7 @@ use Rattle.fabric_terms.specs.declared.message.Message.{Message}
 use Rattle.ring_points.specs.declared.who.Who.{Who}
 use Rattle.ring_rules.specs.Arbiters.{accusations_after}
 use Rattle.world_rules.specs.Arbiters.{ArbiterState, arbiter_step}
-use Rattle.world_rules.specs.Maps.{at}
+use Rattle.fabric_lemmas.specs.Maps.{at}
 use Rattle.world_rules.specs.Nothing.{nothing}
 use Rattle.world_rules.specs.Uppers.{Did}
 use Rattle.world_rules.specs.Worlds.{World as RuledWorld, arbiter_acted}

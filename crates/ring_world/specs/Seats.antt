@@ -5,7 +5,7 @@ use Rattle.keep_log.specs.Places.{is_once}
 use Rattle.ring_points.specs.Whos.{arbiter_actor}
 use Rattle.ring_rules.specs.Arbiters.{accusations_after}
 use Rattle.world_rules.specs.Arbiters.{ArbiterState}
-use Rattle.world_rules.specs.Maps.{at}
+use Rattle.fabric_lemmas.specs.Maps.{at}
 use Rattle.world_rules.specs.Nothing.{nothing}
 use Rattle.world_rules.specs.Worlds.{World as RuledWorld, kept_of}
 use Rattle.ring_world.specs.Seen.{SeenSeat}

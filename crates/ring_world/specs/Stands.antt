@@ -1,7 +1,7 @@
 -- A world of the code stands for a world of the rules.
 use Rattle.std.specs.Prelude.{◌≡◌, ℕ, ◌+◌, ◌≤◌, ◌<◌, true, None, Some, length, slice_get, slice_index}
 use Rattle.fabric_terms.specs.Sound.{IsSound}
-use Rattle.world_rules.specs.Maps.{at, rises}
+use Rattle.fabric_lemmas.specs.Maps.{at, rises}
 use Rattle.world_rules.specs.Nodes.{boots_of}
 use Rattle.world_rules.specs.Nothing.{nothing}
 use Rattle.world_rules.specs.Worlds.{World as RuledWorld, clocks_in, kept_of}

@@ -3,7 +3,7 @@ use Rattle.std.specs.Prelude.{◌≡◌, ℕ, Some, All, IsTrue, slice_get}
 use Rattle.fabric_terms.specs.declared.config.FabricConfig.{FabricConfig}
 use Rattle.fabric_terms.specs.declared.message.Message.{Message}
 use Rattle.ring_rules.specs.declared.input.Input.{Input}
-use Rattle.ring_wire.specs.Frames.{is_sound}
+use Rattle.fabric_terms.specs.Messages.{is_sound}
 use Rattle.world_rules.specs.Events.{node_acts}
 use Rattle.world_rules.specs.Nothing.{nothing}
 use Rattle.world_rules.specs.Worlds.{World as RuledWorld, Running as RuledRunning, Stepped}

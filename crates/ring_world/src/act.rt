@@ -1,7 +1,7 @@
 ghost use Rattle.std.specs.Prelude.{◌≡◌, ◌≤◌, ◌<◌, ℕ, Some, OnOk, slice_get};
 ghost use Rattle.node_core.specs.Nodes.{FitsInput, most_reports};
 ghost use Rattle.world_rules.specs.Events.{node_acts};
-ghost use Rattle.world_rules.specs.Maps.{at};
+ghost use Rattle.fabric_lemmas.specs.Maps.{at};
 ghost use Rattle.world_rules.specs.Nothing.{nothing};
 ghost use Rattle.world_rules.specs.Worlds.{World as RuledWorld, Running as RuledRunning};
 ghost use Rattle.ring_world.specs.Moves.{Same, Steps};

@@ -1,5 +1,5 @@
 ghost use Rattle.std.specs.Prelude.{◌≡◌, ◌≤◌, length};
-ghost use Rattle.sched_text.specs.Commands.{FitsCommand};
+ghost use Rattle.fabric_terms.specs.Ranges.{FitsCommand};
 ghost use Rattle.world_rules.specs.Schedules.{command_names};
 
 use crate::find::is_configured;

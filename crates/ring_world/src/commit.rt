@@ -1,6 +1,6 @@
 ghost use Rattle.std.specs.Prelude.{◌≡◌, ◌≤◌, ◌<◌, ◌+◌, ◌^◌, ℕ, All, IsTrue, length};
 ghost use Rattle.point_places.specs.Spots.{place_at};
-ghost use Rattle.ring_wire.specs.Frames.{is_sound};
+ghost use Rattle.fabric_terms.specs.Messages.{is_sound};
 ghost use Rattle.ring_world.specs.Moves.{placed_by};
 ghost use Rattle.ring_world.specs.Commits.{posted_all, numbers_after};
 

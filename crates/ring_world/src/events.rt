@@ -1,5 +1,5 @@
 ghost use Rattle.std.specs.Prelude.{◌≡◌, ◌<◌, ℕ, None};
-ghost use Rattle.sched_text.specs.Lines.{Fits};
+ghost use Rattle.fabric_terms.specs.Ranges.{Fits};
 ghost use Rattle.world_rules.specs.Nothing.{nothing};
 ghost use Rattle.world_rules.specs.Worlds.{World as RuledWorld, quiet};
 ghost use Rattle.ring_world.specs.Answers.{IsWorld, is_frame};

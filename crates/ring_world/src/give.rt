@@ -1,10 +1,10 @@
 ghost use Rattle.std.specs.Prelude.{◌≡◌, ◌<◌, ◌==◌, ◌||◌, Some};
 ghost use Rattle.world_rules.specs.Events.{arrives, arrives_at_node};
-ghost use Rattle.world_rules.specs.Maps.{at};
+ghost use Rattle.fabric_lemmas.specs.Maps.{at};
 ghost use Rattle.world_rules.specs.Nothing.{nothing};
 ghost use Rattle.world_rules.specs.Worlds.{World as RuledWorld};
 ghost use Rattle.ring_points.specs.Whos.{arbiter_actor};
-ghost use Rattle.sched_text.specs.Lines.{Fits};
+ghost use Rattle.fabric_terms.specs.Ranges.{Fits};
 ghost use Rattle.ring_world.specs.Answers.{IsWorld};
 ghost use Rattle.ring_world.specs.Moves.{Comes, Delivers};
 ghost use Rattle.ring_world.specs.Room.{most_events, most_frames};

@@ -1,5 +1,4 @@
-ghost use Rattle.std.specs.Prelude.{◌≡◌, ◌<◌, ◌+◌, IfOk, None};
-ghost use Rattle.std.specs.Prelude.{length};
+ghost use Rattle.std.specs.Prelude.{◌≡◌, ◌<◌, ◌+◌, IfOk, None, length};
 ghost use Rattle.world_rules.specs.Nothing.{nothing};
 ghost use Rattle.world_rules.specs.Worlds.{World as RuledWorld};
 ghost use Rattle.ring_world.specs.Moves.{Comes};

@@ -1,10 +1,10 @@
 ghost use Rattle.std.specs.Prelude.{◌≡◌, ◌∷◌, ◌++◌, vec_len, vec_capacity, ◌<◌, ◌+◌, Some, OnErr, IfOk, IfSome, IsTrue, length};
 ghost use Rattle.fabric_terms.specs.declared.config.FabricConfig.{FabricConfig as Configuration};
 ghost use Rattle.ring_points.specs.Whos.{arbiter_actor};
-ghost use Rattle.ring_wire.specs.Frames.{is_sound};
+ghost use Rattle.fabric_terms.specs.Messages.{is_sound};
 ghost use Rattle.std.specs.Option.{option_to_list};
 ghost use Rattle.world_rules.specs.Arbiters.{ArbiterState, arbiter_step};
-ghost use Rattle.world_rules.specs.Maps.{at};
+ghost use Rattle.fabric_lemmas.specs.Maps.{at};
 ghost use Rattle.world_rules.specs.Nothing.{nothing};
 ghost use Rattle.world_rules.specs.Worlds.{World as RuledWorld, arbiter_acted, numbers_of, posted};
 ghost use Rattle.ring_world.specs.Moves.{Same, Steps};

@@ -1,8 +1,8 @@
 ghost use Rattle.std.specs.Prelude.{◌≡◌, ◌≤◌, ◌<◌, ◌^◌, ◌∷◌, [], Some, None, true, IfOk, OnOk, length, insert, vec_len, vec_capacity};
 ghost use Rattle.fabric_terms.specs.Sound.{IsSound};
 ghost use Rattle.node_core.specs.Nodes.{most_reports};
-ghost use Rattle.sched_text.specs.Lines.{Fits};
-ghost use Rattle.world_rules.specs.Maps.{at};
+ghost use Rattle.fabric_terms.specs.Ranges.{Fits};
+ghost use Rattle.fabric_lemmas.specs.Maps.{at};
 ghost use Rattle.world_rules.specs.Nodes.{node_begun};
 ghost use Rattle.world_rules.specs.Nothing.{nothing};
 ghost use Rattle.world_rules.specs.Schedules.{is_configured_node};

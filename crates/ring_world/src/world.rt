@@ -9,7 +9,7 @@ ghost use Rattle.ring_points.specs.Whos.{node_instance};
 ghost use Rattle.ring_world.specs.Answers.{Answers, AnswersTick, IsWorld, StandsFor, ruled};
 ghost use Rattle.ring_world.specs.Holders.{holders_in, holds_in};
 ghost use Rattle.ring_world.specs.Seen.{empty_seat, seen_seat};
-ghost use Rattle.sched_text.specs.Lines.{Fits};
+ghost use Rattle.fabric_terms.specs.Ranges.{Fits};
 ghost use Rattle.world_rules.specs.Nothing.{nothing};
 ghost use Rattle.world_rules.specs.Runs.{History, run_of};
 
@@ -148,7 +148,7 @@ impl World {
         }
     }
 
-    /// Takes a tick: what `apply` does of it, with the readings where they lie. (This project's own.)
+    /// Takes a tick: what `apply` does of it, with the readings where they lie.
     pub fn tick(
         &mut self,
         line: u64,
@@ -193,7 +193,7 @@ impl World {
         self.count_holders()
     }
 
-    /// The configuration. (This project's own.)
+    /// The configuration.
     pub fn config(&self) -> &FabricConfig
         ensures { result.now ≡ self.now.config }
     {

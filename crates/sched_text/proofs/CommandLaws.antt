@@ -8,10 +8,11 @@ use Rattle.ring_points.specs.declared.interval.Interval.{Interval}
 use Rattle.fabric_terms.specs.declared.command.Command.{Command}
 use Rattle.fabric_terms.specs.declared.command.Command.TheVariants.{Link, LinkFor, Part, GiveNear, GiveAll, Join, Find, Create, Swap, Heal, Lose, Write, Units}
 use Rattle.sched_text.specs.Fields.{◌>>=◌, Field, after_word, whole_of, last, made, followed, behind, nothing}
-use Rattle.sched_text.specs.Numbers.{IsNode, node_at}
+use Rattle.fabric_terms.specs.Ranges.{IsNode, IsPartition, IsMembers, IsLease, IsText, IsSpan, FitsCommand}
+use Rattle.sched_text.specs.Numbers.{node_at}
 use Rattle.sched_text.specs.Digits.{point_at}
 use Rattle.sched_text.specs.Texts.{point_text, interval_text}
-use Rattle.sched_text.specs.Commands.{IsPartition, IsMembers, IsLease, IsText, IsSpan, FitsCommand, command_text, CommandReadIsSpelled, SpelledCommandIsRead, partition_at, members_of, lease_of, link_of, linked_of, give_of, given_of, point_made, interval_made, is_rising, interval_of, is_printable, text_of, partition_command_of, command_of}
+use Rattle.sched_text.specs.Commands.{command_text, CommandReadIsSpelled, SpelledCommandIsRead, partition_at, members_of, lease_of, link_of, linked_of, give_of, given_of, point_made, interval_made, is_rising, interval_of, is_printable, text_of, partition_command_of, command_of}
 use Rattle.sched_text.proofs.Numbers.{EndsNumber, some_same, within, not_above}
 use Rattle.sched_text.proofs.FieldLaws.{IsField, IsRest, IsSpelled, both_true, last_is, behind_again, pair_is, such_that_is, sized_is, made_is, refit, found_behind, found_nothing, whole_found, headed_found, followed_found, followed_again, made_found, made_again}
 use Rattle.sched_text.proofs.NumberLaws.{number_is, number_up_to, node_is, last_node_is}

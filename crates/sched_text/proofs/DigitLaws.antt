@@ -5,7 +5,8 @@ use Rattle.std.proofs.lemmas.List.Elements.{All-nil, All-cons, All-head, All-tai
 use Rattle.std.proofs.lemmas.Bool.{cases_lt}
 use Rattle.std.proofs.lemmas.Bool.Decides.{nat_tests}
 use Rattle.sched_text.specs.Fields.{◌>>=◌, last}
-use Rattle.sched_text.specs.Digits.{IsPoint, IsByte, hex_value, hex_at, point_at, bytes_of}
+use Rattle.fabric_terms.specs.Ranges.{IsPoint, IsByte}
+use Rattle.sched_text.specs.Digits.{hex_value, hex_at, point_at, bytes_of}
 use Rattle.sched_text.specs.Texts.{hex_digit, hex_text, point_text, bytes_text}
 use Rattle.sched_text.proofs.Numbers.{Pair, chosen, some_same, none_found, within, not_above}
 use Rattle.sched_text.proofs.FieldLaws.{IsField, IsRest, both_true, bind_some, last_is}

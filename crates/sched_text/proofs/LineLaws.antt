@@ -6,9 +6,10 @@ use Rattle.fabric_terms.specs.declared.event.Event.{Event}
 use Rattle.fabric_terms.specs.declared.event.Event.TheVariants.{Start, Stop, Tick, Fire, Give, Do, Junk}
 use Rattle.sched_text.specs.Texts.{actor_text, bytes_text}
 use Rattle.sched_text.specs.Fields.{◌>>=◌, Field, after_word, last, made, followed, behind, nothing}
-use Rattle.sched_text.specs.Numbers.{IsNumber, IsNode, IsArbiter, IsActor, number_in, count_at, node_at, arbiter_at, actor_at}
-use Rattle.sched_text.specs.Commands.{FitsCommand, command_text}
-use Rattle.sched_text.specs.Lines.{IsJunk, AreReadings, Fits, event_text, event_of, arbiter_start, node_start, start_of, tick_of, readings_of, reading_text, junk_bytes_of, do_of, junk_of, ReadIsSpelled, SpelledIsRead}
+use Rattle.fabric_terms.specs.Ranges.{IsNumber, IsNode, IsArbiter, IsActor, FitsCommand, IsJunk, AreReadings, Fits}
+use Rattle.sched_text.specs.Numbers.{number_in, count_at, node_at, arbiter_at, actor_at}
+use Rattle.sched_text.specs.Commands.{command_text}
+use Rattle.sched_text.specs.Lines.{event_text, event_of, arbiter_start, node_start, start_of, tick_of, readings_of, reading_text, junk_bytes_of, do_of, junk_of, ReadIsSpelled, SpelledIsRead}
 use Rattle.sched_text.proofs.Lists.{joined_is}
 use Rattle.sched_text.proofs.FieldLaws.{word_found, IsRest, IsSpelled, last_is, behind_again, behind_other, apart, sized_is, refit, found_behind, found_nothing, headed_found, followed_found, followed_again, made_found, made_again}
 use Rattle.sched_text.proofs.NumberLaws.{count_is, node_is, last_node_is, arbiter_is, actor_is, actor_text_arbiter, arbiter_number}

@@ -5,7 +5,8 @@ use Rattle.std.proofs.lemmas.Bool.Decides.{nat_tests}
 use Rattle.ring_points.specs.Whos.{arbiter_actor}
 use Rattle.sched_text.specs.Texts.{actor_text}
 use Rattle.sched_text.specs.Fields.{◌>>=◌, last}
-use Rattle.sched_text.specs.Numbers.{IsNumber, IsNode, IsArbiter, IsActor, number_at, in_range, most, number_in, count_at, node_at, arbiter_at, actor_at}
+use Rattle.fabric_terms.specs.Ranges.{IsNumber, IsNode, IsArbiter, IsActor, most}
+use Rattle.sched_text.specs.Numbers.{number_at, in_range, number_in, count_at, node_at, arbiter_at, actor_at}
 use Rattle.sched_text.proofs.Numbers.{Pair, EndsNumber, number_found, number_again, chosen, some_same, none_found, within, not_above}
 use Rattle.sched_text.proofs.FieldLaws.{IsField, IsRest, both_true, bind_some, last_is, behind_found, behind_again, behind_other, apart}
 

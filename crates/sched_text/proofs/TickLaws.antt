@@ -6,7 +6,8 @@ use Rattle.std.proofs.lemmas.List.{append-nil}
 use Rattle.std.proofs.lemmas.List.Elements.{All-nil, All-cons, All-head, All-tail}
 use Rattle.sched_text.specs.Fields.{◌>>=◌, Field, after_word, pair_at}
 use Rattle.sched_text.specs.Numbers.{count_at, node_at}
-use Rattle.sched_text.specs.Lines.{IsReading, reading_text, reading_at, readings_of}
+use Rattle.fabric_terms.specs.Ranges.{IsReading}
+use Rattle.sched_text.specs.Lines.{reading_text, reading_at, readings_of}
 use Rattle.sched_text.proofs.Lists.{put_before, put_next}
 use Rattle.sched_text.proofs.Numbers.{EndsNumber, some_same, none_found}
 use Rattle.sched_text.proofs.FieldLaws.{IsField, IsRest, bind_some, word_found, word_again, pair_is}

@@ -6,8 +6,9 @@ use Rattle.ring_points.specs.declared.point.Point.{Point}
 use Rattle.fabric_terms.specs.declared.command.Command.{Command}
 use Rattle.fabric_terms.specs.declared.command.Command.TheVariants.{Link, LinkFor, Part, GiveNear, GiveAll, Join, Find, Create, Swap, Heal, Lose, Write, Units}
 use Rattle.sched_text.specs.Fields.{◌>>=◌, Field, whole_of, last, made, followed, pair_at, behind, nothing, such_that, sized}
-use Rattle.sched_text.specs.Numbers.{IsNode, number_in, node_at}
-use Rattle.sched_text.specs.Digits.{IsPoint, point_at}
+use Rattle.fabric_terms.specs.Ranges.{IsNode, IsPoint}
+use Rattle.sched_text.specs.Numbers.{number_in, node_at}
+use Rattle.sched_text.specs.Digits.{point_at}
 use Rattle.sched_text.specs.Texts.{spaced, point_text, interval_text}
 
 -- a partition
@@ -88,39 +89,7 @@ command_of =
     )
     )
 
--- How a command is spelled.
-
-abbrev pub IsPartition : ℕ → Type 0
-IsPartition p = p ≤ 65535
-
-abbrev pub IsMembers : ℕ → Type 0
-IsMembers c = (1 ≤ c) × (c ≤ 7)
-
-abbrev pub IsLease : ℕ → Type 0
-IsLease ticks = (10 ≤ ticks) × (ticks ≤ 1000000000)
-
-abbrev pub IsText : List ℕ → Type 0
-IsText text = (1 ≤ length text) × (length text ≤ 512) × All (λ b. (32 ≤ b) × (b ≤ 126)) text
-
-abbrev pub IsSpan : Interval → Type 0
-IsSpan i = IsPoint i.lo × IsPoint i.hi × (i.lo ≤ i.hi)
-
--- the numbers and texts of a command are in their ranges
-abbrev pub FitsCommand : Command → Type 0
-FitsCommand (Link node) = IsNode node
-FitsCommand (LinkFor node length) = IsNode node × IsLease length
-FitsCommand (Part node) = IsNode node
-FitsCommand (GiveNear node) = IsNode node
-FitsCommand (GiveAll node) = IsNode node
-FitsCommand (Join node) = IsNode node
-FitsCommand (Find key) = IsPoint key.0
-FitsCommand (Create partition count) = IsPartition partition × IsMembers count
-FitsCommand (Swap partition node) = IsPartition partition × IsNode node
-FitsCommand (Heal partition count) = IsPartition partition × IsMembers count
-FitsCommand (Lose partition node) = IsPartition partition × IsNode node
-FitsCommand (Write partition text) = IsPartition partition × IsText text
-FitsCommand (Units part) = IsSpan part
-
+-- how a command is spelled
 abbrev pub command_text : Command → List ℕ
 command_text (Link node) = spaced (codes "link" ∷ decimal node ∷ [])
 command_text (LinkFor node length) = spaced (codes "link" ∷ decimal node ∷ codes "for" ∷ decimal length ∷ [])

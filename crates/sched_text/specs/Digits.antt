@@ -2,12 +2,6 @@
 use Rattle.std.specs.Prelude.{ℕ, zero, suc, ◌+◌, ◌-◌, ◌*◌, ◌<◌, ◌^◌, ◌&&◌, List, [], ◌∷◌, Option, Some, None, nat_le, if◌then◌else◌}
 use Rattle.sched_text.specs.Fields.{◌>>=◌, Field}
 
-abbrev pub IsPoint : ℕ → Type 0
-IsPoint p = p < 2 ^ 64
-
-abbrev pub IsByte : ℕ → Type 0
-IsByte b = b < 256
-
 abbrev pub hex_value : ℕ → Option ℕ
 hex_value b = if nat_le 48 b && nat_le b 57 then Some (b - 48) else (if nat_le 97 b && nat_le b 102 then Some (b - 87) else None)
 

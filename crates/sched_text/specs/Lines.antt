@@ -3,10 +3,11 @@ use Rattle.std.specs.Prelude.{◌≡◌, ℕ, zero, suc, ◌≤◌, List, [], �
 use Rattle.fabric_terms.specs.declared.event.Event.{Event}
 use Rattle.fabric_terms.specs.declared.event.Event.TheVariants.{Start, Stop, Tick, Fire, Give, Do, Junk}
 use Rattle.sched_text.specs.Fields.{◌>>=◌, Field, after_word, last, made, followed, pair_at, behind, nothing, sized}
-use Rattle.sched_text.specs.Numbers.{IsNumber, IsNode, IsArbiter, IsActor, count_at, node_at, arbiter_at, actor_at}
+use Rattle.fabric_terms.specs.Ranges.{IsNumber, IsNode, IsArbiter, IsActor, IsByte, FitsCommand}
+use Rattle.sched_text.specs.Numbers.{count_at, node_at, arbiter_at, actor_at}
 use Rattle.sched_text.specs.declared.bad_line.BadLine.{BadLine}
-use Rattle.sched_text.specs.Digits.{IsByte, bytes_of}
-use Rattle.sched_text.specs.Commands.{FitsCommand, command_of, command_text}
+use Rattle.sched_text.specs.Digits.{bytes_of}
+use Rattle.sched_text.specs.Commands.{command_of, command_text}
 use Rattle.sched_text.specs.Texts.{spaced, actor_text, bytes_text}
 
 -- the lines of some bytes: each ends with a line feed, and the last may end with the bytes
@@ -78,26 +79,6 @@ ReadsTick line readings (Ok None) = (after_word (codes "tick ") line ≡ None) �
 ReadsTick line readings (Err _) = IsSome (after_word (codes "tick ") line) × (event_of line ≡ None) × (readings ≡ [])
 
 -- How an event is spelled. Words are separated by one blank.
-
-abbrev pub IsReading : ℕ × ℕ → Type 0
-IsReading r = IsNode r.0 × IsNumber r.1
-
-abbrev pub AreReadings : List (ℕ × ℕ) → Type 0
-AreReadings readings = (length readings ≤ 64) × All IsReading readings
-
-abbrev pub IsJunk : List ℕ → Type 0
-IsJunk bytes = (1 ≤ length bytes) × (length bytes ≤ 1200) × All IsByte bytes
-
--- the numbers, texts and lists of an event are in their ranges
-abbrev pub Fits : Event → Type 0
-Fits (Start actor None) = IsArbiter actor
-Fits (Start actor (Some reading)) = IsNode actor × IsNumber reading
-Fits (Stop actor) = IsActor actor
-Fits (Tick advance readings) = IsNumber advance × AreReadings readings
-Fits (Fire node) = IsNode node
-Fits (Give frame) = IsNumber frame
-Fits (Do node command) = IsNode node × FitsCommand command
-Fits (Junk actor bytes) = IsActor actor × IsJunk bytes
 
 abbrev pub reading_text : ℕ × ℕ → List ℕ
 reading_text r = decimal r.0 ++ (codes ":" ++ decimal r.1)

@@ -2,6 +2,7 @@
 use Rattle.std.specs.Prelude.{◌⊎◌, ℕ, ◌+◌, ◌-◌, ◌*◌, ◌≤◌, ◌^◌, ◌&&◌, List, [], ◌∷◌, Option, Some, None, nat_le, codes, ◌==◌, if◌then◌else◌}
 use Rattle.std.specs.Char.{is_ascii_digit}
 use Rattle.ring_points.specs.Whos.{arbiter_actor}
+use Rattle.fabric_terms.specs.Ranges.{most}
 use Rattle.sched_text.specs.Fields.{◌>>=◌, Field, behind}
 
 -- more digits of a number that is n so far, up to hi
@@ -25,22 +26,6 @@ in_range lo hi n = if nat_le lo n && nat_le n hi then Some n else None
 -- a number from lo to hi
 unfoldable pub number_in : ℕ → ℕ → List ℕ → Field ℕ
 number_in lo hi bytes = number_at hi bytes >>= λ n. in_range lo hi n.0 >>= λ m. Some (m, n.1)
-
--- no number of a line is above this
-abbrev pub most : ℕ
-most = 10 ^ 15
-
-abbrev pub IsNumber : ℕ → Type 0
-IsNumber n = n ≤ most
-
-abbrev pub IsNode : ℕ → Type 0
-IsNode n = (1 ≤ n) × (n ≤ 999)
-
-abbrev pub IsArbiter : ℕ → Type 0
-IsArbiter a = (arbiter_actor 1 ≤ a) × (a ≤ arbiter_actor 9)
-
-abbrev pub IsActor : ℕ → Type 0
-IsActor a = IsNode a ⊎ IsArbiter a
 
 -- ticks, a reading, or a frame's number
 abbrev pub count_at : List ℕ → Field ℕ

@@ -1,4 +1,4 @@
-ghost use Rattle.std.specs.Prelude.{◌≡◌, ◌+◌, [], IfOk, IfErr, OnErr, is_err, nat_le};
+ghost use Rattle.std.specs.Prelude.{◌≤◌, ◌≡◌, ◌+◌, [], IfOk, IfErr, OnErr, is_err, nat_le};
 ghost use Rattle.std.specs.Option.{option_map, option_copied};
 ghost use Rattle.token_core.specs.Tokens.{first_token, announced, frozen_part, is_ready, inherited, last_number};
 ghost use Rattle.token_core.specs.Calls.{outcome, freeze_call, undo_call, give_call, take_call, inherit_call, flight_points};
@@ -74,7 +74,7 @@ impl Token {
         self.freeze.as_ref().map(|freeze| freeze.slot)
     }
 
-    /// The version of the freeze, if one stands. (This project's own.)
+    /// The version of the freeze, if one stands.
     pub fn frozen_since(&self) -> Option<u32>
         ensures { result ≡ option_map (λ z. z.version) self.now.freeze }
     {
@@ -195,8 +195,10 @@ impl Token {
         Ok(added)
     }
 
-    /// Owns nothing any more, as a node that leaves, and says so by this version. (This project's own.)
+    /// Owns nothing any more, as a node that leaves, and says so by this version,
+    /// which is not above the present one.
     pub fn leave(&mut self, version: u32)
+        requires { version ≤ self.old.version }
         ensures { self.new ≡ record self.old { ranges = []; freeze = None; version = version } }
     {
         self.ranges = RangeSet::new();

@@ -13,7 +13,7 @@ use Rattle.ring_rules.specs.Rings.{settings_of}
 use Rattle.ring_rules.specs.Steps.{ring_step}
 use Rattle.world_rules.specs.Nodes.{NodeState, node_begun, node_step, instance_starts, instance_begun, ring_did}
 use Rattle.world_rules.specs.Arbiters.{ArbiterState, arbiter_begun, arbiter_step, arbiter_takes}
-use Rattle.world_rules.specs.Maps.{at}
+use Rattle.fabric_lemmas.specs.Maps.{at}
 use Rattle.world_rules.specs.Uppers.{Upper}
 use Rattle.world_rules.specs.Worlds.{World, frame_in, quiet}
 use Rattle.world_rules.specs.Events.{world_step, starts, stops, ticks, acts_at, arrives, is_arbiter_actor}

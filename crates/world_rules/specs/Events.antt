@@ -11,7 +11,7 @@ use Rattle.fabric_terms.specs.declared.report.Report.TheVariants.{Stopped}
 use Rattle.fabric_terms.specs.Runs.{Entry}
 use Rattle.ring_rules.specs.declared.input.Input.{Input}
 use Rattle.ring_rules.specs.declared.input.Input.TheVariants as input
-use Rattle.world_rules.specs.Maps.{at, put, without}
+use Rattle.fabric_lemmas.specs.Maps.{at, put, without}
 use Rattle.world_rules.specs.Uppers.{Upper}
 use Rattle.world_rules.specs.Nodes.{node_begun, node_step}
 use Rattle.world_rules.specs.Arbiters.{ArbiterState, arbiter_begun, arbiter_step}

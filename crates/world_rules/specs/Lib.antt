@@ -1,5 +1,5 @@
-pub mod Maps
 pub mod Uppers
+pub mod Above
 pub mod Nothing
 pub mod Nodes
 pub mod Arbiters

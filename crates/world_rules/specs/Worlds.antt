@@ -7,7 +7,7 @@ use Rattle.fabric_terms.specs.declared.message.Body.{Body}
 use Rattle.fabric_terms.specs.declared.message.Message.{Message}
 use Rattle.fabric_terms.specs.declared.record.Record.{Record}
 use Rattle.fabric_terms.specs.Runs.{Clocks, Entry}
-use Rattle.world_rules.specs.Maps.{at, put}
+use Rattle.fabric_lemmas.specs.Maps.{at, put}
 use Rattle.world_rules.specs.Uppers.{Upper, Did}
 use Rattle.world_rules.specs.Nodes.{NodeState}
 use Rattle.world_rules.specs.Arbiters.{ArbiterState}

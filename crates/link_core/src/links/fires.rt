@@ -10,10 +10,9 @@ use crate::firing::{Firing, ask_arbiters, is_over, spoken};
 use crate::links::Links16;
 use crate::notes::{LinkNote, LinkNotes};
 use arbiter_quorum::Tally;
-use fabric_terms::Why;
+use fabric_terms::{Outbox, Why};
 use heir_rounds::RoundTally;
 use ring_rules::LinkState;
-use ring_wire::Outbox;
 
 impl Links16 {
     /// The peer of the slot is accused, where the list of the accused is not full.

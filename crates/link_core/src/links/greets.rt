@@ -13,7 +13,7 @@ use arbiter_quorum::Tally;
 use heir_rounds::RoundTally;
 use ring_points::{RangeSet, Who};
 use ring_rules::{Link, LinkState};
-use ring_wire::Outbox;
+use fabric_terms::Outbox;
 
 /// How a link begins: its first state, its frame version and its length.
 #[derive(Clone, Copy)]
@@ -131,7 +131,7 @@ impl Links16 {
         Ok(())
     }
 
-    /// The place of the link that `part` would end. (This project's own.)
+    /// The place of the link that `part` would end.
     pub fn parting(&self, node: u16) -> Option<usize>
         ensures place { result ≡ slot_where (of_node may_part node) self.now.slots }
         ensures inside { IfSome result (λ i. i < 16) }

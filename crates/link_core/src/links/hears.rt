@@ -18,10 +18,9 @@ use crate::renewal::{self, Renewal};
 use crate::rounds::{self, Keeping};
 use crate::ruling::{self, Terms};
 use crate::{find, flight, handshake, say};
-use fabric_terms::Why;
+use fabric_terms::{Outbox, Why};
 use ring_points::{Ruling, Who};
 use ring_rules::LinkState;
-use ring_wire::Outbox;
 
 /// A session as a frame names it: its sender, the sender's number, and the own number.
 #[derive(Clone, Copy)]

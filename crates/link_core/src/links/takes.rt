@@ -10,9 +10,8 @@ use crate::links::greets::Beginning;
 use crate::links::hears::Session;
 use crate::notes::LinkNotes;
 use crate::renewal::Renewal;
-use fabric_terms::{Body, Message};
+use fabric_terms::{Body, Message, Outbox};
 use ring_rules::LinkState;
-use ring_wire::Outbox;
 
 impl Links16 {
     /// What a frame of a link does, or an arbitrator's ruling; a frame of another kind does nothing. The frame is one

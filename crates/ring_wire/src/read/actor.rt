@@ -1,7 +1,7 @@
 // Actors and their instances at the front of some bytes, and what follows them.
 
 ghost use Rattle.std.specs.Prelude.{◌≡◌};
-ghost use Rattle.ring_wire.specs.Fields.{is_node, is_arbiter};
+ghost use Rattle.fabric_terms.specs.Fields.{is_node, is_arbiter};
 ghost use Rattle.ring_wire.specs.Readers.{Gives, actor_at, who_at, sender_at, addressee_at, ruling_at, is_numbered};
 
 use crate::not_frame::NotFrame;

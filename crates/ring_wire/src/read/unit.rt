@@ -2,7 +2,7 @@
 
 ghost use Rattle.std.specs.Prelude.{◌≡◌, ◌≤◌, ◌==◌};
 ghost use Rattle.std.specs.List.{list_any};
-ghost use Rattle.ring_wire.specs.Fields.{rises_above, has_members};
+ghost use Rattle.fabric_terms.specs.Fields.{rises_above, has_members};
 ghost use Rattle.ring_wire.specs.Readers.{Gives, number_at, times, list_at, epoch_at, unit_at, config_at, done_at, payload_at};
 
 use crate::not_frame::NotFrame;

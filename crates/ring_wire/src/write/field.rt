@@ -3,7 +3,7 @@
 ghost use Rattle.std.specs.Prelude.{◌≡◌, ◌≤◌, ◌+◌, ◌*◌, length, IsTrue};
 ghost use Rattle.std.specs.List.{flat_map};
 ghost use Rattle.ring_points.specs.Ranges.{is_proper};
-ghost use Rattle.ring_wire.specs.Fields.{is_done};
+ghost use Rattle.fabric_terms.specs.Fields.{is_done};
 ghost use Rattle.ring_wire.specs.Texts.{number_bytes, who_bytes, ruling_bytes, epoch_bytes, unit_bytes, interval_bytes, ranges_bytes, list_bytes, config_bytes, done_bytes, payload_bytes};
 ghost use Rattle.ring_wire.specs.Writers.{Puts};
 

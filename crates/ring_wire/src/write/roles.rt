@@ -1,7 +1,8 @@
 // Roles, and the entries of a primary: the fields of the bodies, written from a place on.
 
 ghost use Rattle.std.specs.Prelude.{◌≡◌, ◌≤◌, ◌+◌, IsTrue};
-ghost use Rattle.ring_wire.specs.Frames.{is_sound_body, kind_of, body_bytes};
+ghost use Rattle.fabric_terms.specs.Messages.{is_sound_body};
+ghost use Rattle.ring_wire.specs.Frames.{kind_of, body_bytes};
 ghost use Rattle.ring_wire.specs.Writers.{Puts};
 
 use crate::write::FRAME_LIMIT;

@@ -1,6 +1,7 @@
 use Rattle.std.proofs.Common.{◌≡◌, ℕ, List, Some, sym, subst}
 use Rattle.fabric_terms.specs.declared.event.Event.TheVariants.{Tick}
-use Rattle.sched_text.specs.Lines.{Fits, event_of}
+use Rattle.fabric_terms.specs.Ranges.{Fits}
+use Rattle.sched_text.specs.Lines.{event_of}
 use Rattle.sched_text.proofs.LineLaws.{read_is_spelled}
 use Rattle.fabric_top.proofs.replay.take_line.Goals as goal
 

@@ -2,7 +2,7 @@ use Rattle.std.proofs.Common.{◌∙◌, ◌++◌, List, ap}
 use Rattle.fabric_terms.specs.declared.message.Message.{Message}
 use Rattle.fabric_terms.specs.declared.report.Report.{Report}
 use Rattle.ring_node.specs.Steps.{acted}
-use Rattle.ring_wire.specs.Sent.{from_all}
+use Rattle.fabric_terms.specs.Sent.{from_all}
 use Rattle.node_core.proofs.Steps.{does_step, name_stays}
 use Rattle.node_core.proofs.node.NodeCore.step_at.Goals as goal
 

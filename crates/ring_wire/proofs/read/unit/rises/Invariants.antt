@@ -1,5 +1,5 @@
 use Rattle.std.proofs.Common.{◌≡◌, drop}
-use Rattle.ring_wire.specs.Fields.{rises_above}
+use Rattle.fabric_terms.specs.Fields.{rises_above}
 use Rattle.ring_wire.proofs.read.unit.rises.Given as goal
 
 abbrev pub invariant-loop-node : goal.invariant-loop-node

@@ -1,6 +1,6 @@
 use Rattle.std.proofs.Common.{sym, ◌∙◌}
 use Rattle.world_rules.specs.Nothing.{nothing}
-use Rattle.ring_safety.proofs.Clocks.{clocks_are}
+use Rattle.run_facts.proofs.Clocks.{clocks_are}
 use Rattle.ring_world.proofs.world.World.clocks.Goals as goal
 
 pub returns : goal.returns

@@ -4,7 +4,7 @@ use Rattle.std.specs.Option.{option_to_list}
 use Rattle.fabric_terms.specs.declared.message.Body.{Body}
 use Rattle.ring_points.specs.Whos.{node_instance}
 use Rattle.ring_points.specs.declared.who.Who.{Who}
-use Rattle.ring_wire.specs.Frames.{is_sound}
+use Rattle.fabric_terms.specs.Messages.{is_sound}
 use Rattle.world_rules.specs.Worlds.{arbiter_who, posted}
 use Rattle.ring_world.specs.Seen.{seen_of}
 use Rattle.ring_world.specs.Steps.{IsSoundFrame}

@@ -1,12 +1,11 @@
-use Rattle.std.proofs.Common.{◌≡◌, ◌+◌, true, false, refl, sym, ap, ◌∙◌, Some, None, List}
+use Rattle.std.proofs.Common.{◌≡◌, ◌+◌, true, false, refl, sym, ap, ◌∙◌, Some, None, List, []}
 use Rattle.std.specs.Prelude.{is_some}
 use Rattle.fabric_terms.specs.declared.event.Event.TheVariants.{Start}
 use Rattle.fabric_terms.specs.declared.report.Report.{Report}
 use Rattle.ring_points.specs.Whos.{node_instance}
 use Rattle.world_rules.specs.Events.{arbiter_number}
 use Rattle.ring_rules.specs.Arbiters.{accusations_after}
-use Rattle.std.proofs.Common.{[]}
-use Rattle.world_rules.specs.Maps.{at}
+use Rattle.fabric_lemmas.specs.Maps.{at}
 use Rattle.ring_world.specs.Seen.{SeenSeat, seen_of, seen_seat}
 use Rattle.ring_world.proofs.Edits.{map-set}
 use Rattle.ring_world.proofs.Limits.{room_is, room_test, same_world, bound-start, few_events}

@@ -1,8 +1,7 @@
-use Rattle.std.proofs.Common.{◌≡◌, ℕ, arith, ap, refl, ◌∙◌, length, get_or}
+use Rattle.std.proofs.Common.{◌≡◌, ℕ, arith, ap, refl, ◌∙◌, length, get_or, Some}
 use Rattle.ring_points.specs.declared.who.Who.{Who}
 use Rattle.std.specs.Box.{with_value}
 use Rattle.std.specs.Vec.{with_item}
-use Rattle.std.proofs.Common.{Some}
 use Rattle.std.proofs.lemmas.Result.{err_from_is_err_and}
 use Rattle.ring_world.specs.Commits.{numbers_after}
 use Rattle.ring_world.specs.Seen.{Seen}

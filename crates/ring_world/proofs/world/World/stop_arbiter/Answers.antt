@@ -4,7 +4,7 @@ use Rattle.fabric_terms.specs.declared.event.Event.TheVariants.{Stop}
 use Rattle.fabric_terms.specs.declared.report.Report.{Report}
 use Rattle.ring_points.specs.Whos.{node_instance}
 use Rattle.world_rules.specs.Events.{world_step, arbiter_stops}
-use Rattle.world_rules.specs.Maps.{at}
+use Rattle.fabric_lemmas.specs.Maps.{at}
 use Rattle.world_rules.specs.Nothing.{nothing}
 use Rattle.world_rules.specs.Schedules.{runs}
 use Rattle.ring_world.specs.Seen.{SeenSeat, seen_of, seen_seat}

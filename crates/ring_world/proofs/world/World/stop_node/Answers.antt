@@ -1,6 +1,5 @@
-use Rattle.std.proofs.Common.{◌≡◌, true, false, refl, sym, ap, ◌∙◌, Some, arith}
+use Rattle.std.proofs.Common.{◌≡◌, true, false, refl, sym, ap, ◌∙◌, Some, arith, ℕ, ◌+◌, List}
 use Rattle.std.specs.Prelude.{is_some, remove}
-use Rattle.std.proofs.Common.{ℕ, ◌+◌, List}
 use Rattle.fabric_terms.specs.declared.report.Report.{Report}
 use Rattle.ring_points.specs.declared.who.Who.{Who}
 use Rattle.ring_world.specs.Seen.{seen_of}

@@ -1,0 +1,80 @@
+ghost use Rattle.std.specs.Prelude.{◌≡◌, ◌+◌, ◌≤◌, ◌<◌, ◌∷◌, ◌++◌, [], length, take, vec_capacity, vec_len};
+ghost use Rattle.fabric_terms.specs.Sent.{from_all};
+
+use arrayvec::ArrayVec;
+use crate::message::{Body, Message};
+use ring_points::Who;
+use std::marker::Model;
+
+/// How many messages an outbox holds.
+pub const OUTBOX_LIMIT: usize = 192;
+
+/// What one step sends, in its order, each with its addressee: at most 192 messages. Contracts see them as their list.
+#[derive(Drop)]
+pub struct Outbox {
+    messages: ArrayVec<(Who, Body), 192>,
+}
+
+impl Model for Outbox {
+    ghost use Rattle.std.specs.Prelude.{◌≤◌, List, length};
+    ghost use Rattle.ring_points.specs.declared.who.Who.{Who};
+    ghost use Rattle.fabric_terms.specs.declared.message.Body.{Body};
+
+    ghost Value = { List (Who × Body) };
+
+    ghost view = { λ o. o.messages.items };
+
+    ghost invariant = { λ o. length o.messages.items ≤ 192 };
+}
+
+impl Outbox {
+    /// Nothing is sent yet.
+    pub fn new() -> Self
+        ensures { result ≡ [] }
+    {
+        Outbox {
+            messages: ArrayVec::new(),
+        }
+    }
+
+    /// Nothing is sent any more.
+    pub fn clear(&mut self)
+        ensures { self.new ≡ [] }
+    {
+        self.messages.clear();
+    }
+
+    /// Only the first so many messages are sent; the later ones never were.
+    pub fn truncate(&mut self, count: usize)
+        ensures { self.new ≡ take count self.old }
+    {
+        self.messages.truncate(count);
+    }
+
+    /// What is sent, in its order.
+    pub fn messages(&self) -> &[(Who, Body)]
+        ensures { result.now ≡ self.now }
+    {
+        self.messages.as_slice()
+    }
+
+    /// Moves what is sent behind a list that has room for it, in its order, as messages from this instance. Nothing is
+    /// sent any more.
+    pub fn hand_over(&mut self, from: Who, frames: &mut Vec<Message>)
+        requires { vec_len frames.old + length self.old ≤ vec_capacity frames.old }
+        ensures frames { frames.new.items ≡ frames.old.items ++ from_all from self.old }
+        ensures emptied { self.new ≡ [] }
+    {
+        for (to, body) in self.messages.drain(..) {
+            frames.push_reserved(Message { from, to, body });
+        }
+    }
+
+    /// Sends one more message.
+    pub fn send(&mut self, to: Who, body: Body)
+        requires { length self.old < 192 }
+        ensures { self.new ≡ self.old ++ (to, body) ∷ [] }
+    {
+        self.messages.push((to, body));
+    }
+}

@@ -1,5 +1,0 @@
-use Rattle.ring_safety.proofs.Clocks.{clocks_are_of_running_lem}
-use Rattle.ring_safety.proofs.laws.clocks_are_of_running.Goals as goal
-
-pub returns : goal.returns
-returns g c = clocks_are_of_running_lem g.A.Above.upper g.A.Above.stays

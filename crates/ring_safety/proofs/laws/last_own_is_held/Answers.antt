@@ -1,5 +1,0 @@
-use Rattle.ring_safety.proofs.Orderly.{last_own_is_held_lem}
-use Rattle.ring_safety.proofs.laws.last_own_is_held.Goals as goal
-
-pub returns : goal.returns
-returns g c = last_own_is_held_lem g.A.Above.upper g.A.Above.stays

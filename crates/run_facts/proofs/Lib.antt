@@ -1,0 +1,12 @@
+pub mod Said
+pub mod SessionRows
+pub mod NodeRows
+pub mod Rows
+pub mod Happens
+pub mod Kept
+pub mod Steps
+pub mod ArbiterSteps
+pub mod Orderly
+pub mod Growth
+pub mod Tables
+pub mod Clocks
