@@ -1,5 +1,5 @@
 -- Which messages are in the grammar of frames: each number, list and text in its range.
-use Rattle.std.specs.Prelude.{ℕ, Bool, ◌&&◌}
+use Rattle.std.specs.Prelude.{Bool, ◌&&◌}
 use Rattle.ring_points.specs.Ranges.{is_proper}
 use Rattle.fabric_terms.specs.declared.message.Message.{Message}
 use Rattle.fabric_terms.specs.declared.message.Body.{Body}

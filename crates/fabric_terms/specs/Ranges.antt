@@ -1,5 +1,5 @@
 -- The ranges of what schedules are made of: numbers, points, texts, commands and events.
-use Rattle.std.specs.Prelude.{◌⊎◌, ◌≢◌, ℕ, ◌≤◌, ◌<◌, ◌^◌, List, length, Option, Some, None, All}
+use Rattle.std.specs.Prelude.{◌⊎◌, ◌≢◌, ℕ, ◌≤◌, ◌<◌, ◌^◌, List, length, Some, None, All}
 use Rattle.ring_points.specs.declared.interval.Interval.{Interval}
 use Rattle.ring_points.specs.Whos.{arbiter_actor}
 use Rattle.fabric_terms.specs.declared.command.Command.{Command}

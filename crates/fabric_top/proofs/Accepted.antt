@@ -11,7 +11,7 @@ use Rattle.ring_world.specs.Answers.{is_frame, ruled}
 use Rattle.fabric_terms.specs.Ranges.{Fits}
 use Rattle.sched_text.specs.Lines.{event_of, lines_of}
 use Rattle.sched_text.proofs.LineLaws.{read_is_spelled}
-use Rattle.world_rules.specs.Nothing.{nothing}
+use Rattle.fabric_above.specs.Fabric.{fabric}
 use Rattle.world_rules.specs.Runs.{History}
 use Rattle.world_rules.specs.Schedules.{MayCome, is_there, keeps_bound}
 use Rattle.world_rules.specs.Worlds.{World}
@@ -32,29 +32,29 @@ there_accepted n e d true within room q = let w = within_accepted n e d within r
 there_accepted n e d false within room q = cc
 
 -- the event is in the ranges of schedules, and may come next
-record Comes (c : FabricConfig) (w : World nothing) (e : Event) : Type 0 where
+record Comes (c : FabricConfig) (w : World fabric) (e : Event) : Type 0 where
   fits : Fits e
   may_come : MayCome is_frame c w e
 
-run_accepted : (c : FabricConfig) (w : World nothing) (events n : ℕ) (e d : Event) (run : Bool) → Fits e → unless_run c w events n e run ≡ Accepted d → Comes c w d
+run_accepted : (c : FabricConfig) (w : World fabric) (events n : ℕ) (e d : Event) (run : Bool) → Fits e → unless_run c w events n e run ≡ Accepted d → Comes c w d
 run_accepted c w events n e d true fits q =
     let t = there_accepted n e d (is_there is_frame c w e) (keeps_bound c w e) _ q in
     subst (λ k. Comes c w k) t.0 (record { fits = fits; may_come = record { there = t.1; bound = t.2 } })
 run_accepted c w events n e d false fits q = cc
 
-event_accepted : (c : FabricConfig) (w : World nothing) (events n : ℕ) (line : List ℕ) (read : Option Event) (d : Event) → event_of line ≡ read → event_verdict c w events n read ≡ Accepted d → Comes c w d
+event_accepted : (c : FabricConfig) (w : World fabric) (events n : ℕ) (line : List ℕ) (read : Option Event) (d : Event) → event_of line ≡ read → event_verdict c w events n read ≡ Accepted d → Comes c w d
 event_accepted c w events n line None d is q = cc
 event_accepted c w events n line (Some e) d is q = run_accepted c w events n e d (is_run e) (read_is_spelled line e is).0 q
 
-ignored_accepted : (c : FabricConfig) (w : World nothing) (events n : ℕ) (line : List ℕ) (d : Event) (ignored : Bool) → unless_ignored c w events n line ignored ≡ Accepted d → Comes c w d
+ignored_accepted : (c : FabricConfig) (w : World fabric) (events n : ℕ) (line : List ℕ) (d : Event) (ignored : Bool) → unless_ignored c w events n line ignored ≡ Accepted d → Comes c w d
 ignored_accepted c w events n line d true q = cc
 ignored_accepted c w events n line d false q = event_accepted c w events n line (event_of line) d refl q
 
-large_accepted : (c : FabricConfig) (w : World nothing) (events n : ℕ) (line : List ℕ) (d : Event) (large : Bool) → unless_large c w events n line large ≡ Accepted d → Comes c w d
+large_accepted : (c : FabricConfig) (w : World fabric) (events n : ℕ) (line : List ℕ) (d : Event) (large : Bool) → unless_large c w events n line large ≡ Accepted d → Comes c w d
 large_accepted c w events n line d true q = cc
 large_accepted c w events n line d false q = ignored_accepted c w events n line d (is_ignored line) q
 
-line_accepted : (c : FabricConfig) (w : World nothing) (events n : ℕ) (line : List ℕ) (d : Event) → line_verdict c w events n line ≡ Accepted d → Comes c w d
+line_accepted : (c : FabricConfig) (w : World fabric) (events n : ℕ) (line : List ℕ) (d : Event) → line_verdict c w events n line ≡ Accepted d → Comes c w d
 unfolding line_verdict
 line_accepted c w events n line d q = large_accepted c w events n line d (nat_lt most_line (length line) || nat_lt most_lines n) q
 

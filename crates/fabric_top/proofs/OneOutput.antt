@@ -7,7 +7,7 @@ use Rattle.point_places.proofs.OneText.{one_text}
 use Rattle.ring_points.specs.Whos.{node_instance}
 use Rattle.ring_world.specs.Answers.{ruled}
 use Rattle.ring_world.specs.Holders.{holds_in}
-use Rattle.world_rules.specs.Nothing.{nothing}
+use Rattle.fabric_above.specs.Fabric.{fabric}
 use Rattle.world_rules.specs.Runs.{History, run_of}
 use Rattle.fabric_top.specs.Laws.{OneOutput}
 use Rattle.fabric_top.specs.Output.{IsReport, IsWhole, IsOutputAt, end_line, lines_of_run}
@@ -16,8 +16,8 @@ use Rattle.fabric_top.specs.declared.status.Refusal.{Refusal}
 
 one_report : (c : FabricConfig) (h : History) (text other : List ℕ) → IsReport c h text → IsReport c h other → text ≡ other
 one_report c h text other a b =
-    let places : a.places ≡ b.places = one_text (place_of (node_instance c.first 1) (told (run_of nothing c h))) (holds_in (run_of nothing c h)) a.places b.places a.placed b.placed in
-    a.written ∙ (ap (λ p. lines_of_run (run_of nothing c h) ++ (p ++ end_line (length h) (ruled c h).count)) places ∙ sym b.written)
+    let places : a.places ≡ b.places = one_text (place_of (node_instance c.first 1) (told (run_of fabric c h))) (holds_in (run_of fabric c h)) a.places b.places a.placed b.placed in
+    a.written ∙ (ap (λ p. lines_of_run (run_of fabric c h) ++ (p ++ end_line (length h) (ruled c h).count)) places ∙ sym b.written)
 
 one_whole : (o : Option FabricConfig) (h : History) (text other : List ℕ) → IsWhole o h text → IsWhole o h other → text ≡ other
 one_whole None h text other a b = absurd a

@@ -4,7 +4,7 @@ use Rattle.fabric_terms.specs.declared.config.FabricConfig.{FabricConfig}
 use Rattle.fabric_terms.specs.Runs.{Holds, RingSafe}
 use Rattle.fabric_terms.specs.TakeOvers.{TakenAfterLeave}
 use Rattle.ring_points.specs.declared.who.Who.{Who}
-use Rattle.world_rules.specs.Nothing.{nothing_stays, nothing}
+use Rattle.fabric_above.specs.Fabric.{fabric_stays, fabric}
 use Rattle.ring_safety.proofs.Safe.{ring_is_safe_lem, leaves_before_take_over_lem, places_are_kept_lem}
 use Rattle.ring_world.specs.Answers.{is_frame}
 use Rattle.world_rules.specs.Runs.{History}
@@ -27,9 +27,9 @@ safe_from None h valid = (
 )
 safe_from (Some c) h valid =
     let v = valid c refl in (
-      ring_is_safe_lem nothing nothing_stays is_frame c h v.sound v.valid,
-      leaves_before_take_over_lem nothing nothing_stays is_frame c h v.sound v.valid,
-      places_are_kept_lem nothing nothing_stays is_frame c h v.sound v.valid,
+      ring_is_safe_lem fabric fabric_stays is_frame c h v.sound v.valid,
+      leaves_before_take_over_lem fabric fabric_stays is_frame c h v.sound v.valid,
+      places_are_kept_lem fabric fabric_stays is_frame c h v.sound v.valid,
     )
 
 -- Whatever the bytes are, the run of the events that are accepted is safe.

@@ -3,7 +3,7 @@ use Rattle.std.specs.Prelude.{◌≡◌, ℕ, List, ◌∷◌, Option, Some, Non
 use Rattle.fabric_terms.specs.declared.config.FabricConfig.{FabricConfig}
 use Rattle.ring_world.specs.Answers.{StandsFor}
 use Rattle.ring_world.specs.declared.world.World.{World}
-use Rattle.world_rules.specs.Nothing.{nothing}
+use Rattle.fabric_above.specs.Fabric.{fabric}
 use Rattle.world_rules.specs.Runs.{History, run_of}
 use Rattle.fabric_top.specs.declared.status.Refusal.{Refusal}
 use Rattle.fabric_top.specs.Schedule.{Verdict, Ignored, Accepted, Refused}
@@ -12,7 +12,7 @@ use Rattle.fabric_top.specs.Output.{lines_of_run}
 -- the world stands for the history, and the text is the lines of its run
 pub record At (a : World) (text : List ℕ) (c : FabricConfig) (h : History) : Type 0 where
   pub stands : StandsFor a c h
-  pub written : text ≡ lines_of_run (run_of nothing c h)
+  pub written : text ≡ lines_of_run (run_of fabric c h)
 
 -- there is such a history
 abbrev pub IsAlong : World → List ℕ → Type 0
@@ -22,4 +22,4 @@ IsAlong a text = (c : FabricConfig) × (h : History) × At a text c h
 abbrev pub Follows : FabricConfig → History → ℕ → Verdict → Option Refusal → World → List ℕ → Type 0
 Follows c h n Ignored refused a text = (refused ≡ None) × At a text c h
 Follows c h n (Accepted e) refused a text = (refused ≡ None) × At a text c ((n, e) ∷ h)
-Follows c h n (Refused refusal) refused a text = (refused ≡ Some refusal) × (text ≡ lines_of_run (run_of nothing c h))
+Follows c h n (Refused refusal) refused a text = (refused ≡ Some refusal) × (text ≡ lines_of_run (run_of fabric c h))

@@ -4,7 +4,7 @@ use Rattle.fabric_terms.specs.Sound.{IsSound}
 use Rattle.fabric_terms.specs.declared.config.FabricConfig.{FabricConfig}
 use Rattle.ring_world.specs.Answers.{is_frame}
 use Rattle.fabric_terms.specs.Ranges.{Fits}
-use Rattle.world_rules.specs.Nothing.{nothing}
+use Rattle.fabric_above.specs.Fabric.{fabric}
 use Rattle.world_rules.specs.Runs.{History}
 use Rattle.world_rules.specs.Schedules.{Valid}
 use Rattle.fabric_top.specs.Output.{IsOutput}
@@ -18,7 +18,7 @@ OneOutput = (j : Judged) (text other : List ℕ) → IsOutput j text → IsOutpu
 pub record IsValidHistory (c : FabricConfig) (h : History) : Type 0 where
   pub sound : IsSound c
   pub fits : All (λ e. Fits e.1) h
-  pub valid : Valid nothing is_frame c h
+  pub valid : Valid fabric is_frame c h
 
 -- whatever the bytes are, what is accepted of them is valid
 abbrev pub AcceptedIsValid : Type 0

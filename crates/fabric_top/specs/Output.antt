@@ -13,7 +13,7 @@ use Rattle.ring_world.specs.Answers.{ruled}
 use Rattle.ring_world.specs.Holders.{holds_in}
 use Rattle.sched_text.specs.Reports.{report_line, sent_line}
 use Rattle.sched_text.specs.Texts.{spaced}
-use Rattle.world_rules.specs.Nothing.{nothing}
+use Rattle.fabric_above.specs.Fabric.{fabric}
 use Rattle.world_rules.specs.Runs.{History, run_of}
 use Rattle.fabric_top.specs.Codes.{status_of}
 use Rattle.fabric_top.specs.declared.status.Refusal.{Refusal}
@@ -58,8 +58,8 @@ IsPlaces c run text = IsText (place_of (node_instance c.first 1) (told run)) (ho
 -- the report of a whole schedule: the lines of its run, then the places, then the end
 pub record IsReport (c : FabricConfig) (h : History) (text : List ℕ) : Type 0 where
   pub places : List ℕ
-  pub placed : IsPlaces c (run_of nothing c h) places
-  pub written : text ≡ lines_of_run (run_of nothing c h) ++ (places ++ end_line (length h) (ruled c h).count)
+  pub placed : IsPlaces c (run_of fabric c h) places
+  pub written : text ≡ lines_of_run (run_of fabric c h) ++ (places ++ end_line (length h) (ruled c h).count)
 
 abbrev pub fault : List (List ℕ) → List ℕ
 fault words = spaced (codes "fault" ∷ words) ++ codes "\n"
@@ -86,7 +86,7 @@ fault_line status.TableFull = fault (codes "table" ∷ [])
 -- the run of the events that are accepted
 abbrev pub run_judged : Option FabricConfig → History → Run
 run_judged None h = []
-run_judged (Some c) h = run_of nothing c h
+run_judged (Some c) h = run_of fabric c h
 
 abbrev pub accepted_run : Judged → Run
 accepted_run j = run_judged j.config j.history

@@ -12,7 +12,7 @@ use Rattle.ring_world.specs.Answers.{is_frame, ruled}
 use Rattle.ring_world.specs.Room.{has_room}
 use Rattle.ring_world.specs.declared.world.EventRefusal.{EventRefusal}
 use Rattle.sched_text.specs.Lines.{lines_of, event_of}
-use Rattle.world_rules.specs.Nothing.{nothing}
+use Rattle.fabric_above.specs.Fabric.{fabric}
 use Rattle.world_rules.specs.Runs.{History}
 use Rattle.world_rules.specs.Schedules.{is_there, keeps_bound}
 use Rattle.world_rules.specs.Worlds.{World}
@@ -75,27 +75,27 @@ unless_there n e true within room = unless_within n e within room
 unless_there n e false within room = Refused (NoSuch n)
 
 -- an event that is run, at line n
-abbrev pub run_verdict : FabricConfig → World nothing → ℕ → ℕ → Event → Verdict
+abbrev pub run_verdict : FabricConfig → World fabric → ℕ → ℕ → Event → Verdict
 run_verdict c w events n e = unless_there n e (is_there is_frame c w e) (keeps_bound c w e) (has_room w events e)
 
-abbrev pub unless_run : FabricConfig → World nothing → ℕ → ℕ → Event → Bool → Verdict
+abbrev pub unless_run : FabricConfig → World fabric → ℕ → ℕ → Event → Bool → Verdict
 unless_run c w events n e true = run_verdict c w events n e
 unless_run c w events n e false = Refused (BadLine n)
 
-abbrev pub event_verdict : FabricConfig → World nothing → ℕ → ℕ → Option Event → Verdict
+abbrev pub event_verdict : FabricConfig → World fabric → ℕ → ℕ → Option Event → Verdict
 event_verdict c w events n None = Refused (BadLine n)
 event_verdict c w events n (Some e) = unless_run c w events n e (is_run e)
 
-abbrev pub unless_ignored : FabricConfig → World nothing → ℕ → ℕ → List ℕ → Bool → Verdict
+abbrev pub unless_ignored : FabricConfig → World fabric → ℕ → ℕ → List ℕ → Bool → Verdict
 unless_ignored c w events n line true = Ignored
 unless_ignored c w events n line false = event_verdict c w events n (event_of line)
 
-abbrev pub unless_large : FabricConfig → World nothing → ℕ → ℕ → List ℕ → Bool → Verdict
+abbrev pub unless_large : FabricConfig → World fabric → ℕ → ℕ → List ℕ → Bool → Verdict
 unless_large c w events n line true = Refused (TooLarge n)
 unless_large c w events n line false = unless_ignored c w events n line (is_ignored line)
 
 -- line n, after so many events that made this world
-unfoldable pub line_verdict : FabricConfig → World nothing → ℕ → ℕ → List ℕ → Verdict
+unfoldable pub line_verdict : FabricConfig → World fabric → ℕ → ℕ → List ℕ → Verdict
 line_verdict c w events n line = unless_large c w events n line (nat_lt most_line (length line) || nat_lt most_lines n)
 
 -- what is accepted of a schedule, and how it is refused, if it is

@@ -20,7 +20,7 @@ use Rattle.run_facts.proofs.Steps.{ring_stepped}
 use Rattle.fabric_terms.specs.Sent.{from_all}
 use Rattle.token_core.specs.Tokens.{last_number}
 use Rattle.world_rules.specs.Nodes.{NodeState, above_if, boots_of, both_did, comes_above, instance_begun, is_spent, node_begun, node_step}
-use Rattle.world_rules.specs.Nothing.{nothing}
+use Rattle.fabric_above.specs.Fabric.{fabric}
 use Rattle.world_rules.specs.Uppers.{Did, idle}
 use Rattle.node_core.specs.declared.outcome.Outcome.{Outcome}
 use Rattle.node_core.specs.Nodes.{Does, GoesBy, state_of}
@@ -31,28 +31,28 @@ name_stays now i old new sent told e = ap (λ (s : Step). s.work.ring.me) e ∙ 
 
 -- nothing is done above
 
-idles : (c : FabricConfig) (now : ℕ) (r : Ring) (u : Unit {0}) (i : Input) (b : Bool) → above_if nothing c now r u i b ≡ idle u
+idles : (c : FabricConfig) (now : ℕ) (r : Ring) (u : Unit {0}) (i : Input) (b : Bool) → above_if fabric c now r u i b ≡ idle u
 idles c now r u i true = refl
 idles c now r u i false = refl
 
 -- what a whole node does in a step
-abbrev does_by : ℕ → Input → Ring → Settings → Did (NodeState nothing)
+abbrev does_by : ℕ → Input → Ring → Settings → Did (NodeState fabric)
 does_by now i r s =
     let k = ring_step s now i r in
     record { state = record { ring = k.ring; above = tt }; records = []; sent = k.sent; told = k.told ++ own_after s r k.ring }
 
-both_idle : (c : FabricConfig) (r : Ring) (k : Work) → both_did nothing c r k (idle tt) ≡ record { state = record { ring = k.ring; above = tt }; records = []; sent = k.sent; told = k.told ++ own_after (settings_of c r.me.actor) r k.ring }
+both_idle : (c : FabricConfig) (r : Ring) (k : Work) → both_did fabric c r k (idle tt) ≡ record { state = record { ring = k.ring; above = tt }; records = []; sent = k.sent; told = k.told ++ own_after (settings_of c r.me.actor) r k.ring }
 both_idle c r k = rw (append-nil k.sent, append-nil k.told) refl
 
-step_is : (c : FabricConfig) (now : ℕ) (i : Input) (n : Node) → GoesBy c n → node_step nothing c now i (state_of n) ≡ does_by now i n.ring n.settings
+step_is : (c : FabricConfig) (now : ℕ) (i : Input) (n : Node) → GoesBy c n → node_step fabric c now i (state_of n) ≡ does_by now i n.ring n.settings
 unfolding node_step
 step_is c now i n g =
     let k = ring_step (settings_of c n.ring.me.actor) now i n.ring in
-    ap (both_did nothing c n.ring k) (idles c now k.ring tt i (not (is_left k.ring.phase) && comes_above (settings_of c n.ring.me.actor) n.ring i))
+    ap (both_did fabric c n.ring k) (idles c now k.ring tt i (not (is_left k.ring.phase) && comes_above (settings_of c n.ring.me.actor) n.ring i))
     ∙ both_idle c n.ring k
     ∙ ap (does_by now i n.ring) (sym g)
 
-pub does_step : (c : FabricConfig) (now : ℕ) (i : Input) (n new : Node) (sent : List (Who × Body)) (told : List Report) (me : Who) (o : Outcome) → GoesBy c n → step new sent told ≡ acted now i n → me ≡ new.ring.me → o.records ≡ [] → o.frames ≡ from_all me sent → o.reports ≡ told → Does (node_step nothing c now i (state_of n)) new o
+pub does_step : (c : FabricConfig) (now : ℕ) (i : Input) (n new : Node) (sent : List (Who × Body)) (told : List Report) (me : Who) (o : Outcome) → GoesBy c n → step new sent told ≡ acted now i n → me ≡ new.ring.me → o.records ≡ [] → o.frames ≡ from_all me sent → o.reports ≡ told → Does (node_step fabric c now i (state_of n)) new o
 does_step c now i n new sent told me o g e m r f t = rw (step_is c now i n g) (record {
   state = ap (λ (s : Step). record { ring = s.work.ring; above = tt }) e;
   records = r;
@@ -80,7 +80,7 @@ starts_by c me spent new told e =
     ∙ ap (λ (w : Who). settings_of c w.actor) (sym (ap (λ (s : Step). s.work.ring.me) e ∙ named c me spent))
 
 -- by what is kept
-pub does_start : (c : FabricConfig) (node : ℕ) (records : List Record) (boots instance : ℕ) (spent : Bool) (new : Node) (told : List Report) (o : Outcome) → boots_of records ≡ boots → spent ≡ nat_le last_number boots → instance ≡ (if nat_le last_number boots then boots else boots + 1) → step new [] told ≡ started c (node_instance node instance) spent → o.records ≡ (if spent then [] else Boot instance ∷ []) → o.frames ≡ [] → o.reports ≡ told → Does (node_begun nothing c node records) new o
+pub does_start : (c : FabricConfig) (node : ℕ) (records : List Record) (boots instance : ℕ) (spent : Bool) (new : Node) (told : List Report) (o : Outcome) → boots_of records ≡ boots → spent ≡ nat_le last_number boots → instance ≡ (if nat_le last_number boots then boots else boots + 1) → step new [] told ≡ started c (node_instance node instance) spent → o.records ≡ (if spent then [] else Boot instance ∷ []) → o.frames ≡ [] → o.reports ≡ told → Does (node_begun fabric c node records) new o
 unfolding node_begun
 does_start c node records boots instance spent new told o b s n e r f t =
     let p : spent ≡ nat_le last_number (boots_of records) = s ∙ ap (nat_le last_number) (sym b) in

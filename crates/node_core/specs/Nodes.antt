@@ -9,12 +9,12 @@ use Rattle.fabric_terms.specs.Messages.{is_sound}
 use Rattle.fabric_terms.specs.Sent.{from_all}
 use Rattle.fabric_terms.specs.Ranges.{FitsCommand}
 use Rattle.world_rules.specs.Nodes.{NodeState}
-use Rattle.world_rules.specs.Nothing.{nothing}
+use Rattle.fabric_above.specs.Fabric.{fabric}
 use Rattle.world_rules.specs.Uppers.{Did}
 use Rattle.node_core.specs.declared.outcome.Outcome.{Outcome}
 
 -- the state of a node above whose ring nothing runs
-abbrev pub state_of : Node → NodeState nothing
+abbrev pub state_of : Node → NodeState fabric
 state_of n = record { ring = n.ring; above = tt }
 
 -- the node goes by the configuration
@@ -22,7 +22,7 @@ abbrev pub GoesBy : FabricConfig → Node → Type 0
 GoesBy c n = n.settings ≡ settings_of c n.ring.me.actor
 
 -- The node is now as the rules say, and the outcome has what they record, send and tell.
-pub record Does (d : Did (NodeState nothing)) (new : Node) (o : Outcome) : Type 0 where
+pub record Does (d : Did (NodeState fabric)) (new : Node) (o : Outcome) : Type 0 where
   pub state : state_of new ≡ d.state
   pub records : o.records ≡ d.records
   pub frames : o.frames ≡ from_all d.state.ring.me d.sent

@@ -4,7 +4,7 @@ ghost use Rattle.fabric_terms.specs.declared.config.FabricConfig.{FabricConfig a
 ghost use Rattle.fabric_terms.specs.declared.record.Record.{Record};
 ghost use Rattle.ring_rules.specs.Slots.{fence_of};
 ghost use Rattle.world_rules.specs.Nodes.{boots_of, node_begun, node_step};
-ghost use Rattle.world_rules.specs.Nothing.{nothing};
+ghost use Rattle.fabric_above.specs.Fabric.{fabric};
 ghost use Rattle.world_rules.specs.Schedules.{is_configured_node};
 ghost use Rattle.node_core.specs.Desks.{IsClear, IsReady};
 ghost use Rattle.node_core.specs.Nodes.{Does, FitsInput, GoesBy, IsSmall, most_frames, state_of};
@@ -55,7 +55,7 @@ impl NodeCore {
         requires sound { IsSound config.now }
         requires node { is_configured_node config.now node ≡ true }
         requires now { now ≤ 10 ^ 15 }
-        ensures begins { IfOk result (λ r. (records : List Record) → boots_of records ≡ kept.boots → Does (node_begun nothing config.now node records) r.0 r.1) }
+        ensures begins { IfOk result (λ r. (records : List Record) → boots_of records ≡ kept.boots → Does (node_begun fabric config.now node records) r.0 r.1) }
         ensures goes_by { IfOk result (λ r. GoesBy config.now r.0) }
         ensures small { IfOk result (λ r. IsSmall r.1) }
     {
@@ -100,7 +100,7 @@ impl NodeCore {
         requires now { now ≤ 10 ^ 15 }
         requires input { FitsInput input.now }
         requires ready { IsReady desk.old }
-        ensures does { (c : Configuration) → GoesBy c self.old → Does (node_step nothing c now input.now (state_of self.old)) self.new result }
+        ensures does { (c : Configuration) → GoesBy c self.old → Does (node_step fabric c now input.now (state_of self.old)) self.new result }
         ensures small { IsSmall result }
         ensures settings { self.new.settings ≡ self.old.settings }
         ensures me { self.new.ring.me ≡ self.old.ring.me }
@@ -121,7 +121,7 @@ impl NodeCore {
     pub fn step(&mut self, now: u64, input: &Input) -> Result<Outcome, OutOfMemory>
         requires now { now ≤ 10 ^ 15 }
         requires input { FitsInput input.now }
-        ensures does { IfOk result (λ o. (c : Configuration) → GoesBy c self.old → Does (node_step nothing c now input.now (state_of self.old)) self.new o) }
+        ensures does { IfOk result (λ o. (c : Configuration) → GoesBy c self.old → Does (node_step fabric c now input.now (state_of self.old)) self.new o) }
         ensures small { IfOk result IsSmall }
         ensures settings { self.new.settings ≡ self.old.settings }
         ensures me { self.new.ring.me ≡ self.old.ring.me }

@@ -26,7 +26,7 @@ use Rattle.ring_rules.specs.declared.input.Input.{Input}
 use Rattle.world_rules.specs.Events.{node_acts}
 use Rattle.fabric_lemmas.specs.Maps.{at, put}
 use Rattle.world_rules.specs.Nodes.{NodeState, node_step, above_if, comes_above, boots_of}
-use Rattle.world_rules.specs.Nothing.{nothing}
+use Rattle.fabric_above.specs.Fabric.{fabric}
 use Rattle.world_rules.specs.Uppers.{Did}
 use Rattle.world_rules.specs.Worlds.{World as RuledWorld, Running as RuledRunning, kept_of, posted, numbers_of}
 use Rattle.fabric_lemmas.proofs.Maps.{rises-put}
@@ -46,13 +46,13 @@ use Rattle.ring_world.proofs.Maps.{put_place}
 use Rattle.ring_world.proofs.Nodes.{Ruled, clock_of, run_at, run_set}
 
 -- nothing above a node records anything
-pub records_none : (c : FabricConfig) (now : ℕ) (i : Input) (s : NodeState nothing) → (node_step nothing c now i s).records ≡ []
+pub records_none : (c : FabricConfig) (now : ℕ) (i : Input) (s : NodeState fabric) → (node_step fabric c now i s).records ≡ []
 unfolding node_step
 records_none c now i s =
     let r : Ring = (ring_step (settings_of c s.ring.me.actor) now i s.ring).ring in
     by_test r (not (is_left r.phase) && comes_above (settings_of c s.ring.me.actor) s.ring i)
   where
-    by_test : (r : Ring) (b : Bool) → (above_if nothing c now r s.above i b).records ≡ []
+    by_test : (r : Ring) (b : Bool) → (above_if fabric c now r s.above i b).records ≡ []
     by_test r true = refl
     by_test r false = refl
 
@@ -63,7 +63,7 @@ clocks_set (q ∷ es) zero e f g same = let is : q ≡ e = cc in ap (λ k. k ∷
 clocks_set (q ∷ es) (suc i) e f g same = ap (λ ks. clock_of q ∷ ks) (clocks_set es i e f g same)
 
 -- frames and their count after an outcome
-pub frames_more : (a : Seen) (w v : RuledWorld nothing) (who : Who) (d : Did (NodeState nothing)) (o : Outcome) → FramesStand a w → o.frames ≡ from_all who d.sent → length o.frames ≤ 201
+pub frames_more : (a : Seen) (w v : RuledWorld fabric) (who : Who) (d : Did (NodeState fabric)) (o : Outcome) → FramesStand a w → o.frames ≡ from_all who d.sent → length o.frames ≤ 201
     → a.sent < most_frames → v.frames ≡ posted_all o.frames w.frames → v.count ≡ w.count + length d.sent
     → (b : Seen) → b.frames ≡ posted_all o.frames a.frames → b.sent ≡ a.sent + length o.frames → FramesStand b v
 frames_more a w v who d o s is few room frames count b bag sent =
@@ -77,7 +77,7 @@ frames_more a w v who d o s is few room frames count b bag sent =
     }
 
 -- the node of the code at the place of one of the rules, and its clock
-pub record Placed (a : World) (place node : ℕ) (s : RuledRunning nothing) : Type 0 where
+pub record Placed (a : World) (place node : ℕ) (s : RuledRunning fabric) : Type 0 where
   pub code : Running
   pub here : slice_get a.running.items place ≡ Some code
   pub runs : RunsAs a.config a.time code (node, s)
@@ -85,7 +85,7 @@ pub record Placed (a : World) (place node : ℕ) (s : RuledRunning nothing) : Ty
   pub clock : slice_get a.clocks.items place ≡ Some (s.node.ring.me, s.reading)
   pub clock_within : place < length a.clocks.items
 
-pub placed : (a : World) (w : RuledWorld nothing) (place node : ℕ) (s : RuledRunning nothing) → Stands a w → slice_get w.nodes place ≡ Some (node, s) → Placed a place node s
+pub placed : (a : World) (w : RuledWorld fabric) (place node : ℕ) (s : RuledRunning fabric) → Stands a w → slice_get w.nodes place ≡ Some (node, s) → Placed a place node s
 placed a w place node s st here =
     let at = run_at a.config a.time a.running.items w.nodes place (node, s) st.nodes.running here in
     let clock : slice_get a.clocks.items place ≡ Some (s.node.ring.me, s.reading) =
@@ -153,7 +153,7 @@ put_back a m place r old n same here inside back =
 -- What the step of a node leaves of the code, against what the rules say of it.
 
 pub record NodeDid (old : Node) (i : Input) (now : ℕ) (n : Node) (o : Outcome) : Type 0 where
-  pub does : (c : FabricConfig) → GoesBy c old → Does (node_step nothing c now i (state_of old)) n o
+  pub does : (c : FabricConfig) → GoesBy c old → Does (node_step fabric c now i (state_of old)) n o
   pub settings : n.settings ≡ old.settings
   pub me : n.ring.me ≡ old.ring.me
   pub small : IsSmall o
@@ -164,11 +164,11 @@ pub record IsRead (a : World) (place : ℕ) (r : Running) (clock : Who × ℕ) (
   pub is_clock : clock ≡ get_or a.clocks.items place clock
   pub inside : old ≡ r.node.value
 
-module _ (a : World) (w : RuledWorld nothing) (place node : ℕ) (s : RuledRunning nothing) (i : Input) (r : Running) (clock : Who × ℕ) (old n : Node) (o : Outcome)
+module _ (a : World) (w : RuledWorld fabric) (place node : ℕ) (s : RuledRunning fabric) (i : Input) (r : Running) (clock : Who × ℕ) (old n : Node) (o : Outcome)
     (st : Stands a w) (here : slice_get w.nodes place ≡ Some (node, s)) (read : IsRead a place r clock old) (did : NodeDid old i clock.1 n o) where
   -- what the rules say
-  abbrev pub done : Did (NodeState nothing)
-  done = node_step nothing a.config s.reading i s.node
+  abbrev pub done : Did (NodeState fabric)
+  done = node_step fabric a.config s.reading i s.node
 
   there : Placed a place node s
   there = placed a w place node s st here
@@ -190,8 +190,8 @@ module _ (a : World) (w : RuledWorld nothing) (place node : ℕ) (s : RuledRunni
 
   pub node_does : Does done n o
   node_does =
-      subst (λ (t : ℕ). Does (node_step nothing a.config t i s.node) n o) (ap (λ k. k.1) is_clock)
-      (subst (λ (q : NodeState nothing). Does (node_step nothing a.config clock.1 i q) n o) is_state (did.does a.config goes_by))
+      subst (λ (t : ℕ). Does (node_step fabric a.config t i s.node) n o) (ap (λ k. k.1) is_clock)
+      (subst (λ (q : NodeState fabric). Does (node_step fabric a.config clock.1 i q) n o) is_state (did.does a.config goes_by))
 
   -- it is the same instance
   pub same_me : done.state.ring.me ≡ s.node.ring.me
@@ -201,19 +201,19 @@ module _ (a : World) (w : RuledWorld nothing) (place node : ℕ) (s : RuledRunni
       sym now ∙ (did.me ∙ was)
 
   -- it leaves sound messages
-  pub sends_sound : LeavesSound (node_acts nothing a.config w node i s) → All IsSoundFrame o.frames
+  pub sends_sound : LeavesSound (node_acts fabric a.config w node i s) → All IsSoundFrame o.frames
   sends_sound h = subst (λ (ms : List Message). All IsSoundFrame ms) (sym node_does.frames) (sound_sent IsSoundFrame done.state.ring.me done.sent w.frames h)
 
   -- the world of the rules after it
-  abbrev after : RuledWorld nothing
-  after = (node_acts nothing a.config w node i s).world
+  abbrev after : RuledWorld fabric
+  after = (node_acts fabric a.config w node i s).world
 
   kept_on : (q : ℕ) → kept_of after q ≡ kept_of w q
   kept_on q =
       let none : done.records ≡ [] = records_none a.config s.reading i s.node in
       ap (λ rs. unwrap_or (at q (put done.state.ring.me.actor (kept_of w done.state.ring.me.actor ++ rs) w.kept)) []) none ∙ kept_same w done.state.ring.me.actor q
 
-  is_next : RuledRunning nothing
+  is_next : RuledRunning fabric
   is_next = record { node = done.state; reading = s.reading; pairs = s.pairs }
 
   abbrev nodes_after : List Ruled
@@ -281,7 +281,7 @@ module _ (a : World) (w : RuledWorld nothing) (place node : ℕ) (s : RuledRunni
   abbrev pub acted_as : ℕ → Acted
   acted_as line = record { line = line; time = a.time; who = clock.0; reading = Some clock.1; sent = numbers_after a.sent (length o.frames); reports = o.reports }
 
-  entry_next : (line : ℕ) → entry_of (Some (acted_as line)) ≡ (node_acts nothing a.config w node i s).entry
+  entry_next : (line : ℕ) → entry_of (Some (acted_as line)) ≡ (node_acts fabric a.config w node i s).entry
   entry_next line =
       let who : clock.0 ≡ done.state.ring.me = ap (λ (k : Who × ℕ). k.0) is_clock ∙ sym same_me in
       let reading : clock.1 ≡ s.reading = ap (λ (k : Who × ℕ). k.1) is_clock in
@@ -298,7 +298,7 @@ module _ (a : World) (w : RuledWorld nothing) (place node : ℕ) (s : RuledRunni
 
   pub moves_next : (new : World) (q : Running) (line : ℕ) (acted : Acted) → q.node.value ≡ n → q.drift ≡ r.drift → a.events < most_events → a.sent < most_frames → seen_of new ≡ seen_next q
       → ((p : ℕ) → p < 2 ^ 64 → place_at new.places p ≡ placed_by clock.0 o.reports p (place_at a.places p)) → acted ≡ acted_as line
-      → Moves a new (node_acts nothing a.config w node i s) line (Some acted)
+      → Moves a new (node_acts fabric a.config w node i s) line (Some acted)
   moves_next new q line acted value drift few room seen places is =
       let who : clock.0 ≡ done.state.ring.me = ap (λ (k : Who × ℕ). k.0) is_clock ∙ sym same_me in
       record {

@@ -12,7 +12,7 @@ use Rattle.ring_points.specs.Whos.{node_instance}
 use Rattle.ring_points.specs.declared.who.Who.{Who}
 use Rattle.fabric_terms.specs.Ranges.{Fits}
 use Rattle.world_rules.specs.Events.{world_step}
-use Rattle.world_rules.specs.Nothing.{nothing}
+use Rattle.fabric_above.specs.Fabric.{fabric}
 use Rattle.world_rules.specs.Runs.{History, run_of}
 use Rattle.world_rules.specs.Worlds.{World as RuledWorld}
 use Rattle.ring_world.specs.Answers.{Accepts, Answers, AnswersTick, IsWorld, Refuses, StandsFor, Stays, Takes, ruled}
@@ -42,7 +42,7 @@ module _ (old new : World) (h : History) (s : StandsFor old old.config h) (e : E
   accepted : MayCome old (ruled c h) e → Accepts c h e
   accepted m = record { there = m.there; bound = m.bound; room = ap (λ n. has_room (ruled c h) n e) (sym s.keeps.events) ∙ m.room }
 
-  taken : (line : ℕ) (acted : Option Acted) → Fits e → MayCome old (ruled c h) e → Moves old new (world_step nothing c (ruled c h) e) line acted → Takes new c h line e acted
+  taken : (line : ℕ) (acted : Option Acted) → Fits e → MayCome old (ruled c h) e → Moves old new (world_step fabric c (ruled c h) e) line acted → Takes new c h line e acted
   taken line acted fits may moves = record {
     accepted = accepted may;
     stands = record {
@@ -55,8 +55,8 @@ module _ (old new : World) (h : History) (s : StandsFor old old.config h) (e : E
         events = moves.events ∙ (ap (λ n. n + 1) s.keeps.events ∙ add-one (length h));
         places = λ p lt.
             moves.places p lt
-            ∙ (ap (λ x. placed_in (world_step nothing c (ruled c h) e).entry p x) (s.keeps.places p lt)
-            ∙ sym (places_in (node_instance c.first 1) (world_step nothing c (ruled c h) e).entry (told (run_of nothing c h)) p));
+            ∙ (ap (λ x. placed_in (world_step fabric c (ruled c h) e).entry p x) (s.keeps.places p lt)
+            ∙ sym (places_in (node_instance c.first 1) (world_step fabric c (ruled c h) e).entry (told (run_of fabric c h)) p));
       };
     };
     entry = moves.entry;
@@ -114,5 +114,5 @@ answered_tick_as old new c h line e given r is s fits comes =
     answered_tick old new c h line given r s fits (subst (λ (x : Event). ComesTick old new (ruled c h) line x r) (sym is) comes)
 
 -- a world stands for a world of the rules
-pub ruled_by_some : (a : World) → IsWorld a → (w : RuledWorld nothing) × Stands a w
+pub ruled_by_some : (a : World) → IsWorld a → (w : RuledWorld fabric) × Stands a w
 ruled_by_some a (c, h, s) = (ruled c h, s.keeps.state)

@@ -23,7 +23,7 @@ use Rattle.ring_points.specs.declared.who.Who.{Who}
 use Rattle.run_facts.proofs.Steps.{started_as}
 use Rattle.fabric_lemmas.specs.Maps.{at, put}
 use Rattle.world_rules.specs.Nodes.{NodeState, boot_kept, boots_of, instance_begun, is_boot, is_spent, node_begun}
-use Rattle.world_rules.specs.Nothing.{nothing}
+use Rattle.fabric_above.specs.Fabric.{fabric}
 use Rattle.world_rules.specs.Uppers.{Did}
 use Rattle.world_rules.specs.Worlds.{World as RuledWorld, Running as RuledRunning, kept_of, node_acted, numbers_of}
 use Rattle.fabric_lemmas.proofs.Maps.{rises-put}
@@ -62,15 +62,15 @@ boots_more rs = by_test (is_spent rs) (boots_of rs + 1)
     by_test false n = boots_append rs (Boot n)
 
 module _ (c : FabricConfig) (node : ℕ) (rs : List Record) where
-  pub begun_sends : (node_begun nothing c node rs).sent ≡ []
-  begun_sends = ap (λ (d : Did (NodeState nothing)). d.sent) (node_begun-is nothing c node rs)
+  pub begun_sends : (node_begun fabric c node rs).sent ≡ []
+  begun_sends = ap (λ (d : Did (NodeState fabric)). d.sent) (node_begun-is fabric c node rs)
 
-  pub begun_keeps : (node_begun nothing c node rs).records ≡ boot_kept rs
-  begun_keeps = ap (λ (d : Did (NodeState nothing)). d.records) (node_begun-is nothing c node rs)
+  pub begun_keeps : (node_begun fabric c node rs).records ≡ boot_kept rs
+  begun_keeps = ap (λ (d : Did (NodeState fabric)). d.records) (node_begun-is fabric c node rs)
 
-  pub begun_me : (node_begun nothing c node rs).state.ring.me ≡ node_instance node (instance_begun rs)
+  pub begun_me : (node_begun fabric c node rs).state.ring.me ≡ node_instance node (instance_begun rs)
   begun_me =
-      ap (λ (d : Did (NodeState nothing)). d.state.ring.me) (node_begun-is nothing c node rs)
+      ap (λ (d : Did (NodeState fabric)). d.state.ring.me) (node_begun-is fabric c node rs)
       ∙ (started_as c (node_instance node (instance_begun rs)) (is_spent rs)).0
 
 map-insert : (es : List Ruled) (i : ℕ) (e : Ruled) → map clock_of (insert es i e) ≡ insert (map clock_of es) i (clock_of e)
@@ -106,11 +106,11 @@ pub record IsFirst (a : World) (reading : ℕ) (k : Kept) : Type 0 where
   pub latest : k.latest ≡ (a.time, reading)
   pub first : DriftStands k ((a.time, reading) ∷ [])
 
-module _ (a : World) (w : RuledWorld nothing) (node reading : ℕ) (n : Node) (o : Outcome) (k : Kept) (q : Running)
+module _ (a : World) (w : RuledWorld fabric) (node reading : ℕ) (n : Node) (o : Outcome) (k : Kept) (q : Running)
     (st : Stands a w) (le : node ≤ last_node) (fits : reading ≤ most_time) (begins : Begins a node n o) (drift : IsFirst a reading k)
     (inside : q.node.value ≡ n) (kept : q.drift ≡ k) (absent : at node w.nodes ≡ None) where
-  abbrev pub begun : Did (NodeState nothing)
-  begun = node_begun nothing a.config node (kept_of w node)
+  abbrev pub begun : Did (NodeState fabric)
+  begun = node_begun fabric a.config node (kept_of w node)
 
   does : Does begun n o
   does = begins.begins (kept_of w node) (sym (st.nodes.boots node le))
@@ -122,13 +122,13 @@ module _ (a : World) (w : RuledWorld nothing) (node reading : ℕ) (n : Node) (o
   actor_is = ap (λ (x : Who). x.actor) me_is
 
   new_me : n.ring.me ≡ begun.state.ring.me
-  new_me = ap (λ (x : NodeState nothing). x.ring.me) does.state
+  new_me = ap (λ (x : NodeState fabric). x.ring.me) does.state
 
-  is_new : RuledRunning nothing
+  is_new : RuledRunning fabric
   is_new = record { node = begun.state; reading = reading; pairs = (w.time, reading) ∷ [] }
 
-  abbrev after : RuledWorld nothing
-  after = (node_acted nothing w node reading ((w.time, reading) ∷ []) begun).world
+  abbrev after : RuledWorld fabric
+  after = (node_acted fabric w node reading ((w.time, reading) ∷ []) begun).world
 
   kept_after : (m : ℕ) → kept_of after m ≡ unwrap_or (at m (put node (kept_of w node ++ begun.records) w.kept)) []
   kept_after m = ap (λ (x : ℕ). unwrap_or (at m (put x (kept_of w x ++ begun.records) w.kept)) []) actor_is
@@ -220,7 +220,7 @@ module _ (a : World) (w : RuledWorld nothing) (node reading : ℕ) (n : Node) (o
   abbrev pub begun_as : ℕ → Acted
   begun_as line = record { line = line; time = a.time; who = n.ring.me; reading = Some reading; sent = numbers_after a.sent (length o.frames); reports = o.reports }
 
-  entry_begun : (line : ℕ) → entry_of (Some (begun_as line)) ≡ (node_acted nothing w node reading ((w.time, reading) ∷ []) begun).entry
+  entry_begun : (line : ℕ) → entry_of (Some (begun_as line)) ≡ (node_acted fabric w node reading ((w.time, reading) ∷ []) begun).entry
   entry_begun line =
       let count : length o.frames ≡ length begun.sent = ap length does.frames ∙ from-length begun.state.ring.me begun.sent in
       let sent : numbers_after a.sent (length o.frames) ≡ numbers_of w.count begun.sent =
@@ -233,7 +233,7 @@ module _ (a : World) (w : RuledWorld nothing) (node reading : ℕ) (n : Node) (o
 
   pub begin_moves : (new : World) (line : ℕ) (acted : Acted) → a.events < most_events → a.sent < most_frames → seen_of new ≡ seen_begun
       → ((p : ℕ) → p < 2 ^ 64 → place_at new.places p ≡ placed_by n.ring.me o.reports p (place_at a.places p)) → acted ≡ begun_as line
-      → Moves a new (node_acted nothing w node reading ((w.time, reading) ∷ []) begun) line (Some acted)
+      → Moves a new (node_acted fabric w node reading ((w.time, reading) ∷ []) begun) line (Some acted)
   begin_moves new line acted few room seen places is = record {
     config = ap (λ (x : Seen). x.config) seen;
     events = ap (λ (x : Seen). x.events) seen;
@@ -267,14 +267,14 @@ seen_entered a new clocks running boots place node k q v o cs rs bs rest frames 
     with_parts x y z fs = record (seen_of a) { events = a.events + 1; sent = a.sent + length o.frames; frames = fs; clocks = x; running = y; boots = z }
 
 -- a start sends nothing
-pub frames_none : (a : World) (w : RuledWorld nothing) (node : ℕ) (n : Node) (o : Outcome) → Stands a w → node ≤ last_node → Begins a node n o → o.frames ≡ []
+pub frames_none : (a : World) (w : RuledWorld fabric) (node : ℕ) (n : Node) (o : Outcome) → Stands a w → node ≤ last_node → Begins a node n o → o.frames ≡ []
 frames_none a w node n o st le begins =
-    let d : Did (NodeState nothing) = node_begun nothing a.config node (kept_of w node) in
+    let d : Did (NodeState fabric) = node_begun fabric a.config node (kept_of w node) in
     let does : Does d n o = begins.begins (kept_of w node) (sym (st.nodes.boots node le)) in
     does.frames ∙ ap (λ ms. from_all d.state.ring.me ms) (begun_sends a.config node (kept_of w node))
 
 -- and its place is one of the running nodes'
-pub place_fits_in : (a : World) (w : RuledWorld nothing) (node : ℕ) → Stands a w → place_for node a.clocks.items ≤ length a.running.items
+pub place_fits_in : (a : World) (w : RuledWorld fabric) (node : ℕ) → Stands a w → place_for node a.clocks.items ≤ length a.running.items
 place_fits_in a w node st =
     let numbered = run_numbered a.config a.time a.running.items w.nodes st.nodes.running in
     let same : place_for node a.clocks.items ≡ place_in node w.nodes = ap (λ ks. place_for node ks) st.nodes.clocks ∙ place_is node w.nodes numbered in

@@ -7,7 +7,7 @@ use Rattle.fabric_terms.specs.declared.report.Report.TheVariants.{Stopped}
 use Rattle.point_places.specs.Spots.{place_at}
 use Rattle.ring_points.specs.declared.who.Who.{Who}
 use Rattle.world_rules.specs.Events.{node_stops}
-use Rattle.world_rules.specs.Nothing.{nothing}
+use Rattle.fabric_above.specs.Fabric.{fabric}
 use Rattle.world_rules.specs.Worlds.{World as RuledWorld, Running as RuledRunning, Stepped}
 use Rattle.fabric_lemmas.proofs.Maps.{rises-without}
 use Rattle.ring_world.specs.Answers.{entry_of}
@@ -29,13 +29,13 @@ map-remove [] (suc i) = refl
 map-remove (e ∷ es) zero = refl
 map-remove (e ∷ es) (suc i) = ap (λ ks. clock_of e ∷ ks) (map-remove es i)
 
-module _ (a : World) (w : RuledWorld nothing) (place node : ℕ) (s : RuledRunning nothing) (clock : Who × ℕ)
+module _ (a : World) (w : RuledWorld fabric) (place node : ℕ) (s : RuledRunning fabric) (clock : Who × ℕ)
     (st : Stands a w) (here : slice_get w.nodes place ≡ Some (node, s)) (read : clock ≡ get_or a.clocks.items place clock) (few : a.events < most_events) where
   abbrev pub seen_after : Seen
   seen_after = record (seen_of a) { events = a.events + 1; clocks = remove a.clocks.items place; running = remove a.running.items place }
 
-  abbrev after : RuledWorld nothing
-  after = (node_stops nothing w node (Some s)).world
+  abbrev after : RuledWorld fabric
+  after = (node_stops fabric w node (Some s)).world
 
   nodes_are : after.nodes ≡ remove w.nodes place
   nodes_are = without_place 0 w.nodes place node s st.nodes.rise here
@@ -64,10 +64,10 @@ module _ (a : World) (w : RuledWorld nothing) (place node : ℕ) (s : RuledRunni
   is_clock : clock ≡ (s.node.ring.me, s.reading)
   is_clock = let at = placed a w place node s st here in read_at a.clocks.items place (s.node.ring.me, s.reading) clock at.clock read
 
-  pub stop_moves : (new : World) (x : Stepped nothing) (line : ℕ) (acted : Acted) → x ≡ node_stops nothing w node (Some s) → seen_of new ≡ seen_after → new.places ≡ a.places
+  pub stop_moves : (new : World) (x : Stepped fabric) (line : ℕ) (acted : Acted) → x ≡ node_stops fabric w node (Some s) → seen_of new ≡ seen_after → new.places ≡ a.places
       → acted ≡ record { line = line; time = a.time; who = clock.0; reading = Some clock.1; sent = (0, 0); reports = Stopped ∷ [] }
       → Moves a new x line (Some acted)
-  stop_moves new x line acted step seen places is = subst (λ (y : Stepped nothing). Moves a new y line (Some acted)) (sym step) (record {
+  stop_moves new x line acted step seen places is = subst (λ (y : Stepped fabric). Moves a new y line (Some acted)) (sym step) (record {
     config = ap (λ (x : Seen). x.config) seen;
     events = ap (λ (x : Seen). x.events) seen;
     state = subst (λ (x : Seen). SeenStands x after) (sym seen) stands_after;

@@ -5,7 +5,7 @@ use Rattle.fabric_terms.specs.declared.command.Command.{Command}
 use Rattle.fabric_terms.specs.declared.event.Event.TheVariants.{Fire, Do}
 use Rattle.ring_rules.specs.declared.input.Input.TheVariants as input
 use Rattle.fabric_lemmas.specs.Maps.{at}
-use Rattle.world_rules.specs.Nothing.{nothing}
+use Rattle.fabric_above.specs.Fabric.{fabric}
 use Rattle.world_rules.specs.Schedules.{is_there, command_names}
 use Rattle.world_rules.specs.Worlds.{World as RuledWorld}
 use Rattle.world_rules.proofs.Rows.{world_step-fire, world_step-do, is_there-fire, is_there-do}
@@ -15,9 +15,9 @@ use Rattle.ring_world.specs.declared.world.World.{World}
 use Rattle.ring_world.proofs.Limits.{bound-fire, bound-do}
 use Rattle.ring_world.proofs.Nexts.{Acting}
 
-module _ (a : World) (w : RuledWorld nothing) (node : ℕ) where
+module _ (a : World) (w : RuledWorld fabric) (node : ℕ) where
   pub fire_acts : Acting a w node input.Fire (Fire node)
-  fire_acts = record { step = world_step-fire nothing a.config w node; bound = bound-fire a w node; acts = refl; still = refl }
+  fire_acts = record { step = world_step-fire fabric a.config w node; bound = bound-fire a w node; acts = refl; still = refl }
 
   pub fire_there : (place : ℕ) → IsAt node place w.nodes → is_there is_frame a.config w (Fire node) ≡ true
   fire_there place k = is_there-fire is_frame a.config w node ∙ ap (λ o. is_some o) k.found
@@ -26,7 +26,7 @@ module _ (a : World) (w : RuledWorld nothing) (node : ℕ) where
   fire_absent h = is_there-fire is_frame a.config w node ∙ ap (λ o. is_some o) h
 
   pub do_acts : (d : Command) → Acting a w node (input.Do d) (Do node d)
-  do_acts d = record { step = world_step-do nothing a.config w node d; bound = bound-do a w node d; acts = refl; still = refl }
+  do_acts d = record { step = world_step-do fabric a.config w node d; bound = bound-do a w node d; acts = refl; still = refl }
 
   pub do_there : (place : ℕ) (d : Command) → IsAt node place w.nodes → command_names a.config node d ≡ true → is_there is_frame a.config w (Do node d) ≡ true
   do_there place d k named =

@@ -6,7 +6,7 @@ use Rattle.fabric_terms.specs.declared.message.Message.{Message}
 use Rattle.frame_bag.specs.Bags.{frame_of}
 use Rattle.fabric_terms.specs.Ranges.{Fits}
 use Rattle.world_rules.specs.Events.{arrives, world_step}
-use Rattle.world_rules.specs.Nothing.{nothing}
+use Rattle.fabric_above.specs.Fabric.{fabric}
 use Rattle.world_rules.specs.Schedules.{is_there}
 use Rattle.world_rules.specs.Worlds.{World as RuledWorld, Stepped, frame_in}
 use Rattle.world_rules.proofs.Rows.{is_there-give, world_step-give}
@@ -19,7 +19,7 @@ use Rattle.ring_world.proofs.Limits.{bound-give}
 use Rattle.ring_world.proofs.Nexts.{own, sound_next}
 use Rattle.ring_world.proofs.Reached.{all_at, frame_none, frame_some}
 
-module _ (a : World) (w : RuledWorld nothing) (number : ℕ) (st : Stands a w) where
+module _ (a : World) (w : RuledWorld fabric) (number : ℕ) (st : Stands a w) where
   there_is : (b : Bool) → (nat_le 1 number && nat_le number (length a.frames.frames)) ≡ b → is_there is_frame a.config w (Give number) ≡ b
   there_is b e =
       is_there-give is_frame a.config w number
@@ -37,24 +37,24 @@ module _ (a : World) (w : RuledWorld nothing) (number : ℕ) (st : Stands a w) w
         ap (λ n. slice_get w.frames (n - number)) (st.frames.counted ∙ ap length (sym st.frames.frames))
         ∙ (ap (λ fs. slice_get fs (length a.frames.frames - number)) (sym st.frames.frames) ∙ (frame_some number a.frames.frames m got).1)
 
-    pub give_is : world_step nothing a.config w (Give number) ≡ arrives nothing a.config w (Some m)
-    give_is = world_step-give nothing a.config w number ∙ ap (λ o. arrives nothing a.config w o) frame_is
+    pub give_is : world_step fabric a.config w (Give number) ≡ arrives fabric a.config w (Some m)
+    give_is = world_step-give fabric a.config w number ∙ ap (λ o. arrives fabric a.config w o) frame_is
 
 -- what is needed for it to arrive
 pub can_arrive : (a : World) (number : ℕ) (m : Message) → IsWorld a → Fits (Give number) → frame_of number a.frames.frames ≡ Some m
-    → (w : RuledWorld nothing) × Stands a w × LeavesSound (arrives nothing a.config w (Some m))
+    → (w : RuledWorld fabric) × Stands a w × LeavesSound (arrives fabric a.config w (Some m))
 can_arrive a number m world fits got =
     let o = own a world in
-    let w : RuledWorld nothing = ruled a.config o.history in
+    let w : RuledWorld fabric = ruled a.config o.history in
     let s : Stands a w = o.stands.keeps.state in
-    let sound : LeavesSound (world_step nothing a.config w (Give number)) = sound_next a o.history 0 (Give number) o.stands fits (give_there a w number s m got) (bound-give a w number) in
-    (w, s, subst (λ (x : Stepped nothing). LeavesSound x) (give_is a w number s m got) sound)
+    let sound : LeavesSound (world_step fabric a.config w (Give number)) = sound_next a o.history 0 (Give number) o.stands fits (give_there a w number s m got) (bound-give a w number) in
+    (w, s, subst (λ (x : Stepped fabric). LeavesSound x) (give_is a w number s m got) sound)
 
 -- and that it is sound
 pub sound_frame : (a : World) (number : ℕ) (m : Message) → IsWorld a → frame_of number a.frames.frames ≡ Some m → IsSoundFrame m
 sound_frame a number m world got =
     let o = own a world in
-    let w : RuledWorld nothing = ruled a.config o.history in
+    let w : RuledWorld fabric = ruled a.config o.history in
     let s : Stands a w = o.stands.keeps.state in
     let all = frames_are_in_format is_frame a.config o.history o.stands.sound o.stands.fits o.stands.valid in
     all_at IsSoundFrame w.frames (length a.frames.frames - number) m all (ap (λ fs. slice_get fs (length a.frames.frames - number)) (sym s.frames.frames) ∙ (frame_some number a.frames.frames m got).1)

@@ -12,7 +12,7 @@ use Rattle.fabric_terms.specs.Sent.{from_all}
 use Rattle.ring_points.specs.Whos.{arbiter_actor}
 use Rattle.ring_points.specs.declared.who.Who.{Who}
 use Rattle.fabric_lemmas.specs.Maps.{at, put}
-use Rattle.world_rules.specs.Nothing.{nothing}
+use Rattle.fabric_above.specs.Fabric.{fabric}
 use Rattle.world_rules.specs.Worlds.{World as RuledWorld, kept_of, posted, numbers_of}
 use Rattle.fabric_lemmas.proofs.Maps.{at-put}
 use Rattle.ring_world.specs.Commits.{posted_all, numbers_after}
@@ -21,11 +21,11 @@ use Rattle.ring_world.specs.Seats.{IsSeat}
 use Rattle.ring_world.specs.Seen.{Seen, SeenSeat}
 use Rattle.ring_world.specs.Stands.{SeenStands, ArbitersStand}
 
-pub seat_later : (w : RuledWorld nothing) (events k : ℕ) (s : SeenSeat) → IsSeat w events k s → IsSeat w (events + 1) k s
+pub seat_later : (w : RuledWorld fabric) (events k : ℕ) (s : SeenSeat) → IsSeat w events k s → IsSeat w (events + 1) k s
 seat_later w events k s h = record { running = h.running; numbered = h.numbered; records = h.records; once = h.once; few = omega (arith, h.few) }
 
 -- arbitrators of whom nothing is recorded, while other actors act
-pub arbiters_on : (a b : Seen) (w v : RuledWorld nothing) → ArbitersStand a w → v.arbiters ≡ w.arbiters → ((k : ℕ) → kept_of v (arbiter_actor k) ≡ kept_of w (arbiter_actor k))
+pub arbiters_on : (a b : Seen) (w v : RuledWorld fabric) → ArbitersStand a w → v.arbiters ≡ w.arbiters → ((k : ℕ) → kept_of v (arbiter_actor k) ≡ kept_of w (arbiter_actor k))
     → b.seats ≡ a.seats → b.config ≡ a.config → b.events ≡ a.events + 1 → ArbitersStand b v
 arbiters_on a b w v s tables kept seats config events = record {
   count = ap length seats ∙ (s.count ∙ ap (λ (c : FabricConfig). length c.arbiters) (sym config));
@@ -43,7 +43,7 @@ arbiters_on a b w v s tables kept seats config events = record {
 }
 
 -- an event that only counts
-pub later : (a : Seen) (w : RuledWorld nothing) → SeenStands a w → a.events < most_events → SeenStands (record a { events = a.events + 1 }) w
+pub later : (a : Seen) (w : RuledWorld fabric) → SeenStands a w → a.events < most_events → SeenStands (record a { events = a.events + 1 }) w
 later a w s lt = record {
   sound = s.sound;
   time = s.time;
@@ -56,17 +56,17 @@ later a w s lt = record {
 
 -- what an actor is left with, where something is recorded at one
 
-pub kept_here : (w : RuledWorld nothing) (actor : ℕ) (more : List Record) → unwrap_or (at actor (put actor (kept_of w actor ++ more) w.kept)) [] ≡ kept_of w actor ++ more
+pub kept_here : (w : RuledWorld fabric) (actor : ℕ) (more : List Record) → unwrap_or (at actor (put actor (kept_of w actor ++ more) w.kept)) [] ≡ kept_of w actor ++ more
 kept_here w actor more =
     ap (λ o. unwrap_or o []) (at-put actor (kept_of w actor ++ more) w.kept actor)
     ∙ (let same : (actor == actor) ≡ true = grind (arith, nat_tests) in ap (λ b. unwrap_or (cond b (Some (kept_of w actor ++ more)) (at actor w.kept)) []) same)
 
-pub kept_there : (w : RuledWorld nothing) (actor q : ℕ) (more : List Record) → (actor == q) ≡ false → unwrap_or (at q (put actor (kept_of w actor ++ more) w.kept)) [] ≡ kept_of w q
+pub kept_there : (w : RuledWorld fabric) (actor q : ℕ) (more : List Record) → (actor == q) ≡ false → unwrap_or (at q (put actor (kept_of w actor ++ more) w.kept)) [] ≡ kept_of w q
 kept_there w actor q more other =
     ap (λ o. unwrap_or o []) (at-put actor (kept_of w actor ++ more) w.kept q)
     ∙ ap (λ b. unwrap_or (cond b (Some (kept_of w actor ++ more)) (at q w.kept)) []) other
 
-pub kept_same : (w : RuledWorld nothing) (actor q : ℕ) → unwrap_or (at q (put actor (kept_of w actor ++ []) w.kept)) [] ≡ kept_of w q
+pub kept_same : (w : RuledWorld fabric) (actor q : ℕ) → unwrap_or (at q (put actor (kept_of w actor ++ []) w.kept)) [] ≡ kept_of w q
 kept_same w actor q = by_test (actor == q) refl
   where
     by_test : (b : Bool) → (actor == q) ≡ b → unwrap_or (at q (put actor (kept_of w actor ++ []) w.kept)) [] ≡ kept_of w q

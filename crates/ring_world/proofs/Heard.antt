@@ -10,7 +10,7 @@ use Rattle.ring_points.specs.declared.who.Who.{Who}
 use Rattle.std.specs.Vec.{with_item}
 use Rattle.world_rules.specs.Arbiters.{ArbiterState}
 use Rattle.fabric_lemmas.specs.Maps.{at}
-use Rattle.world_rules.specs.Nothing.{nothing}
+use Rattle.fabric_above.specs.Fabric.{fabric}
 use Rattle.world_rules.specs.Worlds.{World as RuledWorld}
 use Rattle.ring_world.specs.Moves.{Same}
 use Rattle.ring_world.specs.Rulings.{HeardAt, Hears, IsRunning}
@@ -21,7 +21,7 @@ use Rattle.ring_world.specs.declared.world.World.{World}
 use Rattle.ring_world.proofs.Edits.{map-set, set_same}
 use Rattle.ring_world.proofs.Seats.{seat_here}
 
-pub is_running : (w : RuledWorld nothing) (events k : ℕ) (q : SeenSeat) (t : ArbiterState nothing) → IsSeat w events k q → at k w.arbiters ≡ Some t → IsRunning q
+pub is_running : (w : RuledWorld fabric) (events k : ℕ) (q : SeenSeat) (t : ArbiterState fabric) → IsSeat w events k q → at k w.arbiters ≡ Some t → IsRunning q
 is_running w events k q t h there = by_value q.running refl
   where
     by_value : (o : Option Arbiter) → q.running ≡ o → IsRunning q

@@ -15,7 +15,7 @@ use Rattle.fabric_terms.specs.declared.record.Record.{Record}
 use Rattle.ring_points.specs.declared.who.Who.{Who}
 use Rattle.ring_rules.specs.Arbiters.{Accusations, accusation_kept, accusation_ruled, accusations_after, first_accuser, first_kept, takes_frame}
 use Rattle.world_rules.specs.Arbiters.{ArbiterState, arbiter_takes}
-use Rattle.world_rules.specs.Nothing.{nothing}
+use Rattle.fabric_above.specs.Fabric.{fabric}
 use Rattle.world_rules.specs.Uppers.{Did}
 use Rattle.world_rules.proofs.Rows.{arbiter_step-is}
 use Rattle.std.proofs.lemmas.List.{append-nil}
@@ -25,7 +25,7 @@ use Rattle.ring_world.specs.Seen.{SeenSeat}
 use Rattle.ring_world.proofs.Restored.{few_entries}
 
 -- the call answers what was done
-abbrev pub Agrees : Arbiter → Did (ArbiterState nothing) → Outcome Answer → Type 0
+abbrev pub Agrees : Arbiter → Did (ArbiterState fabric) → Outcome Answer → Type 0
 Agrees a d (Ok Nothing, n) = (n ≡ record a { accusations = d.state.table }) × (d.records ≡ []) × (d.sent ≡ [])
 Agrees a d (Ok (Reply kept to said), n) = (n ≡ record a { accusations = d.state.table }) × (d.records ≡ option_to_list kept) × (d.sent ≡ (to, said) ∷ [])
 Agrees a d (Err e, n) = most_entries ≤ length a.accusations
@@ -45,11 +45,11 @@ full_is [] table e = absurd (cc)
 full_is (r ∷ rs) table e = let h : nat_le most_entries (length table) ≡ true = e in grind (arith, nat_tests)
 
 module _ (c : FabricConfig) (m : Message) (a : Arbiter) where
-  accused : (victim : Who) → Agrees a (arbiter_takes nothing c a.number m (state_of a) (body.Accuse victim) true) (taken true (body.Accuse victim) m.from a)
+  accused : (victim : Who) → Agrees a (arbiter_takes fabric c a.number m (state_of a) (body.Accuse victim) true) (taken true (body.Accuse victim) m.from a)
   accused victim = by_test (is_full_for (accusation_kept a.accusations m.from victim) a.accusations) refl
     where
       by_test : (b : Bool) → is_full_for (accusation_kept a.accusations m.from victim) a.accusations ≡ b
-          → Agrees a (arbiter_takes nothing c a.number m (state_of a) (body.Accuse victim) true)
+          → Agrees a (arbiter_takes fabric c a.number m (state_of a) (body.Accuse victim) true)
           (cond b (Err TableFull, a) (
             Ok (Reply (first_of (accusation_kept a.accusations m.from victim)) m.from (body.Ruled victim (accusation_ruled a.accusations m.from victim))),
             record a { accusations = accusations_after a.accusations (accusation_kept a.accusations m.from victim) },
@@ -57,14 +57,14 @@ module _ (c : FabricConfig) (m : Message) (a : Arbiter) where
       by_test true e = full_is (accusation_kept a.accusations m.from victim) a.accusations e
       by_test false e = (refl, kept_once a.accusations m.from victim, refl)
 
-  by_body : (said : Body) (b : Bool) → Agrees a (arbiter_takes nothing c a.number m (state_of a) said b) (taken b said m.from a)
+  by_body : (said : Body) (b : Bool) → Agrees a (arbiter_takes fabric c a.number m (state_of a) said b) (taken b said m.from a)
   by_body said false = (refl, refl, refl)
   by_body (body.Accuse victim) true = accused victim
   by_body _ true = (refl, refl, refl)
 
   pub agrees : Agrees a (ruled_by c m a) (frame_call m a)
   agrees =
-      subst (λ (d : Did (ArbiterState nothing)). Agrees a d (frame_call m a)) (sym (arbiter_step-is nothing c a.number m (state_of a))) (by_body m.body (takes_frame a.number m))
+      subst (λ (d : Did (ArbiterState fabric)). Agrees a d (frame_call m a)) (sym (arbiter_step-is fabric c a.number m (state_of a))) (by_body m.body (takes_frame a.number m))
 
 -- by what the call has answered
 

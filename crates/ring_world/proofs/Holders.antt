@@ -17,7 +17,7 @@ use Rattle.ring_points.specs.Whos.{same_who}
 use Rattle.ring_rules.specs.Rings.{Settings}
 use Rattle.ring_rules.specs.Slots.{fence_of}
 use Rattle.run_facts.specs.Held.{owned_by}
-use Rattle.world_rules.specs.Nothing.{nothing_stays, nothing}
+use Rattle.fabric_above.specs.Fabric.{fabric_stays, fabric}
 use Rattle.run_facts.proofs.Clocks.{clocks_are, clocks_are_of_running_lem}
 use Rattle.run_facts.proofs.Orderly.{last_own_is_held_lem}
 use Rattle.fabric_lemmas.specs.Maps.{at, rises}
@@ -52,7 +52,7 @@ pub record Tells (c : FabricConfig) (run : Run) (e : Ruled) : Type 0 where
 
 same_holder : (c : FabricConfig) (t : ℕ) (run : Run) (r : Running) (e : Ruled) → RunsAs c t r e → Tells c run e → holder_of run e.1.node.ring.me ≡ holder_here (clock_of e, r)
 same_holder c t run r e runs tells =
-    let ring : e.1.node.ring ≡ r.node.value.ring = sym (ap (λ (z : NodeState nothing). z.ring) runs.node) in
+    let ring : e.1.node.ring ≡ r.node.value.ring = sym (ap (λ (z : NodeState fabric). z.ring) runs.node) in
     let answer : c.answer ≡ r.node.value.settings.answer = sym (ap (λ (z : Settings). z.answer) runs.goes_by) in
     (λ i. record { who = e.1.node.ring.me; ranges = held_ranges (tells.reads i) (tells.own i) })
     ∙ (λ i.
@@ -71,26 +71,26 @@ all_holders c t run (r ∷ rs) (e ∷ es) h tells = λ i.
     same_holder c t run r e h.0 (tells 0 e refl) i ∷ all_holders c t run rs es h.1 (λ j q g. tells (suc j) q g) i
 
 -- the nodes of a world have told so
-tells_here : (c : FabricConfig) (h : History) (i : ℕ) (e : Ruled) → rises (ruled c h).nodes ≡ true → slice_get (ruled c h).nodes i ≡ Some e → Tells c (run_of nothing c h) e
+tells_here : (c : FabricConfig) (h : History) (i : ℕ) (e : Ruled) → rises (ruled c h).nodes ≡ true → slice_get (ruled c h).nodes i ≡ Some e → Tells c (run_of fabric c h) e
 tells_here c h i e rise there =
     let found : at e.0 (ruled c h).nodes ≡ Some e.1 = at_place 0 (ruled c h).nodes i e.0 e.1 rise there in
     record {
-      own = last_own_is_held_lem nothing nothing_stays c h e.0 e.1 found;
-      reads = (clocks_are_of_running_lem nothing nothing_stays c h e.1.node.ring.me e.1.reading).1 (record { node = e.0; state = e.1; here = found; name = refl; reads = refl });
+      own = last_own_is_held_lem fabric fabric_stays c h e.0 e.1 found;
+      reads = (clocks_are_of_running_lem fabric fabric_stays c h e.1.node.ring.me e.1.reading).1 (record { node = e.0; state = e.1; here = found; name = refl; reads = refl });
     }
 
-own_holders : (a : World) (h : History) → StandsFor a a.config h → holders_of (run_of nothing a.config h) ≡ holders_here (zip a.clocks.items a.running.items)
+own_holders : (a : World) (h : History) → StandsFor a a.config h → holders_of (run_of fabric a.config h) ≡ holders_here (zip a.clocks.items a.running.items)
 own_holders a h s =
-    let run : Run = run_of nothing a.config h in
+    let run : Run = run_of fabric a.config h in
     let nodes = s.keeps.state.nodes in
-    let clocks = clocks_are nothing a.config h in
+    let clocks = clocks_are fabric a.config h in
     ap (λ ks. filter holds_some (map (λ (clock : Who × ℕ). holder_of run clock.0) ks)) clocks
     ∙ (ap (filter holds_some) (all_holders a.config a.time run a.running.items (ruled a.config h).nodes nodes.running (λ i e g. tells_here a.config h i e nodes.rise g))
     ∙ ap (λ ks. holders_here (zip ks a.running.items)) (sym nodes.clocks))
 
-pub holders_are : (a : World) (c : FabricConfig) (h : History) → StandsFor a c h → holders_of (run_of nothing c h) ≡ holders_here (zip a.clocks.items a.running.items)
+pub holders_are : (a : World) (c : FabricConfig) (h : History) → StandsFor a c h → holders_of (run_of fabric c h) ≡ holders_here (zip a.clocks.items a.running.items)
 holders_are a c h s =
-    let P : FabricConfig → Type 0 = λ k. StandsFor a k h → holders_of (run_of nothing k h) ≡ holders_here (zip a.clocks.items a.running.items) in
+    let P : FabricConfig → Type 0 = λ k. StandsFor a k h → holders_of (run_of fabric k h) ≡ holders_here (zip a.clocks.items a.running.items) in
     subst P s.config (own_holders a h) s
 
 -- how many they are

@@ -5,7 +5,7 @@ use Rattle.std.proofs.lemmas.Bool.Decides.{nat_tests}
 use Rattle.fabric_terms.specs.declared.command.Command.{Command}
 use Rattle.fabric_terms.specs.declared.event.Event.{Event}
 use Rattle.fabric_terms.specs.declared.event.Event.TheVariants.{Start, Stop, Fire, Give, Do, Junk}
-use Rattle.world_rules.specs.Nothing.{nothing}
+use Rattle.fabric_above.specs.Fabric.{fabric}
 use Rattle.world_rules.specs.Schedules.{keeps_bound}
 use Rattle.world_rules.specs.Worlds.{World as RuledWorld}
 use Rattle.ring_world.specs.Moves.{Same}
@@ -25,7 +25,7 @@ at_most : (m n : ℕ) → m ≤ n → nat_le m n ≡ true
 at_most m n h = grind (arith, nat_tests)
 
 -- an event that takes no time has room where the test says so
-pub room_is : (a : World) (w : RuledWorld nothing) (e : Event) (acting : Bool) → Stands a w → acts e ≡ acting → time_after w.time e ≡ w.time → has_room w a.events e ≡ room_test a acting
+pub room_is : (a : World) (w : RuledWorld fabric) (e : Event) (acting : Bool) → Stands a w → acts e ≡ acting → time_after w.time e ≡ w.time → has_room w a.events e ≡ room_test a acting
 unfolding has_room
 room_is a w e acting s same still =
     let early : nat_le (time_after w.time e) most_time ≡ true = ap (λ t. nat_le t most_time) (still ∙ sym s.time) ∙ at_most a.time most_time s.in_time in
@@ -35,7 +35,7 @@ room_is a w e acting s same still =
 
 -- no clock is read but at a tick
 
-module _ (a : World) (w : RuledWorld nothing) where
+module _ (a : World) (w : RuledWorld fabric) where
   pub bound-start : (actor : ℕ) (reading : Option ℕ) → keeps_bound a.config w (Start actor reading) ≡ true
   unfolding keeps_bound
   bound-start actor reading = refl

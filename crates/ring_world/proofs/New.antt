@@ -8,7 +8,7 @@ use Rattle.fabric_terms.specs.Sound.{IsSound}
 use Rattle.fabric_terms.specs.declared.config.FabricConfig.{FabricConfig}
 use Rattle.point_places.specs.Spots.{place_at}
 use Rattle.ring_points.specs.Whos.{node_instance}
-use Rattle.world_rules.specs.Nothing.{nothing}
+use Rattle.fabric_above.specs.Fabric.{fabric}
 use Rattle.world_rules.specs.Worlds.{empty_world}
 use Rattle.ring_world.specs.Answers.{StandsFor}
 use Rattle.ring_world.specs.Running.{last_node}
@@ -48,10 +48,10 @@ empty_is n k s g =
     let lt = slice_get_within (replicate n empty_seat) k s g in
     sym (get_or_from_slice_get (replicate n empty_seat) k s s g) ∙ get_or-replicate n k empty_seat s (let few = length-replicate n empty_seat in omega arith)
 
-seat_is : (k : ℕ) → IsSeat (empty_world nothing) 0 k empty_seat
+seat_is : (k : ℕ) → IsSeat (empty_world fabric) 0 k empty_seat
 seat_is k = record { running = refl; numbered = tt; records = refl; once = refl; few = omega arith }
 
-pub new_stands : (c : FabricConfig) (boots : List ℕ) → IsSound c → NoBoots boots → SeenStands (new_seen c boots) (empty_world nothing)
+pub new_stands : (c : FabricConfig) (boots : List ℕ) → IsSound c → NoBoots boots → SeenStands (new_seen c boots) (empty_world fabric)
 new_stands c boots sound b = record {
   sound = sound;
   time = refl;
@@ -60,7 +60,7 @@ new_stands c boots sound b = record {
   nodes = record { rise = refl; running = tt; clocks = refl; few = omega arith; table = b.table; boots = b.none };
   arbiters = record {
     count = length-replicate (length c.arbiters) empty_seat;
-    seats = λ k s g. subst (λ (x : SeenSeat). IsSeat (empty_world nothing) 0 (k + 1) x) (sym (empty_is (length c.arbiters) k s g)) (seat_is (k + 1));
+    seats = λ k s g. subst (λ (x : SeenSeat). IsSeat (empty_world fabric) 0 (k + 1) x) (sym (empty_is (length c.arbiters) k s g)) (seat_is (k + 1));
     others = λ arbiter lt. refl;
     from_one = refl;
   };
@@ -75,7 +75,7 @@ new_world a boots sound b seen places = record {
   fits = λ i x lt. absurd (omega arith);
   valid = tt;
   keeps = record {
-    state = subst (λ (x : Seen). SeenStands x (empty_world nothing)) (sym seen) (new_stands a.config boots sound b);
+    state = subst (λ (x : Seen). SeenStands x (empty_world fabric)) (sym seen) (new_stands a.config boots sound b);
     events = ap (λ (x : Seen). x.events) seen;
     places = λ p lt. places p;
   };

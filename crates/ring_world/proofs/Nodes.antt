@@ -10,7 +10,7 @@ use Rattle.std.proofs.lemmas.Option.{slice_get-map, slice_get-get_or, slice_get_
 use Rattle.fabric_terms.specs.declared.config.FabricConfig.{FabricConfig}
 use Rattle.ring_points.specs.declared.who.Who.{Who}
 use Rattle.fabric_lemmas.specs.Maps.{at, rises}
-use Rattle.world_rules.specs.Nothing.{nothing}
+use Rattle.fabric_above.specs.Fabric.{fabric}
 use Rattle.world_rules.specs.Worlds.{World as RuledWorld, Running as RuledRunning}
 use Rattle.ring_world.specs.Finds.{IsAt, IsPlaceOf}
 use Rattle.ring_world.specs.Running.{RunsAs, AllRun}
@@ -20,7 +20,7 @@ use Rattle.ring_world.specs.declared.world.World.{World}
 use Rattle.ring_world.proofs.Maps.{is_at}
 
 abbrev pub Ruled : Type 0
-Ruled = ℕ × RuledRunning nothing
+Ruled = ℕ × RuledRunning fabric
 
 abbrev pub clock_of : Ruled → Who × ℕ
 clock_of e = (e.1.node.ring.me, e.1.reading)
@@ -136,6 +136,6 @@ found k es (Some i) h named e = by_value (slice_get es i) refl
         let same : q ≡ (k, q.1) = ap (λ n. (n, q.1)) number in
         is_at es i k q.1 h (g ∙ ap (λ x. Some x) same)
 
-pub place_found : (a : World) (w : RuledWorld nothing) (k : ℕ) (o : Option ℕ) → Stands a w → o ≡ position (is_of k) a.clocks.items → IsPlaceOf k w.nodes o
+pub place_found : (a : World) (w : RuledWorld fabric) (k : ℕ) (o : Option ℕ) → Stands a w → o ≡ position (is_of k) a.clocks.items → IsPlaceOf k w.nodes o
 place_found a w k o s e =
     found k w.nodes o s.nodes.rise (run_numbered a.config a.time a.running.items w.nodes s.nodes.running) (e ∙ ap (position (is_of k)) s.nodes.clocks)

@@ -12,7 +12,7 @@ use Rattle.ring_rules.specs.declared.input.Input.TheVariants as input
 use Rattle.world_rules.specs.Arbiters.{ArbiterState, arbiter_step}
 use Rattle.world_rules.specs.Events.{arbiter_number, arrives, arrives_at, arrives_at_arbiter, arrives_at_node, arrives_if, is_arbiter_actor, node_acts}
 use Rattle.fabric_lemmas.specs.Maps.{at}
-use Rattle.world_rules.specs.Nothing.{nothing}
+use Rattle.fabric_above.specs.Fabric.{fabric}
 use Rattle.world_rules.specs.Worlds.{World as RuledWorld, arbiter_acted, quiet}
 use Rattle.ring_world.specs.Finds.{IsAt}
 use Rattle.ring_world.specs.Stands.{Stands}
@@ -25,9 +25,9 @@ use Rattle.ring_world.proofs.Seats.{seat_number}
 abbrev pub is_meant_for : Who → Who → Bool
 is_meant_for to me = to.instance == 0 || to.instance == me.instance
 
-module _ (a : World) (w : RuledWorld nothing) (m : Message) where
-  pub lost_at_node : at m.to.actor w.nodes ≡ None → arrives_at_node nothing a.config w m (at m.to.actor w.nodes) ≡ quiet nothing w
-  lost_at_node none = ap (λ o. arrives_at_node nothing a.config w m o) none
+module _ (a : World) (w : RuledWorld fabric) (m : Message) where
+  pub lost_at_node : at m.to.actor w.nodes ≡ None → arrives_at_node fabric a.config w m (at m.to.actor w.nodes) ≡ quiet fabric w
+  lost_at_node none = ap (λ o. arrives_at_node fabric a.config w m o) none
 
   module _ (place : ℕ) (clock : Who × ℕ) (st : Stands a w) (k : IsAt m.to.actor place w.nodes) (read : clock ≡ get_or a.clocks.items place clock) where
     me_is : clock.0 ≡ k.value.node.ring.me
@@ -35,39 +35,39 @@ module _ (a : World) (w : RuledWorld nothing) (m : Message) where
         let here = placed a w place m.to.actor k.value st k.here in
         ap (λ (q : Who × ℕ). q.0) (read_at a.clocks.items place (k.value.node.ring.me, k.value.reading) clock here.clock read)
 
-    by_test : (b : Bool) → is_meant_for m.to clock.0 ≡ b → arrives_at_node nothing a.config w m (at m.to.actor w.nodes) ≡ arrives_if nothing a.config w m k.value b
+    by_test : (b : Bool) → is_meant_for m.to clock.0 ≡ b → arrives_at_node fabric a.config w m (at m.to.actor w.nodes) ≡ arrives_if fabric a.config w m k.value b
     by_test b e =
-        ap (λ o. arrives_at_node nothing a.config w m o) k.found
-        ∙ ap (λ b. arrives_if nothing a.config w m k.value b) (ap (λ (x : Who). is_meant_for m.to x) (sym me_is) ∙ e)
+        ap (λ o. arrives_at_node fabric a.config w m o) k.found
+        ∙ ap (λ b. arrives_if fabric a.config w m k.value b) (ap (λ (x : Who). is_meant_for m.to x) (sym me_is) ∙ e)
 
-    pub lost_to_instance : is_meant_for m.to clock.0 ≡ false → arrives_at_node nothing a.config w m (at m.to.actor w.nodes) ≡ quiet nothing w
+    pub lost_to_instance : is_meant_for m.to clock.0 ≡ false → arrives_at_node fabric a.config w m (at m.to.actor w.nodes) ≡ quiet fabric w
     lost_to_instance e = by_test false e
 
-    pub reaches_instance : is_meant_for m.to clock.0 ≡ true → arrives_at_node nothing a.config w m (at m.to.actor w.nodes) ≡ node_acts nothing a.config w m.to.actor (input.Frame m) k.value
+    pub reaches_instance : is_meant_for m.to clock.0 ≡ true → arrives_at_node fabric a.config w m (at m.to.actor w.nodes) ≡ node_acts fabric a.config w m.to.actor (input.Frame m) k.value
     reaches_instance e = by_test true e
 
 -- at an arbitrator
 
-module _ (a : World) (w : RuledWorld nothing) (m : Message) (far : arbiter_actor 0 < m.to.actor) where
+module _ (a : World) (w : RuledWorld fabric) (m : Message) (far : arbiter_actor 0 < m.to.actor) where
   is_arbiter : is_arbiter_actor m.to.actor ≡ true
   is_arbiter = grind (arith, nat_tests)
 
-  pub to_arbiter : arrives nothing a.config w (Some m) ≡ arrives_at_arbiter nothing a.config w m (arbiter_number m.to.actor) (at (arbiter_number m.to.actor) w.arbiters)
-  to_arbiter = ap (λ b. arrives_at nothing a.config w m b) is_arbiter
+  pub to_arbiter : arrives fabric a.config w (Some m) ≡ arrives_at_arbiter fabric a.config w m (arbiter_number m.to.actor) (at (arbiter_number m.to.actor) w.arbiters)
+  to_arbiter = ap (λ b. arrives_at fabric a.config w m b) is_arbiter
 
-  pub lost_at_arbiter : at (arbiter_number m.to.actor) w.arbiters ≡ None → arrives nothing a.config w (Some m) ≡ quiet nothing w
-  lost_at_arbiter none = to_arbiter ∙ ap (λ o. arrives_at_arbiter nothing a.config w m (arbiter_number m.to.actor) o) none
+  pub lost_at_arbiter : at (arbiter_number m.to.actor) w.arbiters ≡ None → arrives fabric a.config w (Some m) ≡ quiet fabric w
+  lost_at_arbiter none = to_arbiter ∙ ap (λ o. arrives_at_arbiter fabric a.config w m (arbiter_number m.to.actor) o) none
 
-  pub reaches_arbiter : (place : ℕ) (s : ArbiterState nothing) → m.to.actor ≡ arbiter_actor (place + 1) → at (place + 1) w.arbiters ≡ Some s
-      → arrives nothing a.config w (Some m) ≡ arbiter_acted nothing w (place + 1) (arbiter_step nothing a.config (place + 1) m s)
+  pub reaches_arbiter : (place : ℕ) (s : ArbiterState fabric) → m.to.actor ≡ arbiter_actor (place + 1) → at (place + 1) w.arbiters ≡ Some s
+      → arrives fabric a.config w (Some m) ≡ arbiter_acted fabric w (place + 1) (arbiter_step fabric a.config (place + 1) m s)
   reaches_arbiter place s name there =
       to_arbiter
-      ∙ (ap (λ k. arrives_at_arbiter nothing a.config w m k (at k w.arbiters)) (seat_number m.to.actor place name)
-      ∙ ap (λ o. arrives_at_arbiter nothing a.config w m (place + 1) o) there)
+      ∙ (ap (λ k. arrives_at_arbiter fabric a.config w m k (at k w.arbiters)) (seat_number m.to.actor place name)
+      ∙ ap (λ o. arrives_at_arbiter fabric a.config w m (place + 1) o) there)
 
 -- at a node's number the message comes to the node
-pub to_node : (a : World) (w : RuledWorld nothing) (m : Message) → m.to.actor ≤ arbiter_actor 0 → arrives nothing a.config w (Some m) ≡ arrives_at_node nothing a.config w m (at m.to.actor w.nodes)
-to_node a w m le = let none : is_arbiter_actor m.to.actor ≡ false = grind (arith, nat_tests) in ap (λ b. arrives_at nothing a.config w m b) none
+pub to_node : (a : World) (w : RuledWorld fabric) (m : Message) → m.to.actor ≤ arbiter_actor 0 → arrives fabric a.config w (Some m) ≡ arrives_at_node fabric a.config w m (at m.to.actor w.nodes)
+to_node a w m le = let none : is_arbiter_actor m.to.actor ≡ false = grind (arith, nat_tests) in ap (λ b. arrives_at fabric a.config w m b) none
 
 -- the frame of a number
 

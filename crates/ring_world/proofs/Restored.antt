@@ -13,7 +13,7 @@ use Rattle.ring_points.specs.Whos.{arbiter_actor}
 use Rattle.ring_rules.specs.Arbiters.{Accusations, accusations_after, accused_after}
 use Rattle.world_rules.specs.Events.{world_step, starts_with, arbiter_number}
 use Rattle.fabric_lemmas.specs.Maps.{at}
-use Rattle.world_rules.specs.Nothing.{nothing}
+use Rattle.fabric_above.specs.Fabric.{fabric}
 use Rattle.world_rules.specs.Schedules.{is_there, is_configured_arbiter, arbiter_runs}
 use Rattle.world_rules.specs.Worlds.{World as RuledWorld, kept_of}
 use Rattle.world_rules.proofs.Rows.{is_there-start, world_step-start}
@@ -41,7 +41,7 @@ restored_is number rs few =
     choice : Bool → Result Arbiter ArbiterError
     choice b = cond b (Err TableFull) (Ok (restored number rs))
 
-module _ (a : World) (w : RuledWorld nothing) (st : Stands a w) where
+module _ (a : World) (w : RuledWorld fabric) (st : Stands a w) where
   count_is : length (map seen_seat a.seats.items) ≡ length a.seats.items
   count_is = counted a.seats.items
     where
@@ -68,7 +68,7 @@ module _ (a : World) (w : RuledWorld nothing) (st : Stands a w) where
   pub start_there : (actor : ℕ) (c r : Bool) → is_configured_arbiter a.config actor ≡ c → is_some (at (arbiter_number actor) w.arbiters) ≡ r → is_there is_frame a.config w (Start actor None) ≡ (c && not r)
   start_there actor c r h g =
       is_there-start is_frame a.config w actor None
-      ∙ (ap (λ b. b && not (arbiter_runs {a = nothing} w actor)) h ∙ ap (λ b. c && not b) g)
+      ∙ (ap (λ b. b && not (arbiter_runs {a = fabric} w actor)) h ∙ ap (λ b. c && not b) g)
 
-  pub start_is : (actor : ℕ) → world_step nothing a.config w (Start actor None) ≡ starts_with nothing a.config w actor None (kept_of w actor)
-  start_is actor = world_step-start nothing a.config w actor None
+  pub start_is : (actor : ℕ) → world_step fabric a.config w (Start actor None) ≡ starts_with fabric a.config w actor None (kept_of w actor)
+  start_is actor = world_step-start fabric a.config w actor None

@@ -22,7 +22,7 @@ use Rattle.fabric_terms.specs.Messages.{is_sound}
 use Rattle.world_rules.specs.Arbiters.{ArbiterState, arbiter_step, arbiter_takes}
 use Rattle.fabric_lemmas.specs.Maps.{at}
 use Rattle.world_rules.specs.Nodes.{boots_of}
-use Rattle.world_rules.specs.Nothing.{nothing}
+use Rattle.fabric_above.specs.Fabric.{fabric}
 use Rattle.world_rules.specs.Uppers.{Did}
 use Rattle.world_rules.specs.Worlds.{World as RuledWorld, arbiter_acted, arbiter_who, kept_of, numbers_of, posted}
 use Rattle.world_rules.proofs.Rows.{arbiter_step-is}
@@ -43,7 +43,7 @@ use Rattle.ring_world.proofs.Growth.{kept_here, kept_there, posted-length}
 use Rattle.ring_world.proofs.Tables.{arbiters_set, at_other_put, at_same_put}
 
 -- what a step keeps, and how little it does
-pub record IsRuling (s : ArbiterState nothing) (d : Did (ArbiterState nothing)) : Type 0 where
+pub record IsRuling (s : ArbiterState fabric) (d : Did (ArbiterState fabric)) : Type 0 where
   pub table : d.state.table ≡ accusations_after s.table d.records
   pub once : is_once s.table d.records ≡ true
   pub few : length d.records ≤ 1
@@ -59,15 +59,15 @@ kept_few table accuser victim = by_firsts (first_accuser accuser table) (first_a
     by_firsts (Some x) None = omega arith
     by_firsts (Some x) (Some y) = omega arith
 
-module _ (c : FabricConfig) (arbiter : ℕ) (m : Message) (s : ArbiterState nothing) where
-  by_body : (said : Body) (b : Bool) → IsRuling s (arbiter_takes nothing c arbiter m s said b)
+module _ (c : FabricConfig) (arbiter : ℕ) (m : Message) (s : ArbiterState fabric) where
+  by_body : (said : Body) (b : Bool) → IsRuling s (arbiter_takes fabric c arbiter m s said b)
   by_body said false = record { table = refl; once = refl; few = omega arith; told = refl }
   by_body (body.Accuse victim) true =
       record { table = refl; once = recording_once s.table m.from victim; few = kept_few s.table m.from victim; told = refl }
   by_body _ true = record { table = refl; once = refl; few = omega arith; told = refl }
 
-  pub is_ruling : IsRuling s (arbiter_step nothing c arbiter m s)
-  is_ruling = subst (λ (d : Did (ArbiterState nothing)). IsRuling s d) (sym (arbiter_step-is nothing c arbiter m s)) (by_body m.body (takes_frame arbiter m))
+  pub is_ruling : IsRuling s (arbiter_step fabric c arbiter m s)
+  is_ruling = subst (λ (d : Did (ArbiterState fabric)). IsRuling s d) (sym (arbiter_step-is fabric c arbiter m s)) (by_body m.body (takes_frame arbiter m))
 
 after_more : (table : Accusations) (rs more : List Record) → accusations_after table (rs ++ more) ≡ accusations_after (accusations_after table rs) more
 after_more table [] more = refl
@@ -100,10 +100,10 @@ other_arbiter place k other = unequal (arbiter_actor (place + 1)) (arbiter_actor
 some_same : {X : Type 0} (x y : X) → Some x ≡ Some y → x ≡ y
 some_same x y e = cc
 
-module _ (a : World) (w : RuledWorld nothing) (place : ℕ) (s : ArbiterState nothing) (m : Message) (mid : World) (reply : Option (Who × Body))
+module _ (a : World) (w : RuledWorld fabric) (place : ℕ) (s : ArbiterState fabric) (m : Message) (mid : World) (reply : Option (Who × Body))
     (st : Stands a w) (there : at (place + 1) w.arbiters ≡ Some s) (heard : HeardAt a mid place m reply) where
-  abbrev pub done : Did (ArbiterState nothing)
-  done = arbiter_step nothing a.config (place + 1) m s
+  abbrev pub done : Did (ArbiterState fabric)
+  done = arbiter_step fabric a.config (place + 1) m s
 
   hears : Hears a.config m heard.before heard.after reply
   hears = heard.hears a.config
@@ -119,26 +119,26 @@ module _ (a : World) (w : RuledWorld nothing) (place : ℕ) (s : ArbiterState no
 
   is_done : ruled_by a.config m hears.arbiter ≡ done
   is_done =
-      ap (λ (k : ℕ). arbiter_step nothing a.config k m (state_of hears.arbiter)) numbered.number
-      ∙ ap (λ (x : ArbiterState nothing). arbiter_step nothing a.config (place + 1) m x) is_state
+      ap (λ (k : ℕ). arbiter_step fabric a.config k m (state_of hears.arbiter)) numbered.number
+      ∙ ap (λ (x : ArbiterState fabric). arbiter_step fabric a.config (place + 1) m x) is_state
 
   pub sent_is : option_to_list reply ≡ done.sent
-  sent_is = hears.sent ∙ ap (λ (d : Did (ArbiterState nothing)). d.sent) is_done
+  sent_is = hears.sent ∙ ap (λ (d : Did (ArbiterState fabric)). d.sent) is_done
 
   records_are : heard.after.records ≡ heard.before.records ++ done.records
-  records_are = hears.records ∙ ap (λ (d : Did (ArbiterState nothing)). heard.before.records ++ d.records) is_done
+  records_are = hears.records ∙ ap (λ (d : Did (ArbiterState fabric)). heard.before.records ++ d.records) is_done
 
   running_is : heard.after.running ≡ Some (record hears.arbiter { accusations = done.state.table })
-  running_is = hears.running ∙ ap (λ (d : Did (ArbiterState nothing)). Some (record hears.arbiter { accusations = d.state.table })) is_done
+  running_is = hears.running ∙ ap (λ (d : Did (ArbiterState fabric)). Some (record hears.arbiter { accusations = d.state.table })) is_done
 
   facts : IsRuling s done
   facts = is_ruling a.config (place + 1) m s
 
-  abbrev after : RuledWorld nothing
-  after = (arbiter_acted nothing w (place + 1) done).world
+  abbrev after : RuledWorld fabric
+  after = (arbiter_acted fabric w (place + 1) done).world
 
   old_table : s.table ≡ accusations_after [] heard.before.records
-  old_table = sym (ap (λ (x : ArbiterState nothing). x.table) is_state) ∙ numbered.table
+  old_table = sym (ap (λ (x : ArbiterState fabric). x.table) is_state) ∙ numbered.table
 
   table_is : done.state.table ≡ accusations_after [] heard.after.records
   table_is =
@@ -199,7 +199,7 @@ module _ (a : World) (w : RuledWorld nothing) (place : ℕ) (s : ArbiterState no
 
   pub rule_moves : (new : World) (line : ℕ) (acted : Acted) → a.events < most_events → a.sent < most_frames → seen_of new ≡ seen_ruled → new.places ≡ a.places
       → acted ≡ record { line = line; time = a.time; who = arbiter_who (place + 1); reading = None; sent = numbers_of a.sent (option_to_list reply); reports = [] }
-      → Moves a new (arbiter_acted nothing w (place + 1) done) line (Some acted)
+      → Moves a new (arbiter_acted fabric w (place + 1) done) line (Some acted)
   rule_moves new line acted few room seen places is = record {
     config = ap (λ (x : Seen). x.config) seen;
     events = ap (λ (x : Seen). x.events) seen;

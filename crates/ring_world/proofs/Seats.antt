@@ -7,7 +7,7 @@ use Rattle.arbiter_core.specs.Arbiters.{Arbiter}
 use Rattle.ring_points.specs.Whos.{arbiter_actor}
 use Rattle.world_rules.specs.Events.{is_arbiter_actor, arbiter_number}
 use Rattle.fabric_lemmas.specs.Maps.{at}
-use Rattle.world_rules.specs.Nothing.{nothing}
+use Rattle.fabric_above.specs.Fabric.{fabric}
 use Rattle.world_rules.specs.Schedules.{runs, runs_as}
 use Rattle.world_rules.specs.Worlds.{World as RuledWorld}
 use Rattle.ring_world.specs.Seats.{IsSeat, table_of}
@@ -21,7 +21,7 @@ pub seat_here : (a : World) (place : ℕ) (q : Seat) → place < length a.seats.
 seat_here a place q lt read =
     slice_get-map seen_seat a.seats.items place ∙ ap (λ o. option_map seen_seat o) (slice_get_read a.seats.items (length a.seats.items) place q refl lt read)
 
-pub seat_at : (a : World) (w : RuledWorld nothing) (place : ℕ) (q : Seat) → Stands a w → place < length a.seats.items → q ≡ get_or a.seats.items place q → IsSeat w a.events (place + 1) (seen_seat q)
+pub seat_at : (a : World) (w : RuledWorld fabric) (place : ℕ) (q : Seat) → Stands a w → place < length a.seats.items → q ≡ get_or a.seats.items place q → IsSeat w a.events (place + 1) (seen_seat q)
 seat_at a w place q s lt read = s.arbiters.seats place (seen_seat q) (seat_here a place q lt read)
 
 pub some_table : (o : Option Arbiter) → is_some (table_of o) ≡ is_some o
@@ -40,7 +40,7 @@ pub far_number : (actor count : ℕ) → arbiter_actor count < actor → count <
 far_number actor count lt = omega arith
 
 -- an arbitrator runs where its seat says so
-pub runs_here : (a : World) (w : RuledWorld nothing) (actor place : ℕ) (q : Seat) → Stands a w → actor ≡ arbiter_actor (place + 1) → place < length a.seats.items → q ≡ get_or a.seats.items place q
+pub runs_here : (a : World) (w : RuledWorld fabric) (actor place : ℕ) (q : Seat) → Stands a w → actor ≡ arbiter_actor (place + 1) → place < length a.seats.items → q ≡ get_or a.seats.items place q
     → runs w actor ≡ is_some q.running
 runs_here a w actor place q s e lt read =
     ap (λ b. runs_as w actor b) (seat_actor actor place e)
@@ -48,7 +48,7 @@ runs_here a w actor place q s e lt read =
     ∙ (ap (λ o. is_some o) (sym (seat_at a w place q s lt read).running) ∙ some_table q.running))
 
 -- one that has no seat does not run
-pub none_there : (a : World) (w : RuledWorld nothing) (actor : ℕ) → Stands a w → arbiter_actor 0 < actor → (arbiter_actor 0 < actor → arbiter_actor (length a.seats.items) < actor) → at (arbiter_number actor) w.arbiters ≡ None
+pub none_there : (a : World) (w : RuledWorld fabric) (actor : ℕ) → Stands a w → arbiter_actor 0 < actor → (arbiter_actor 0 < actor → arbiter_actor (length a.seats.items) < actor) → at (arbiter_number actor) w.arbiters ≡ None
 none_there a w actor s lt far =
     let e : length (map seen_seat a.seats.items) ≡ length a.seats.items = length-map a.seats.items in
     let n = far_number actor (length a.seats.items) (far lt) in
@@ -58,7 +58,7 @@ none_there a w actor s lt far =
     length-map [] = refl
     length-map (q ∷ qs) = ap suc (length-map qs)
 
-pub runs_nowhere : (a : World) (w : RuledWorld nothing) (actor : ℕ) → Stands a w → arbiter_actor 0 < actor → (arbiter_actor 0 < actor → arbiter_actor (length a.seats.items) < actor) → runs w actor ≡ false
+pub runs_nowhere : (a : World) (w : RuledWorld fabric) (actor : ℕ) → Stands a w → arbiter_actor 0 < actor → (arbiter_actor 0 < actor → arbiter_actor (length a.seats.items) < actor) → runs w actor ≡ false
 runs_nowhere a w actor s lt far =
     let b : is_arbiter_actor actor ≡ true = grind (arith, nat_tests) in
     ap (λ b. runs_as w actor b) b ∙ ap (λ o. is_some o) (none_there a w actor s lt far)
@@ -77,12 +77,12 @@ pub not_false : (b c : Bool) → c ≡ not b → b ≡ true → c ≡ false
 not_false b c e f = e ∙ ap (λ x. not x) f
 
 -- the state of a running arbitrator
-pub running_at : (a : World) (w : RuledWorld nothing) (place : ℕ) (q : Seat) (x : Arbiter) → Stands a w → place < length a.seats.items → q ≡ get_or a.seats.items place q → q.running ≡ Some x
+pub running_at : (a : World) (w : RuledWorld fabric) (place : ℕ) (q : Seat) (x : Arbiter) → Stands a w → place < length a.seats.items → q ≡ get_or a.seats.items place q → q.running ≡ Some x
     → at (place + 1) w.arbiters ≡ Some (record { table = x.accusations; beside = tt })
 running_at a w place q x s lt read is = sym (seat_at a w place q s lt read).running ∙ ap (λ o. table_of o) is
 
 -- the same by number
-pub runs_at : (a : World) (w : RuledWorld nothing) (actor place : ℕ) (q : Seat) → Stands a w → actor ≡ arbiter_actor (place + 1) → place < length a.seats.items → q ≡ get_or a.seats.items place q
+pub runs_at : (a : World) (w : RuledWorld fabric) (actor place : ℕ) (q : Seat) → Stands a w → actor ≡ arbiter_actor (place + 1) → place < length a.seats.items → q ≡ get_or a.seats.items place q
     → is_some (at (arbiter_number actor) w.arbiters) ≡ is_some q.running
 runs_at a w actor place q s e lt read =
     ap (λ k. is_some (at k w.arbiters)) (seat_number actor place e)
@@ -96,7 +96,7 @@ none_table : (o : Option Arbiter) → is_some o ≡ false → table_of o ≡ tab
 none_table None e = refl
 none_table (Some x) e = absurd (cc)
 
-pub none_at : (a : World) (w : RuledWorld nothing) (actor place : ℕ) (q : Seat) → Stands a w → actor ≡ arbiter_actor (place + 1) → place < length a.seats.items → q ≡ get_or a.seats.items place q → is_some q.running ≡ false
+pub none_at : (a : World) (w : RuledWorld fabric) (actor place : ℕ) (q : Seat) → Stands a w → actor ≡ arbiter_actor (place + 1) → place < length a.seats.items → q ≡ get_or a.seats.items place q → is_some q.running ≡ false
     → at (arbiter_number actor) w.arbiters ≡ None
 none_at a w actor place q s e lt read stopped =
     ap (λ k. at k w.arbiters) (seat_number actor place e) ∙ (sym (seat_at a w place q s lt read).running ∙ none_table q.running stopped)

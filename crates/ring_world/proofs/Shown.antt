@@ -12,7 +12,7 @@ use Rattle.fabric_terms.specs.declared.config.FabricConfig.{FabricConfig}
 use Rattle.ring_points.specs.declared.who.Who.{Who}
 use Rattle.world_rules.specs.Events.{shows, ticked}
 use Rattle.fabric_lemmas.specs.Maps.{at, rises_from}
-use Rattle.world_rules.specs.Nothing.{nothing}
+use Rattle.fabric_above.specs.Fabric.{fabric}
 use Rattle.world_rules.specs.Schedules.{are_of, fits_pairs, readings_fit}
 use Rattle.world_rules.specs.Worlds.{World as RuledWorld}
 use Rattle.ring_world.specs.Room.{most_time}
@@ -31,7 +31,7 @@ use Rattle.ring_world.proofs.Ticked.{IsOf, is_of, of-length}
 abbrev pub so_far : ℕ → List (ℕ × ℕ) → ℕ → List Ruled → List Ruled
 so_far t rs zero es = es
 so_far t rs (suc n) [] = []
-so_far t rs (suc n) (e ∷ es) = ticked {a = nothing} t rs e ∷ so_far t rs n es
+so_far t rs (suc n) (e ∷ es) = ticked {a = fabric} t rs e ∷ so_far t rs n es
 
 -- the code has as many clocks that show them
 pub record ShowsSoFar (c : FabricConfig) (t : ℕ) (nodes : List Running) (clocks : List (Who × ℕ)) (rs : List (ℕ × ℕ)) (n : ℕ) (es : List Ruled) : Type 0 where
@@ -49,16 +49,16 @@ so_far-next t rs zero es = refl
 so_far-next t rs (suc n) [] = refl
 so_far-next t rs (suc n) (e ∷ es) = so_far-next t rs n es
 
-so_far-more : (t : ℕ) (rs : List (ℕ × ℕ)) (n : ℕ) (es : List Ruled) (e : Ruled) → slice_get es n ≡ Some e → slice_set (so_far t rs n es) n (ticked {a = nothing} t rs e) ≡ so_far t rs (suc n) es
+so_far-more : (t : ℕ) (rs : List (ℕ × ℕ)) (n : ℕ) (es : List Ruled) (e : Ruled) → slice_get es n ≡ Some e → slice_set (so_far t rs n es) n (ticked {a = fabric} t rs e) ≡ so_far t rs (suc n) es
 so_far-more t rs n [] e g = absurd (cc)
-so_far-more t rs zero (q ∷ es) e g = let same : e ≡ q = cc in ap (λ (x : Ruled). ticked {a = nothing} t rs x ∷ es) same
-so_far-more t rs (suc n) (q ∷ es) e g = ap (λ r. ticked {a = nothing} t rs q ∷ r) (so_far-more t rs n es e g)
+so_far-more t rs zero (q ∷ es) e g = let same : e ≡ q = cc in ap (λ (x : Ruled). ticked {a = fabric} t rs x ∷ es) same
+so_far-more t rs (suc n) (q ∷ es) e g = ap (λ r. ticked {a = fabric} t rs q ∷ r) (so_far-more t rs n es e g)
 
 so_far-all : (t : ℕ) (rs : List (ℕ × ℕ)) (n : ℕ) (es : List Ruled) → length es ≤ n → so_far t rs n es ≡ after_tick t rs es
 so_far-all t rs zero [] h = refl
 so_far-all t rs (suc n) [] h = refl
 so_far-all t rs zero (e ∷ es) h = absurd (omega arith)
-so_far-all t rs (suc n) (e ∷ es) h = ap (λ r. ticked {a = nothing} t rs e ∷ r) (so_far-all t rs n es (omega arith))
+so_far-all t rs (suc n) (e ∷ es) h = ap (λ r. ticked {a = fabric} t rs e ∷ r) (so_far-all t rs n es (omega arith))
 
 -- the readings rise as the nodes do
 rise_as : (low : ℕ) (rs : List (ℕ × ℕ)) (es : List Ruled) → are_of rs es ≡ true → rises_from low es ≡ true → rises_from low rs ≡ true
@@ -72,7 +72,7 @@ rise_as low (r ∷ rs) (e ∷ es) of h =
     ap (λ k. nat_le low k && rises_from (k + 1) rs) same ∙ (ap (λ b. b && rises_from (e.0 + 1) rs) rise.0 ∙ rest)
 
 -- each reading fits where all do
-fits_at : (c : FabricConfig) (w : RuledWorld nothing) (t : ℕ) (rs : List (ℕ × ℕ)) (i : ℕ) (d : ℕ × ℕ) → readings_fit c w t rs ≡ true → i < length rs
+fits_at : (c : FabricConfig) (w : RuledWorld fabric) (t : ℕ) (rs : List (ℕ × ℕ)) (i : ℕ) (d : ℕ × ℕ) → readings_fit c w t rs ≡ true → i < length rs
     → fits_pairs c t (get_or rs i d).1 (at (get_or rs i d).0 w.nodes) ≡ true
 fits_at c w t [] i d h lt = absurd (omega arith)
 fits_at c w t (r ∷ rs) zero d h lt = (and_parts (fits_pairs c t r.1 (at r.0 w.nodes)) (readings_fit c w t rs) h).0
@@ -97,7 +97,7 @@ run_later c t u (r ∷ rs) (e ∷ es) le h = (
   run_later c t u rs es le h.1,
 )
 
-pub none_shown : (a : World) (w : RuledWorld nothing) (t : ℕ) (rs : List (ℕ × ℕ)) → Stands a w → a.time ≤ t → ShowsSoFar a.config t a.running.items a.clocks.items rs 0 w.nodes
+pub none_shown : (a : World) (w : RuledWorld fabric) (t : ℕ) (rs : List (ℕ × ℕ)) → Stands a w → a.time ≤ t → ShowsSoFar a.config t a.running.items a.clocks.items rs 0 w.nodes
 none_shown a w t rs s later = record { running = run_later a.config a.time t a.running.items w.nodes later s.nodes.running; clocks_are = s.nodes.clocks }
 
 pub all_shown : (c : FabricConfig) (t : ℕ) (nodes : List Running) (clocks : List (Who × ℕ)) (rs : List (ℕ × ℕ)) (n : ℕ) (es : List Ruled) → are_of rs es ≡ true → length rs ≤ n
@@ -117,7 +117,7 @@ rest_stays a b nodes clocks e = ap (λ (x : World). record x { running = nodes; 
 
 -- one more clock shows its reading
 
-module _ (a : World) (w : RuledWorld nothing) (t : ℕ) (nodes : List Running) (clocks : List (Who × ℕ)) (rs : List (ℕ × ℕ)) (i : ℕ) (d : ℕ × ℕ)
+module _ (a : World) (w : RuledWorld fabric) (t : ℕ) (nodes : List Running) (clocks : List (Who × ℕ)) (rs : List (ℕ × ℕ)) (i : ℕ) (d : ℕ × ℕ)
     (st : Stands a w) (of : are_of rs w.nodes ≡ true) (lt : i < length rs) (s : ShowsSoFar a.config t nodes clocks rs i w.nodes) where
   abbrev pub reading : ℕ
   reading = (get_or rs i d).1
@@ -153,10 +153,10 @@ module _ (a : World) (w : RuledWorld nothing) (t : ℕ) (nodes : List Running) (
       at_place 0 rs i entry.0 reading (rise_as 0 rs w.nodes of st.nodes.rise) (here ∙ ap (λ x. Some x) same)
 
   abbrev shown : Ruled
-  shown = (entry.0, shows {a = nothing} t reading entry.1)
+  shown = (entry.0, shows {a = fabric} t reading entry.1)
 
-  shown_is : shown ≡ ticked {a = nothing} t rs entry
-  shown_is = sym (ap (λ o. (entry.0, shows {a = nothing} t (unwrap_or o entry.1.reading) entry.1)) named)
+  shown_is : shown ≡ ticked {a = fabric} t rs entry
+  shown_is = sym (ap (λ o. (entry.0, shows {a = fabric} t (unwrap_or o entry.1.reading) entry.1)) named)
 
   more_are : slice_set (so_far t rs i w.nodes) i shown ≡ so_far t rs (i + 1) w.nodes
   more_are =

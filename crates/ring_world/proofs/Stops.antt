@@ -5,14 +5,14 @@ use Rattle.std.proofs.lemmas.Bool.Decides.{nat_tests}
 use Rattle.fabric_terms.specs.declared.event.Event.TheVariants.{Stop, Junk}
 use Rattle.world_rules.specs.Events.{world_step, stops, node_stops, is_arbiter_actor}
 use Rattle.fabric_lemmas.specs.Maps.{at}
-use Rattle.world_rules.specs.Nothing.{nothing}
+use Rattle.fabric_above.specs.Fabric.{fabric}
 use Rattle.world_rules.specs.Schedules.{is_there, runs, runs_as}
 use Rattle.world_rules.specs.Worlds.{World as RuledWorld}
 use Rattle.world_rules.proofs.Rows.{world_step-stop, is_there-stop, is_there-junk}
 use Rattle.ring_world.specs.Answers.{is_frame}
 use Rattle.ring_world.specs.declared.world.World.{World}
 
-module _ (a : World) (w : RuledWorld nothing) where
+module _ (a : World) (w : RuledWorld fabric) where
   pub stop_runs : (actor : ℕ) (b : Bool) → runs w actor ≡ b → is_there is_frame a.config w (Stop actor) ≡ b
   stop_runs actor b h = is_there-stop is_frame a.config w actor ∙ h
 
@@ -26,8 +26,8 @@ module _ (a : World) (w : RuledWorld nothing) where
   pub node_runs_is : (node : ℕ) (b : Bool) → node ≤ 999 → is_some (at node w.nodes) ≡ b → runs w node ≡ b
   node_runs_is node b le h = ap (λ x. runs_as w node x) (node_actor node le) ∙ h
 
-  pub stop_node_is : (node : ℕ) → node ≤ 999 → world_step nothing a.config w (Stop node) ≡ node_stops nothing w node (at node w.nodes)
-  stop_node_is node le = world_step-stop nothing a.config w node ∙ ap (λ x. stops nothing w node x) (node_actor node le)
+  pub stop_node_is : (node : ℕ) → node ≤ 999 → world_step fabric a.config w (Stop node) ≡ node_stops fabric w node (at node w.nodes)
+  stop_node_is node le = world_step-stop fabric a.config w node ∙ ap (λ x. stops fabric w node x) (node_actor node le)
 
-  pub stop_arbiter_is : (actor : ℕ) → is_arbiter_actor actor ≡ true → world_step nothing a.config w (Stop actor) ≡ stops nothing w actor true
-  stop_arbiter_is actor h = world_step-stop nothing a.config w actor ∙ ap (λ x. stops nothing w actor x) h
+  pub stop_arbiter_is : (actor : ℕ) → is_arbiter_actor actor ≡ true → world_step fabric a.config w (Stop actor) ≡ stops fabric w actor true
+  stop_arbiter_is actor h = world_step-stop fabric a.config w actor ∙ ap (λ x. stops fabric w actor x) h

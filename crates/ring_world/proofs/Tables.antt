@@ -13,7 +13,7 @@ use Rattle.world_rules.specs.Arbiters.{ArbiterState, arbiter_begun}
 use Rattle.world_rules.proofs.Rows.{arbiter_begun-is}
 use Rattle.world_rules.specs.Events.{arbiter_stops, starts_with, arbiter_number}
 use Rattle.fabric_lemmas.specs.Maps.{at, put, without}
-use Rattle.world_rules.specs.Nothing.{nothing}
+use Rattle.fabric_above.specs.Fabric.{fabric}
 use Rattle.world_rules.specs.Worlds.{World as RuledWorld, Stepped, kept_of}
 use Rattle.fabric_lemmas.proofs.Maps.{at-put, at-without}
 use Rattle.ring_world.specs.Answers.{entry_of}
@@ -35,7 +35,7 @@ get_set (q ∷ xs) (suc i) zero y x e = inr ((λ s. absurd (omega arith)), e)
 get_set (q ∷ xs) (suc i) (suc k) y x e =
     elim (get_set xs i k y x e) [ inl h ↦ inl (ap suc h.0, h.1) | inr h ↦ inr ((λ s. h.0 (omega arith)), h.1) ]
 
-pub arbiters_set : (a b : Seen) (w v : RuledWorld nothing) (place : ℕ) (q : SeenSeat) → ArbitersStand a w → place < length a.seats
+pub arbiters_set : (a b : Seen) (w v : RuledWorld fabric) (place : ℕ) (q : SeenSeat) → ArbitersStand a w → place < length a.seats
     → b.seats ≡ slice_set a.seats place q → b.config ≡ a.config → b.events ≡ a.events + 1 → IsSeat v (a.events + 1) (place + 1) q
     → ((k : ℕ) → (k ≡ place + 1 → ⊥) → at k v.arbiters ≡ at k w.arbiters)
     → ((k : ℕ) → (k ≡ place + 1 → ⊥) → kept_of v (arbiter_actor k) ≡ kept_of w (arbiter_actor k))
@@ -81,7 +81,7 @@ at_same_without {X = X} k es = at-without k es k ∙ ap (λ b. cond b (none X) (
 
 -- a stop
 
-module _ (a : World) (w : RuledWorld nothing) (place : ℕ) (q : SeenSeat) (t : ArbiterState nothing)
+module _ (a : World) (w : RuledWorld fabric) (place : ℕ) (q : SeenSeat) (t : ArbiterState fabric)
     (st : Stands a w) (here : slice_get (seen_of a).seats place ≡ Some q) (within : place < length (seen_of a).seats) (few : a.events < most_events) where
   abbrev pub stopped_seat : SeenSeat
   stopped_seat = record q { running = None }
@@ -89,8 +89,8 @@ module _ (a : World) (w : RuledWorld nothing) (place : ℕ) (q : SeenSeat) (t : 
   abbrev pub seen_stopped : Seen
   seen_stopped = record (seen_of a) { events = a.events + 1; seats = slice_set (seen_of a).seats place stopped_seat }
 
-  abbrev after : RuledWorld nothing
-  after = (arbiter_stops nothing w (place + 1) (Some t)).world
+  abbrev after : RuledWorld fabric
+  after = (arbiter_stops fabric w (place + 1) (Some t)).world
 
   is_stopped : IsSeat after (a.events + 1) (place + 1) stopped_seat
   is_stopped =
@@ -108,10 +108,10 @@ module _ (a : World) (w : RuledWorld nothing) (place : ℕ) (q : SeenSeat) (t : 
     frames = record { frames = st.frames.frames; counted = st.frames.counted; sent = st.frames.sent; few = st.frames.few };
   }
 
-  pub stop_arbiter_moves : (new : World) (x : Stepped nothing) (line : ℕ) (acted : Acted) (who : Who) → x ≡ arbiter_stops nothing w (place + 1) (Some t) → seen_of new ≡ seen_stopped → new.places ≡ a.places
+  pub stop_arbiter_moves : (new : World) (x : Stepped fabric) (line : ℕ) (acted : Acted) (who : Who) → x ≡ arbiter_stops fabric w (place + 1) (Some t) → seen_of new ≡ seen_stopped → new.places ≡ a.places
       → who ≡ record { actor = arbiter_actor (place + 1); instance = 0 } → acted ≡ record { line = line; time = a.time; who = who; reading = None; sent = (0, 0); reports = Stopped ∷ [] }
       → Moves a new x line (Some acted)
-  stop_arbiter_moves new x line acted who step seen places name is = subst (λ (y : Stepped nothing). Moves a new y line (Some acted)) (sym step) (record {
+  stop_arbiter_moves new x line acted who step seen places name is = subst (λ (y : Stepped fabric). Moves a new y line (Some acted)) (sym step) (record {
     config = ap (λ (x : Seen). x.config) seen;
     events = ap (λ (x : Seen). x.events) seen;
     state = subst (λ (x : Seen). SeenStands x after) (sym seen) stands_stopped;
@@ -122,7 +122,7 @@ module _ (a : World) (w : RuledWorld nothing) (place : ℕ) (q : SeenSeat) (t : 
 
 -- a start
 
-module _ (a : World) (w : RuledWorld nothing) (place : ℕ) (q : SeenSeat) (x : Arbiter)
+module _ (a : World) (w : RuledWorld fabric) (place : ℕ) (q : SeenSeat) (x : Arbiter)
     (st : Stands a w) (here : slice_get (seen_of a).seats place ≡ Some q) (within : place < length (seen_of a).seats) (few : a.events < most_events)
     (made : x ≡ record { number = place + 1; accusations = accusations_after [] q.records }) where
   abbrev pub started_seat : SeenSeat
@@ -131,8 +131,8 @@ module _ (a : World) (w : RuledWorld nothing) (place : ℕ) (q : SeenSeat) (x : 
   abbrev pub seen_started : Seen
   seen_started = record (seen_of a) { events = a.events + 1; seats = slice_set (seen_of a).seats place started_seat }
 
-  abbrev begun : RuledWorld nothing
-  begun = (starts_with nothing a.config w (arbiter_actor (place + 1)) None (kept_of w (arbiter_actor (place + 1)))).world
+  abbrev begun : RuledWorld fabric
+  begun = (starts_with fabric a.config w (arbiter_actor (place + 1)) None (kept_of w (arbiter_actor (place + 1)))).world
 
   number_is : arbiter_number (arbiter_actor (place + 1)) ≡ place + 1
   number_is = omega arith
@@ -140,15 +140,15 @@ module _ (a : World) (w : RuledWorld nothing) (place : ℕ) (q : SeenSeat) (x : 
   old : IsSeat w a.events (place + 1) q
   old = st.arbiters.seats place q here
 
-  state_is : arbiter_begun nothing a.config (place + 1) (kept_of w (arbiter_actor (place + 1))) ≡ record { table = x.accusations; beside = tt }
+  state_is : arbiter_begun fabric a.config (place + 1) (kept_of w (arbiter_actor (place + 1))) ≡ record { table = x.accusations; beside = tt }
   state_is =
-      arbiter_begun-is nothing a.config (place + 1) (kept_of w (arbiter_actor (place + 1)))
+      arbiter_begun-is fabric a.config (place + 1) (kept_of w (arbiter_actor (place + 1)))
       ∙ ap (λ (ts : Accusations). record { table = ts; beside = tt }) (ap (λ rs. accusations_after [] rs) (sym old.records) ∙ sym (ap (λ (y : Arbiter). y.accusations) made))
 
   tables_are : begun.arbiters ≡ put (place + 1) (record { table = x.accusations; beside = tt }) w.arbiters
   tables_are =
-      ap (λ (k : ℕ). put k (arbiter_begun nothing a.config k (kept_of w (arbiter_actor (place + 1)))) w.arbiters) number_is
-      ∙ ap (λ (t : ArbiterState nothing). put (place + 1) t w.arbiters) state_is
+      ap (λ (k : ℕ). put k (arbiter_begun fabric a.config k (kept_of w (arbiter_actor (place + 1)))) w.arbiters) number_is
+      ∙ ap (λ (t : ArbiterState fabric). put (place + 1) t w.arbiters) state_is
 
   is_started : IsSeat begun (a.events + 1) (place + 1) started_seat
   is_started =
@@ -172,11 +172,11 @@ module _ (a : World) (w : RuledWorld nothing) (place : ℕ) (q : SeenSeat) (x : 
     frames = record { frames = st.frames.frames; counted = st.frames.counted; sent = st.frames.sent; few = st.frames.few };
   }
 
-  pub start_arbiter_moves : (new : World) (y : Stepped nothing) (line : ℕ) (acted : Acted) (actor : ℕ) → actor ≡ arbiter_actor (place + 1) → y ≡ starts_with nothing a.config w actor None (kept_of w actor) → seen_of new ≡ seen_started → new.places ≡ a.places
+  pub start_arbiter_moves : (new : World) (y : Stepped fabric) (line : ℕ) (acted : Acted) (actor : ℕ) → actor ≡ arbiter_actor (place + 1) → y ≡ starts_with fabric a.config w actor None (kept_of w actor) → seen_of new ≡ seen_started → new.places ≡ a.places
       → acted ≡ record { line = line; time = a.time; who = record { actor = actor; instance = 0 }; reading = None; sent = (0, 0); reports = [] }
       → Moves a new y line (Some acted)
   start_arbiter_moves new y line acted actor name step seen places is =
-      subst (λ (z : Stepped nothing). Moves a new z line (Some acted)) (sym (step ∙ ap (λ k. starts_with nothing a.config w k None (kept_of w k)) name)) (record {
+      subst (λ (z : Stepped fabric). Moves a new z line (Some acted)) (sym (step ∙ ap (λ k. starts_with fabric a.config w k None (kept_of w k)) name)) (record {
         config = ap (λ (x : Seen). x.config) seen;
         events = ap (λ (x : Seen). x.events) seen;
         state = subst (λ (x : Seen). SeenStands x begun) (sym seen) stands_started;

@@ -14,7 +14,7 @@ use Rattle.drift_clock.proofs.Kept.{latest_is}
 use Rattle.fabric_terms.specs.declared.config.FabricConfig.{FabricConfig}
 use Rattle.ring_points.specs.declared.who.Who.{Who}
 use Rattle.fabric_lemmas.specs.Maps.{at}
-use Rattle.world_rules.specs.Nothing.{nothing}
+use Rattle.fabric_above.specs.Fabric.{fabric}
 use Rattle.world_rules.specs.Schedules.{are_of, fits_pairs, readings_fit}
 use Rattle.world_rules.specs.Worlds.{World as RuledWorld, Running as RuledRunning}
 use Rattle.ring_world.specs.Drifts.{broken_of, first_broken, shown_by}
@@ -95,7 +95,7 @@ none_broken k (p ∷ ps) now s le fits =
     let order : p.0 ≤ now.0 = subst (λ (q : Pair). q.0 ≤ now.0) latest le in
     (named k.bound p ps now s.within order).0.1 fits
 
-module _ (c : FabricConfig) (w : RuledWorld nothing) (t : ℕ) (rs : List (ℕ × ℕ)) (i : ℕ) (r : ℕ × ℕ) (lt : i < length rs) where
+module _ (c : FabricConfig) (w : RuledWorld fabric) (t : ℕ) (rs : List (ℕ × ℕ)) (i : ℕ) (r : ℕ × ℕ) (lt : i < length rs) where
   abbrev reading : ℕ × ℕ
   reading = get_or rs i r
 
@@ -105,7 +105,7 @@ module _ (c : FabricConfig) (w : RuledWorld nothing) (t : ℕ) (rs : List (ℕ �
   fit_next : readings_fit c w t (drop i rs) ≡ (fits_pairs c t reading.1 (at reading.0 w.nodes) && readings_fit c w t (drop (i + 1) rs))
   fit_next = rw (drop-cons rs i r, add-one) refl
 
-  module _ (s : RuledRunning nothing) (here : at reading.0 w.nodes ≡ Some s) where
+  module _ (s : RuledRunning fabric) (here : at reading.0 w.nodes ≡ Some s) where
     pub broken_on : broken_with c.bound s.pairs (t, reading.1) ≡ None → first_broken c w t (drop (i + 1) rs) ≡ first_broken c w t (drop i rs)
     broken_on none =
         sym (broken_next
@@ -137,16 +137,16 @@ module _ (c : FabricConfig) (w : RuledWorld nothing) (t : ℕ) (rs : List (ℕ �
         (and_parts (fits_all c.bound s.pairs (t, reading.1)) (readings_fit c w t (drop (i + 1) rs)) e).0
 
 -- the end of the readings
-pub broken_end : (c : FabricConfig) (w : RuledWorld nothing) (t : ℕ) (rs : List (ℕ × ℕ)) (i : ℕ) → length rs ≤ i → (first_broken c w t (drop i rs) ≡ None) × (readings_fit c w t (drop i rs) ≡ true)
+pub broken_end : (c : FabricConfig) (w : RuledWorld fabric) (t : ℕ) (rs : List (ℕ × ℕ)) (i : ℕ) → length rs ≤ i → (first_broken c w t (drop i rs) ≡ None) × (readings_fit c w t (drop i rs) ≡ true)
 broken_end c w t rs i h = (rw (drop_all i rs h) refl, rw (drop_all i rs h) refl)
 
 -- the node of a reading, in the rules and in the code
-pub record IsClock (a : World) (w : RuledWorld nothing) (reading : ℕ × ℕ) (r : Running) : Type 0 where
+pub record IsClock (a : World) (w : RuledWorld fabric) (reading : ℕ × ℕ) (r : Running) : Type 0 where
   pub entry : Ruled
   pub here : at reading.0 w.nodes ≡ Some entry.1
   pub runs : RunsAs a.config a.time r entry
 
-module _ (a : World) (w : RuledWorld nothing) (rs : List (ℕ × ℕ)) (i : ℕ) (st : Stands a w) (of : are_of rs w.nodes ≡ true) (lt : i < length rs) where
+module _ (a : World) (w : RuledWorld fabric) (rs : List (ℕ × ℕ)) (i : ℕ) (st : Stands a w) (of : are_of rs w.nodes ≡ true) (lt : i < length rs) where
   pub clock_within : i < length a.running.items
   clock_within =
       let n = of-length rs w.nodes of in
@@ -165,7 +165,7 @@ module _ (a : World) (w : RuledWorld nothing) (rs : List (ℕ × ℕ)) (i : ℕ)
       }
 
 -- what the clock of the code says of a reading, the rules say
-module _ (a : World) (w : RuledWorld nothing) (t : ℕ) (rs : List (ℕ × ℕ)) (i : ℕ) (d : ℕ × ℕ) (r : Running) (lt : i < length rs) (later : a.time ≤ t) (k : IsClock a w (get_or rs i d) r) where
+module _ (a : World) (w : RuledWorld fabric) (t : ℕ) (rs : List (ℕ × ℕ)) (i : ℕ) (d : ℕ × ℕ) (r : Running) (lt : i < length rs) (later : a.time ≤ t) (k : IsClock a w (get_or rs i d) r) where
   abbrev pub now : Pair
   now = (t, (get_or rs i d).1)
 

@@ -8,7 +8,7 @@ use Rattle.point_places.specs.Spots.{place_at}
 use Rattle.ring_points.specs.declared.who.Who.{Who}
 use Rattle.world_rules.specs.Events.{ticks, world_step}
 use Rattle.fabric_lemmas.specs.Maps.{rises_from}
-use Rattle.world_rules.specs.Nothing.{nothing}
+use Rattle.fabric_above.specs.Fabric.{fabric}
 use Rattle.world_rules.specs.Schedules.{are_of, is_there, keeps_bound, readings_fit}
 use Rattle.world_rules.specs.Worlds.{World as RuledWorld, Stepped}
 use Rattle.world_rules.proofs.Rows.{is_there-tick, keeps_bound-tick, world_step-tick}
@@ -27,7 +27,7 @@ use Rattle.ring_world.proofs.Nodes.{Ruled, run_numbered}
 use Rattle.ring_world.proofs.Ticked.{of_nodes}
 
 -- what a tick names, and what it needs
-module _ (a : World) (w : RuledWorld nothing) (advance : ℕ) (readings : List (ℕ × ℕ)) (st : Stands a w) where
+module _ (a : World) (w : RuledWorld fabric) (advance : ℕ) (readings : List (ℕ × ℕ)) (st : Stands a w) where
   pub tick_of : (clocks : List (Who × ℕ)) (b : Bool) → clocks ≡ a.clocks.items → are_of_clocks readings clocks ≡ b → are_of readings w.nodes ≡ b
   tick_of clocks b same e =
       sym (of_nodes readings w.nodes (run_numbered a.config a.time a.running.items w.nodes st.nodes.running))
@@ -75,7 +75,7 @@ ticked-length t rs [] = refl
 ticked-length t rs (e ∷ es) = ap suc (ticked-length t rs es)
 
 -- what a tick does
-module _ (a : World) (w : RuledWorld nothing) (advance : ℕ) (readings : List (ℕ × ℕ)) (nodes : List Running) (clocks : List (Who × ℕ))
+module _ (a : World) (w : RuledWorld fabric) (advance : ℕ) (readings : List (ℕ × ℕ)) (nodes : List Running) (clocks : List (Who × ℕ))
     (st : Stands a w) (shows : Shows a.config (a.time + advance) nodes clocks readings w.nodes) (few : a.events < most_events) (early : a.time + advance ≤ most_time) where
   abbrev time : ℕ
   time = a.time + advance
@@ -83,8 +83,8 @@ module _ (a : World) (w : RuledWorld nothing) (advance : ℕ) (readings : List (
   abbrev seen_after : Seen
   seen_after = record (seen_of a) { time = time; events = a.events + 1; running = nodes; clocks = clocks }
 
-  abbrev after : RuledWorld nothing
-  after = (ticks nothing w time readings).world
+  abbrev after : RuledWorld fabric
+  after = (ticks fabric w time readings).world
 
   stands_after : SeenStands seen_after after
   stands_after = record {
@@ -104,11 +104,11 @@ module _ (a : World) (w : RuledWorld nothing) (advance : ℕ) (readings : List (
     frames = record { frames = st.frames.frames; counted = st.frames.counted; sent = st.frames.sent; few = st.frames.few };
   }
 
-  step_is : world_step nothing a.config w (Tick advance readings) ≡ ticks nothing w time readings
-  step_is = world_step-tick nothing a.config w advance readings ∙ ap (λ t. ticks nothing w (t + advance) readings) (sym st.time)
+  step_is : world_step fabric a.config w (Tick advance readings) ≡ ticks fabric w time readings
+  step_is = world_step-tick fabric a.config w advance readings ∙ ap (λ t. ticks fabric w (t + advance) readings) (sym st.time)
 
-  pub tick_moves : (new : World) (line : ℕ) → seen_of new ≡ seen_after → new.places ≡ a.places → Moves a new (world_step nothing a.config w (Tick advance readings)) line None
-  tick_moves new line seen places = subst (λ (x : Stepped nothing). Moves a new x line None) (sym step_is) (record {
+  pub tick_moves : (new : World) (line : ℕ) → seen_of new ≡ seen_after → new.places ≡ a.places → Moves a new (world_step fabric a.config w (Tick advance readings)) line None
+  tick_moves new line seen places = subst (λ (x : Stepped fabric). Moves a new x line None) (sym step_is) (record {
     config = ap (λ (x : Seen). x.config) seen;
     events = ap (λ (x : Seen). x.events) seen;
     state = subst (λ (x : Seen). SeenStands x after) (sym seen) stands_after;

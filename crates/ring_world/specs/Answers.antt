@@ -7,7 +7,7 @@ use Rattle.fabric_terms.specs.declared.event.Event.{Event}
 use Rattle.ring_wire.specs.Kinds.{message_of}
 use Rattle.fabric_terms.specs.Ranges.{Fits}
 use Rattle.world_rules.specs.Events.{world_step}
-use Rattle.world_rules.specs.Nothing.{nothing}
+use Rattle.fabric_above.specs.Fabric.{fabric}
 use Rattle.world_rules.specs.Runs.{History, world_after}
 use Rattle.world_rules.specs.Schedules.{Valid, is_there, keeps_bound}
 use Rattle.world_rules.specs.Worlds.{World as RuledWorld}
@@ -24,15 +24,15 @@ abbrev pub is_frame : List ℕ → Bool
 is_frame bytes = is_some (message_of bytes)
 
 -- the world of the rules after a history
-abbrev pub ruled : FabricConfig → History → RuledWorld nothing
-ruled c h = world_after nothing c h
+abbrev pub ruled : FabricConfig → History → RuledWorld fabric
+ruled c h = world_after fabric c h
 
 -- The world stands for a valid history of a sound configuration, whose events are in the ranges of schedules.
 pub record StandsFor (a : World) (c : FabricConfig) (h : History) : Type 0 where
   pub config : a.config ≡ c
   pub sound : IsSound c
   pub fits : All (λ e. Fits e.1) h
-  pub valid : Valid nothing is_frame c h
+  pub valid : Valid fabric is_frame c h
   pub keeps : Keeps a c h
 
 -- it stands for some
@@ -68,8 +68,8 @@ IsSeenAt line time (Some a) = (a.line ≡ line) × (a.time ≡ time)
 pub record Takes (new : World) (c : FabricConfig) (h : History) (line : ℕ) (e : Event) (acted : Option Acted) : Type 0 where
   pub accepted : Accepts c h e
   pub stands : StandsFor new c ((line, e) ∷ h)
-  pub entry : entry_of acted ≡ (world_step nothing c (ruled c h) e).entry
-  pub seen : IsSeenAt line (world_step nothing c (ruled c h) e).world.time acted
+  pub entry : entry_of acted ≡ (world_step fabric c (ruled c h) e).entry
+  pub seen : IsSeenAt line (world_step fabric c (ruled c h) e).world.time acted
 
 -- a refused event changes nothing
 pub record Stays (new : World) (c : FabricConfig) (h : History) (e : Event) (refusal : EventRefusal) : Type 0 where

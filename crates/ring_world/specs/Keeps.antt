@@ -5,13 +5,13 @@ use Rattle.fabric_terms.specs.Places.{place_of}
 use Rattle.fabric_terms.specs.Reports.{told}
 use Rattle.point_places.specs.Spots.{place_at}
 use Rattle.ring_points.specs.Whos.{node_instance}
-use Rattle.world_rules.specs.Nothing.{nothing}
+use Rattle.fabric_above.specs.Fabric.{fabric}
 use Rattle.world_rules.specs.Runs.{History, run_of, world_after}
 use Rattle.ring_world.specs.Stands.{Stands}
 use Rattle.ring_world.specs.declared.world.World.{World}
 
 -- it stands for the world after the history, and its places are those that the history's reports tell
 pub record Keeps (a : World) (c : FabricConfig) (h : History) : Type 0 where
-  pub state : Stands a (world_after nothing c h)
+  pub state : Stands a (world_after fabric c h)
   pub events : a.events ≡ length h
-  pub places : (p : ℕ) → p < 2 ^ 64 → place_at a.places p ≡ place_of (node_instance c.first 1) (told (run_of nothing c h)) p
+  pub places : (p : ℕ) → p < 2 ^ 64 → place_at a.places p ≡ place_of (node_instance c.first 1) (told (run_of fabric c h)) p

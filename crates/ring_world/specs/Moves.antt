@@ -8,7 +8,7 @@ use Rattle.fabric_terms.specs.declared.report.Report.{Report}
 use Rattle.point_places.specs.Spots.{place_at}
 use Rattle.ring_points.specs.declared.who.Who.{Who}
 use Rattle.world_rules.specs.Events.{world_step}
-use Rattle.world_rules.specs.Nothing.{nothing}
+use Rattle.fabric_above.specs.Fabric.{fabric}
 use Rattle.world_rules.specs.Schedules.{is_there, keeps_bound}
 use Rattle.world_rules.specs.Worlds.{World as RuledWorld, Stepped}
 use Rattle.ring_world.specs.Answers.{is_frame, entry_of, IsSeenAt}
@@ -31,7 +31,7 @@ placed_in None p place = place
 placed_in (Some e) p place = placed_by e.who e.reports p place
 
 -- the world is now as after this step, and what an actor did is what the step has of it
-pub record Moves (old new : World) (st : Stepped nothing) (line : ℕ) (acted : Option Acted) : Type 0 where
+pub record Moves (old new : World) (st : Stepped fabric) (line : ℕ) (acted : Option Acted) : Type 0 where
   pub config : new.config ≡ old.config
   pub events : new.events ≡ old.events + 1
   pub state : Stands new st.world
@@ -44,13 +44,13 @@ pub record Same (old new : World) : Type 0 where
   pub seen : seen_of new ≡ seen_of old
   pub places : (p : ℕ) → p < 2 ^ 64 → place_at new.places p ≡ place_at old.places p
 
-pub record MayCome (a : World) (w : RuledWorld nothing) (e : Event) : Type 0 where
+pub record MayCome (a : World) (w : RuledWorld fabric) (e : Event) : Type 0 where
   pub there : is_there is_frame a.config w e ≡ true
   pub bound : keeps_bound a.config w e ≡ true
   pub room : has_room w a.events e ≡ true
 
 -- why an event may not come, as the world of the rules says
-abbrev pub MayNot : EventRefusal → World → RuledWorld nothing → Event → Type 0
+abbrev pub MayNot : EventRefusal → World → RuledWorld fabric → Event → Type 0
 MayNot NoSuch a w e = is_there is_frame a.config w e ≡ false
 MayNot (BrokenDrift broken) a w e =
     (is_there is_frame a.config w e ≡ true) × (keeps_bound a.config w e ≡ false) × (drift_broken a.config w e ≡ Some broken)
@@ -59,21 +59,21 @@ MayNot TooLarge a w e =
 MayNot OutOfMemory a w e = Unit {0}
 
 -- what is answered to an event
-abbrev pub Comes : World → World → RuledWorld nothing → ℕ → Event → Result (Option Acted) EventRefusal → Type 0
-Comes old new w line e (Ok acted) = MayCome old w e × Moves old new (world_step nothing old.config w e) line acted
+abbrev pub Comes : World → World → RuledWorld fabric → ℕ → Event → Result (Option Acted) EventRefusal → Type 0
+Comes old new w line e (Ok acted) = MayCome old w e × Moves old new (world_step fabric old.config w e) line acted
 Comes old new w line e (Err refusal) = MayNot refusal old w e × Same old new
 
 -- what is answered where an actor does something, if there is memory
-abbrev pub Steps : World → World → Stepped nothing → ℕ → Result Acted NoMemory → Type 0
+abbrev pub Steps : World → World → Stepped fabric → ℕ → Result Acted NoMemory → Type 0
 Steps old new st line (Ok acted) = Moves old new st line (Some acted)
 Steps old new st line (Err _) = Same old new
 
 -- the same where perhaps nobody does anything
-abbrev pub Delivers : World → World → Stepped nothing → ℕ → Result (Option Acted) NoMemory → Type 0
+abbrev pub Delivers : World → World → Stepped fabric → ℕ → Result (Option Acted) NoMemory → Type 0
 Delivers old new st line (Ok acted) = Moves old new st line acted
 Delivers old new st line (Err _) = Same old new
 
 -- what is answered to a tick
-abbrev pub ComesTick : World → World → RuledWorld nothing → ℕ → Event → Result (Unit {0}) EventRefusal → Type 0
-ComesTick old new w line e (Ok u) = MayCome old w e × Moves old new (world_step nothing old.config w e) line None
+abbrev pub ComesTick : World → World → RuledWorld fabric → ℕ → Event → Result (Unit {0}) EventRefusal → Type 0
+ComesTick old new w line e (Ok u) = MayCome old w e × Moves old new (world_step fabric old.config w e) line None
 ComesTick old new w line e (Err refusal) = MayNot refusal old w e × Same old new

@@ -9,7 +9,7 @@ use Rattle.ring_points.specs.declared.who.Who.{Who}
 use Rattle.ring_rules.specs.Arbiters.{accusations_after}
 use Rattle.world_rules.specs.Arbiters.{ArbiterState, arbiter_step}
 use Rattle.fabric_lemmas.specs.Maps.{at}
-use Rattle.world_rules.specs.Nothing.{nothing}
+use Rattle.fabric_above.specs.Fabric.{fabric}
 use Rattle.world_rules.specs.Uppers.{Did}
 use Rattle.world_rules.specs.Worlds.{World as RuledWorld, arbiter_acted}
 use Rattle.ring_world.specs.Seen.{SeenSeat, seen_of}
@@ -22,12 +22,12 @@ pub record IsRunning (s : SeenSeat) : Type 0 where
   pub runs : s.running ≡ Some arbiter
   pub table : arbiter.accusations ≡ accusations_after [] s.records
 
-abbrev pub state_of : Arbiter → ArbiterState nothing
+abbrev pub state_of : Arbiter → ArbiterState fabric
 state_of a = record { table = a.accusations; beside = tt }
 
 -- what the rules say of the message
-abbrev pub ruled_by : FabricConfig → Message → Arbiter → Did (ArbiterState nothing)
-ruled_by c m a = arbiter_step nothing c a.number m (state_of a)
+abbrev pub ruled_by : FabricConfig → Message → Arbiter → Did (ArbiterState fabric)
+ruled_by c m a = arbiter_step fabric c a.number m (state_of a)
 
 -- the seat is as the rules say: the arbitrator goes on, what it records is kept, and this is its answer
 pub record Hears (c : FabricConfig) (m : Message) (old new : SeenSeat) (reply : Option (Who × Body)) : Type 0 where
@@ -38,10 +38,10 @@ pub record Hears (c : FabricConfig) (m : Message) (old new : SeenSeat) (reply : 
   pub sent : option_to_list reply ≡ (ruled_by c m arbiter).sent
 
 -- the running arbitrator of this number, and that its answer leaves sound frames
-pub record CanRule (c : FabricConfig) (w : RuledWorld nothing) (arbiter : ℕ) (m : Message) : Type 0 where
-  pub state : ArbiterState nothing
+pub record CanRule (c : FabricConfig) (w : RuledWorld fabric) (arbiter : ℕ) (m : Message) : Type 0 where
+  pub state : ArbiterState fabric
   pub runs : at arbiter w.arbiters ≡ Some state
-  pub sound : LeavesSound (arbiter_acted nothing w arbiter (arbiter_step nothing c arbiter m state))
+  pub sound : LeavesSound (arbiter_acted fabric w arbiter (arbiter_step fabric c arbiter m state))
 
 -- at this place the arbitrator has heard the message and answers so, and nothing else has changed
 pub record HeardAt (old new : World) (place : ℕ) (m : Message) (reply : Option (Who × Body)) : Type 0 where

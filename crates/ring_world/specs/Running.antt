@@ -3,7 +3,7 @@ use Rattle.std.specs.Prelude.{◌≡◌, ℕ, ◌≤◌, List, [], ◌∷◌}
 use Rattle.drift_clock.specs.Extremes.{Stands as DriftStands}
 use Rattle.fabric_terms.specs.declared.config.FabricConfig.{FabricConfig}
 use Rattle.node_core.specs.Nodes.{GoesBy, state_of}
-use Rattle.world_rules.specs.Nothing.{nothing}
+use Rattle.fabric_above.specs.Fabric.{fabric}
 use Rattle.world_rules.specs.Worlds.{Running as RuledRunning}
 use Rattle.ring_world.specs.Room.{most_time}
 use Rattle.ring_world.specs.declared.running.Running.{Running}
@@ -13,7 +13,7 @@ abbrev pub last_node : ℕ
 last_node = 999
 
 -- the node of the code is that of the rules under its number, and its clock has shown the same pairs
-pub record RunsAs (c : FabricConfig) (time : ℕ) (r : Running) (e : ℕ × RuledRunning nothing) : Type 0 where
+pub record RunsAs (c : FabricConfig) (time : ℕ) (r : Running) (e : ℕ × RuledRunning fabric) : Type 0 where
   pub number : e.1.node.ring.me.actor ≡ e.0
   pub in_range : e.0 ≤ last_node
   pub node : state_of r.node.value ≡ e.1.node
@@ -24,7 +24,7 @@ pub record RunsAs (c : FabricConfig) (time : ℕ) (r : Running) (e : ℕ × Rule
   pub reading : e.1.reading ≤ most_time
 
 -- the same of all, in their order
-abbrev pub AllRun : FabricConfig → ℕ → List Running → List (ℕ × RuledRunning nothing) → Type 0
+abbrev pub AllRun : FabricConfig → ℕ → List Running → List (ℕ × RuledRunning fabric) → Type 0
 AllRun c time [] [] = Unit {0}
 AllRun c time [] (e ∷ es) = ⊥
 AllRun c time (r ∷ rs) [] = ⊥

@@ -2,7 +2,7 @@ ghost use Rattle.std.specs.Prelude.{◌≡◌, ◌≤◌, ◌<◌, ℕ, Some, On
 ghost use Rattle.node_core.specs.Nodes.{FitsInput, most_reports};
 ghost use Rattle.world_rules.specs.Events.{node_acts};
 ghost use Rattle.fabric_lemmas.specs.Maps.{at};
-ghost use Rattle.world_rules.specs.Nothing.{nothing};
+ghost use Rattle.fabric_above.specs.Fabric.{fabric};
 ghost use Rattle.world_rules.specs.Worlds.{World as RuledWorld, Running as RuledRunning};
 ghost use Rattle.ring_world.specs.Moves.{Same, Steps};
 ghost use Rattle.ring_world.specs.Room.{most_events, most_frames};
@@ -37,13 +37,13 @@ impl World {
         place: usize,
         input: &Input,
     ) -> Result<Acted, OutOfMemory>
-        requires can { (w : RuledWorld nothing) × Stands self.old w × CanStep self.old.config w place input.now }
+        requires can { (w : RuledWorld fabric) × Stands self.old w × CanStep self.old.config w place input.now }
         requires input { FitsInput input.now }
         requires events { self.old.events < most_events }
         requires frames { self.old.sent < most_frames }
-        ensures { (w : RuledWorld nothing) (node : ℕ) (s : RuledRunning nothing) → Stands self.old w →
+        ensures { (w : RuledWorld fabric) (node : ℕ) (s : RuledRunning fabric) → Stands self.old w →
             slice_get w.nodes place ≡ Some (node, s) → at node w.nodes ≡ Some s →
-            Steps self.old self.new (node_acts nothing self.old.config w node input.now s) line result }
+            Steps self.old self.new (node_acts fabric self.old.config w node input.now s) line result }
     {
         let most = self.running[place].node.most_frames();
         self.make_room(most)?;

@@ -1,6 +1,6 @@
 ghost use Rattle.std.specs.Prelude.{◌≡◌, ◌<◌, ℕ, None};
 ghost use Rattle.fabric_terms.specs.Ranges.{Fits};
-ghost use Rattle.world_rules.specs.Nothing.{nothing};
+ghost use Rattle.fabric_above.specs.Fabric.{fabric};
 ghost use Rattle.world_rules.specs.Worlds.{World as RuledWorld, quiet};
 ghost use Rattle.ring_world.specs.Answers.{IsWorld, is_frame};
 ghost use Rattle.ring_world.specs.Moves.{Comes, Moves};
@@ -26,7 +26,7 @@ impl World {
     /// An event at which no actor does anything.
     pub(crate) fn pass(&mut self)
         requires { self.old.events < most_events }
-        ensures { (w : RuledWorld nothing) (line : ℕ) → Stands self.old w → Moves self.old self.new (quiet nothing w) line None }
+        ensures { (w : RuledWorld fabric) (line : ℕ) → Stands self.old w → Moves self.old self.new (quiet fabric w) line None }
     {
         self.events += 1;
     }
@@ -35,7 +35,7 @@ impl World {
     pub(crate) fn fire(&mut self, line: u64, node: u16) -> Result<Option<Acted>, EventRefusal>
         requires world { IsWorld self.old }
         requires fits { Fits (Event.Fire node) }
-        ensures { (w : RuledWorld nothing) → Stands self.old w → Comes self.old self.new w line (Event.Fire node) result }
+        ensures { (w : RuledWorld fabric) → Stands self.old w → Comes self.old self.new w line (Event.Fire node) result }
     {
         let Some(place) = self.place_of(node) else {
             return Err(EventRefusal::NoSuch);
@@ -55,7 +55,7 @@ impl World {
     ) -> Result<Option<Acted>, EventRefusal>
         requires world { IsWorld self.old }
         requires fits { Fits (Event.Do node command.now) }
-        ensures { (w : RuledWorld nothing) → Stands self.old w → Comes self.old self.new w line (Event.Do node command.now) result }
+        ensures { (w : RuledWorld fabric) → Stands self.old w → Comes self.old self.new w line (Event.Do node command.now) result }
     {
         let Some(place) = self.place_of(node) else {
             return Err(EventRefusal::NoSuch);
@@ -76,7 +76,7 @@ impl World {
         actor: u16,
         bytes: &[u8],
     ) -> Result<Option<Acted>, EventRefusal>
-        ensures { (w : RuledWorld nothing) → Stands self.old w → Comes self.old self.new w line (Event.Junk actor bytes.now) result }
+        ensures { (w : RuledWorld fabric) → Stands self.old w → Comes self.old self.new w line (Event.Junk actor bytes.now) result }
     {
         let _ = line;
         if !self.runs(actor) {

@@ -1,6 +1,6 @@
 ghost use Rattle.std.specs.Prelude.{◌≡◌, ◌==◌, length};
 ghost use Rattle.std.specs.List.{position};
-ghost use Rattle.world_rules.specs.Nothing.{nothing};
+ghost use Rattle.fabric_above.specs.Fabric.{fabric};
 ghost use Rattle.world_rules.specs.Schedules.{is_configured_node, runs};
 ghost use Rattle.world_rules.specs.Worlds.{World as RuledWorld};
 ghost use Rattle.ring_world.specs.Finds.{IsPlaceOf, IsSeatPlace};
@@ -29,7 +29,7 @@ pub fn is_configured(config: &FabricConfig, node: u16) -> bool
 impl World {
     /// The place of this node, if it runs.
     pub(crate) fn place_of(&self, node: u16) -> Option<usize>
-        ensures { (w : RuledWorld nothing) → Stands self.now w → IsPlaceOf node w.nodes result }
+        ensures { (w : RuledWorld fabric) → Stands self.now w → IsPlaceOf node w.nodes result }
     {
         position_of(&self.clocks, node)
     }
@@ -51,7 +51,7 @@ impl World {
 
     /// Whether the actor runs.
     pub(crate) fn runs(&self, actor: u16) -> bool
-        ensures { (w : RuledWorld nothing) → Stands self.now w → result ≡ runs w actor }
+        ensures { (w : RuledWorld fabric) → Stands self.now w → result ≡ runs w actor }
     {
         if actor <= ARBITRATORS {
             return self.place_of(actor).is_some();

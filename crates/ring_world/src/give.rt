@@ -1,7 +1,7 @@
 ghost use Rattle.std.specs.Prelude.{◌≡◌, ◌<◌, ◌==◌, ◌||◌, Some};
 ghost use Rattle.world_rules.specs.Events.{arrives, arrives_at_node};
 ghost use Rattle.fabric_lemmas.specs.Maps.{at};
-ghost use Rattle.world_rules.specs.Nothing.{nothing};
+ghost use Rattle.fabric_above.specs.Fabric.{fabric};
 ghost use Rattle.world_rules.specs.Worlds.{World as RuledWorld};
 ghost use Rattle.ring_points.specs.Whos.{arbiter_actor};
 ghost use Rattle.fabric_terms.specs.Ranges.{Fits};
@@ -27,12 +27,12 @@ fn is_meant(to: Who, me: Who) -> bool
 impl World {
     /// A message comes to a node. It is lost where the node does not run, or another instance than it names.
     fn reach_node(&mut self, line: u64, message: Message) -> Result<Option<Acted>, OutOfMemory>
-        requires can { (w : RuledWorld nothing) × Stands self.old w × LeavesSound (arrives_at_node nothing self.old.config w message (at message.to.actor w.nodes)) }
+        requires can { (w : RuledWorld fabric) × Stands self.old w × LeavesSound (arrives_at_node fabric self.old.config w message (at message.to.actor w.nodes)) }
         requires sound { IsSoundFrame message }
         requires events { self.old.events < most_events }
         requires frames { self.old.sent < most_frames }
-        ensures { (w : RuledWorld nothing) → Stands self.old w →
-            Delivers self.old self.new (arrives_at_node nothing self.old.config w message (at message.to.actor w.nodes)) line result }
+        ensures { (w : RuledWorld fabric) → Stands self.old w →
+            Delivers self.old self.new (arrives_at_node fabric self.old.config w message (at message.to.actor w.nodes)) line result }
     {
         let to = message.to;
         let Some(place) = self.place_of(to.actor) else {
@@ -50,11 +50,11 @@ impl World {
     /// A message comes to an arbitrator. It is lost where the arbitrator does not run.
     fn reach_arbiter(&mut self, line: u64, message: &Message) -> Result<Option<Acted>, OutOfMemory>
         requires arbiter { arbiter_actor 0 < message.now.to.actor }
-        requires can { (w : RuledWorld nothing) × Stands self.old w × LeavesSound (arrives nothing self.old.config w (Some message.now)) }
+        requires can { (w : RuledWorld fabric) × Stands self.old w × LeavesSound (arrives fabric self.old.config w (Some message.now)) }
         requires events { self.old.events < most_events }
         requires frames { self.old.sent < most_frames }
-        ensures { (w : RuledWorld nothing) → Stands self.old w →
-            Delivers self.old self.new (arrives nothing self.old.config w (Some message.now)) line result }
+        ensures { (w : RuledWorld fabric) → Stands self.old w →
+            Delivers self.old self.new (arrives fabric self.old.config w (Some message.now)) line result }
     {
         let Some(place) = self.seat_of(message.to.actor) else {
             self.pass();
@@ -69,12 +69,12 @@ impl World {
 
     /// A message comes to its addressee.
     fn reach(&mut self, line: u64, message: Message) -> Result<Option<Acted>, OutOfMemory>
-        requires can { (w : RuledWorld nothing) × Stands self.old w × LeavesSound (arrives nothing self.old.config w (Some message)) }
+        requires can { (w : RuledWorld fabric) × Stands self.old w × LeavesSound (arrives fabric self.old.config w (Some message)) }
         requires sound { IsSoundFrame message }
         requires events { self.old.events < most_events }
         requires frames { self.old.sent < most_frames }
-        ensures { (w : RuledWorld nothing) → Stands self.old w →
-            Delivers self.old self.new (arrives nothing self.old.config w (Some message)) line result }
+        ensures { (w : RuledWorld fabric) → Stands self.old w →
+            Delivers self.old self.new (arrives fabric self.old.config w (Some message)) line result }
     {
         if message.to.actor <= ARBITRATORS {
             self.reach_node(line, message)
@@ -87,7 +87,7 @@ impl World {
     pub(crate) fn give(&mut self, line: u64, number: u64) -> Result<Option<Acted>, EventRefusal>
         requires world { IsWorld self.old }
         requires fits { Fits (Event.Give number) }
-        ensures { (w : RuledWorld nothing) → Stands self.old w → Comes self.old self.new w line (Event.Give number) result }
+        ensures { (w : RuledWorld fabric) → Stands self.old w → Comes self.old self.new w line (Event.Give number) result }
     {
         let Some(message) = self.frames.get(number) else {
             return Err(EventRefusal::NoSuch);

@@ -1,5 +1,5 @@
 ghost use Rattle.std.specs.Prelude.{◌≡◌, ◌<◌, ◌+◌, IfOk, None, length};
-ghost use Rattle.world_rules.specs.Nothing.{nothing};
+ghost use Rattle.fabric_above.specs.Fabric.{fabric};
 ghost use Rattle.world_rules.specs.Worlds.{World as RuledWorld};
 ghost use Rattle.ring_world.specs.Moves.{Comes};
 ghost use Rattle.ring_world.specs.Rulings.{IsRestored};
@@ -15,7 +15,7 @@ use ring_points::Who;
 impl World {
     /// The arbitrator of this seat as its records made it.
     fn restored(&self, place: usize, number: u16) -> Result<Arbiter, OutOfMemory>
-        requires can { (w : RuledWorld nothing) × Stands self.now w }
+        requires can { (w : RuledWorld fabric) × Stands self.now w }
         requires place { place < length self.now.seats.items }
         requires number { number ≡ place + 1 }
         ensures { IfOk result (IsRestored self.now place) }
@@ -34,9 +34,9 @@ impl World {
         line: u64,
         actor: u16,
     ) -> Result<Option<Acted>, EventRefusal>
-        requires can { (w : RuledWorld nothing) × Stands self.old w }
+        requires can { (w : RuledWorld fabric) × Stands self.old w }
         requires actor { ARBITRATORS < actor }
-        ensures { (w : RuledWorld nothing) → Stands self.old w → Comes self.old self.new w line (Event.Start actor None) result }
+        ensures { (w : RuledWorld fabric) → Stands self.old w → Comes self.old self.new w line (Event.Start actor None) result }
     {
         let Some(place) = self.seat_of(actor) else {
             return Err(EventRefusal::NoSuch);

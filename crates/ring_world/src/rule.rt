@@ -5,7 +5,7 @@ ghost use Rattle.fabric_terms.specs.Messages.{is_sound};
 ghost use Rattle.std.specs.Option.{option_to_list};
 ghost use Rattle.world_rules.specs.Arbiters.{ArbiterState, arbiter_step};
 ghost use Rattle.fabric_lemmas.specs.Maps.{at};
-ghost use Rattle.world_rules.specs.Nothing.{nothing};
+ghost use Rattle.fabric_above.specs.Fabric.{fabric};
 ghost use Rattle.world_rules.specs.Worlds.{World as RuledWorld, arbiter_acted, numbers_of, posted};
 ghost use Rattle.ring_world.specs.Moves.{Same, Steps};
 ghost use Rattle.ring_world.specs.Room.{most_events, most_frames};
@@ -96,7 +96,7 @@ impl World {
         place: usize,
         message: &Message,
     ) -> Result<Option<(Who, Body)>, OutOfMemory>
-        requires can { (w : RuledWorld nothing) × Stands self.old w × CanRule self.old.config w (place + 1) message.now }
+        requires can { (w : RuledWorld fabric) × Stands self.old w × CanRule self.old.config w (place + 1) message.now }
         requires place { place < length self.old.seats.items }
         requires events { self.old.events < most_events }
         ensures refused { OnErr result (Same self.old self.new) }
@@ -114,13 +114,13 @@ impl World {
         place: usize,
         message: &Message,
     ) -> Result<Acted, OutOfMemory>
-        requires can { (w : RuledWorld nothing) × Stands self.old w × CanRule self.old.config w (place + 1) message.now }
+        requires can { (w : RuledWorld fabric) × Stands self.old w × CanRule self.old.config w (place + 1) message.now }
         requires place { place < length self.old.seats.items }
         requires actor { message.now.to.actor ≡ arbiter_actor (place + 1) }
         requires events { self.old.events < most_events }
         requires frames { self.old.sent < most_frames }
-        ensures { (w : RuledWorld nothing) (s : ArbiterState nothing) → Stands self.old w → at (place + 1) w.arbiters ≡ Some s →
-            Steps self.old self.new (arbiter_acted nothing w (place + 1) (arbiter_step nothing self.old.config (place + 1) message.now s)) line result }
+        ensures { (w : RuledWorld fabric) (s : ArbiterState fabric) → Stands self.old w → at (place + 1) w.arbiters ≡ Some s →
+            Steps self.old self.new (arbiter_acted fabric w (place + 1) (arbiter_step fabric self.old.config (place + 1) message.now s)) line result }
     {
         let reply = self.hear_at(place, message)?;
         let who = Who {

@@ -4,7 +4,7 @@ ghost use Rattle.node_core.specs.Nodes.{most_reports};
 ghost use Rattle.fabric_terms.specs.Ranges.{Fits};
 ghost use Rattle.fabric_lemmas.specs.Maps.{at};
 ghost use Rattle.world_rules.specs.Nodes.{node_begun};
-ghost use Rattle.world_rules.specs.Nothing.{nothing};
+ghost use Rattle.fabric_above.specs.Fabric.{fabric};
 ghost use Rattle.world_rules.specs.Schedules.{is_configured_node};
 ghost use Rattle.world_rules.specs.Worlds.{World as RuledWorld, kept_of, node_acted};
 ghost use Rattle.ring_world.specs.Moves.{Comes, Moves, Same};
@@ -98,7 +98,7 @@ impl World {
         core: Box<NodeCore>,
         outcome: Outcome,
     ) -> Acted
-        requires can { (w : RuledWorld nothing) × Stands self.old w }
+        requires can { (w : RuledWorld fabric) × Stands self.old w }
         requires node { node ≤ last_node }
         requires begins { Begins self.old node core.value outcome }
         requires reading { reading ≤ 10 ^ 15 }
@@ -107,8 +107,8 @@ impl World {
         requires clocks { vec_len self.old.clocks < vec_capacity self.old.clocks }
         requires running { vec_len self.old.running < vec_capacity self.old.running }
         requires reports { most_reports ≤ self.old.places.room }
-        ensures { (w : RuledWorld nothing) → Stands self.old w → at node w.nodes ≡ None →
-            Moves self.old self.new (node_acted nothing w node reading ((w.time, reading) ∷ []) (node_begun nothing self.old.config node (kept_of w node))) line (Some result) }
+        ensures { (w : RuledWorld fabric) → Stands self.old w → at node w.nodes ≡ None →
+            Moves self.old self.new (node_acted fabric w node reading ((w.time, reading) ∷ []) (node_begun fabric self.old.config node (kept_of w node))) line (Some result) }
     {
         let who = core.me();
         let drift = Drift::new(self.config.bound, self.time, reading);
@@ -126,10 +126,10 @@ impl World {
         node: u16,
         reading: u64,
     ) -> Result<Option<Acted>, EventRefusal>
-        requires can { (w : RuledWorld nothing) × Stands self.old w }
+        requires can { (w : RuledWorld fabric) × Stands self.old w }
         requires node { node ≤ last_node }
         requires reading { reading ≤ 10 ^ 15 }
-        ensures { (w : RuledWorld nothing) → Stands self.old w → Comes self.old self.new w line (Event.Start node (Some reading)) result }
+        ensures { (w : RuledWorld fabric) → Stands self.old w → Comes self.old self.new w line (Event.Start node (Some reading)) result }
     {
         if !is_configured(&self.config, node) {
             return Err(EventRefusal::NoSuch);
@@ -153,9 +153,9 @@ impl World {
         actor: u16,
         reading: Option<u64>,
     ) -> Result<Option<Acted>, EventRefusal>
-        requires can { (w : RuledWorld nothing) × Stands self.old w }
+        requires can { (w : RuledWorld fabric) × Stands self.old w }
         requires fits { Fits (Event.Start actor reading) }
-        ensures { (w : RuledWorld nothing) → Stands self.old w → Comes self.old self.new w line (Event.Start actor reading) result }
+        ensures { (w : RuledWorld fabric) → Stands self.old w → Comes self.old self.new w line (Event.Start actor reading) result }
     {
         match reading {
             Some(reading) => self.start_node(line, actor, reading),

@@ -1,6 +1,6 @@
 ghost use Rattle.std.specs.Prelude.{◌≡◌, ◌≤◌, ◌*◌, ◌^◌, ℕ, All, is_some, not, true};
 ghost use Rattle.fabric_terms.specs.Ranges.{Fits};
-ghost use Rattle.world_rules.specs.Nothing.{nothing};
+ghost use Rattle.fabric_above.specs.Fabric.{fabric};
 ghost use Rattle.world_rules.specs.Schedules.{are_of, readings_fit};
 ghost use Rattle.world_rules.specs.Worlds.{World as RuledWorld};
 ghost use Rattle.ring_world.specs.Drifts.{first_broken};
@@ -33,12 +33,12 @@ fn are_of(readings: &[(u16, u64)], clocks: &[(Who, u64)]) -> bool
 impl World {
     /// The first clock that leaves its bound at these readings, if one does.
     fn first_broken(&self, time: u64, readings: &[(u16, u64)]) -> Option<DriftBroken>
-        requires can { (w : RuledWorld nothing) × Stands self.now w × (are_of readings.now w.nodes ≡ true) }
+        requires can { (w : RuledWorld fabric) × Stands self.now w × (are_of readings.now w.nodes ≡ true) }
         requires later { self.now.time ≤ time }
         requires time { time ≤ 2 * 10 ^ 15 }
         requires readings { All (λ r. r.1 ≤ most_time) readings.now }
-        ensures broken { (w : RuledWorld nothing) → Stands self.now w → are_of readings.now w.nodes ≡ true → result ≡ first_broken self.now.config w time readings.now }
-        ensures fits { (w : RuledWorld nothing) → Stands self.now w → are_of readings.now w.nodes ≡ true → not (is_some result) ≡ readings_fit self.now.config w time readings.now }
+        ensures broken { (w : RuledWorld fabric) → Stands self.now w → are_of readings.now w.nodes ≡ true → result ≡ first_broken self.now.config w time readings.now }
+        ensures fits { (w : RuledWorld fabric) → Stands self.now w → are_of readings.now w.nodes ≡ true → not (is_some result) ≡ readings_fit self.now.config w time readings.now }
     {
         for i in 0..readings.len() {
             let mut drift = self.running[i].drift;
@@ -52,13 +52,13 @@ impl World {
 
     /// Each running node's clock shows its reading.
     fn show(&mut self, time: u64, readings: &[(u16, u64)])
-        requires can { (w : RuledWorld nothing) × Stands self.old w × (are_of readings.now w.nodes ≡ true) }
+        requires can { (w : RuledWorld fabric) × Stands self.old w × (are_of readings.now w.nodes ≡ true) }
         requires later { self.old.time ≤ time }
         requires time { time ≤ 2 * 10 ^ 15 }
         requires readings { All (λ r. r.1 ≤ most_time) readings.now }
-        requires fit { (w : RuledWorld nothing) → Stands self.old w → readings_fit self.old.config w time readings.now ≡ true }
+        requires fit { (w : RuledWorld fabric) → Stands self.old w → readings_fit self.old.config w time readings.now ≡ true }
         ensures rest { self.new ≡ record self.old { running = self.new.running; clocks = self.new.clocks } }
-        ensures shown { (w : RuledWorld nothing) → Stands self.old w → are_of readings.now w.nodes ≡ true → Shows self.old.config time self.new.running.items self.new.clocks.items readings.now w.nodes }
+        ensures shown { (w : RuledWorld fabric) → Stands self.old w → are_of readings.now w.nodes ≡ true → Shows self.old.config time self.new.running.items self.new.clocks.items readings.now w.nodes }
     {
         for i in 0..readings.len() {
             let reading = readings[i].1;
@@ -77,9 +77,9 @@ impl World {
         advance: u64,
         readings: &[(u16, u64)],
     ) -> Result<(), EventRefusal>
-        requires can { (w : RuledWorld nothing) × Stands self.old w }
+        requires can { (w : RuledWorld fabric) × Stands self.old w }
         requires fits { Fits (Event.Tick advance readings.now) }
-        ensures { (w : RuledWorld nothing) (line : ℕ) → Stands self.old w → ComesTick self.old self.new w line (Event.Tick advance readings.now) result }
+        ensures { (w : RuledWorld fabric) (line : ℕ) → Stands self.old w → ComesTick self.old self.new w line (Event.Tick advance readings.now) result }
     {
         if !are_of(readings, &self.clocks) {
             return Err(EventRefusal::NoSuch);

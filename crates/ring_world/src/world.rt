@@ -10,7 +10,7 @@ ghost use Rattle.ring_world.specs.Answers.{Answers, AnswersTick, IsWorld, Stands
 ghost use Rattle.ring_world.specs.Holders.{holders_in, holds_in};
 ghost use Rattle.ring_world.specs.Seen.{empty_seat, seen_seat};
 ghost use Rattle.fabric_terms.specs.Ranges.{Fits};
-ghost use Rattle.world_rules.specs.Nothing.{nothing};
+ghost use Rattle.fabric_above.specs.Fabric.{fabric};
 ghost use Rattle.world_rules.specs.Runs.{History, run_of};
 
 use crate::running::Running;
@@ -166,7 +166,7 @@ impl World {
     /// Appends the lines of the points that are with an instance which does not hold them, and of those in flight. It
     /// is an error where memory is short, and then nothing is appended.
     pub fn place_lines(&self, into: &mut Vec<u8>) -> Result<(), OutOfMemory>
-        ensures ok { (c : Configuration) (h : History) → StandsFor self.now c h → OnOk result (IsAppended (place_of (node_instance c.first 1) (told (run_of nothing c h))) (holds_in (run_of nothing c h)) into.old.items into.new.items) }
+        ensures ok { (c : Configuration) (h : History) → StandsFor self.now c h → OnOk result (IsAppended (place_of (node_instance c.first 1) (told (run_of fabric c h))) (holds_in (run_of fabric c h)) into.old.items into.new.items) }
         ensures refused { OnErr result (into.new.items ≡ into.old.items) }
     {
         self.push_place_lines(into)
@@ -181,14 +181,14 @@ impl World {
 
     /// The running node instances, rising by node, each with its present reading in ticks.
     pub fn clocks(&self) -> &[(Who, u64)]
-        ensures { (c : Configuration) (h : History) → StandsFor self.now c h → result.now ≡ clocks_of (run_of nothing c h) }
+        ensures { (c : Configuration) (h : History) → StandsFor self.now c h → result.now ≡ clocks_of (run_of fabric c h) }
     {
         self.clocks.as_slice()
     }
 
     /// How many running instances hold a point.
     pub fn held(&self) -> u32
-        ensures { (c : Configuration) (h : History) → StandsFor self.now c h → result ≡ holders_in (run_of nothing c h) }
+        ensures { (c : Configuration) (h : History) → StandsFor self.now c h → result ≡ holders_in (run_of fabric c h) }
     {
         self.count_holders()
     }

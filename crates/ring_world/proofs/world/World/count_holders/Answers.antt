@@ -4,7 +4,7 @@ use Rattle.std.specs.List.{zip}
 use Rattle.std.specs.Slice.Iter.{iter_rest}
 use Rattle.std.proofs.lemmas.List.{length_push}
 use Rattle.std.proofs.lemmas.Slice.Zip.{zip_end, zip_turn}
-use Rattle.world_rules.specs.Nothing.{nothing}
+use Rattle.fabric_above.specs.Fabric.{fabric}
 use Rattle.world_rules.specs.Runs.{run_of}
 use Rattle.ring_world.proofs.Holders.{few_clocks, holders_are, holders_counted, holders_here}
 use Rattle.ring_world.proofs.Zipped.{all_seen, counted, is_next, no_more}
@@ -47,4 +47,4 @@ returns c k h s =
     let few = few_clocks c.args.self.now k h s in
     c.loop-clock.invariant few
     ∙ (ap (λ x. length (holders_here x)) (all_seen clocks nodes c.loop-clock.yielded end)
-    ∙ sym (holders_counted (run_of nothing k h) ∙ ap (λ x. length x) (holders_are c.args.self.now k h s)))
+    ∙ sym (holders_counted (run_of fabric k h) ∙ ap (λ x. length x) (holders_are c.args.self.now k h s)))

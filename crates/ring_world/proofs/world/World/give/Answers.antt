@@ -1,7 +1,7 @@
 use Rattle.std.proofs.Common.{◌≡◌, true, false, None, Some, refl, sym, subst, ◌∙◌}
 use Rattle.fabric_terms.specs.declared.event.Event.TheVariants.{Give}
 use Rattle.frame_bag.specs.Bags.{frame_of}
-use Rattle.world_rules.specs.Nothing.{nothing}
+use Rattle.fabric_above.specs.Fabric.{fabric}
 use Rattle.world_rules.specs.Worlds.{Stepped}
 use Rattle.ring_world.specs.Moves.{Moves}
 use Rattle.ring_world.proofs.Given.{can_arrive, give_absent, give_is, give_there, sound_frame}
@@ -43,5 +43,5 @@ returns c w s =
         bound = bound-give a w c.args.number;
         room = room_is a w (Give c.args.number) true s refl refl ∙ room;
       },
-      subst (λ (x : Stepped nothing). Moves a c.reach.new.self x c.args.line c.in_ok-reach.field-0) (sym (give_is a w c.args.number s m got)) (c.in_ok-reach.ensures w s),
+      subst (λ (x : Stepped fabric). Moves a c.reach.new.self x c.args.line c.in_ok-reach.field-0) (sym (give_is a w c.args.number s m got)) (c.in_ok-reach.ensures w s),
     )

@@ -1,6 +1,6 @@
 use Rattle.std.proofs.Common.{◌≡◌, true, false, refl, sym, subst, ◌∙◌, None}
 use Rattle.fabric_terms.specs.declared.event.Event.TheVariants.{Junk}
-use Rattle.world_rules.specs.Nothing.{nothing}
+use Rattle.fabric_above.specs.Fabric.{fabric}
 use Rattle.world_rules.specs.Schedules.{runs}
 use Rattle.world_rules.specs.Worlds.{Stepped}
 use Rattle.world_rules.proofs.Rows.{world_step-junk}
@@ -43,5 +43,5 @@ returns c w s =
         bound = bound-junk a w c.args.actor c.args.bytes.now;
         room = room_is a w e false s refl refl ∙ room;
       },
-      subst (λ (st : Stepped nothing). Moves a c.pass.new.self st c.args.line None) (sym (world_step-junk nothing a.config w c.args.actor c.args.bytes.now)) (c.pass.ensures w c.args.line s),
+      subst (λ (st : Stepped fabric). Moves a c.pass.new.self st c.args.line None) (sym (world_step-junk fabric a.config w c.args.actor c.args.bytes.now)) (c.pass.ensures w c.args.line s),
     )

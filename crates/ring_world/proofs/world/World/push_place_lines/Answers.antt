@@ -5,7 +5,7 @@ use Rattle.fabric_terms.specs.Reports.{told}
 use Rattle.point_places.specs.Lines.{held_by}
 use Rattle.point_places.specs.Spots.{place_at}
 use Rattle.ring_points.specs.Whos.{node_instance}
-use Rattle.world_rules.specs.Nothing.{nothing}
+use Rattle.fabric_above.specs.Fabric.{fabric}
 use Rattle.world_rules.specs.Runs.{run_of}
 use Rattle.ring_world.specs.Holders.{holds_in}
 use Rattle.ring_world.proofs.Holders.{has_held}
@@ -14,7 +14,7 @@ use Rattle.ring_world.proofs.world.World.push_place_lines.Goals as goal
 
 pub returns-clause-ok : goal.returns-clause-ok
 returns-clause-ok c k h s =
-    let run = run_of nothing k h in
+    let run = run_of fabric k h in
     let holders = c.deref.ensures.value ∙ c.in_ok-holders.ensures k h s in
     on_ok_weaker c.push_lines.result
     (appended_too (place_at c.args.self.now.places) (place_of (node_instance k.first 1) (told run)) (held_by c.deref.result.now) (holds_in run) s.keeps.places

@@ -1,6 +1,6 @@
 use Rattle.std.proofs.Common.{◌≤◌, subst, arith}
 use Rattle.ring_points.specs.Whos.{arbiter_actor}
-use Rattle.world_rules.specs.Nothing.{nothing}
+use Rattle.fabric_above.specs.Fabric.{fabric}
 use Rattle.world_rules.specs.Worlds.{Stepped}
 use Rattle.ring_world.specs.Steps.{LeavesSound}
 use Rattle.ring_world.proofs.Reached.{to_node}
@@ -10,4 +10,4 @@ pub reach_node-requires-clause-can : goal.reach_node-requires-clause-can
 reach_node-requires-clause-can c =
     let can = c.requires.can in
     let le : c.args.message.to.actor ≤ arbiter_actor 0 = omega arith in
-    (can.0, can.1, subst (λ (x : Stepped nothing). LeavesSound x) (to_node c.args.self.now can.0 c.args.message le) can.2)
+    (can.0, can.1, subst (λ (x : Stepped fabric). LeavesSound x) (to_node c.args.self.now can.0 c.args.message le) can.2)

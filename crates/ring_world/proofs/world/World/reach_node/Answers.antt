@@ -1,5 +1,5 @@
 use Rattle.std.proofs.Common.{◌≡◌, true, false, None, Some, sym, subst, ◌∙◌, arith}
-use Rattle.world_rules.specs.Nothing.{nothing}
+use Rattle.fabric_above.specs.Fabric.{fabric}
 use Rattle.world_rules.specs.Worlds.{Stepped}
 use Rattle.ring_world.specs.Moves.{Moves}
 use Rattle.ring_world.specs.Steps.{LeavesSound}
@@ -10,7 +10,7 @@ use Rattle.ring_world.proofs.world.World.reach_node.Goals as goal
 pub returns-in_default : goal.returns-in_default
 returns-in_default c w s =
     let a = c.args.self.now in
-    subst (λ (x : Stepped nothing). Moves a c.pass.new.self x c.args.line None) (sym (lost_at_node a w c.args.message (c.in_default.ensures w s))) (c.pass.ensures w c.args.line s)
+    subst (λ (x : Stepped fabric). Moves a c.pass.new.self x c.args.line None) (sym (lost_at_node a w c.args.message (c.in_default.ensures w s))) (c.pass.ensures w c.args.line s)
 
 pub index-requires : goal.index-requires
 index-requires c =
@@ -24,7 +24,7 @@ returns-then-not-is_meant c w s =
     let a = c.args.self.now in
     let k = c.in-Some.ensures w s in
     let other : is_meant_for c.args.message.to c.index.result.now.0 ≡ false = sym c.is_meant.ensures ∙ c.if-not-is_meant.true in
-    subst (λ (x : Stepped nothing). Moves a c.pass-then-not-is_meant.new.self x c.args.line None) (sym (lost_to_instance a w c.args.message c.in-Some.place c.index.result.now s k c.index.ensures other)) (c.pass-then-not-is_meant.ensures w c.args.line s)
+    subst (λ (x : Stepped fabric). Moves a c.pass-then-not-is_meant.new.self x c.args.line None) (sym (lost_to_instance a w c.args.message c.in-Some.place c.index.result.now s k c.index.ensures other)) (c.pass-then-not-is_meant.ensures w c.args.line s)
 
 pub step_at-requires-clause-can : goal.step_at-requires-clause-can
 step_at-requires-clause-can c =
@@ -38,7 +38,7 @@ step_at-requires-clause-can c =
         node = c.args.message.to.actor;
         state = k.value;
         here = k.here;
-        sound = subst (λ (x : Stepped nothing). LeavesSound x) (reaches_instance a can.0 c.args.message c.in-Some.place c.index.result.now can.1 k c.index.ensures meant) can.2;
+        sound = subst (λ (x : Stepped fabric). LeavesSound x) (reaches_instance a can.0 c.args.message c.in-Some.place c.index.result.now can.1 k c.index.ensures meant) can.2;
       },
     )
 
@@ -47,6 +47,6 @@ returns c w s =
     let a = c.args.self.now in
     let k = c.in-Some.ensures w s in
     let meant : is_meant_for c.args.message.to c.index.result.now.0 ≡ true = sym c.is_meant.ensures ∙ c.if-not-is_meant.false in
-    subst (λ (x : Stepped nothing). Moves a c.step_at.new.self x c.args.line (Some c.in_ok-step_at.field-0))
+    subst (λ (x : Stepped fabric). Moves a c.step_at.new.self x c.args.line (Some c.in_ok-step_at.field-0))
     (sym (reaches_instance a w c.args.message c.in-Some.place c.index.result.now s k c.index.ensures meant))
     (c.in_ok-step_at.ensures w c.args.message.to.actor k.value s k.here k.found)

@@ -1,5 +1,5 @@
 use Rattle.std.proofs.Common.{◌≡◌, true}
-use Rattle.world_rules.specs.Nothing.{nothing}
+use Rattle.fabric_above.specs.Fabric.{fabric}
 use Rattle.world_rules.specs.Schedules.{are_of}
 use Rattle.world_rules.specs.Worlds.{World as RuledWorld}
 use Rattle.ring_world.specs.Stands.{Stands}
@@ -10,4 +10,4 @@ use Rattle.ring_world.proofs.world.World.show.Given as goal
 abbrev pub invariant-loop-i : goal.invariant-loop-i
 invariant-loop-i l =
     (l.self ≡ record l.initial.self { running = l.self.running; clocks = l.self.clocks })
-    × ((w : RuledWorld nothing) → Stands l.initial.self w → are_of l.readings w.nodes ≡ true → ShowsSoFar l.initial.self.config l.time l.self.running.items l.self.clocks.items l.readings l.i w.nodes)
+    × ((w : RuledWorld fabric) → Stands l.initial.self w → are_of l.readings w.nodes ≡ true → ShowsSoFar l.initial.self.config l.time l.self.running.items l.self.clocks.items l.readings l.i w.nodes)

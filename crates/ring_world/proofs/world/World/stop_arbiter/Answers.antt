@@ -5,7 +5,7 @@ use Rattle.fabric_terms.specs.declared.report.Report.{Report}
 use Rattle.ring_points.specs.Whos.{node_instance}
 use Rattle.world_rules.specs.Events.{world_step, arbiter_stops}
 use Rattle.fabric_lemmas.specs.Maps.{at}
-use Rattle.world_rules.specs.Nothing.{nothing}
+use Rattle.fabric_above.specs.Fabric.{fabric}
 use Rattle.world_rules.specs.Schedules.{runs}
 use Rattle.ring_world.specs.Seen.{SeenSeat, seen_of, seen_seat}
 use Rattle.ring_world.proofs.Edits.{map-set}
@@ -44,9 +44,9 @@ returns c w s =
     let room : room_test a false ≡ true = sym c.has_room.ensures ∙ c.if-not-has_room.false in
     let x = some_of c.index.result.now.running is in
     let t = running_at a w place c.index.result.now x.0 s lt c.index.ensures x.1 in
-    let step : world_step nothing a.config w (Stop c.args.actor) ≡ arbiter_stops nothing w (place + 1) (Some (record { table = x.0.accusations; beside = tt })) =
+    let step : world_step fabric a.config w (Stop c.args.actor) ≡ arbiter_stops fabric w (place + 1) (Some (record { table = x.0.accusations; beside = tt })) =
     stop_arbiter_is a w c.args.actor (seat_actor c.args.actor place c.in-Some.ensures.0)
-    ∙ (ap (λ k. arbiter_stops nothing w k (at k w.arbiters)) (seat_number c.args.actor place c.in-Some.ensures.0) ∙ ap (λ o. arbiter_stops nothing w (place + 1) o) t) in (
+    ∙ (ap (λ k. arbiter_stops fabric w k (at k w.arbiters)) (seat_number c.args.actor place c.in-Some.ensures.0) ∙ ap (λ o. arbiter_stops fabric w (place + 1) o) t) in (
       record {
         there = stop_runs a w c.args.actor true runs;
         bound = bound-stop a w c.args.actor;

@@ -6,7 +6,7 @@ use Rattle.ring_world.specs.Seen.{seen_of}
 use Rattle.ring_world.specs.declared.running.Running.{Running}
 use Rattle.fabric_terms.specs.declared.event.Event.TheVariants.{Stop}
 use Rattle.world_rules.specs.Events.{world_step, node_stops}
-use Rattle.world_rules.specs.Nothing.{nothing}
+use Rattle.fabric_above.specs.Fabric.{fabric}
 use Rattle.ring_world.proofs.Acts.{placed}
 use Rattle.ring_world.proofs.Ends.{stop_moves}
 use Rattle.ring_world.proofs.Limits.{room_is, room_test, same_world, bound-stop, few_events}
@@ -46,8 +46,8 @@ returns c w s =
     let a = c.args.self.now in
     let k = c.in-Some.ensures w s in
     let room : room_test a false ≡ true = sym c.has_room.ensures ∙ c.if-not-has_room.false in
-    let step : world_step nothing a.config w (Stop c.args.node) ≡ node_stops nothing w c.args.node (Some k.value) =
-    stop_node_is a w c.args.node c.requires.node ∙ ap (λ o. node_stops nothing w c.args.node o) k.found in (
+    let step : world_step fabric a.config w (Stop c.args.node) ≡ node_stops fabric w c.args.node (Some k.value) =
+    stop_node_is a w c.args.node c.requires.node ∙ ap (λ o. node_stops fabric w c.args.node o) k.found in (
       record {
         there = stop_runs a w c.args.node true (node_runs_is a w c.args.node true c.requires.node (ap (λ o. is_some o) k.found));
         bound = bound-stop a w c.args.node;
