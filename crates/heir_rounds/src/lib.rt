@@ -8,8 +8,6 @@
 #![tactic(auto)]
 
 mod rounds;
-#[cfg(test)]
-mod tests;
 mod verdict;
 
 pub use rounds::RoundTally;
