@@ -5,10 +5,11 @@ use Rattle.std.proofs.lemmas.Bool.{and_parts, and_from, or_left, or_right, leb-t
 use Rattle.fabric_terms.specs.declared.message.Body.TheVariants as body
 use Rattle.ring_points.specs.declared.interval.Interval.{Interval}
 use Rattle.ring_points.specs.declared.point.Point.{Point}
+use Rattle.ring_points.specs.declared.who.Ruling.{Ruling}
 use Rattle.ring_points.specs.declared.who.Who.{Who}
 use Rattle.ring_points.specs.Ranges.{is_proper}
 use Rattle.ring_points.specs.Whos.{arbiter_actor, node_instance}
-use Rattle.fabric_terms.specs.Fields.{is_addressee, is_arbiter, is_counted, is_hops, is_lease, is_long, is_node, is_part, is_sender, is_session, is_stamp, is_who, is_within, is_word}
+use Rattle.fabric_terms.specs.Fields.{is_addressee, is_arbiter, is_counted, is_hops, is_lease, is_long, is_node, is_part, is_round, is_sender, is_session, is_stamp, is_who, is_within, is_word}
 use Rattle.frames_fit.specs.Formats.{in_format}
 
 -- Numbers.
@@ -105,6 +106,18 @@ module _ (to : Who) (named : IsTrue (is_addressee to)) where
 
   pub accuse_format : (victim : Who) → IsTrue (is_who victim) → IsTrue (in_format (to, body.Accuse victim))
   accuse_format victim h = and_from (is_addressee to) (is_who victim) named h
+
+  pub ruled_format : (victim : Who) (ruling : Ruling) → IsTrue (is_who victim) → IsTrue (in_format (to, body.Ruled victim ruling))
+  ruled_format victim ruling h = and_from (is_addressee to) (is_who victim) named h
+
+  pub claim_format : (victim : Who) (round : ℕ) → IsTrue (is_who victim) → IsTrue (is_round round) → IsTrue (in_format (to, body.Claim victim round))
+  claim_format victim round h k = and_from (is_addressee to) (is_who victim && is_round round) named (and_from (is_who victim) (is_round round) h k)
+
+  pub kept_format : (victim : Who) (round : ℕ) (claimer : Who) → IsTrue (is_who victim) → IsTrue (is_round round) → IsTrue (is_who claimer) →
+      IsTrue (in_format (to, body.Kept victim round claimer))
+  kept_format victim round claimer h k l =
+      and_from (is_addressee to) ((is_who victim && is_round round) && is_who claimer) named
+      (and_from (is_who victim && is_round round) (is_who claimer) (and_from (is_who victim) (is_round round) h k) l)
 
   -- in a session
   module _ (mine yours : ℕ) (h : IsTrue (is_session mine yours)) where

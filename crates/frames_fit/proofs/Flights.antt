@@ -72,7 +72,7 @@ module _ (c : FabricConfig) (w : Work) (a : Going c w) where
           let gains_it : Going c gained_by = gains c w a part (λ r. part_rises part m) fit.1 in
           let puts_it : Going c (put_slot i (record l { got = number }) gained_by) = puts c gained_by gains_it i (record l { got = number })
           (λ r. let n = link_in_range i l e r in
-          record { names = n.names; mine = n.mine; length = n.length; held = n.held; got = counted_word number k; flight = n.flight })
+          record { names = n.names; mine = n.mine; length = n.length; held = n.held; got = counted_word number k; flight = n.flight; rounds = n.rounds })
           (λ r. still_bound i l e r) in
           phases c (tell (report.Took l.peer number part) (put_slot i (record l { got = number }) gained_by)) puts_it holding_phase
 

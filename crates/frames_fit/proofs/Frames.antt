@@ -17,6 +17,7 @@ use Rattle.ring_rules.specs.Rings.{Ring, Settings, Work}
 use Rattle.fabric_terms.specs.Fields.{is_addressee, is_counted, is_hops, is_lease, is_long, is_part, is_sender, is_session, is_stamp, is_who, is_word}
 use Rattle.fabric_terms.specs.Messages.{is_sound, is_sound_body}
 use Rattle.frames_fit.specs.InRange.{IsInRange}
+use Rattle.frames_fit.proofs.Claims.{kept_going}
 use Rattle.frames_fit.proofs.Facts.{node_sends}
 use Rattle.frames_fit.proofs.Flights.{gone_going, transfer_going}
 use Rattle.frames_fit.proofs.Going.{Done, Going, counts, routes}
@@ -83,10 +84,10 @@ module _ (c : FabricConfig) (sound : IsSound c) where
 
 module _ (c : FabricConfig) (set : Settings) (fine : SettingsInRange set) (now : ℕ) (reads : IsTrue (is_stamp now)) (from : Who) (w : Work) (a : Going c w) where
   row : (b : Body) → (is_between_nodes b ≡ true → IsTrue (is_who from)) → IsTrue (is_sound_body b) → Going c (frame_row set now from b w)
-  row (body.Hello mine) who h = hello_going c w a set now from mine 1 set.lease (who refl) h fine.lease
+  row (body.Hello mine) who h = hello_going c w a set fine now from mine 1 set.lease (who refl) h fine.lease
   row (body.HelloFor mine length) who h =
       let p = and_parts (is_counted mine) (is_lease length) h in
-      hello_going c w a set now from mine 2 (min length set.longest) (who refl) p.0 (least_lease length set.longest p.1 fine.longest)
+      hello_going c w a set fine now from mine 2 (min length set.longest) (who refl) p.0 (least_lease length set.longest p.1 fine.longest)
   row (body.Offer mine yours) who h = offer_going c w a now from mine yours set.lease (who refl) h fine.lease
   row (body.OfferFor mine yours length) who h =
       let p = and_parts (is_session mine yours) (is_lease length) h in
@@ -112,6 +113,7 @@ module _ (c : FabricConfig) (set : Settings) (fine : SettingsInRange set) (now :
       seek_going c w a origin key hops q.0 q.1
   row (body.Found key holder) who h = found_going c w a set fine now key holder (and_parts (is_long key.0) (is_who holder) h).1
   row (body.Ruled victim ruling) who h = ruling_going c w a set now from victim ruling
+  row (body.Kept victim round claimer) who h = kept_going c w a set fine now from victim round claimer
   row b who h = a
 
 pub frame_done : (c : FabricConfig) → IsSound c → (set : Settings) → SettingsInRange set → (now : ℕ) → IsTrue (is_stamp now) → (m : Message) → IsTrue (is_sound m) →

@@ -6,6 +6,7 @@ use Rattle.fabric_terms.specs.declared.config.FabricConfig.{FabricConfig}
 use Rattle.fabric_terms.specs.declared.message.Body.TheVariants as body
 use Rattle.fabric_terms.specs.declared.report.Reason.{Reason}
 use Rattle.fabric_terms.specs.declared.report.Reason.TheVariants as reason
+use Rattle.heir_rounds.specs.Rounds.{no_rounds}
 use Rattle.join_phases.specs.Phases.{bound_phase}
 use Rattle.ring_points.specs.declared.who.Who.{Who}
 use Rattle.ring_points.specs.Whos.{node_instance}
@@ -19,11 +20,11 @@ use Rattle.ring_rules.specs.Links.{bound_link, greeting_link, hello_body, offer_
 use Rattle.ring_rules.specs.Rings.{Ring, Settings, Work}
 use Rattle.ring_rules.specs.Slots.{bars_link, greets_node_by, is_free, is_hello, of_instance, of_node, of_session, slot_at, slot_where}
 use Rattle.fabric_terms.specs.Fields.{is_addressee, is_counted, is_lease, is_node, is_session, is_stamp, is_who}
-use Rattle.frames_fit.specs.InRange.{IsInRange, LinkInRange, holds_bound}
+use Rattle.frames_fit.specs.InRange.{IsInRange, LinkInRange, RoundsInRange, holds_bound}
 use Rattle.frames_fit.proofs.Facts.{node_addressed, session_from, take_format, who_addressed, within_from, within_parts}
 use Rattle.frames_fit.proofs.Going.{Going, begins, drops, phases, puts, sends}
 use Rattle.frames_fit.proofs.Places.{found_passes, free_unbound, hello_unbound, is_frozen_in}
-use Rattle.frames_fit.proofs.Saying.{SettingsInRange, answers, found, hello_said, in_session_of, link_in_range, not_frozen, offer_said, renew_said, says_gone, take_said}
+use Rattle.frames_fit.proofs.Saying.{SettingsInRange, answers, found, hello_said, in_session_of, link_in_range, moved_in_range, not_frozen, offer_said, renew_said, says_gone, take_said}
 
 -- the smaller of two lengths
 pub least_lease : (m n : ℕ) → IsTrue (is_lease m) → IsTrue (is_lease n) → IsTrue (is_lease (min m n))
@@ -35,16 +36,20 @@ least_lease m n h k =
 
 -- links that begin
 
-module _ (set : Settings) (now : ℕ) (r : Ring) where
+-- no answer to the first round yet
+fresh_rounds : (set : Settings) → SettingsInRange set → (me : Who) → RoundsInRange (no_rounds me set.arbitrators set.rounds)
+fresh_rounds set fine me = record { round = refl; limit = fine.rounds }
+
+module _ (set : Settings) (fine : SettingsInRange set) (now : ℕ) (r : Ring) where
   pub greeting_in_range : (node wire len : ℕ) → IsTrue (is_node node) → IsTrue (is_lease len) → IsTrue (is_counted r.next_session) →
       LinkInRange (greeting_link set now r node wire len)
   greeting_in_range node wire len h k m =
-      record { names = node_addressed (node_instance node 0) h refl; mine = m; length = k; held = refl; got = refl; flight = tt }
+      record { names = node_addressed (node_instance node 0) h refl; mine = m; length = k; held = refl; got = refl; flight = tt; rounds = fresh_rounds set fine r.me }
 
   pub offered_in_range : (from : Who) (theirs wire len : ℕ) → IsTrue (is_who from) → IsTrue (is_counted theirs) → IsTrue (is_lease len) →
       IsTrue (is_counted r.next_session) → LinkInRange (offered_link set now r from theirs wire len)
   offered_in_range from theirs wire len h t k m =
-      record { names = and_from (is_who from) (is_counted theirs) h t; mine = m; length = k; held = refl; got = refl; flight = tt }
+      record { names = and_from (is_who from) (is_counted theirs) h t; mine = m; length = k; held = refl; got = refl; flight = tt; rounds = fresh_rounds set fine r.me }
 
 -- places that greet
 
@@ -70,7 +75,7 @@ module _ (c : FabricConfig) (w : Work) (a : Going c w) where
 
   pub greets_plainly : (set : Settings) → SettingsInRange set → (now node : ℕ) → IsTrue (is_node node) → Going c (greet_plainly set now node w)
   greets_plainly set fine now node h =
-      greets (greeting_link set now w.ring node 1 set.lease) (λ why v. v) refl (λ m. greeting_in_range set now w.ring node 1 set.lease h fine.lease m)
+      greets (greeting_link set now w.ring node 1 set.lease) (λ why v. v) refl (λ m. greeting_in_range set fine now w.ring node 1 set.lease h fine.lease m)
       (node_addressed (node_instance node 0) h refl) (λ why. a)
 
   -- a Hello is accepted by a new link
@@ -113,11 +118,11 @@ module _ (c : FabricConfig) (w : Work) (a : Going c w) where
       of_instance_at (Some i) = repeated i (slot_at i w.ring.slots) refl
       of_instance_at None = of_node_at (slot_where (of_node is_hello l.peer.actor) w.ring.slots) refl
 
-  pub hello_going : (set : Settings) (now : ℕ) (from : Who) (theirs wire len : ℕ) → IsTrue (is_who from) → IsTrue (is_counted theirs) → IsTrue (is_lease len) →
+  pub hello_going : (set : Settings) → SettingsInRange set → (now : ℕ) (from : Who) (theirs wire len : ℕ) → IsTrue (is_who from) → IsTrue (is_counted theirs) → IsTrue (is_lease len) →
       Going c (hello_received set now from theirs wire len w)
   unfolding hello_received
-  hello_going set now from theirs wire len h t k =
-      meets (offered_link set now w.ring from theirs wire len) refl (λ m. offered_in_range set now w.ring from theirs wire len h t k m) refl
+  hello_going set fine now from theirs wire len h t k =
+      meets (offered_link set now w.ring from theirs wire len) refl (λ m. offered_in_range set fine now w.ring from theirs wire len h t k m) refl
 
   -- an Offer is taken
 
@@ -137,6 +142,7 @@ module _ (c : FabricConfig) (w : Work) (a : Going c w) where
         held = m.held;
         got = m.got;
         flight = m.flight;
+        rounds = m.rounds;
       }
 
       taken : (i : ℕ) (o : Option Link) → slot_at i w.ring.slots ≡ o → Going c (rows.offer_taken now from theirs len i o w)
@@ -171,9 +177,7 @@ module _ (c : FabricConfig) (w : Work) (a : Going c w) where
           let put : Work = put_slot i (record l { state = state.Bound }) w in
           let met : is_hello l.state ≡ false = λ j. is_hello (f j) in
           let puts_it : Going c put = puts c w a i (record l { state = state.Bound })
-          (λ r. let m = link_in_range i l e r in
-          record { names = (in_session_of l m met).names; mine = m.mine; length = m.length; held = m.held; got = m.got; flight = m.flight })
-          (λ r z. refl) in
+          (λ r. moved_in_range l (link_in_range i l e r) met state.Bound refl l.ripe l.tally) (λ r z. refl) in
           let says_it : Going c (send l.peer (renew_body now l w.ring) put) = sends c put puts_it l.peer (renew_body now l w.ring)
           (λ r. let old = (a r.numbers).ring in let m = link_in_range i l e old in renew_said l m (in_session_of l m met) now w.ring old reads) in
           phases c (send l.peer (renew_body now l w.ring) put) says_it bound_phase

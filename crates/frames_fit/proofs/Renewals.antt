@@ -48,6 +48,7 @@ renewed_in_range l version got ranges h met k = by_test (nat_lt l.held_version v
       held = k;
       got = h.got;
       flight = confirmed_in_range l.flight got h.flight;
+      rounds = h.rounds;
     }
     by_test false = record {
       names = (in_session_of l h met).names;
@@ -56,6 +57,7 @@ renewed_in_range l version got ranges h met k = by_test (nat_lt l.held_version v
       held = h.held;
       got = h.got;
       flight = confirmed_in_range l.flight got h.flight;
+      rounds = h.rounds;
     }
 
 pub near_rises : {c : FabricConfig} (r : Ring) (l : Link) → IsInRange c r → Rises (near_part r l)
@@ -117,7 +119,7 @@ module _ (c : FabricConfig) (w : Work) (a : Going c w) where
       later : (i : ℕ) (l : Link) → slot_at i w.ring.slots ≡ Some l → Going c (put_slot i (acknowledged l stamp version) w)
       later i l e = puts c w a i (acknowledged l stamp version)
           (λ r. let m = link_in_range i l e r in
-          record { names = m.names; mine = m.mine; length = m.length; held = m.held; got = m.got; flight = m.flight })
+          record { names = m.names; mine = m.mine; length = m.length; held = m.held; got = m.got; flight = m.flight; rounds = m.rounds })
           (λ r. still_bound i l e r)
 
       inside : (i : ℕ) (l : Link) (st : LinkState) → slot_at i w.ring.slots ≡ Some l → l.state ≡ st → Going c (rows.ack_seen stamp version i l st w)

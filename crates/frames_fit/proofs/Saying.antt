@@ -2,6 +2,7 @@
 use Rattle.std.proofs.Common.{◌≡◌, ℕ, ◌≤◌, Bool, true, false, ◌&&◌, Option, Some, None, IsTrue, refl, sym, subst}
 use Rattle.std.specs.Prelude.{◌==◌}
 use Rattle.std.proofs.lemmas.Bool.{and_parts}
+use Rattle.arbiter_quorum.specs.Tallies.{Tally}
 use Rattle.fabric_terms.specs.declared.config.FabricConfig.{FabricConfig}
 use Rattle.fabric_terms.specs.declared.message.Body.TheVariants as body
 use Rattle.join_phases.specs.Phases.{is_linked}
@@ -13,7 +14,7 @@ use Rattle.ring_rules.specs.Deeds.{SessionRow, answer_unknown, in_found, in_slot
 use Rattle.ring_rules.specs.Links.{hello_body, hello_by, offer_body, offer_by, renew_body, transfer_body}
 use Rattle.ring_rules.specs.Rings.{Ring, Settings, Slots, Work}
 use Rattle.ring_rules.specs.Slots.{is_bound, is_hello, slot_at}
-use Rattle.fabric_terms.specs.Fields.{is_addressee, is_counted, is_lease, is_part, is_session, is_stamp, is_who, is_word}
+use Rattle.fabric_terms.specs.Fields.{is_addressee, is_counted, is_lease, is_part, is_round, is_session, is_stamp, is_who, is_word}
 use Rattle.token_core.specs.Tokens.{announced}
 use Rattle.frames_fit.specs.Formats.{in_format}
 use Rattle.frames_fit.specs.InRange.{IsInRange, LinkInRange, SlotInRange, holds_bound, names_peer}
@@ -27,6 +28,7 @@ pub record SettingsInRange (set : Settings) : Type 0 where
   pub lease : IsTrue (is_lease set.lease)
   pub longest : IsTrue (is_lease set.longest)
   pub arbitrators : set.arbitrators ≤ 9
+  pub rounds : IsTrue (is_round set.rounds)
 
 -- a link that does not greet is in a session of an instance
 
@@ -41,6 +43,19 @@ in_session_of l h e =
     let names : IsTrue (is_who l.peer && is_counted l.yours) = subst (λ (b : Bool). IsTrue (names_peer b l.peer l.yours)) e h.names in
     let parts = and_parts (is_who l.peer) (is_counted l.yours) names in
     record { names = names; peer = parts.0; addressed = who_addressed l.peer parts.0; session = session_from l.mine l.yours h.mine parts.1 }
+
+-- the same in another state of a session, with other answers to its accusation
+pub moved_in_range : (l : Link) → LinkInRange l → is_hello l.state ≡ false → (to : LinkState) → is_hello to ≡ false → (ripe : ℕ) (tally : Tally) →
+    LinkInRange (record l { state = to; ripe = ripe; tally = tally })
+moved_in_range l h e to f ripe tally = record {
+  names = subst (λ (b : Bool). IsTrue (names_peer b l.peer l.yours)) (sym f) (in_session_of l h e).names;
+  mine = h.mine;
+  length = h.length;
+  held = h.held;
+  got = h.got;
+  flight = h.flight;
+  rounds = h.rounds;
+}
 
 -- the link at a place
 pub link_in_range : {c : FabricConfig} {r : Ring} (i : ℕ) (l : Link) → slot_at i r.slots ≡ Some l → IsInRange c r → LinkInRange l

@@ -53,6 +53,7 @@ module _ (c : FabricConfig) (sound : IsSound c) where
     lease = lease_from c.lease sound.lease;
     longest = longest_in_range c.nodes node sound.nodes h;
     arbitrators = sound.arbiters_count.to_high;
+    rounds = within_from 1 8 c.rounds sound.rounds.from_low sound.rounds.to_high;
   }
 
   pub node_in_range : (actor : ℕ) → list_any (λ p. p.0 == actor) (points_of c.nodes) ≡ true → IsTrue (is_node actor)

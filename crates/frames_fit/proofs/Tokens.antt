@@ -1,17 +1,13 @@
 -- The calls on a token keep it in range.
-use Rattle.std.proofs.Common.{◌≡◌, ℕ, ◌+◌, ◌-◌, ◌/◌, ◌%◌, ◌^◌, ◌<◌, ◌≤◌, Bool, true, false, cond, List, [], ◌∷◌, ◌++◌, Option, Some, None, IsTrue, refl, sym, subst, arith}
-use Rattle.std.specs.Prelude.{◌==◌, nat_le, nat_lt}
+use Rattle.std.proofs.Common.{◌≡◌, ℕ, Bool, true, false, List, [], ◌∷◌, Option, Some, None, IsTrue, refl, sym, subst}
+use Rattle.std.specs.Prelude.{◌==◌}
 use Rattle.std.proofs.lemmas.Bool.{and_parts, and_from}
-use Rattle.std.proofs.lemmas.Bool.Decides.{nat_tests}
 use Rattle.ring_points.specs.declared.interval.Interval.{Interval}
-use Rattle.ring_points.specs.Distances.{ahead_of}
 use Rattle.ring_points.specs.Ranges.{fits, is_proper, rises_from}
-use Rattle.ring_points.specs.Sets.{span, arc, nearer_from, nearer_arc, nearer_part_of, union_of, minus_of, meet_of}
+use Rattle.ring_points.specs.Sets.{union_of, minus_of, meet_of}
 use Rattle.ring_points.proofs.Cuts.{rises_from-minus_of}
 use Rattle.ring_points.proofs.Joins.{rises_from-union_of}
-use Rattle.ring_points.proofs.NearerPart.{nearer_part_rises}
-use Rattle.ring_points.proofs.Rising.{rises_from-append}
-use Rattle.ring_points.proofs.Spans.{in_ranges-span, rises_from-span}
+use Rattle.ring_points.proofs.Meets.{rises_from-meet_of}
 use Rattle.ring_rules.specs.Deeds.{undone, undone_at, undone_if}
 use Rattle.ring_rules.specs.Renewals.{may_freeze, owns_none}
 use Rattle.fabric_terms.specs.Fields.{is_part, is_some}
