@@ -20,11 +20,11 @@ use Rattle.world_rules.specs.Uppers.{Upper, Did}
 use Rattle.world_rules.specs.Worlds.{arbiter_who}
 use Rattle.frames_fit.specs.Above.{SendsInFormat}
 use Rattle.frames_fit.specs.Formats.{in_format}
-use Rattle.frames_fit.specs.Tables.{RecordInRange, TableInRange}
+use Rattle.frames_fit.specs.Tables.{TableInRange}
 use Rattle.frames_fit.proofs.Facts.{high_addressed, low_sends, ruled_format, who_addressed}
 use Rattle.frames_fit.proofs.Frames.{sound_parts}
 use Rattle.frames_fit.proofs.Going.{AllInFormat}
-use Rattle.frames_fit.proofs.Posting.{ActsInFormat, posted_sound}
+use Rattle.frames_fit.proofs.Posting.{ActsInFormat, KeptInRange, posted_sound}
 use Rattle.frames_fit.proofs.Tables.{accusation_recorded, after_in_range, claim_answered, claim_recorded, no_table_in_range}
 
 -- its table, and what runs beside it
@@ -35,10 +35,10 @@ pub record ArbiterInRange (a : Upper) (p : SendsInFormat a) (c : FabricConfig) (
 -- what it leaves in a step
 pub record ArbiterActs (a : Upper) (p : SendsInFormat a) (c : FabricConfig) (who : Who) (d : Did (ArbiterState a)) : Type 0 where
   pub state : ArbiterInRange a p c d.state
-  pub acts : ActsInFormat (RecordInRange p.Kept) who d
+  pub acts : ActsInFormat p who d
 
 module _ (a : Upper) (p : SendsInFormat a) (c : FabricConfig) (sound : IsSound c) (arbiter : ℕ) where
-  pub arbiter_begins : (records : List Record) → All (RecordInRange p.Kept) records → ArbiterInRange a p c (arbiter_begun a c arbiter records)
+  pub arbiter_begins : (records : List Record) → All (KeptInRange p) records → ArbiterInRange a p c (arbiter_begun a c arbiter records)
   unfolding arbiter_begun
   arbiter_begins records kept =
       record { table = after_in_range p.Kept no_table records no_table_in_range kept; beside = p.beside_begun c arbiter records sound kept }
@@ -57,7 +57,7 @@ module _ (a : Upper) (p : SendsInFormat a) (c : FabricConfig) (sound : IsSound c
       (eqb-true m.to.actor (arbiter_actor arbiter) (and_parts (m.to.actor == arbiter_actor arbiter) (not (nat_lt (arbiter_actor 0) m.from.actor)) e).0)
 
   -- what the table answers: these are recorded, and these are sent
-  answers : (e : takes_frame arbiter m ≡ true) (records : List Record) (sent : List (Who × Body)) → All (RecordInRange p.Kept) records → AllInFormat sent →
+  answers : (e : takes_frame arbiter m ≡ true) (records : List Record) (sent : List (Who × Body)) → All (KeptInRange p) records → AllInFormat sent →
       ArbiterActs a p c (arbiter_who arbiter) (record { state = record s { table = table_after s.table records }; records = records; sent = sent; told = [] })
   answers e records sent kept said = record {
     state = record { table = after_in_range p.Kept s.table records fine.table kept; beside = fine.beside };
@@ -77,7 +77,7 @@ module _ (a : Upper) (p : SendsInFormat a) (c : FabricConfig) (sound : IsSound c
 
   taken : (b : Body) → IsTrue (is_sound_body b) → (takes : Bool) → takes_frame arbiter m ≡ takes →
       ArbiterActs a p c (arbiter_who arbiter) (arbiter_takes a c arbiter m s b takes)
-  taken b k false e = record { state = fine; acts = record { records = All-nil (RecordInRange p.Kept); posts = λ frames f. f } }
+  taken b k false e = record { state = fine; acts = record { records = All-nil (KeptInRange p); posts = λ frames f. f } }
   taken (body.Accuse victim) k true e =
       let ruling : Ruling = accusation_ruled s.table.accusations m.from victim in
       answers e (accusation_kept s.table.accusations m.from victim) ((m.from, body.Ruled victim ruling) ∷ [])

@@ -7,7 +7,7 @@ use Rattle.fabric_terms.specs.declared.config.FabricConfig.{FabricConfig}
 use Rattle.fabric_terms.specs.Fields.{is_round}
 use Rattle.heir_rounds.specs.declared.verdict.RoundVerdict.{RoundVerdict}
 use Rattle.heir_rounds.specs.declared.verdict.RoundVerdict.TheVariants as verdict
-use Rattle.heir_rounds.specs.Rounds.{RoundTally, counts_in, gone_on, has_majority, is_won, one_may_win, round_counted, round_noted, round_verdict}
+use Rattle.heir_rounds.specs.Rounds.{RoundTally, after_split, counts_in, gone_on, has_majority, is_won, one_may_win, round_counted, round_noted, round_verdict}
 use Rattle.ring_points.specs.declared.who.Who.{Who}
 use Rattle.ring_points.specs.Whos.{arbiter_actor}
 use Rattle.ring_rules.specs.declared.link.Link.{Link}
@@ -42,18 +42,24 @@ next_in_range t h e =
     let last = (within_parts 1 8 t.limit h.limit).1 in
     within_from 1 8 (t.round + 1) (omega arith) (omega arith)
 
-gone_in_range : (t : RoundTally) → RoundsInRange t → (won lost may last : Bool) → nat_le t.limit t.round ≡ last →
-    RoundsInRange (gone_on t (if won then verdict.Won else (if lost then verdict.Over else (if may then verdict.Open else (if last then verdict.Over else verdict.Next (t.round + 1))))))
-gone_in_range t h true lost may last e = h
-gone_in_range t h false true may last e = h
-gone_in_range t h false false true last e = h
-gone_in_range t h false false false true e = h
-gone_in_range t h false false false false e = record { round = next_in_range t h e; limit = h.limit }
+split_in_range : (t : RoundTally) → RoundsInRange t → RoundsInRange (gone_on t (after_split t))
+split_in_range t h = by_test (nat_le t.limit t.round) refl
+  where
+    by_test : (last : Bool) → nat_le t.limit t.round ≡ last → RoundsInRange (gone_on t (if last then verdict.Over else verdict.Next (t.round + 1)))
+    by_test true e = h
+    by_test false e = record { round = next_in_range t h e; limit = h.limit }
+
+gone_in_range : (t : RoundTally) → RoundsInRange t → (won lost may : Bool) →
+    RoundsInRange (gone_on t (if won then verdict.Won else (if lost then verdict.Over else (if may then verdict.Open else after_split t))))
+gone_in_range t h true lost may = h
+gone_in_range t h false true may = h
+gone_in_range t h false false true = h
+gone_in_range t h false false false = split_in_range t h
 
 noted_in_range : (t : RoundTally) (round a : ℕ) (kept : Who) → RoundsInRange t → RoundsInRange (round_noted t round a kept)
 noted_in_range t round a kept h =
     let u : RoundTally = round_counted t round a kept in
-    gone_in_range u (counted_in_range t round a kept h) (has_majority u u.me) (is_won u) (one_may_win u) (nat_le u.limit u.round) refl
+    gone_in_range u (counted_in_range t round a kept h) (has_majority u u.me) (is_won u) (one_may_win u)
 
 -- What is made of it.
 
@@ -73,8 +79,11 @@ module _ (c : FabricConfig) (w : Work) (a : Going c w) (set : Settings) (fine : 
       arbiter : ℕ
       arbiter = from.actor - arbiter_actor 0
 
-      noting : (l : Link) → LinkInRange l → LinkInRange (record l { rounds = round_noted l.rounds round arbiter claimer })
-      noting l m = record {
+      rounds_after : Link → RoundTally
+      rounds_after l = round_noted l.rounds round arbiter claimer
+
+      noted : (l : Link) → LinkInRange l → LinkInRange (record l { rounds = rounds_after l })
+      noted l m = record {
         names = m.names;
         mine = m.mine;
         length = m.length;
@@ -84,9 +93,10 @@ module _ (c : FabricConfig) (w : Work) (a : Going c w) (set : Settings) (fine : 
         rounds = noted_in_range l.rounds round arbiter claimer m.rounds;
       }
 
-      inside : (i : ℕ) (l : Link) (st : LinkState) → slot_at i w.ring.slots ≡ Some l → l.state ≡ st → Going c (rows.kept_seen set now arbiter round claimer i l st w)
+      inside : (i : ℕ) (l : Link) (st : LinkState) → slot_at i w.ring.slots ≡ Some l → l.state ≡ st →
+          Going c (rows.kept_seen set now arbiter round claimer i l st w)
       inside i l state.Discharged e f =
-          judges i l e (λ j. is_bound (f j)) (record l { rounds = round_noted l.rounds round arbiter claimer }) (λ r. noting l (link_in_range i l e r)) (λ j. is_hello (f j))
+          judges i l e (λ j. is_bound (f j)) (record l { rounds = rounds_after l }) (λ r. noted l (link_in_range i l e r)) (λ j. is_hello (f j))
           (round_verdict l.rounds round arbiter claimer)
       inside i l st e f = a
 

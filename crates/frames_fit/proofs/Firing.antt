@@ -31,7 +31,7 @@ use Rattle.frames_fit.proofs.Going.{Done, Going, accuses, counts, drops, gains, 
 use Rattle.frames_fit.proofs.Greetings.{greets_plainly}
 use Rattle.frames_fit.proofs.Places.{bound_met, hello_unbound, is_frozen_in, set_at}
 use Rattle.frames_fit.proofs.Routes.{NodeInRange, near_in_range}
-use Rattle.frames_fit.proofs.Saying.{SettingsInRange, hello_said, in_session_of, link_in_range, not_frozen, offer_said, renew_said, says_gone, transfer_said, unbound_at}
+use Rattle.frames_fit.proofs.Saying.{SettingsInRange, first_round, hello_said, in_session_of, link_in_range, moved_in_range, not_frozen, offer_said, renew_said, says_gone, transfer_said, unbound_at}
 use Rattle.frames_fit.proofs.Seeks.{seek_place_going}
 use Rattle.frames_fit.proofs.Tokens.{Rises, given_in_range, inherited_rises, part_rises, proper_rises, undone_not_in}
 
@@ -62,8 +62,16 @@ module _ (c : FabricConfig) (w : Work) (a : Going c w) (set : Settings) (fine : 
           let undoes_it : Going c undone = undoes c named (accuses c w a (w.ring.accused ++ l.peer ∷ [])) i in
           let k : Link = accused_link set w.ring.me l in
           let puts_it : Going c (put_slot i k undone) = puts c undone undoes_it i k
-          (λ r. let m : LinkInRange l = link_in_range i l e r in
-          record { names = (in_session_of l m met).names; mine = m.mine; length = m.length; held = m.held; got = m.got; flight = m.flight; rounds = record { round = refl; limit = fine.rounds } })
+          (λ r. let m = moved_in_range l (link_in_range i l e r) met state.Accused refl l.ripe k.tally in
+          record {
+            names = m.names;
+            mine = m.mine;
+            length = m.length;
+            held = m.held;
+            got = m.got;
+            flight = m.flight;
+            rounds = first_round set fine w.ring.me;
+          })
           (λ r z. let none : is_frozen_in i undone.ring.token.freeze ≡ false = undone_not_in i w.ring.token in absurd (cc (none, z))) in
           asks c set fine k refl (tell (report.Accused l.peer) (put_slot i k undone)) (λ r. link_in_range i k (set_at w.ring.slots i l (Some k) e) r) puts_it
 
@@ -80,7 +88,9 @@ module _ (c : FabricConfig) (w : Work) (a : Going c w) (set : Settings) (fine : 
     where
       by_time : (b : Bool) → Going c (rows.discharged_due set i l w b)
       by_time true = goes idle
-      by_time false = claims c set fine l met (ask_arbiters set l w) (λ r. link (subst (IsInRange c) (asked_ring set.arbitrators l w) r)) (asks c set fine l met w link a)
+      by_time false =
+          claims c set fine l met (ask_arbiters set l w) (λ r. link (subst (IsInRange c) (asked_ring set.arbitrators l w) r))
+          (asks c set fine l met w link a)
 
   -- what is in its flight is in its list
   flight_rises : (o : Option Flight) → FlightInRange o → Rises (flight_part o)

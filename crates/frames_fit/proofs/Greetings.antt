@@ -6,7 +6,6 @@ use Rattle.fabric_terms.specs.declared.config.FabricConfig.{FabricConfig}
 use Rattle.fabric_terms.specs.declared.message.Body.TheVariants as body
 use Rattle.fabric_terms.specs.declared.report.Reason.{Reason}
 use Rattle.fabric_terms.specs.declared.report.Reason.TheVariants as reason
-use Rattle.heir_rounds.specs.Rounds.{no_rounds}
 use Rattle.join_phases.specs.Phases.{bound_phase}
 use Rattle.ring_points.specs.declared.who.Who.{Who}
 use Rattle.ring_points.specs.Whos.{node_instance}
@@ -20,11 +19,11 @@ use Rattle.ring_rules.specs.Links.{bound_link, greeting_link, hello_body, offer_
 use Rattle.ring_rules.specs.Rings.{Ring, Settings, Work}
 use Rattle.ring_rules.specs.Slots.{bars_link, greets_node_by, is_free, is_hello, of_instance, of_node, of_session, slot_at, slot_where}
 use Rattle.fabric_terms.specs.Fields.{is_addressee, is_counted, is_lease, is_node, is_session, is_stamp, is_who}
-use Rattle.frames_fit.specs.InRange.{IsInRange, LinkInRange, RoundsInRange, holds_bound}
+use Rattle.frames_fit.specs.InRange.{IsInRange, LinkInRange, holds_bound}
 use Rattle.frames_fit.proofs.Facts.{node_addressed, session_from, take_format, who_addressed, within_from, within_parts}
 use Rattle.frames_fit.proofs.Going.{Going, begins, drops, phases, puts, sends}
 use Rattle.frames_fit.proofs.Places.{found_passes, free_unbound, hello_unbound, is_frozen_in}
-use Rattle.frames_fit.proofs.Saying.{SettingsInRange, answers, found, hello_said, in_session_of, link_in_range, moved_in_range, not_frozen, offer_said, renew_said, says_gone, take_said}
+use Rattle.frames_fit.proofs.Saying.{SettingsInRange, answers, first_round, found, hello_said, in_session_of, link_in_range, moved_in_range, not_frozen, offer_said, renew_said, says_gone, take_said}
 
 -- the smaller of two lengths
 pub least_lease : (m n : ℕ) → IsTrue (is_lease m) → IsTrue (is_lease n) → IsTrue (is_lease (min m n))
@@ -36,20 +35,30 @@ least_lease m n h k =
 
 -- links that begin
 
--- no answer to the first round yet
-fresh_rounds : (set : Settings) → SettingsInRange set → (me : Who) → RoundsInRange (no_rounds me set.arbitrators set.rounds)
-fresh_rounds set fine me = record { round = refl; limit = fine.rounds }
-
 module _ (set : Settings) (fine : SettingsInRange set) (now : ℕ) (r : Ring) where
   pub greeting_in_range : (node wire len : ℕ) → IsTrue (is_node node) → IsTrue (is_lease len) → IsTrue (is_counted r.next_session) →
       LinkInRange (greeting_link set now r node wire len)
-  greeting_in_range node wire len h k m =
-      record { names = node_addressed (node_instance node 0) h refl; mine = m; length = k; held = refl; got = refl; flight = tt; rounds = fresh_rounds set fine r.me }
+  greeting_in_range node wire len h k m = record {
+    names = node_addressed (node_instance node 0) h refl;
+    mine = m;
+    length = k;
+    held = refl;
+    got = refl;
+    flight = tt;
+    rounds = first_round set fine r.me;
+  }
 
   pub offered_in_range : (from : Who) (theirs wire len : ℕ) → IsTrue (is_who from) → IsTrue (is_counted theirs) → IsTrue (is_lease len) →
       IsTrue (is_counted r.next_session) → LinkInRange (offered_link set now r from theirs wire len)
-  offered_in_range from theirs wire len h t k m =
-      record { names = and_from (is_who from) (is_counted theirs) h t; mine = m; length = k; held = refl; got = refl; flight = tt; rounds = fresh_rounds set fine r.me }
+  offered_in_range from theirs wire len h t k m = record {
+    names = and_from (is_who from) (is_counted theirs) h t;
+    mine = m;
+    length = k;
+    held = refl;
+    got = refl;
+    flight = tt;
+    rounds = first_round set fine r.me;
+  }
 
 -- places that greet
 

@@ -17,6 +17,7 @@ pub mod Firing
 pub mod Frames
 pub mod Steps
 pub mod Posting
+pub mod Each
 pub mod Nodes
 pub mod Tables
 pub mod Arbiters

@@ -5,6 +5,7 @@ use Rattle.std.proofs.lemmas.Bool.{and_parts}
 use Rattle.arbiter_quorum.specs.Tallies.{Tally}
 use Rattle.fabric_terms.specs.declared.config.FabricConfig.{FabricConfig}
 use Rattle.fabric_terms.specs.declared.message.Body.TheVariants as body
+use Rattle.heir_rounds.specs.Rounds.{no_rounds}
 use Rattle.join_phases.specs.Phases.{is_linked}
 use Rattle.ring_points.specs.declared.who.Flight.{Flight}
 use Rattle.ring_points.specs.declared.who.Who.{Who}
@@ -17,7 +18,7 @@ use Rattle.ring_rules.specs.Slots.{is_bound, is_hello, slot_at}
 use Rattle.fabric_terms.specs.Fields.{is_addressee, is_counted, is_lease, is_part, is_round, is_session, is_stamp, is_who, is_word}
 use Rattle.token_core.specs.Tokens.{announced}
 use Rattle.frames_fit.specs.Formats.{in_format}
-use Rattle.frames_fit.specs.InRange.{IsInRange, LinkInRange, SlotInRange, holds_bound, names_peer}
+use Rattle.frames_fit.specs.InRange.{IsInRange, LinkInRange, RoundsInRange, SlotInRange, holds_bound, names_peer}
 use Rattle.frames_fit.proofs.Facts.{ack_format, gone_format, hello_format, hello_for_format, offer_format, offer_for_format, renew_format, session_from, take_format, transfer_format, who_addressed, word_from}
 use Rattle.frames_fit.proofs.Going.{Going, numbers_parts, sends}
 use Rattle.frames_fit.proofs.Places.{frozen_bound, is_frozen_in, slot_in_range}
@@ -29,6 +30,10 @@ pub record SettingsInRange (set : Settings) : Type 0 where
   pub longest : IsTrue (is_lease set.longest)
   pub arbitrators : set.arbitrators ≤ 9
   pub rounds : IsTrue (is_round set.rounds)
+
+-- no answer yet
+pub first_round : (set : Settings) → SettingsInRange set → (me : Who) → RoundsInRange (no_rounds me set.arbitrators set.rounds)
+first_round set fine me = record { round = refl; limit = fine.rounds }
 
 -- a link that does not greet is in a session of an instance
 

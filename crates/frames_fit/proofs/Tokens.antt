@@ -42,20 +42,17 @@ freeze_rises None h = refl
 freeze_rises (Some z) h = part_rises z.part h
 
 module _ (t : Token) (h : TokenInRange t) where
-  ranges_rise : Rises t.ranges
-  ranges_rise = proper_rises t.ranges h.ranges
-
   pub owned_rises : Rises t.ranges
-  owned_rises = ranges_rise
+  owned_rises = proper_rises t.ranges h.ranges
 
   pub announced_proper : IsTrue (is_proper (announced t))
-  announced_proper = proper_from (announced t) h.announced (rises_from-minus_of 0 0 t.ranges (frozen_part t.freeze) ranges_rise (freeze_rises t.freeze h.freeze))
+  announced_proper = proper_from (announced t) h.announced (rises_from-minus_of 0 0 t.ranges (frozen_part t.freeze) owned_rises (freeze_rises t.freeze h.freeze))
 
   pub gained_in_range : (part : List Interval) → Rises part → IsTrue (can_gain t part) → TokenInRange (gained t part)
   gained_in_range part k fit =
       let fits_both = and_parts (fits (gained t part).ranges) (fits (announced (gained t part))) fit in
       record {
-        ranges = proper_from (union_of t.ranges part) fits_both.0 (rises_from-union_of 0 0 t.ranges part ranges_rise k);
+        ranges = proper_from (union_of t.ranges part) fits_both.0 (rises_from-union_of 0 0 t.ranges part owned_rises k);
         announced = fits_both.1;
         freeze = h.freeze;
       }
@@ -69,7 +66,7 @@ module _ (t : Token) (h : TokenInRange t) where
         announced = fits_both.1;
         freeze =
             and_from (is_proper (meet_of t.ranges part)) (is_some (meet_of t.ranges part))
-            (proper_from (meet_of t.ranges part) fits_both.0 (rises_from-meet_of 0 0 t.ranges part ranges_rise k)) (some_from (meet_of t.ranges part) some);
+            (proper_from (meet_of t.ranges part) fits_both.0 (rises_from-meet_of 0 0 t.ranges part owned_rises k)) (some_from (meet_of t.ranges part) some);
       }
 
   pub unfrozen_in_range : TokenInRange (unfrozen t)
@@ -81,7 +78,7 @@ module _ (t : Token) (h : TokenInRange t) where
       record { ranges = left; announced = (and_parts (fits (minus_of t.ranges z.part)) (rises_from 0 (minus_of t.ranges z.part)) left).0; freeze = tt }
 
   pub inherited_rises : (held flight : List Interval) → Rises held → Rises flight → Rises (inherited t held flight)
-  inherited_rises held flight k l = rises_from-minus_of 0 0 (union_of held flight) t.ranges (rises_from-union_of 0 0 held flight k l) ranges_rise
+  inherited_rises held flight k l = rises_from-minus_of 0 0 (union_of held flight) t.ranges (rises_from-union_of 0 0 held flight k l) owned_rises
 
 -- A freeze that is undone.
 

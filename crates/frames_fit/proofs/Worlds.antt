@@ -23,12 +23,12 @@ use Rattle.world_rules.specs.Worlds.{Running, World, arbiter_acted, arbiter_who,
 use Rattle.world_rules.proofs.Rows.{is_there-start}
 use Rattle.frames_fit.specs.Above.{SendsInFormat}
 use Rattle.frames_fit.specs.Formats.{InputInFormat}
-use Rattle.frames_fit.specs.Tables.{RecordInRange}
 use Rattle.frames_fit.proofs.Arbiters.{ArbiterActs, ArbiterInRange, arbiter_acts, arbiter_begins}
 use Rattle.frames_fit.proofs.Facts.{within_from}
 use Rattle.frames_fit.proofs.Nodes as nodes
 use Rattle.frames_fit.proofs.Nodes.{LiveInRange, NodeActs, node_begins}
-use Rattle.frames_fit.proofs.Posting.{Each, Sound, at_each, got_all, put_each, without_each}
+use Rattle.frames_fit.proofs.Each.{Each, at_each, got_all, put_each, without_each}
+use Rattle.frames_fit.proofs.Posting.{KeptInRange, Sound}
 
 -- a running node: its clock and its state
 pub record RunningInRange (a : Upper) (p : SendsInFormat a) (c : FabricConfig) (s : Running a) : Type 0 where
@@ -38,14 +38,14 @@ pub record RunningInRange (a : Upper) (p : SendsInFormat a) (c : FabricConfig) (
 pub record WorldInRange (a : Upper) (p : SendsInFormat a) (c : FabricConfig) (w : World a) : Type 0 where
   pub nodes : Each (RunningInRange a p c) w.nodes
   pub arbiters : Each (ArbiterInRange a p c) w.arbiters
-  pub kept : Each (All (RecordInRange p.Kept)) w.kept
+  pub kept : Each (All (KeptInRange p)) w.kept
   pub frames : All Sound w.frames
 
 pub empty_in_range : (a : Upper) (p : SendsInFormat a) (c : FabricConfig) → WorldInRange a p c (empty_world a)
 empty_in_range a p c = record {
   nodes = All-nil (λ e. RunningInRange a p c e.1);
   arbiters = All-nil (λ e. ArbiterInRange a p c e.1);
-  kept = All-nil (λ e. All (RecordInRange p.Kept) e.1);
+  kept = All-nil (λ e. All (KeptInRange p) e.1);
   frames = All-nil Sound;
 }
 
@@ -55,16 +55,16 @@ module _ (a : Upper) (p : SendsInFormat a) (c : FabricConfig) (sound : IsSound c
 
   -- records of an actor, and with more of them
 
-  kept_in_range : (actor : ℕ) → All (RecordInRange p.Kept) (kept_of w actor)
+  kept_in_range : (actor : ℕ) → All (KeptInRange p) (kept_of w actor)
   kept_in_range actor = found (at actor w.kept) refl
     where
-      found : (o : Option (List Record)) → at actor w.kept ≡ o → All (RecordInRange p.Kept) (unwrap_or o [])
-      found None e = All-nil (RecordInRange p.Kept)
-      found (Some rs) e = at_each (All (RecordInRange p.Kept)) actor w.kept rs h.kept e
+      found : (o : Option (List Record)) → at actor w.kept ≡ o → All (KeptInRange p) (unwrap_or o [])
+      found None e = All-nil (KeptInRange p)
+      found (Some rs) e = at_each (All (KeptInRange p)) actor w.kept rs h.kept e
 
-  kept_with : (actor : ℕ) (records : List Record) → All (RecordInRange p.Kept) records → Each (All (RecordInRange p.Kept)) (put actor (kept_of w actor ++ records) w.kept)
+  kept_with : (actor : ℕ) (records : List Record) → All (KeptInRange p) records → Each (All (KeptInRange p)) (put actor (kept_of w actor ++ records) w.kept)
   kept_with actor records more =
-      put_each (All (RecordInRange p.Kept)) actor (kept_of w actor ++ records) w.kept (All-append (RecordInRange p.Kept) (kept_of w actor) records (kept_in_range actor) more) h.kept
+      put_each (All (KeptInRange p)) actor (kept_of w actor ++ records) w.kept (All-append (KeptInRange p) (kept_of w actor) records (kept_in_range actor) more) h.kept
 
   -- what a node and an arbitrator do
 
