@@ -43,7 +43,8 @@ module _ (a : Upper) (p : SendsInFormat a) (c : FabricConfig) (sound : IsSound c
   arbiter_begins records kept =
       record { table = after_in_range p.Kept no_table records no_table_in_range kept; beside = p.beside_begun c arbiter records sound kept }
 
-module _ (a : Upper) (p : SendsInFormat a) (c : FabricConfig) (sound : IsSound c) (arbiter : ℕ) (m : Message) (h : IsTrue (is_sound m)) (s : ArbiterState a) (fine : ArbiterInRange a p c s) where
+module _ (a : Upper) (p : SendsInFormat a) (c : FabricConfig) (sound : IsSound c) (arbiter : ℕ) (m : Message) (h : IsTrue (is_sound m)) (s : ArbiterState a)
+    (fine : ArbiterInRange a p c s) where
   -- whom it takes a frame from, and by whom the frame is taken
   from_node : takes_frame arbiter m ≡ true → IsTrue (is_who m.from)
   from_node e =

@@ -47,7 +47,8 @@ found_bound node None h = absurd (cc (h))
 found_bound node (Some l) h = found_state is_bound node l h
 
 module _ (c : FabricConfig) (w : Work) (a : Going c w) where
-  link_going : (set : Settings) → SettingsInRange set → (now node wire len : ℕ) → IsTrue (is_node node) → IsTrue (is_lease len) → Going c (link_commanded set now node wire len w)
+  link_going : (set : Settings) → SettingsInRange set → (now node wire len : ℕ) → IsTrue (is_node node) → IsTrue (is_lease len) →
+      Going c (link_commanded set now node wire len w)
   unfolding link_commanded
   link_going set fine now node wire len h k =
       greets c w a (greeting_link set now w.ring node wire len) (refuse verb.Link) refl (λ m. greeting_in_range set fine now w.ring node wire len h k m)
@@ -115,7 +116,8 @@ module _ (c : FabricConfig) (w : Work) (a : Going c w) where
       unless : (b : Bool) → Going c (rows.join_unless member w b)
       unless true = a
       unless false =
-          seek_place_going c (on_ring (λ r. record r { target = Some member }) w) (routes c w a w.ring.routes.known (Some member) (λ r. r.known) (λ r. h)) sound member h
+          seek_place_going c (on_ring (λ r. record r { target = Some member }) w)
+          (routes c w a w.ring.routes.known (Some member) (λ r. r.known) (λ r. h)) sound member h
 
   pub command_going : IsSound c → (set : Settings) → SettingsInRange set → (now : ℕ) (d : Command) → FitsCommand d → Going c (command_row set now d w)
   command_going sound set fine now (command.Link node) h = link_going set fine now node 1 set.lease (node_from node h) fine.lease

@@ -125,13 +125,14 @@ module _ (to : Who) (named : IsTrue (is_addressee to)) where
     offer_format = and_from (is_addressee to) (is_session mine yours) named h
 
     pub offer_for_format : (length : ℕ) → IsTrue (is_lease length) → IsTrue (in_format (to, body.OfferFor mine yours length))
-    offer_for_format length k = and_from (is_addressee to) (is_session mine yours && is_lease length) named (and_from (is_session mine yours) (is_lease length) h k)
+    offer_for_format length k =
+        and_from (is_addressee to) (is_session mine yours && is_lease length) named (and_from (is_session mine yours) (is_lease length) h k)
 
     pub take_format : IsTrue (in_format (to, body.Take mine yours))
     take_format = and_from (is_addressee to) (is_session mine yours) named h
 
-    pub renew_format : (stamp version got : ℕ) (want : Bool) (ranges : List Interval) → IsTrue (is_stamp stamp) → IsTrue (is_word version) → IsTrue (is_word got) →
-        IsTrue (is_proper ranges) → IsTrue (in_format (to, body.Renew mine yours stamp version got want ranges))
+    pub renew_format : (stamp version got : ℕ) (want : Bool) (ranges : List Interval) → IsTrue (is_stamp stamp) → IsTrue (is_word version) →
+        IsTrue (is_word got) → IsTrue (is_proper ranges) → IsTrue (in_format (to, body.Renew mine yours stamp version got want ranges))
     renew_format stamp version got want ranges k l m n =
         and_from (is_addressee to) ((((is_session mine yours && is_stamp stamp) && is_word version) && is_word got) && is_proper ranges) named
         (and_from (((is_session mine yours && is_stamp stamp) && is_word version) && is_word got) (is_proper ranges)
@@ -143,7 +144,8 @@ module _ (to : Who) (named : IsTrue (is_addressee to)) where
         and_from (is_addressee to) ((is_session mine yours && is_stamp stamp) && is_word version) named
         (and_from (is_session mine yours && is_stamp stamp) (is_word version) (and_from (is_session mine yours) (is_stamp stamp) h k) l)
 
-    pub transfer_format : (flight : ℕ) (ranges : List Interval) → IsTrue (is_counted flight && is_part ranges) → IsTrue (in_format (to, body.Transfer mine yours flight ranges))
+    pub transfer_format : (flight : ℕ) (ranges : List Interval) → IsTrue (is_counted flight && is_part ranges) →
+        IsTrue (in_format (to, body.Transfer mine yours flight ranges))
     transfer_format flight ranges k =
         let parts = and_parts (is_counted flight) (is_part ranges) k in
         and_from (is_addressee to) ((is_session mine yours && is_counted flight) && is_part ranges) named

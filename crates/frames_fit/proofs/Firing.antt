@@ -37,7 +37,8 @@ use Rattle.frames_fit.proofs.Tokens.{Rises, given_in_range, inherited_rises, par
 
 -- A slot.
 
-module _ (c : FabricConfig) (w : Work) (a : Going c w) (set : Settings) (fine : SettingsInRange set) (now i : ℕ) (l : Link) (e : slot_at i w.ring.slots ≡ Some l) where
+module _ (c : FabricConfig) (w : Work) (a : Going c w) (set : Settings) (fine : SettingsInRange set) (now i : ℕ) (l : Link)
+    (e : slot_at i w.ring.slots ≡ Some l) where
   link : IsInRange c w.ring → LinkInRange l
   link r = link_in_range i l e r
 
@@ -101,13 +102,15 @@ module _ (c : FabricConfig) (w : Work) (a : Going c w) (set : Settings) (fine : 
   heir_fires idle false = a
   heir_fires idle true = by_fit _ refl
     where
-      by_fit : (b : Bool) → (fits (inherited w.ring.token l.held (flight_part l.flight)) && can_gain w.ring.token (inherited w.ring.token l.held (flight_part l.flight))) ≡ b →
+      by_fit : (b : Bool) →
+          (fits (inherited w.ring.token l.held (flight_part l.flight)) && can_gain w.ring.token (inherited w.ring.token l.held (flight_part l.flight))) ≡ b →
           Going c (rows.take_over i l (inherited w.ring.token l.held (flight_part l.flight)) w b)
       by_fit false f = a
       by_fit true f =
           let more : List Interval = inherited w.ring.token l.held (flight_part l.flight) in
           let gains_it : Going c (set_token (gained w.ring.token more) w) = gains c w a more
-          (λ r. let m = link r in inherited_rises w.ring.token r.token l.held (flight_part l.flight) (proper_rises l.held m.held) (flight_rises l.flight m.flight))
+          (λ r. let m = link r in
+          inherited_rises w.ring.token r.token l.held (flight_part l.flight) (proper_rises l.held m.held) (flight_rises l.flight m.flight))
           (and_parts (fits more) (can_gain w.ring.token more) f).1 in
           let told : Work = tell (report.TookOver l.peer more) (set_token (gained w.ring.token more) w) in
           drops c (set_phase holding_phase told) (phases c told gains_it holding_phase) i (λ r. not_frozen i (unbound_at w.ring.slots i l e idle) r)
@@ -188,7 +191,8 @@ module _ (c : FabricConfig) (sound : IsSound c) (set : Settings) (fine : Setting
   greets_each : (nodes : List ℕ) (w : Work) → All NodeInRange nodes → Going c w → Going c (rows.greet_all set now nodes w)
   greets_each [] w h a = a
   greets_each (node ∷ nodes) w h a =
-      greets_each nodes (greet_plainly set now node w) (All-tail NodeInRange node nodes h) (greets_plainly c w a set fine now node (All-head NodeInRange node nodes h))
+      greets_each nodes (greet_plainly set now node w) (All-tail NodeInRange node nodes h)
+      (greets_plainly c w a set fine now node (All-head NodeInRange node nodes h))
 
   seeks : (w : Work) → Done c w → Done c (place_sought set now w)
   unfolding place_sought
@@ -199,7 +203,8 @@ module _ (c : FabricConfig) (sound : IsSound c) (set : Settings) (fine : Setting
       from (Some member) h = seek_place_going c w (λ n. d) sound member h
 
       by_phase : (b : Bool) → Going c (rows.search_by set now w b)
-      by_phase true = greets_each (near_nodes w.ring.routes set.near w.ring.accused) w (near_in_range w.ring.routes set.near w.ring.accused d.ring.known) (λ n. d)
+      by_phase true =
+          greets_each (near_nodes w.ring.routes set.near w.ring.accused) w (near_in_range w.ring.routes set.near w.ring.accused d.ring.known) (λ n. d)
       by_phase false = from w.ring.target d.ring.target
 
   pub timer_done : IsTrue (is_stamp now) → (w : Work) → Done c w → Done c (timer_fired set now w)

@@ -34,13 +34,13 @@ greets_unbound mine None h = absurd (cc (h))
 greets_unbound mine (Some l) h = hello_unbound l.state (and_parts (l.mine == mine) (is_hello l.state) h).1
 
 module _ (c : FabricConfig) (w : Work) (a : Going c w) where
-  pub answers_if : (b : Bool) (to : Who) (said : Body) → (IsInRange c w.ring → IsTrue (in_format (to, said))) → Going c (rows.answer_if b to said w)
+  answers_if : (b : Bool) (to : Who) (said : Body) → (IsInRange c w.ring → IsTrue (in_format (to, said))) → Going c (rows.answer_if b to said w)
   answers_if true to said fine = sends c w a to said fine
   answers_if false to said fine = a
 
 module _ (c : FabricConfig) (w : Work) (a : Going c w) where
   -- the slot of a session ends
-  pub closes : (i : ℕ) (l : Link) (bound : Bool) → slot_at i w.ring.slots ≡ Some l → is_hello l.state ≡ false → Going c (close i l bound w)
+  closes : (i : ℕ) (l : Link) (bound : Bool) → slot_at i w.ring.slots ≡ Some l → is_hello l.state ≡ false → Going c (close i l bound w)
   closes i l bound e met = ends bound
     where
       undone : Going c (undo_freeze i w)

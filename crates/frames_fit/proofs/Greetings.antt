@@ -48,7 +48,7 @@ module _ (set : Settings) (fine : SettingsInRange set) (now : ℕ) (r : Ring) wh
     rounds = first_round set fine r.me;
   }
 
-  pub offered_in_range : (from : Who) (theirs wire len : ℕ) → IsTrue (is_who from) → IsTrue (is_counted theirs) → IsTrue (is_lease len) →
+  offered_in_range : (from : Who) (theirs wire len : ℕ) → IsTrue (is_who from) → IsTrue (is_counted theirs) → IsTrue (is_lease len) →
       IsTrue (is_counted r.next_session) → LinkInRange (offered_link set now r from theirs wire len)
   offered_in_range from theirs wire len h t k m = record {
     names = and_from (is_who from) (is_counted theirs) h t;
@@ -89,7 +89,8 @@ module _ (c : FabricConfig) (w : Work) (a : Going c w) where
 
   -- a Hello is accepted by a new link
 
-  accepts : (l : Link) → l.mine ≡ w.ring.next_session → (IsTrue (is_counted l.mine) → LinkInRange l) → is_hello l.state ≡ false → Going c (rows.hello_accepted l w)
+  accepts : (l : Link) → l.mine ≡ w.ring.next_session → (IsTrue (is_counted l.mine) → LinkInRange l) → is_hello l.state ≡ false →
+      Going c (rows.hello_accepted l w)
   accepts l next fine met = free (slot_where is_free w.ring.slots) refl
     where
       free : (o : Option ℕ) → slot_where is_free w.ring.slots ≡ o → Going c (rows.accept_free l w o)
@@ -116,7 +117,8 @@ module _ (c : FabricConfig) (w : Work) (a : Going c w) where
       crossed i e true = a
       crossed i e false =
           accepts c (drop_slot i w)
-          (drops c w a i (λ r. not_frozen i (greets_unbound l.peer.actor (slot_at i w.ring.slots) (found_passes (of_node is_hello l.peer.actor) w.ring.slots i e)) r))
+          (drops c w a i (λ r. not_frozen i
+          (greets_unbound l.peer.actor (slot_at i w.ring.slots) (found_passes (of_node is_hello l.peer.actor) w.ring.slots i e)) r))
           l next fine met
 
       of_node_at : (o : Option ℕ) → slot_where (of_node is_hello l.peer.actor) w.ring.slots ≡ o → Going c (rows.hello_of_node l w o)
@@ -127,8 +129,8 @@ module _ (c : FabricConfig) (w : Work) (a : Going c w) where
       of_instance_at (Some i) = repeated i (slot_at i w.ring.slots) refl
       of_instance_at None = of_node_at (slot_where (of_node is_hello l.peer.actor) w.ring.slots) refl
 
-  pub hello_going : (set : Settings) → SettingsInRange set → (now : ℕ) (from : Who) (theirs wire len : ℕ) → IsTrue (is_who from) → IsTrue (is_counted theirs) → IsTrue (is_lease len) →
-      Going c (hello_received set now from theirs wire len w)
+  pub hello_going : (set : Settings) → SettingsInRange set → (now : ℕ) (from : Who) (theirs wire len : ℕ) → IsTrue (is_who from) →
+      IsTrue (is_counted theirs) → IsTrue (is_lease len) → Going c (hello_received set now from theirs wire len w)
   unfolding hello_received
   hello_going set fine now from theirs wire len h t k =
       meets (offered_link set now w.ring from theirs wire len) refl (λ m. offered_in_range set fine now w.ring from theirs wire len h t k m) refl
@@ -179,7 +181,8 @@ module _ (c : FabricConfig) (w : Work) (a : Going c w) where
       Going c (take_received now from theirs own w)
   unfolding take_received
   take_going now from theirs own reads h s =
-      found c w a (rows.take_seen now) (answer_unknown from theirs own) (slot_where (of_session from own theirs) w.ring.slots) inside (answers c w a from theirs own h s)
+      found c w a (rows.take_seen now) (answer_unknown from theirs own) (slot_where (of_session from own theirs) w.ring.slots) inside
+      (answers c w a from theirs own h s)
     where
       inside : (i : ℕ) (l : Link) (st : LinkState) → slot_at i w.ring.slots ≡ Some l → l.state ≡ st → Going c (rows.take_seen now i l st w)
       inside i l state.Offered e f =

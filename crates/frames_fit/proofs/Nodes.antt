@@ -80,8 +80,10 @@ module _ (a : Upper) (p : SendsInFormat a) (c : FabricConfig) (sound : IsSound c
       };
     }
 
-    goes_acts : IsNumber now → InputInFormat i → NodeInRange a p c s → (k : Work) → Done c k → NodeActs a p c (both_did a c s.ring k (above_acts a c now i s k.ring))
-    goes_acts reads h r k done = both_acts k (above_acts a c now i s k.ring) done (by_test (not (is_left k.ring.phase) && comes_above (settings_of c s.ring.me.actor) s.ring i))
+    goes_acts : IsNumber now → InputInFormat i → NodeInRange a p c s → (k : Work) → Done c k →
+        NodeActs a p c (both_did a c s.ring k (above_acts a c now i s k.ring))
+    goes_acts reads h r k done =
+        both_acts k (above_acts a c now i s k.ring) done (by_test (not (is_left k.ring.phase) && comes_above (settings_of c s.ring.me.actor) s.ring i))
       where
         by_test : (b : Bool) → DidInFormat (p.Above c) (KeptInRange p) (above_if a c now k.ring s.above i b)
         by_test true = p.above_step c now k.ring s.above i sound reads done.ring r.above h
@@ -104,7 +106,8 @@ module _ (a : Upper) (p : SendsInFormat a) (c : FabricConfig) (sound : IsSound c
 
   -- Its start.
 
-  module _ (node : ℕ) (records : List Record) (named : IsTrue (is_node node)) (listed : is_configured_node c node ≡ true) (kept : All (KeptInRange p) records) where
+  module _ (node : ℕ) (records : List Record) (named : IsTrue (is_node node)) (listed : is_configured_node c node ≡ true)
+      (kept : All (KeptInRange p) records) where
     me : Who
     me = node_instance node (instance_begun records)
 

@@ -75,7 +75,8 @@ not_frozen {r = r} i idle h = by_test (is_frozen_in i r.token.freeze) refl
     by_test true e = let bound : holds_bound (slot_at i r.slots) ≡ true = frozen_bound r.slots i r.token.freeze h.frozen e in absurd (cc (bound, idle))
 
 -- what is frozen for the place of a link is frozen for one that is bound
-pub still_bound : {c : FabricConfig} {r : Ring} (i : ℕ) (l : Link) → slot_at i r.slots ≡ Some l → IsInRange c r → is_frozen_in i r.token.freeze ≡ true → is_bound l.state ≡ true
+pub still_bound : {c : FabricConfig} {r : Ring} (i : ℕ) (l : Link) → slot_at i r.slots ≡ Some l → IsInRange c r → is_frozen_in i r.token.freeze ≡ true →
+    is_bound l.state ≡ true
 still_bound {r = r} i l at h k = subst (λ (o : Option Link). holds_bound o ≡ true) at (frozen_bound r.slots i r.token.freeze h.frozen k)
 
 pub unbound_at : (slots : Slots) (i : ℕ) (l : Link) → slot_at i slots ≡ Some l → is_bound l.state ≡ false → holds_bound (slot_at i slots) ≡ false
@@ -107,7 +108,8 @@ module _ (l : Link) (h : LinkInRange l) where
         renew_format l.peer s.addressed l.mine l.yours s.session now r.token.version l.got (is_linked r.phase) (announced r.token) reads
         (word_from r.token.version (numbers_parts r k.numbers).version) h.got (announced_proper r.token k.token)
 
-    pub ack_said : (stamp version : ℕ) → IsTrue (is_stamp stamp) → IsTrue (is_word version) → IsTrue (in_format (l.peer, body.RenewAck l.mine l.yours stamp version))
+    pub ack_said : (stamp version : ℕ) → IsTrue (is_stamp stamp) → IsTrue (is_word version) →
+        IsTrue (in_format (l.peer, body.RenewAck l.mine l.yours stamp version))
     ack_said stamp version k m = ack_format l.peer s.addressed l.mine l.yours s.session stamp version k m
 
     pub transfer_said : (f : Flight) → IsTrue (is_counted f.number && is_part f.part) → IsTrue (in_format (l.peer, transfer_body l f))
@@ -129,7 +131,8 @@ module _ (c : FabricConfig) (w : Work) (a : Going c w) where
 
   -- the slot that was looked for
   pub found : (row : SessionRow) (none : Work → Work) (o : Option ℕ) →
-      ((i : ℕ) (l : Link) (st : LinkState) → slot_at i w.ring.slots ≡ Some l → l.state ≡ st → Going c (row i l st w)) → Going c (none w) → Going c (in_found row none o w)
+      ((i : ℕ) (l : Link) (st : LinkState) → slot_at i w.ring.slots ≡ Some l → l.state ≡ st → Going c (row i l st w)) → Going c (none w) →
+      Going c (in_found row none o w)
   found row none None inside outside = outside
   found row none (Some i) inside outside = at (slot_at i w.ring.slots) refl
     where

@@ -21,7 +21,7 @@ Rises is = IsTrue (rises_from 0 is)
 
 -- Lists.
 
-pub proper_from : (is : List Interval) → IsTrue (fits is) → Rises is → IsTrue (is_proper is)
+proper_from : (is : List Interval) → IsTrue (fits is) → Rises is → IsTrue (is_proper is)
 proper_from is h k = and_from (fits is) (rises_from 0 is) h k
 
 pub proper_rises : (is : List Interval) → IsTrue (is_proper is) → Rises is
@@ -46,7 +46,8 @@ module _ (t : Token) (h : TokenInRange t) where
   owned_rises = proper_rises t.ranges h.ranges
 
   pub announced_proper : IsTrue (is_proper (announced t))
-  announced_proper = proper_from (announced t) h.announced (rises_from-minus_of 0 0 t.ranges (frozen_part t.freeze) owned_rises (freeze_rises t.freeze h.freeze))
+  announced_proper =
+      proper_from (announced t) h.announced (rises_from-minus_of 0 0 t.ranges (frozen_part t.freeze) owned_rises (freeze_rises t.freeze h.freeze))
 
   pub gained_in_range : (part : List Interval) → Rises part → IsTrue (can_gain t part) → TokenInRange (gained t part)
   gained_in_range part k fit =
@@ -74,24 +75,14 @@ module _ (t : Token) (h : TokenInRange t) where
 
   pub given_in_range : (z : Freeze) → t.freeze ≡ Some z → TokenInRange (given t z)
   given_in_range z e =
-      let left : IsTrue (is_proper (minus_of t.ranges z.part)) = subst (λ (o : Option Freeze). IsTrue (is_proper (minus_of t.ranges (frozen_part o)))) e announced_proper in
+      let left : IsTrue (is_proper (minus_of t.ranges z.part)) =
+      subst (λ (o : Option Freeze). IsTrue (is_proper (minus_of t.ranges (frozen_part o)))) e announced_proper in
       record { ranges = left; announced = (and_parts (fits (minus_of t.ranges z.part)) (rises_from 0 (minus_of t.ranges z.part)) left).0; freeze = tt }
 
   pub inherited_rises : (held flight : List Interval) → Rises held → Rises flight → Rises (inherited t held flight)
   inherited_rises held flight k l = rises_from-minus_of 0 0 (union_of held flight) t.ranges (rises_from-union_of 0 0 held flight k l) owned_rises
 
 -- A freeze that is undone.
-
-pub undone_in_range : (i : ℕ) (t : Token) → TokenInRange t → TokenInRange (undone i t)
-undone_in_range i t h = at t.freeze
-  where
-    by_place : (b : Bool) → TokenInRange (undone_if t b)
-    by_place true = unfrozen_in_range t h
-    by_place false = h
-
-    at : (o : Option Freeze) → TokenInRange (undone_at i t o)
-    at None = h
-    at (Some z) = by_place (z.slot == i)
 
 -- no part is frozen for the place any more
 pub undone_not_in : (i : ℕ) (t : Token) → is_frozen_in i (undone i t).freeze ≡ false

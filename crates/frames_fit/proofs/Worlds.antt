@@ -64,13 +64,16 @@ module _ (a : Upper) (p : SendsInFormat a) (c : FabricConfig) (sound : IsSound c
 
   kept_with : (actor : ℕ) (records : List Record) → All (KeptInRange p) records → Each (All (KeptInRange p)) (put actor (kept_of w actor ++ records) w.kept)
   kept_with actor records more =
-      put_each (All (KeptInRange p)) actor (kept_of w actor ++ records) w.kept (All-append (KeptInRange p) (kept_of w actor) records (kept_in_range actor) more) h.kept
+      put_each (All (KeptInRange p)) actor (kept_of w actor ++ records) w.kept
+      (All-append (KeptInRange p) (kept_of w actor) records (kept_in_range actor) more) h.kept
 
   -- what a node and an arbitrator do
 
   node_did : (n reading : ℕ) (pairs : List Pair) (d : Did (NodeState a)) → IsNumber reading → NodeActs a p c d → Fine (node_acted a w n reading pairs d).world
   node_did n reading pairs d reads did = record {
-    nodes = put_each (RunningInRange a p c) n (record { node = d.state; reading = reading; pairs = pairs }) w.nodes (record { reading = reads; node = did.state }) h.nodes;
+    nodes =
+        put_each (RunningInRange a p c) n (record { node = d.state; reading = reading; pairs = pairs }) w.nodes
+        (record { reading = reads; node = did.state }) h.nodes;
     arbiters = h.arbiters;
     kept = kept_with d.state.ring.me.actor d.records did.acts.records;
     frames = did.acts.posts w.frames h.frames;
@@ -160,10 +163,12 @@ module _ (a : Upper) (p : SendsInFormat a) (c : FabricConfig) (sound : IsSound c
   arrive_at_node f None e m = h
   arrive_at_node f (Some s) e m = arrive_if f s (f.to.instance == 0 || f.to.instance == s.node.ring.me.instance) e m
 
-  arrive_at_arbiter : (f : Message) (arbiter : ℕ) (o : Option (ArbiterState a)) → at arbiter w.arbiters ≡ o → Sound f → Fine (arrives_at_arbiter a c w f arbiter o).world
+  arrive_at_arbiter : (f : Message) (arbiter : ℕ) (o : Option (ArbiterState a)) → at arbiter w.arbiters ≡ o → Sound f →
+      Fine (arrives_at_arbiter a c w f arbiter o).world
   arrive_at_arbiter f arbiter None e m = h
   arrive_at_arbiter f arbiter (Some s) e m =
-      arbiter_did arbiter (arbiter_step a c arbiter f s) (arbiter_acts a p c sound arbiter f m s (at_each (ArbiterInRange a p c) arbiter w.arbiters s h.arbiters e))
+      arbiter_did arbiter (arbiter_step a c arbiter f s)
+      (arbiter_acts a p c sound arbiter f m s (at_each (ArbiterInRange a p c) arbiter w.arbiters s h.arbiters e))
 
   arrive_at : (f : Message) (b : Bool) → Sound f → Fine (arrives_at a c w f b).world
   arrive_at f true m = arrive_at_arbiter f (arbiter_number f.to.actor) (at (arbiter_number f.to.actor) w.arbiters) refl m
