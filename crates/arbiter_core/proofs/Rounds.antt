@@ -43,7 +43,6 @@ settled_again table claimer victim again round =
     by : (a b : Option Who) (is_first : Bool) → first_accuser victim table.accusations ≡ a → first_claimer victim round table.claims ≡ b
         → (round == 1) ≡ is_first
         → claim_settled (table_after table (claimer_kept claimer victim round a b is_first)) again victim round ≡ kept_by claimer a b is_first
-    unfolding claim_settled
     by None b is_first e f g = rw e refl
     by (Some x) (Some y) true e f g = rw (e, g) refl
     by (Some x) None true e f g = rw (e, g) refl
