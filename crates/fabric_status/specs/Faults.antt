@@ -1,7 +1,7 @@
 -- The line that names a status.
 use Rattle.std.specs.Prelude.{ℕ, List, [], ◌∷◌, ◌++◌, codes, decimal}
 use Rattle.fabric_config.specs.Words.{words_of}
-use Rattle.sched_text.specs.Texts.{spaced}
+use Rattle.text_fields.specs.Texts.{spaced}
 use Rattle.fabric_status.specs.declared.status.Status.{Status}
 use Rattle.fabric_status.specs.declared.status.Status.TheVariants as status
 

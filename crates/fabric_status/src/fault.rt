@@ -6,7 +6,7 @@ use crate::numbered::{push_numbered, push_two};
 use crate::status::Status;
 use fabric_config::ConfigError;
 use fabric_terms::OutOfMemory;
-use sched_text::push_bytes;
+use text_fields::push_bytes;
 use std::alloc::Global;
 
 fn push_named(text: &mut Vec<u8>, front: &[u8], words: &[u8]) -> Result<(), OutOfMemory>
