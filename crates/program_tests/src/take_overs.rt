@@ -1,5 +1,5 @@
-use crate::tests::joins::{JOIN, JOINED};
-use crate::tests::{DUO, DUO_OF_2, expect_replay};
+use crate::schedules::joins::{JOIN, JOINED};
+use crate::schedules::{DUO, DUO_OF_2, expect_replay};
 use std::test::Fail;
 
 /// Node 2 is silent from line 21 on, and node 1 takes over: lines 21 to 32.

@@ -1,14 +1,7 @@
 // Schedules over devices in memory: the status, and what is written. A test hands in the lines of its schedule, the
 // first of them the configuration.
 
-mod cluster;
-mod devices;
-mod joins;
-mod lengths;
-mod small;
-mod take_overs;
-
-use crate::fabric_main;
+use fabric_top::fabric_main;
 use edge_io::{MemSink, MemSource, Sink, Source};
 use std::alloc::Global;
 use std::process::Abort;

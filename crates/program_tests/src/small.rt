@@ -1,4 +1,4 @@
-use crate::tests::{DUO, ONE, expect_replay};
+use crate::schedules::{DUO, ONE, expect_replay};
 use std::test::Fail;
 
 /// The first line, the lines behind it, the exit status, and what is written.

@@ -1,5 +1,5 @@
-use crate::Status;
-use crate::tests::{ONE, called, text_of};
+use fabric_top::Status;
+use crate::schedules::{ONE, called, text_of};
 use edge_io::{EdgeRefusal, MemSink, MemSource, Sink};
 use std::test::Fail;
 

@@ -1,4 +1,4 @@
-use crate::tests::{DUO, expect_replay};
+use crate::schedules::{DUO, expect_replay};
 use std::test::Fail;
 
 /// Row by row as where a node joins and falls silent, on a link of 1000 ticks.

@@ -1,4 +1,4 @@
-use crate::tests::{EIGHT, expect_end};
+use crate::schedules::{EIGHT, expect_end};
 use std::test::Fail;
 
 /// Nodes 2 to 8 join in turn, each through the holder of its point; node 5 falls silent, and node 4 takes over.
