@@ -1,4 +1,4 @@
-use crate::schedules::joins::{JOIN, JOINED};
+use crate::joins::{JOIN, JOINED};
 use crate::schedules::{DUO, DUO_OF_2, expect_replay};
 use std::test::Fail;
 
