@@ -262,31 +262,8 @@ fn refuses_a_65th_node_and_bytes_that_are_no_text(rt: HostRuntime) -> Result<(),
 }
 
 #[test]
-fn words_name_the_error(rt: HostRuntime) -> Result<(), Fail> {
-    for (error, words, text) in [
-        (
-            ConfigError::NotJson,
-            "not json",
-            "the line is no JSON object",
-        ),
-        (
-            ConfigError::Missing(Field::At),
-            "missing at",
-            "the field at is missing, or not of its kind",
-        ),
-        (
-            ConfigError::OutOfRange(Field::Lease, 5),
-            "range lease 5",
-            "the field lease is out of range: 5",
-        ),
-        (
-            ConfigError::Repeated(999),
-            "repeated 999",
-            "node 999 repeats an earlier node",
-        ),
-    ] {
-        assert_eq!(rt; error.words(rt.alloc())?.as_str(), words);
-        assert_eq!(rt; error.to_string(rt.alloc())?.as_str(), text);
-    }
+fn an_error_is_a_sentence(rt: HostRuntime) -> Result<(), Fail> {
+    let error = ConfigError::Repeated(999);
+    assert_eq!(rt; error.to_string(rt.alloc())?.as_str(), "node 999 repeats an earlier node");
     Ok(())
 }
