@@ -52,11 +52,13 @@ fn keeps_the_first_claimer_of_a_later_round(rt: HostRuntime) -> Result<(), Fail>
     assert_eq!(rt; (first, record.is_some()), (node(2), false));
     let (first, record) = kept(&rt, &mut arbiter, node(3), node(1), 2);
     assert_eq!(rt; first, node(3));
-    let Some(Record::ClaimedBy {
-        victim,
-        round,
-        claimer,
-    }) = record
+    let Some(
+        Record::ClaimedBy {
+            victim,
+            round,
+            claimer,
+        },
+    ) = record
     else {
         panic!(rt; "no record");
     };
