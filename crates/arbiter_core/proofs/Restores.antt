@@ -1,7 +1,7 @@
 -- An arbitrator on the way of being restored.
-use Rattle.std.proofs.Common.{◌≡◌, ℕ, suc, ◌+◌, ◌<◌, ◌≤◌, Bool, true, false, List, [], ◌∷◌, ◌++◌, length, Ok, Err, subst, drop, get_or, add-one, drop-cons, refl, ap, sym, ◌∙◌, arith, length-append}
+use Rattle.std.proofs.Common.{◌≡◌, ℕ, suc, ◌+◌, ◌<◌, ◌≤◌, Bool, true, false, List, [], ◌∷◌, length, Ok, Err, subst, drop, get_or, add-one, drop-cons, refl, ap, sym, ◌∙◌, arith, length-append}
 use Rattle.std.proofs.Math.ListN.{drop_of_length-le}
-use Rattle.std.specs.Prelude.{◌&&◌, nat_le, nat_lt, Result}
+use Rattle.std.specs.Prelude.{nat_lt, Result}
 use Rattle.std.proofs.lemmas.Bool.{and_parts}
 use Rattle.std.proofs.lemmas.Bool.Decides.{nat_tests}
 use Rattle.fabric_terms.specs.declared.record.Record.{Record}
@@ -11,7 +11,7 @@ use Rattle.arbiter_core.specs.declared.answer.ArbiterError.TheVariants.{TableFul
 use Rattle.ring_rules.specs.Arbiters.{Table, no_table, table_with, table_after}
 use Rattle.arbiter_tables.specs.Tables.{entries_of}
 use Rattle.keep_log.specs.Places.{is_new, is_once}
-use Rattle.arbiter_core.specs.Arbiters.{Arbiter, Outcome, most_entries, is_full_for, kept_where_full, keep_call, table_records, remember_call, restored, restore_call}
+use Rattle.arbiter_core.specs.Arbiters.{Arbiter, Outcome, most_entries, is_full_for, kept_where_full, table_records, remember_call, restore_call}
 
 -- these records have been read, and the rest are to be read
 pub record IsRestoring (own : ℕ) (records rest : List Record) (a : Arbiter) : Type 0 where

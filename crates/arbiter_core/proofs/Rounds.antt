@@ -1,12 +1,11 @@
 -- Rounds before and after what is recorded of them.
-use Rattle.std.proofs.Common.{◌≡◌, ℕ, Bool, true, false, List, [], ◌∷◌, ◌++◌, Option, Some, None, refl, ◌∙◌, arith}
-use Rattle.std.specs.Prelude.{◌==◌, ◌&&◌}
+use Rattle.std.proofs.Common.{◌≡◌, ℕ, Bool, true, false, [], ◌∷◌, ◌++◌, Option, Some, None, refl, arith}
+use Rattle.std.specs.Prelude.{◌==◌}
 use Rattle.std.proofs.lemmas.Bool.Decides.{nat_tests}
 use Rattle.ring_points.specs.declared.who.Who.{Who}
 use Rattle.ring_rules.specs.Arbiters.{RoundClaims, Table, first_accuser, first_claimer, is_round_of, claim_kept, claim_settled, claimer_kept, kept_by, table_after}
 use Rattle.keep_log.specs.Places.{is_once}
 use Rattle.arbiter_core.specs.Laws.{SettledAgain}
-use Rattle.arbiter_core.proofs.Rulings.{same_itself}
 
 round_itself : (victim : Who) (round : ℕ) (claimer : Who) → is_round_of victim round (victim, round, claimer) ≡ true
 round_itself victim round claimer = grind (arith, nat_tests)

@@ -1,6 +1,6 @@
 -- Which bytes are a claimer's record that can come next.
-use Rattle.std.proofs.Common.{◌≡◌, ℕ, true, List, [], ◌∷◌, ◌++◌, length, drop, get_or, drop-cons, refl, ap, sym, ◌∙◌, arith, length-append}
-use Rattle.std.specs.Prelude.{◌==◌, ◌&&◌, not, is_some, IsTrue}
+use Rattle.std.proofs.Common.{◌≡◌, ℕ, true, List, ◌∷◌, ◌++◌, length, drop, get_or, drop-cons, ap, sym, ◌∙◌, arith, length-append}
+use Rattle.std.specs.Prelude.{◌==◌, ◌&&◌, IsTrue}
 use Rattle.std.proofs.lemmas.Bool.{and_parts, and_from, eq-eqb, eqb-true}
 use Rattle.std.proofs.lemmas.List.{append-nil, drop-drop, drop_at, get_or-drop}
 use Rattle.std.proofs.Math.ListN.{drop_of_length-le}
@@ -8,7 +8,7 @@ use Rattle.ring_points.specs.declared.who.Who.{Who}
 use Rattle.fabric_terms.specs.declared.record.Record.{Record}
 use Rattle.fabric_terms.specs.declared.record.Record.TheVariants.{Boot, AccusedBy, ClaimedBy}
 use Rattle.fabric_terms.specs.Fields.{is_who}
-use Rattle.ring_rules.specs.Arbiters.{Table, first_accuser, first_claimer, no_table, table_after}
+use Rattle.ring_rules.specs.Arbiters.{no_table, table_after}
 use Rattle.ring_wire.specs.Stands.{StandsAt}
 use Rattle.ring_wire.specs.Texts.{one_byte, who_bytes}
 use Rattle.ring_wire.proofs.Standing.{who_length}

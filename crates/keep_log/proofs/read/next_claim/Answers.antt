@@ -1,9 +1,9 @@
-use Rattle.std.proofs.Common.{◌≡◌, ℕ, Bool, true, false, [], None, inl, inr, slice_index_or, ap, sym, subst, ◌∙◌, arith, ◌&&◌}
+use Rattle.std.proofs.Common.{◌≡◌, ℕ, Bool, true, inl, inr, slice_index_or, ap, sym, ◌∙◌, arith, ◌&&◌}
 use Rattle.std.proofs.lemmas.Bool.{and_from}
 use Rattle.fabric_terms.specs.declared.record.Record.TheVariants.{ClaimedBy}
 use Rattle.ring_points.specs.declared.who.Who.{Who}
 use Rattle.ring_rules.specs.Arbiters.{Table, no_table, table_after}
-use Rattle.keep_log.specs.Places.{Stands, is_new}
+use Rattle.keep_log.specs.Places.{is_new}
 use Rattle.keep_log.specs.Spellings.{is_later_round}
 use Rattle.keep_log.proofs.Nexts.{same_victim}
 use Rattle.keep_log.proofs.NextClaims.{only_claim, claim_stands}
