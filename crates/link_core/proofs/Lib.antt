@@ -3,6 +3,7 @@ pub mod Ruled
 pub mod Freed
 pub mod Silent
 pub mod Places
+pub mod Ends
 pub mod SessionTies
 pub mod HandshakeTies
 pub mod GreetTies

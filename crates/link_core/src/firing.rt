@@ -1,13 +1,15 @@
-ghost use Rattle.std.specs.Prelude.{◌≡◌, ℕ, ◌+◌, ◌^◌, ◌<◌, ◌≤◌, [], ◌∷◌, ◌++◌, Some, IfSome, length, nat_le};
+ghost use Rattle.std.specs.Prelude.{◌≡◌, ℕ, ◌+◌, ◌^◌, ◌<◌, ◌≤◌, [], ◌∷◌, ◌++◌, Some, IfSome, length, nat_le, option_map};
 ghost use Rattle.arbiter_quorum.specs.Tallies.{has_answered};
 ghost use Rattle.link_core.specs.Links.{turn, turn_after};
-ghost use Rattle.link_core.specs.Firing.{asked, asked_if, discharged_end, is_over, leases, spoken, transfer_again};
+ghost use Rattle.link_core.specs.Firing.{accused_by, asked, asked_if, discharged_end, is_over, leases, spoken, transfer_again};
 
 use crate::announce::Announce;
 use crate::notes::{LinkNote, LinkNotes};
 use crate::rounds::claim_round;
 use crate::say::{self, say_gone};
+use arbiter_quorum::Tally;
 use fabric_terms::{Body, Outbox};
+use heir_rounds::RoundTally;
 use ring_points::Who;
 use ring_rules::{Link, LinkState};
 
@@ -60,6 +62,28 @@ pub(crate) fn ask_arbiters(link: &Link, arbitrators: u8, out: &mut Outbox)
     for k in 0..arbitrators {
         ask(link, k + 1, out);
     }
+}
+
+/// The peer of the slot is accused: the arbitrators are asked anew. It gives the peer.
+pub(crate) fn accuse(
+    slot: &mut Option<Link>,
+    me: Who,
+    arbitrators: u8,
+    rounds: u8,
+    out: &mut Outbox,
+) -> Option<Who>
+    requires few { arbitrators ≤ 9 }
+    requires room { length out.old + 9 ≤ 192 }
+    ensures slot { slot.new ≡ option_map (accused_by me arbitrators rounds) slot.old }
+    ensures peer { result ≡ option_map (λ l. l.peer) slot.old }
+    ensures sent { IfSome slot.old (λ l. out.new ≡ out.old ++ asked arbitrators (accused_by me arbitrators rounds l)) }
+{
+    let link = slot.as_mut()?;
+    link.state = LinkState::Accused;
+    link.tally = Tally::new(me, link.peer, arbitrators);
+    link.rounds = RoundTally::new(me, arbitrators, rounds);
+    ask_arbiters(link, arbitrators, out);
+    Some(link.peer)
 }
 
 /// When a discharged slot ends: each round had its time after the peer's fence.

@@ -9,7 +9,7 @@
 #![tactic(auto)]
 
 mod announce;
-mod fence;
+mod deadlines;
 mod find;
 mod firing;
 mod flight;

@@ -10,6 +10,7 @@ ghost use Rattle.link_core.specs.Rounds.{kept_received};
 ghost use Rattle.link_core.specs.Rulings.{ruling_received};
 
 use crate::announce::Announce;
+use crate::deadlines::change;
 use crate::firing::ARBITERS;
 use crate::links::greets::Beginning;
 use crate::links::{LONGEST_TIME, Links16};
@@ -99,7 +100,7 @@ impl Links16 {
         if self.is_spent() {
             return LinkNotes::one(LinkNote::Leave(Why::Counters));
         }
-        self.slots[i] = None;
+        change!(self, i, slot => *slot = None);
         self.accept(now, from, theirs, asked, out)
     }
 
@@ -120,7 +121,7 @@ impl Links16 {
         ensures { did self.new out.new result ≡ did_after out.old (hello_received now from theirs asked.wire asked.len self.old) }
     {
         if let Some(i) = find::instance(&self.slots, from) {
-            handshake::hello_repeated(&mut self.slots[i], theirs, out);
+            change!(self, i, slot => handshake::hello_repeated(slot, theirs, out));
             return LinkNotes::none();
         }
         match find::greeting(&self.slots, from.actor) {
@@ -136,7 +137,7 @@ impl Links16 {
         ensures { did self.new out.new [] ≡ did_after out.old (offer_again session.from session.theirs session.own self.old) }
     {
         match self.session(session) {
-            Some(i) => handshake::offer_repeated(&mut self.slots[i], out),
+            Some(i) => change!(self, i, slot => handshake::offer_repeated(slot, out)),
             None => session.say_unknown(out),
         }
     }
@@ -154,14 +155,8 @@ impl Links16 {
         ensures { did self.new out.new result ≡ did_after out.old (offer_received now session.from session.theirs session.own len self.old) }
     {
         if let Some(i) = find::greeting_of(&self.slots, session.from.actor, session.own) {
-            return handshake::offer_taken(
-                &mut self.slots[i],
-                now,
-                session.from,
-                session.theirs,
-                len,
-                out,
-            );
+            let (from, theirs) = (session.from, session.theirs);
+            return change!(self, i, slot => handshake::offer_taken(slot, now, from, theirs, len, out));
         }
         self.hear_offer_again(session, out);
         LinkNotes::none()
@@ -179,7 +174,7 @@ impl Links16 {
         ensures { did self.new out.new result ≡ did_after out.old (take_received now announce.now session.from session.theirs session.own self.old) }
     {
         match self.session(session) {
-            Some(i) => handshake::take_seen(&mut self.slots[i], now, announce, out),
+            Some(i) => change!(self, i, slot => handshake::take_seen(slot, now, announce, out)),
             None => {
                 session.say_unknown(out);
                 LinkNotes::none()
@@ -198,7 +193,7 @@ impl Links16 {
         ensures { did self.new out.new result ≡ did_after out.old (renew_received session.from session.theirs session.own renewal.now.stamp renewal.now.version renewal.now.got renewal.now.want renewal.now.ranges.now self.old) }
     {
         match self.session(session) {
-            Some(i) => renewal::renew_seen(i, &mut self.slots[i], renewal, out),
+            Some(i) => change!(self, i, slot => renewal::renew_seen(i, slot, renewal, out)),
             None => {
                 session.say_unknown(out);
                 LinkNotes::none()
@@ -212,7 +207,7 @@ impl Links16 {
         ensures { did self.new [] [] ≡ ack_received session.from session.theirs session.own stamp version self.old }
     {
         if let Some(i) = self.session(session) {
-            renewal::ack_seen(&mut self.slots[i], stamp, version);
+            change!(self, i, slot => renewal::ack_seen(slot, stamp, version))
         }
     }
 
@@ -227,7 +222,7 @@ impl Links16 {
         ensures { did self.new out.new result ≡ did_after out.old (transfer_received session.from session.theirs session.own number self.old) }
     {
         match self.session(session) {
-            Some(i) => flight::transfer_seen(i, &mut self.slots[i], number, out),
+            Some(i) => change!(self, i, slot => flight::transfer_seen(i, slot, number, out)),
             None => {
                 session.say_unknown(out);
                 LinkNotes::none()
@@ -259,7 +254,7 @@ impl Links16 {
         ensures { did self.new out.new result ≡ did_after out.old (gone_received session.from session.theirs session.own got bound self.old) }
     {
         match self.session(session) {
-            Some(i) => flight::gone_seen(i, &mut self.slots[i], got, bound, out),
+            Some(i) => change!(self, i, slot => flight::gone_seen(i, slot, got, bound, out)),
             None => {
                 self.hear_gone_elsewhere(session, bound, out);
                 LinkNotes::none()
@@ -289,7 +284,7 @@ impl Links16 {
             rounds: self.rounds,
         };
         let arbitrator = (from.actor - ARBITERS) as u8;
-        ruling::ruling_seen(&mut self.slots[i], now, terms, arbitrator, ruling)
+        change!(self, i, slot => ruling::ruling_seen(slot, now, terms, arbitrator, ruling))
     }
 
     /// Whom this arbitrator keeps of a round about the victim, where there are rounds after the first.
@@ -323,13 +318,7 @@ impl Links16 {
             round: kept.0,
             claimer: kept.1,
         };
-        rounds::kept_seen(
-            &mut self.slots[i],
-            now,
-            terms,
-            self.arbitrators,
-            keeping,
-            out,
-        )
+        let arbitrators = self.arbitrators;
+        change!(self, i, slot => rounds::kept_seen(slot, now, terms, arbitrators, keeping, out))
     }
 }

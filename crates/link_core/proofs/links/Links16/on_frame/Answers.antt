@@ -7,10 +7,10 @@ pub returns-clause-row : goal.returns-clause-row
 returns-clause-row c = does_frame c.args.now c.args.message.now.from c.args.message.now.body c.args.self.now c.args.announce.now c.args.out.now _ c.hear.ensures
 
 pub returns-clause-kept : goal.returns-clause-kept
-returns-clause-kept c = (heard_did c.args.now c.args.announce.now c.args.message.now.from c.args.message.now.body c.args.self.now c.args.out.now _ (few_arbiters c.args.self.now c.self.inside.arbitrators c.self.invariant.arbitrators (ap (λ (k : Links). k.arbitrators) (sym c.self.view_is))) c.hear.ensures).0
+returns-clause-kept c = (heard_did c.args.now c.args.announce.now c.args.message.now.from c.args.message.now.body c.args.self.now c.args.out.now _ (few_arbiters c.args.self.now c.self.inside.arbitrators c.self.invariant.sound.arbitrators (ap (λ (k : Links). k.arbitrators) (sym c.self.view_is))) c.hear.ensures).0
 
 pub returns-clause-few : goal.returns-clause-few
-returns-clause-few c = (heard_did c.args.now c.args.announce.now c.args.message.now.from c.args.message.now.body c.args.self.now c.args.out.now _ (few_arbiters c.args.self.now c.self.inside.arbitrators c.self.invariant.arbitrators (ap (λ (k : Links). k.arbitrators) (sym c.self.view_is))) c.hear.ensures).1
+returns-clause-few c = (heard_did c.args.now c.args.announce.now c.args.message.now.from c.args.message.now.body c.args.self.now c.args.out.now _ (few_arbiters c.args.self.now c.self.inside.arbitrators c.self.invariant.sound.arbitrators (ap (λ (k : Links). k.arbitrators) (sym c.self.view_is))) c.hear.ensures).1
 
 pub returns-clause-notes : goal.returns-clause-notes
-returns-clause-notes c = (heard_did c.args.now c.args.announce.now c.args.message.now.from c.args.message.now.body c.args.self.now c.args.out.now _ (few_arbiters c.args.self.now c.self.inside.arbitrators c.self.invariant.arbitrators (ap (λ (k : Links). k.arbitrators) (sym c.self.view_is))) c.hear.ensures).2
+returns-clause-notes c = (heard_did c.args.now c.args.announce.now c.args.message.now.from c.args.message.now.body c.args.self.now c.args.out.now _ (few_arbiters c.args.self.now c.self.inside.arbitrators c.self.invariant.sound.arbitrators (ap (λ (k : Links). k.arbitrators) (sym c.self.view_is))) c.hear.ensures).2
