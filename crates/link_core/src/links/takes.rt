@@ -29,6 +29,7 @@ impl Links16 {
         ensures did { did self.new out.new result ≡ did_after out.old (frame_row now announce.now message.now.from message.now.body self.old) }
         ensures row { is_search message.now.body ≡ false → Does (λ c. rules.frame_row c now message.now.from message.now.body) (cause_of message.now.body) self.old announce.now out.old (did self.new out.new result) }
         ensures kept { self.new ≡ record self.old { slots = self.new.slots; next_session = self.new.next_session } }
+        ensures sessions { self.old.next_session ≤ self.new.next_session }
         ensures few { length out.new ≤ length out.old + 9 }
         ensures notes { length result ≤ 2 }
     {

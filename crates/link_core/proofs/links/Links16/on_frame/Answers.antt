@@ -14,3 +14,6 @@ returns-clause-few c = (heard_did c.args.now c.args.announce.now c.args.message.
 
 pub returns-clause-notes : goal.returns-clause-notes
 returns-clause-notes c = (heard_did c.args.now c.args.announce.now c.args.message.now.from c.args.message.now.body c.args.self.now c.args.out.now _ (few_arbiters c.args.self.now c.self.inside.arbitrators c.self.invariant.sound.arbitrators (ap (λ (k : Links). k.arbitrators) (sym c.self.view_is))) c.hear.ensures).2
+
+pub returns-clause-sessions : goal.returns-clause-sessions
+returns-clause-sessions c = (heard_did c.args.now c.args.announce.now c.args.message.now.from c.args.message.now.body c.args.self.now c.args.out.now _ (few_arbiters c.args.self.now c.self.inside.arbitrators c.self.invariant.sound.arbitrators (ap (λ (k : Links). k.arbitrators) (sym c.self.view_is))) c.hear.ensures).3
