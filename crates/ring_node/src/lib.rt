@@ -19,7 +19,6 @@ mod near;
 mod node;
 mod notes;
 mod owns;
-mod phase;
 mod refusals;
 mod reports;
 mod seeks;

@@ -5,16 +5,14 @@ ghost use Rattle.ring_node.specs.Nodes.{with_phase};
 ghost use Rattle.ring_rules.specs.Deeds.{has_numbers};
 ghost use Rattle.ring_route.specs.Routes.{point_of};
 
-use crate::phase;
 use crate::reports::Reports;
 use arrayvec::ArrayVec;
+use fabric_terms::Outbox;
 use join_phases::Phase;
 use link_core::{Announce, Links16};
 use ring_points::{Point, Who};
 use ring_route::RouteTable;
-use fabric_terms::Outbox;
 use std::marker::Model;
-use std::mem;
 use token_core::Token;
 
 /// The ring at one node. Contracts see it as the record `Node`: its settings, and its ring as the rules know it.
@@ -144,15 +142,13 @@ impl RingNode {
     pub(crate) fn bind(&mut self)
         ensures { self.new ≡ with_phase bound_phase self.old }
     {
-        let phase = mem::replace(&mut self.phase, phase::seeking());
-        self.phase = phase::bound(phase);
+        self.phase.bind();
     }
 
     /// Ranges are owned.
     pub(crate) fn hold(&mut self)
         ensures { self.new ≡ with_phase holding_phase self.old }
     {
-        let phase = mem::replace(&mut self.phase, phase::seeking());
-        self.phase = phase::holding(phase);
+        self.phase.hold();
     }
 }

@@ -4,7 +4,7 @@ use Rattle.link_core.specs.Frames as links
 use Rattle.link_core.specs.Links.{Links}
 use Rattle.link_core.specs.Ties.{cause_of}
 use Rattle.ring_node.specs.Nodes.{step}
-use Rattle.ring_node.proofs.Stays.{accused_kept, kept_heard, kept_links, landed}
+use Rattle.ring_node.proofs.Stays.{accused_kept, kept_heard, kept_links, landed, risen}
 use Rattle.ring_node.proofs.Rows.{links_broken, links_ok}
 use Rattle.ring_rules.specs.Frames.{frame_row}
 use Rattle.ring_node.proofs.node.RingNode.hear_link.Goals as goal
@@ -28,4 +28,4 @@ returns-in-Err-clause-row c =
     let same = ap (λ (x : Links). x.accused) c.on_frame-notes.ensures.kept in
     landed _ _ _ _ _ _ c.roll_back.ensures.node c.roll_back.ensures.sent c.roll_back.ensures.told
     ∙ links_broken (λ s. frame_row s c.args.now c.args.message.now.from c.args.message.now.body) (cause_of c.args.message.now.body) n i.links k i.token i.routes i.phase i.target i.near c.announce-announce.result (cause_of c.args.message.now.body) c.on_frame-notes.result c.as_slice.result.now c.args.out.now c.on_frame-notes.new.out c.args.told.now (links.frame_row c.args.now c.announce-announce.result c.args.message.now.from c.args.message.now.body i.links) c.notes.new.self c.notes.new.out c.notes.new.told m.result.version m.result.last_session m.result.accused m.result.sent m.result.told
-    e (c.on_frame-notes.ensures.row c.requires.link) (kept_links n i.links k i.token i.routes i.phase i.target i.near e (kept_heard i.links k c.on_frame-notes.ensures.kept)) (accused_kept n i.links k i.token i.routes i.phase i.target i.near e (rw same (take-length i.links.accused))) c.on_frame-notes.ensures.did c.announce-announce.ensures m.ensures.numbers refl c.as_slice.ensures.value c.in-Err.ensures.err m.ensures.version m.ensures.sessions m.ensures.accused m.ensures.sent m.ensures.told
+    e (c.on_frame-notes.ensures.row c.requires.link) (kept_links n i.links k i.token i.routes i.phase i.target i.near e (kept_heard i.links k c.on_frame-notes.ensures.kept)) (accused_kept n i.links k i.token i.routes i.phase i.target i.near e (rw same (take-length i.links.accused))) (risen n i.links k i.token i.routes i.phase i.target i.near e c.on_frame-notes.ensures.sessions) c.on_frame-notes.ensures.did c.announce-announce.ensures m.ensures.numbers refl c.as_slice.ensures.value c.in-Err.ensures.err m.ensures.version m.ensures.sessions m.ensures.accused m.ensures.sent m.ensures.told
