@@ -23,8 +23,6 @@ mod renewal;
 mod rounds;
 mod ruling;
 mod say;
-#[cfg(test)]
-mod tests;
 
 pub use announce::Announce;
 pub use laws::{

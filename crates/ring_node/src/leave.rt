@@ -8,6 +8,21 @@ use crate::node::{Mark, RingNode};
 use crate::reports::Reports;
 use fabric_terms::{Outbox, Report, Why};
 
+/// A row is done whole: one that breaks off for want of a number is not done at all, and the node leaves.
+macro_rules! whole_row {
+    ($node:expr, $out:expr, $told:expr, $row:expr) => {{
+        let mark = $node.mark($out, $told);
+        match $row {
+            // What the phase is does not matter here: asking for it shows that the ring's numbers are counted.
+            Ok(()) => {
+                let _ = $node.is_left();
+            }
+            Err(_) => $node.roll_back(mark, $out, $told),
+        }
+    }};
+}
+pub(crate) use whole_row;
+
 impl RingNode {
     /// The node leaves, as it was before a row: it owns nothing and has no links any more.
     pub(crate) fn leave_at(&mut self, why: Why, mark: Mark)

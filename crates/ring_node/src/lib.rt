@@ -24,8 +24,6 @@ mod reports;
 mod seeks;
 mod start;
 mod step;
-#[cfg(test)]
-mod tests;
 mod tokens;
 mod up;
 
