@@ -24,7 +24,7 @@ mod rounds;
 mod ruling;
 mod say;
 
-pub use announce::Announce;
+pub use announce::{Announce, Announced};
 pub use laws::{
     a_firing_is_its_row, a_frame_is_its_row, a_greeting_is_its_row, parting_is_its_row,
 };

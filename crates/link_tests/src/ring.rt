@@ -36,7 +36,9 @@ fn config(rt: &impl Abort, alloc: Global) -> FabricConfig
 
 /// An instance of a node as it starts: the first of node 1 owns the ring, and every other looks for its place.
 pub fn started(rt: &impl Abort, alloc: Global, me: Who) -> RingNode {
-    match RingNode::new(alloc, &config(rt, alloc), me, 0, false) {
+    let config = config(rt, alloc);
+    let begun = RingNode::new(alloc, &config, me, 0, false);
+    match begun {
         Ok((node, _)) => node,
         Err(_) => panic!(rt; "no memory"),
     }

@@ -6,7 +6,7 @@ ghost use Rattle.link_core.specs.Firing.{peer_accused, slot_fired};
 ghost use Rattle.link_core.specs.Links.{did, did_after};
 ghost use Rattle.link_core.specs.Ties.{Does, quiet};
 
-use crate::announce::Announce;
+use crate::announce::{Announce, Announced};
 use crate::deadlines::change;
 use crate::firing::{Firing, accuse, is_over, spoken};
 use crate::links::Links16;
@@ -54,10 +54,37 @@ impl Links16 {
         ensures few { length out.new ≤ length out.old + 9 }
         ensures notes { length result ≤ 2 }
     {
-        self.fire(slot, now, announce, out)
+        self.fire(slot, now, &Announced::of(announce), out)
     }
 
-    fn fire(&mut self, slot: usize, now: u64, announce: &Announce, out: &mut Outbox) -> LinkNotes
+    /// As `due`, with the ranges where they lie.
+    pub fn fire(
+        &mut self,
+        slot: usize,
+        now: u64,
+        announce: &Announced,
+        out: &mut Outbox,
+    ) -> LinkNotes
+        requires slot { slot < 16 }
+        requires now { now ≤ 1_000_000_000_000_000 }
+        requires room { length out.old + 9 ≤ 192 }
+        ensures did { did self.new out.new result ≡ did_after out.old (slot_fired now announce.now slot self.old) }
+        ensures row { Does (λ c w. rules.fired_at c now slot (slot_at slot w.ring.slots) w) quiet self.old announce.now out.old (did self.new out.new result) }
+        ensures kept { self.new ≡ record self.old { slots = self.new.slots; accused = self.new.accused } }
+        ensures accused { take (length self.old.accused) self.new.accused ≡ self.old.accused }
+        ensures few { length out.new ≤ length out.old + 9 }
+        ensures notes { length result ≤ 2 }
+    {
+        self.fired(slot, now, announce, out)
+    }
+
+    fn fired(
+        &mut self,
+        slot: usize,
+        now: u64,
+        announce: &Announced,
+        out: &mut Outbox,
+    ) -> LinkNotes
         requires slot { slot < 16 }
         requires now { now ≤ 1_000_000_000_000_000 }
         requires room { length out.old + 9 ≤ 192 }
@@ -73,11 +100,10 @@ impl Links16 {
         }
         let firing = Firing {
             reading: now,
-            announce,
             answer: self.answer,
             arbitrators: self.arbitrators,
             rounds: self.rounds,
         };
-        change!(self, slot, place => spoken(slot, place, &firing, out))
+        change!(self, slot, place => spoken(slot, place, &firing, announce, out))
     }
 }

@@ -9,7 +9,7 @@ ghost use Rattle.link_core.specs.Renewals.{ack_received, renew_received};
 ghost use Rattle.link_core.specs.Rounds.{kept_received};
 ghost use Rattle.link_core.specs.Rulings.{ruling_received};
 
-use crate::announce::Announce;
+use crate::announce::Announced;
 use crate::deadlines::change;
 use crate::firing::ARBITERS;
 use crate::links::greets::Beginning;
@@ -167,7 +167,7 @@ impl Links16 {
         &mut self,
         now: u64,
         session: Session,
-        announce: &Announce,
+        announce: &Announced,
         out: &mut Outbox,
     ) -> LinkNotes
         requires room { length out.old < 192 }
