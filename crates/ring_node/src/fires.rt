@@ -8,7 +8,7 @@ ghost use Rattle.ring_rules.specs.Slots.{is_free, slot_at};
 
 use crate::acked::all_acked;
 use crate::leave::whole_row;
-use crate::node::RingNode;
+use crate::node::{RingNode, announced};
 use crate::reports::Reports;
 use crate::tokens::Spent;
 use fabric_terms::{Body, Outbox, Report};
@@ -32,8 +32,8 @@ impl RingNode {
         ensures short { length out.new ≤ length out.old + 11 }
     {
         whole_row!(self, out, told, {
-            let announce = self.announce();
-            let notes = self.links.due(i, now, &announce, out);
+            let announce = announced(&self.token, &self.phase);
+            let notes = self.links.fire(i, now, &announce, out);
             self.notes(&NO_FRAME, notes.as_slice(), out, told)
         })
     }

@@ -6,7 +6,7 @@ ghost use Rattle.ring_rules.specs.Deeds.{counted};
 ghost use Rattle.ring_rules.specs.Frames.{frame_row};
 
 use crate::leave::whole_row;
-use crate::node::RingNode;
+use crate::node::{RingNode, announced};
 use crate::reports::Reports;
 use fabric_terms::{Body, Message, Outbox};
 
@@ -36,8 +36,8 @@ impl RingNode {
         ensures short { length out.new ≤ length out.old + 11 }
     {
         whole_row!(self, out, told, {
-            let announce = self.announce();
-            let notes = self.links.on_frame(now, message, &announce, out);
+            let announce = announced(&self.token, &self.phase);
+            let notes = self.links.hear(now, message, &announce, out);
             self.notes(&message.body, notes.as_slice(), out, told)
         })
     }
