@@ -4,6 +4,7 @@ pub mod Freed
 pub mod Silent
 pub mod Places
 pub mod Ends
+pub mod Heads
 pub mod SessionTies
 pub mod HandshakeTies
 pub mod GreetTies

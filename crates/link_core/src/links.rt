@@ -7,6 +7,7 @@ ghost use Rattle.link_core.specs.Links.{did, did_after, with_slot};
 mod fires;
 mod greets;
 mod hears;
+mod judged;
 mod takes;
 
 use crate::deadlines::{Deadlines, change};

@@ -34,14 +34,19 @@ fn config(rt: &impl Abort, alloc: Global) -> FabricConfig
     }
 }
 
+fn begun(rt: &impl Abort, alloc: Global, config: &FabricConfig, me: Who) -> RingNode
+    requires { IsSound config.now }
+{
+    match RingNode::new(alloc, config, me, 0, false) {
+        Ok((node, _told)) => node,
+        Err(_) => panic!(rt; "no memory"),
+    }
+}
+
 /// An instance of a node as it starts: the first of node 1 owns the ring, and every other looks for its place.
 pub fn started(rt: &impl Abort, alloc: Global, me: Who) -> RingNode {
     let config = config(rt, alloc);
-    let begun = RingNode::new(alloc, &config, me, 0, false);
-    match begun {
-        Ok((node, _)) => node,
-        Err(_) => panic!(rt; "no memory"),
-    }
+    begun(rt, alloc, &config, me)
 }
 
 /// What the node sends and tells at this reading.

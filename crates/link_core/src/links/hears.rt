@@ -1,26 +1,20 @@
 ghost use Rattle.std.specs.Prelude.{◌≡◌, ◌<◌, ◌≤◌, ◌+◌, IsTrue, IfSome, None, [], ◌∷◌, ◌++◌, length, false};
 ghost use Rattle.fabric_terms.specs.declared.message.Body.TheVariants as body;
-ghost use Rattle.ring_points.specs.Whos.{arbiter_actor};
 ghost use Rattle.ring_rules.specs.Slots.{slot_where, of_session};
 ghost use Rattle.link_core.specs.Flights.{gone_elsewhere, gone_received, transfer_received};
 ghost use Rattle.link_core.specs.Handshakes.{accept, hello_received, offer_again, offer_received, take_received};
 ghost use Rattle.link_core.specs.Links.{did, did_after, new_link, with_slot};
 ghost use Rattle.link_core.specs.Renewals.{ack_received, renew_received};
-ghost use Rattle.link_core.specs.Rounds.{kept_received};
-ghost use Rattle.link_core.specs.Rulings.{ruling_received};
 
 use crate::announce::Announced;
 use crate::deadlines::change;
-use crate::firing::ARBITERS;
 use crate::links::greets::Beginning;
 use crate::links::{LONGEST_TIME, Links16};
 use crate::notes::{LinkNote, LinkNotes};
 use crate::renewal::{self, Renewal};
-use crate::rounds::{self, Keeping};
-use crate::ruling::{self, Terms};
 use crate::{find, flight, handshake, say};
 use fabric_terms::{Outbox, Why};
-use ring_points::{Ruling, Who};
+use ring_points::Who;
 use ring_rules::LinkState;
 
 /// A session as a frame names it: its sender, the sender's number, and the own number.
@@ -260,65 +254,5 @@ impl Links16 {
                 LinkNotes::none()
             }
         }
-    }
-
-    /// A ruling of this arbitrator.
-    pub(crate) fn hear_ruling(
-        &mut self,
-        now: u64,
-        from: Who,
-        victim: Who,
-        ruling: Ruling,
-    ) -> LinkNotes
-        requires now { now ≤ 1_000_000_000_000_000 }
-        requires first { arbiter_actor 1 ≤ from.actor }
-        requires last { from.actor ≤ arbiter_actor self.old.arbitrators }
-        ensures { did self.new [] result ≡ ruling_received now from victim ruling self.old }
-    {
-        let Some(i) = find::instance(&self.slots, victim) else {
-            return LinkNotes::none();
-        };
-        let terms = Terms {
-            answer: self.answer,
-            bound: self.bound,
-            rounds: self.rounds,
-        };
-        let arbitrator = (from.actor - ARBITERS) as u8;
-        change!(self, i, slot => ruling::ruling_seen(slot, now, terms, arbitrator, ruling))
-    }
-
-    /// Whom this arbitrator keeps of a round about the victim, where there are rounds after the first.
-    pub(crate) fn hear_kept(
-        &mut self,
-        now: u64,
-        from: Who,
-        victim: Who,
-        kept: (u8, Who),
-        out: &mut Outbox,
-    ) -> LinkNotes
-        requires now { now ≤ 1_000_000_000_000_000 }
-        requires first { arbiter_actor 1 ≤ from.actor }
-        requires last { from.actor ≤ arbiter_actor self.old.arbitrators }
-        requires room { length out.old + 9 ≤ 192 }
-        ensures { did self.new out.new result ≡ did_after out.old (kept_received now from victim kept.0 kept.1 self.old) }
-    {
-        if self.rounds <= 1 {
-            return LinkNotes::none();
-        }
-        let Some(i) = find::instance(&self.slots, victim) else {
-            return LinkNotes::none();
-        };
-        let terms = Terms {
-            answer: self.answer,
-            bound: self.bound,
-            rounds: self.rounds,
-        };
-        let keeping = Keeping {
-            arbitrator: (from.actor - ARBITERS) as u8,
-            round: kept.0,
-            claimer: kept.1,
-        };
-        let arbitrators = self.arbitrators;
-        change!(self, i, slot => rounds::kept_seen(slot, now, terms, arbitrators, keeping, out))
     }
 }

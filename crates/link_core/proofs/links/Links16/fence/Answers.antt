@@ -1,7 +1,7 @@
 use Rattle.std.proofs.Common.{◌∙◌, sym, ap, arith, Some, None}
 use Rattle.ring_rules.specs.Slots.{fence_of}
 use Rattle.link_core.specs.Links.{Links}
-use Rattle.link_core.proofs.Ends.{head_is_early, read_fence}
+use Rattle.link_core.proofs.Heads.{head_is_early, read_fence}
 use Rattle.link_core.proofs.links.Links16.fence.Goals as goal
 
 pub overflow_add-result : goal.overflow_add-result

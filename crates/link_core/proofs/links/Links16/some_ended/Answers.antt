@@ -1,7 +1,7 @@
 use Rattle.std.proofs.Common.{◌∙◌, sym, ap, Some, None}
 use Rattle.link_core.specs.Deadlines.{some_ended}
 use Rattle.link_core.specs.Links.{Links}
-use Rattle.link_core.proofs.Ends.{read_ended}
+use Rattle.link_core.proofs.Heads.{read_ended}
 use Rattle.link_core.proofs.links.Links16.some_ended.Goals as goal
 
 pub returns-in-Some : goal.returns-in-Some
