@@ -15,13 +15,13 @@ use crate::refusal::LineRefusal;
 use fabric_terms::{Head, OutOfMemory, Report};
 use head::{head_at, push_head};
 use list::{
-    name_list_of, partitions_of, push_name_list, push_partitions, push_resolved, push_unresolved,
+    name_list_of, partitions_of, push_name_list, push_resolved, push_units, push_unresolved,
     resolved_of, unresolved_of,
 };
-use refused::{push_refused, refused_of, why_text};
-use ring::{push_flight, push_found, push_heir, push_of, push_own, push_ranges_of};
+use refused::{push_left, push_refused, refused_of};
+use ring::{push_flight, push_found, push_heir, push_nowhere, push_of, push_own, push_ranges_of};
 use std::alloc::Global;
-use text_fields::{after_word, push_bytes, push_number, push_point};
+use text_fields::{after_word, push_bytes, push_number};
 use unit::{push_entry, push_in, unit_report_of};
 
 // A report that takes no memory.
@@ -80,16 +80,10 @@ fn push_report(into: &mut Vec<u8>, report: &Report) -> Result<(), OutOfMemory>
         Report::Returned(to, flight, ranges) => {
             push_flight(into, b"returned ", *to, *flight, ranges)
         }
-        Report::LeftRing(why) => {
-            push_bytes(into, b"left ")?;
-            push_bytes(into, why_text(*why))
-        }
+        Report::LeftRing(why) => push_left(into, *why),
         Report::Stopped => push_bytes(into, b"stopped"),
         Report::Found(key, who) => push_found(into, *key, *who),
-        Report::Nowhere(key) => {
-            push_bytes(into, b"nowhere ")?;
-            push_point(into, key.0)
-        }
+        Report::Nowhere(key) => push_nowhere(into, *key),
         Report::Promised(partition, epoch) => push_in(into, b"promised ", *partition, *epoch),
         Report::Adopted(partition, epoch, last) => {
             push_entry(into, b"adopted ", *partition, *epoch, *last)
@@ -103,10 +97,7 @@ fn push_report(into: &mut Vec<u8>, report: &Report) -> Result<(), OutOfMemory>
         }
         Report::Configured(partition, epoch) => push_in(into, b"configured ", *partition, *epoch),
         Report::Superseded(partition, epoch) => push_in(into, b"superseded ", *partition, *epoch),
-        Report::UnitList(partitions) => {
-            push_bytes(into, b"units ")?;
-            push_partitions(into, partitions.as_slice())
-        }
+        Report::UnitList(partitions) => push_units(into, partitions.as_slice()),
         Report::Resolved(partition, name, value) => push_resolved(into, *partition, name, value),
         Report::Unresolved(partition, name) => push_unresolved(into, *partition, name),
         Report::NameList(partition, names) => push_name_list(into, *partition, names.as_slice()),

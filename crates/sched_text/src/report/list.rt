@@ -51,8 +51,8 @@ pub fn partitions_of(alloc: Global, words: &[u8]) -> Result<Partitions, LineRefu
     }
 }
 
-/// Appends partitions, joined by commas, or a dash where there are none.
-pub fn push_partitions(into: &mut Vec<u8>, partitions: &[u16]) -> Result<(), OutOfMemory>
+// Partitions, joined by commas, or a dash where there are none.
+fn push_partitions(into: &mut Vec<u8>, partitions: &[u16]) -> Result<(), OutOfMemory>
     ensures ok { OnOk result (into.new.items ≡ into.old.items ++ partitions_text partitions.now) }
     ensures kept { Keeps into.old.items into.new.items }
 {
@@ -67,6 +67,16 @@ pub fn push_partitions(into: &mut Vec<u8>, partitions: &[u16]) -> Result<(), Out
             Ok(())
         }
     }
+}
+
+/// Appends the known partitions.
+pub fn push_units(into: &mut Vec<u8>, partitions: &[u16]) -> Result<(), OutOfMemory>
+    ensures ok { OnOk result (into.new.items
+        ≡ into.old.items ++ spaced (codes "units" ∷ partitions_text partitions.now ∷ [])) }
+    ensures kept { Keeps into.old.items into.new.items }
+{
+    push_bytes(into, b"units ")?;
+    push_partitions(into, partitions)
 }
 
 // The value of a name, to the end of the line.

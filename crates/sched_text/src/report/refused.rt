@@ -46,8 +46,7 @@ const PLAIN_REASONS: [Reason; 14] = [
     Reason::Counters,
 ];
 
-/// The text of why a node left.
-pub fn why_text(why: Why) -> &'static [u8]
+fn why_text(why: Why) -> &'static [u8]
     ensures { result.now ≡ why_text why }
 {
     match why {
@@ -78,6 +77,15 @@ pub fn why_of(words: &[u8]) -> Result<Why, BadLine>
         (why, []) => Ok(why),
         _ => Err(BadLine),
     }
+}
+
+/// Appends that a node left, and why.
+pub fn push_left(into: &mut Vec<u8>, why: Why) -> Result<(), OutOfMemory>
+    ensures ok { OnOk result (into.new.items ≡ into.old.items ++ spaced (codes "left" ∷ why_text why ∷ [])) }
+    ensures kept { Keeps into.old.items into.new.items }
+{
+    push_bytes(into, b"left ")?;
+    push_bytes(into, why_text(why))
 }
 
 fn verb_text(verb: Verb) -> &'static [u8]

@@ -223,3 +223,12 @@ pub fn push_found(into: &mut Vec<u8>, key: Point, who: Who) -> Result<(), OutOfM
     push_bytes(into, b" ")?;
     push_who(into, who)
 }
+
+/// Appends that no way to a point is known.
+pub fn push_nowhere(into: &mut Vec<u8>, key: Point) -> Result<(), OutOfMemory>
+    ensures ok { OnOk result (into.new.items ≡ into.old.items ++ spaced (codes "nowhere" ∷ point_text key.0 ∷ [])) }
+    ensures kept { Keeps into.old.items into.new.items }
+{
+    push_bytes(into, b"nowhere ")?;
+    push_point(into, key.0)
+}

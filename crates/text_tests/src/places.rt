@@ -1,4 +1,4 @@
-use crate::{Holder, OutOfMemory, Places, RangeSet, Report, Who};
+use point_places::{Holder, OutOfMemory, Places, RangeSet, Report, Who};
 use ring_points::Interval;
 use std::alloc::Global;
 use std::process::Abort;
