@@ -14,8 +14,6 @@ mod moves;
 mod place;
 mod places;
 mod segments;
-#[cfg(test)]
-mod tests;
 mod unheld;
 
 pub use fabric_terms::{OutOfMemory, Report};

@@ -1,8 +1,9 @@
 -- The steps of reading bytes, two digits at a time.
 use Rattle.std.proofs.Common.{◌≡◌, ℕ, ◌+◌, ◌*◌, ◌≤◌, List, [], ◌∷◌, ◌++◌, length, drop, get_or, Option, Some, None, arith, refl, ap, sym, ◌∙◌}
 use Rattle.std.proofs.lemmas.List.{append-nil}
-use Rattle.sched_text.specs.Fields.{◌>>=◌}
-use Rattle.sched_text.specs.Digits.{hex_value, bytes_of}
+use Rattle.text_fields.specs.Fields.{◌>>=◌}
+use Rattle.text_fields.specs.Points.{hex_value}
+use Rattle.sched_text.specs.Lines.{bytes_of}
 use Rattle.sched_text.proofs.Lists.{put_before, put_next}
 
 abbrev after_low : ℕ → List ℕ → Option ℕ → Option (List ℕ)

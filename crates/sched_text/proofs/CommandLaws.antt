@@ -1,25 +1,28 @@
 -- Each command is read exactly where it is spelled.
-use Rattle.std.proofs.Common.{lit<, ◌≡◌, ℕ, ◌≤◌, true, nat_le, List, [], ◌++◌, Option, Some, refl, ap, sym, ◌∙◌}
+use Rattle.std.proofs.Common.{lit<, ◌≡◌, ℕ, ◌≤◌, true, nat_le, List, [], ◌++◌, length, All, Option, Some, refl, ap, sym, ◌∙◌}
 use Rattle.std.specs.Prelude.{codes, decimal}
 use Rattle.std.specs.List.{list_all}
 use Rattle.std.proofs.lemmas.List.{append_assoc, append-nil}
 use Rattle.std.proofs.lemmas.List.Sums.{AllPass-from_list_all, list_all-from_AllPass}
-use Rattle.ring_points.specs.declared.interval.Interval.{Interval}
 use Rattle.fabric_terms.specs.declared.command.Command.{Command}
-use Rattle.fabric_terms.specs.declared.command.Command.TheVariants.{Link, LinkFor, Part, GiveNear, GiveAll, Join, Find, Create, Swap, Heal, Lose, Write, Units}
-use Rattle.sched_text.specs.Fields.{◌>>=◌, Field, after_word, whole_of, last, made, followed, behind, nothing}
-use Rattle.fabric_terms.specs.Ranges.{IsNode, IsPartition, IsMembers, IsLease, IsText, IsSpan, FitsCommand}
-use Rattle.sched_text.specs.Numbers.{node_at}
-use Rattle.sched_text.specs.Digits.{point_at}
-use Rattle.sched_text.specs.Texts.{point_text, interval_text}
-use Rattle.sched_text.specs.Commands.{command_text, CommandReadIsSpelled, SpelledCommandIsRead, partition_at, members_of, lease_of, link_of, linked_of, give_of, given_of, point_made, interval_made, is_rising, interval_of, is_printable, text_of, partition_command_of, command_of}
-use Rattle.sched_text.proofs.Numbers.{EndsNumber, some_same, within, not_above}
-use Rattle.sched_text.proofs.FieldLaws.{IsField, IsRest, IsSpelled, both_true, last_is, behind_again, pair_is, such_that_is, sized_is, made_is, refit, found_behind, found_nothing, whole_found, headed_found, followed_found, followed_again, made_found, made_again}
-use Rattle.sched_text.proofs.NumberLaws.{number_is, number_up_to, node_is, last_node_is}
-use Rattle.sched_text.proofs.DigitLaws.{point_is, last_point_is}
-
-partition_is : IsField partition_at IsPartition decimal EndsNumber
-partition_is = number_up_to 65535 (lit< tt)
+use Rattle.fabric_terms.specs.declared.command.Command.TheVariants.{Link, LinkFor, Part, GiveNear, GiveAll, Join, Find, Create, Swap, Heal, Lose, Write, Units, Resolve, Names}
+use Rattle.fabric_terms.specs.Ranges.{IsNode, IsPartition, IsMembers, IsLease, FitsCommand}
+use Rattle.text_fields.specs.Actors.{node_at}
+use Rattle.text_fields.specs.Fields.{◌>>=◌, Field, after_word, whole_of, last, made, behind, nothing}
+use Rattle.text_fields.specs.Intervals.{span_of, interval_text}
+use Rattle.text_fields.specs.Inverses.{IsRest, EndsNumber}
+use Rattle.text_fields.specs.Points.{point_at, point_text}
+use Rattle.text_fields.proofs.ActorLaws.{node_is, last_node_is}
+use Rattle.text_fields.proofs.FieldLaws.{both_true, last_is, behind_again}
+use Rattle.text_fields.proofs.IntervalLaws.{span_is}
+use Rattle.text_fields.proofs.NumberLaws.{number_is}
+use Rattle.text_fields.proofs.Numbers.{some_same, within, not_above}
+use Rattle.text_fields.proofs.PointLaws.{last_point_is}
+use Rattle.text_fields.proofs.RestLaws.{IsSpelled, such_that_is, sized_is, refit, found_behind, found_nothing, whole_found, headed_found, followed_found, followed_again, made_found, made_again}
+use Rattle.sched_text.specs.Commands.{command_text, CommandReadIsSpelled, SpelledCommandIsRead, members_of, lease_of, link_of, linked_of, give_of, given_of, point_made, is_printable, text_of, in_partition, partition_command_of, command_of}
+use Rattle.sched_text.specs.Names.{name_at, as_they_are}
+use Rattle.sched_text.proofs.CountLaws.{partition_is}
+use Rattle.sched_text.proofs.NameLaws.{last_name_is}
 
 members_are : IsRest members_of IsMembers decimal
 members_are = last_is (number_is 1 7 (lit< tt)) tt
@@ -27,35 +30,25 @@ members_are = last_is (number_is 1 7 (lit< tt)) tt
 lease_is : IsRest lease_of IsLease decimal
 lease_is = last_is (number_is 10 1000000000 (lit< tt)) tt
 
--- bytes as they are
-abbrev as_they_are : List ℕ → List ℕ
-as_they_are bytes = bytes
-
 all_are : IsRest Some (λ _. Unit {0}) as_they_are
 all_are = record { found = λ bytes x e. (tt, some_same bytes x e); again = λ x h. refl }
 
-printable_is : (b : ℕ) → is_printable b ≡ true → (32 ≤ b) × (b ≤ 126)
+abbrev IsPrintable : ℕ → Type 0
+IsPrintable b = (32 ≤ b) × (b ≤ 126)
+
+printable_is : (b : ℕ) → is_printable b ≡ true → IsPrintable b
 printable_is b h = let r = both_true (nat_le 32 b) (nat_le b 126) h in (within 32 b r.0, within b 126 r.1)
 
-is_printable_again : (b : ℕ) → (32 ≤ b) × (b ≤ 126) → is_printable b ≡ true
+is_printable_again : (b : ℕ) → IsPrintable b → is_printable b ≡ true
 is_printable_again b h = rw (not_above 32 b h.0, not_above b 126 h.1) refl
 
-text_is : IsRest text_of IsText as_they_are
+-- lo to hi bytes that can be printed
+pub text_is : (lo hi : ℕ) → IsRest (text_of lo hi) (λ t. (lo ≤ length t) × (length t ≤ hi) × All IsPrintable t) as_they_are
 unfolding text_of
-text_is =
-    refit (sized_is (such_that_is all_are (list_all is_printable)) 1 512)
+text_is lo hi =
+    refit (sized_is (such_that_is all_are (list_all is_printable)) lo hi)
     (λ t h. (h.1, h.2, λ k d lt. printable_is _ (AllPass-from_list_all is_printable t h.0.1 k d lt)))
     (λ t h. ((tt, list_all-from_AllPass is_printable t (λ k d lt. is_printable_again _ (h.2 k d lt))), h.0, h.1))
-
-abbrev interval_ends : Interval → ℕ × ℕ
-interval_ends i = (i.lo, i.hi)
-
-interval_is : IsRest interval_of IsSpan interval_text
-unfolding interval_of
-interval_is =
-    refit (made_is (such_that_is (last_is (pair_is point_is (codes "-") point_is (λ _. tt)) tt) is_rising) interval_made interval_ends (λ _. refl) (λ _. refl))
-    (λ i h. (h.0.0, h.0.1, within i.lo i.hi h.1))
-    (λ i h. ((h.0, h.1), not_above i.lo i.hi h.2))
 
 abbrev IsCommand : List ℕ → (List ℕ → Option Command) → Type 0
 IsCommand word reader = IsSpelled FitsCommand command_text word reader
@@ -79,27 +72,29 @@ give_found =
     (whole_found FitsCommand command_text ((codes "give " ++ decimal node) ++ codes " all") (GiveAll node) fits refl)
     (found_nothing FitsCommand command_text (codes "give " ++ decimal node))))
 
--- a partition and what follows it
-abbrev in_partition : {B : Type 0} → (List ℕ → Option B) → (ℕ → B → Command) → List ℕ → Option Command
-in_partition rest make = followed partition_at (codes " ") rest make
+units_found : IsCommand (codes "units ") (made Units span_of)
+units_found = made_found span_is FitsCommand command_text (codes "units ") Units (λ i h. (h, refl))
 
-units_found : IsCommand (codes "units ") (made Units interval_of)
-units_found = made_found interval_is FitsCommand command_text (codes "units ") Units (λ i h. (h, refl))
+write_found : IsCommand (codes "write ") (in_partition (text_of 1 512) Write)
+write_found = followed_found partition_is (text_is 1 512) FitsCommand command_text (codes "write ") Write (λ p t a b. ((a, b), refl))
 
-write_found : IsCommand (codes "write ") (in_partition text_of Write)
-write_found = followed_found partition_is text_is FitsCommand command_text (codes "write ") (codes " ") Write (λ p t a b. ((a, b), refl))
+resolve_found : IsCommand (codes "resolve ") (in_partition (last name_at) Resolve)
+resolve_found = followed_found partition_is last_name_is FitsCommand command_text (codes "resolve ") Resolve (λ p n a b. ((a, b), refl))
+
+names_found : IsCommand (codes "names ") (in_partition span_of Names)
+names_found = followed_found partition_is span_is FitsCommand command_text (codes "names ") Names (λ p i a b. ((a, b), refl))
 
 lose_found : IsCommand (codes "lose ") (in_partition (last node_at) Lose)
-lose_found = followed_found partition_is last_node_is FitsCommand command_text (codes "lose ") (codes " ") Lose (λ p n a b. ((a, b), refl))
+lose_found = followed_found partition_is last_node_is FitsCommand command_text (codes "lose ") Lose (λ p n a b. ((a, b), refl))
 
 heal_found : IsCommand (codes "heal ") (in_partition members_of Heal)
-heal_found = followed_found partition_is members_are FitsCommand command_text (codes "heal ") (codes " ") Heal (λ p c a b. ((a, b), refl))
+heal_found = followed_found partition_is members_are FitsCommand command_text (codes "heal ") Heal (λ p c a b. ((a, b), refl))
 
 swap_found : IsCommand (codes "swap ") (in_partition (last node_at) Swap)
-swap_found = followed_found partition_is last_node_is FitsCommand command_text (codes "swap ") (codes " ") Swap (λ p n a b. ((a, b), refl))
+swap_found = followed_found partition_is last_node_is FitsCommand command_text (codes "swap ") Swap (λ p n a b. ((a, b), refl))
 
 create_found : IsCommand (codes "create ") (in_partition members_of Create)
-create_found = followed_found partition_is members_are FitsCommand command_text (codes "create ") (codes " ") Create (λ p c a b. ((a, b), refl))
+create_found = followed_found partition_is members_are FitsCommand command_text (codes "create ") Create (λ p c a b. ((a, b), refl))
 
 -- behind the word, or by the other reader
 abbrev or_behind : (word : List ℕ) (reader other : List ℕ → Option Command) → IsCommand word reader → IsCommand [] other → IsCommand [] (behind word reader other)
@@ -112,8 +107,12 @@ partition_command_found =
     or_behind (codes "swap ") (in_partition (last node_at) Swap) _ swap_found (
     or_behind (codes "heal ") (in_partition members_of Heal) _ heal_found (
     or_behind (codes "lose ") (in_partition (last node_at) Lose) _ lose_found (
-    or_behind (codes "write ") (in_partition text_of Write) _ write_found (
-    or_behind (codes "units ") (made Units interval_of) nothing units_found (found_nothing FitsCommand command_text [])
+    or_behind (codes "write ") (in_partition (text_of 1 512) Write) _ write_found (
+    or_behind (codes "units ") (made Units span_of) _ units_found (
+    or_behind (codes "resolve ") (in_partition (last name_at) Resolve) _ resolve_found (
+    or_behind (codes "names ") (in_partition span_of Names) nothing names_found (found_nothing FitsCommand command_text [])
+    )
+    )
     )
     )
     )
@@ -183,13 +182,21 @@ at_lose : (words : List ℕ) → command_of (codes "lose " ++ words) ≡ in_part
 unfolding command_of partition_command_of after_word
 at_lose words = refl
 
-at_write : (words : List ℕ) → command_of (codes "write " ++ words) ≡ in_partition text_of Write words
+at_write : (words : List ℕ) → command_of (codes "write " ++ words) ≡ in_partition (text_of 1 512) Write words
 unfolding command_of partition_command_of after_word
 at_write words = refl
 
-at_units : (words : List ℕ) → command_of (codes "units " ++ words) ≡ made Units interval_of words
+at_units : (words : List ℕ) → command_of (codes "units " ++ words) ≡ made Units span_of words
 unfolding command_of partition_command_of after_word
 at_units words = refl
+
+at_resolve : (words : List ℕ) → command_of (codes "resolve " ++ words) ≡ in_partition (last name_at) Resolve words
+unfolding command_of partition_command_of after_word
+at_resolve words = refl
+
+at_names : (words : List ℕ) → command_of (codes "names " ++ words) ≡ in_partition span_of Names words
+unfolding command_of partition_command_of after_word
+at_names words = refl
 
 -- a node and what is read behind it
 behind_node : {E : Type 0} (next : ℕ → List ℕ → Option E) (node : ℕ) (rest : List ℕ) → IsNode node → EndsNumber rest → (node_at (decimal node ++ rest) >>= λ x. next x.0 x.1) ≡ next node rest
@@ -228,7 +235,7 @@ give_all_again node fits = behind_node given_of node (codes " all") fits refl �
 -- a partition, and what is read behind it
 in_again : {B : Type 0} {rest : List ℕ → Option B} {FitsB : B → Type 0} {textB : B → List ℕ} → IsRest rest FitsB textB → (make : ℕ → B → Command) (p : ℕ) (y : B) → IsPartition p → FitsB y
     → in_partition rest make (decimal p ++ (codes " " ++ textB y)) ≡ Some (make p y)
-in_again law make p y fits fits_y = followed_again partition_is law (codes " ") make p y refl fits fits_y
+in_again law make p y fits fits_y = followed_again partition_is law make p y refl fits fits_y
 
 pub command_again : SpelledCommandIsRead
 command_again (Link node) h = at_link (decimal node) ∙ link_again node h
@@ -242,8 +249,10 @@ command_again (Create p count) h = at_create (decimal p ++ (codes " " ++ decimal
 command_again (Swap p node) h = at_swap (decimal p ++ (codes " " ++ decimal node)) ∙ in_again last_node_is Swap p node h.0 h.1
 command_again (Heal p count) h = at_heal (decimal p ++ (codes " " ++ decimal count)) ∙ in_again members_are Heal p count h.0 h.1
 command_again (Lose p node) h = at_lose (decimal p ++ (codes " " ++ decimal node)) ∙ in_again last_node_is Lose p node h.0 h.1
-command_again (Write p text) h = at_write (decimal p ++ (codes " " ++ text)) ∙ in_again text_is Write p text h.0 h.1
-command_again (Units part) h = at_units (interval_text part) ∙ made_again interval_is Units part h
+command_again (Write p text) h = at_write (decimal p ++ (codes " " ++ text)) ∙ in_again (text_is 1 512) Write p text h.0 h.1
+command_again (Units part) h = at_units (interval_text part) ∙ made_again span_is Units part h
+command_again (Resolve p name) h = at_resolve (decimal p ++ (codes " " ++ name)) ∙ in_again last_name_is Resolve p name h.0 h.1
+command_again (Names p part) h = at_names (decimal p ++ (codes " " ++ interval_text part)) ∙ in_again span_is Names p part h.0 h.1
 
 pub command_is : IsRest command_of FitsCommand command_text
 command_is = record { found = command_found; again = command_again }

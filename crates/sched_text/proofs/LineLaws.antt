@@ -4,24 +4,24 @@ use Rattle.std.specs.Prelude.{codes, decimal}
 use Rattle.fabric_terms.specs.declared.command.Command.{Command}
 use Rattle.fabric_terms.specs.declared.event.Event.{Event}
 use Rattle.fabric_terms.specs.declared.event.Event.TheVariants.{Start, Stop, Tick, Fire, Give, Do, Junk}
-use Rattle.sched_text.specs.Texts.{actor_text, bytes_text}
-use Rattle.sched_text.specs.Fields.{◌>>=◌, Field, after_word, last, made, followed, behind, nothing}
 use Rattle.fabric_terms.specs.Ranges.{IsNumber, IsNode, IsArbiter, IsActor, FitsCommand, IsJunk, AreReadings, Fits}
-use Rattle.sched_text.specs.Numbers.{number_in, count_at, node_at, arbiter_at, actor_at}
+use Rattle.text_fields.specs.Actors.{node_at, arbiter_at, actor_at, actor_text}
+use Rattle.text_fields.specs.Fields.{◌>>=◌, Field, after_word, last, word_of, made, followed, behind, nothing}
+use Rattle.text_fields.specs.Inverses.{IsRest}
+use Rattle.text_fields.specs.Numbers.{number_in}
+use Rattle.text_fields.proofs.ActorLaws.{node_is, last_node_is, arbiter_is, actor_is, actor_text_arbiter, arbiter_number}
+use Rattle.text_fields.proofs.FieldLaws.{word_found, last_is, behind_again, behind_other, apart}
+use Rattle.text_fields.proofs.RestLaws.{IsSpelled, sized_is, refit, found_behind, found_nothing, headed_found, followed_found, followed_again, made_found, made_again}
 use Rattle.sched_text.specs.Commands.{command_text}
-use Rattle.sched_text.specs.Lines.{event_text, event_of, arbiter_start, node_start, start_of, tick_of, readings_of, reading_text, junk_bytes_of, do_of, junk_of, ReadIsSpelled, SpelledIsRead}
-use Rattle.sched_text.proofs.Lists.{joined_is}
-use Rattle.sched_text.proofs.FieldLaws.{word_found, IsRest, IsSpelled, last_is, behind_again, behind_other, apart, sized_is, refit, found_behind, found_nothing, headed_found, followed_found, followed_again, made_found, made_again}
-use Rattle.sched_text.proofs.NumberLaws.{count_is, node_is, last_node_is, arbiter_is, actor_is, actor_text_arbiter, arbiter_number}
-use Rattle.sched_text.proofs.DigitLaws.{bytes_are, length-bytes_text}
+use Rattle.sched_text.specs.Lines.{count_at, bytes_text, event_text, event_of, arbiter_start, node_start, start_of, tick_of, readings_of, reading_text, junk_bytes_of, do_of, junk_of, ReadIsSpelled, SpelledIsRead}
+use Rattle.sched_text.proofs.ByteLaws.{bytes_are, length-bytes_text}
 use Rattle.sched_text.proofs.CommandLaws.{command_is}
+use Rattle.sched_text.proofs.CountLaws.{count_is, last_count_is}
+use Rattle.sched_text.proofs.Lists.{joined_is}
 use Rattle.sched_text.proofs.TickLaws.{readings_are, readings_text, ends_readings}
 
 abbrev IsEvent : List ℕ → (List ℕ → Option Event) → Type 0
 IsEvent word reader = IsSpelled Fits event_text word reader
-
-last_count_is : IsRest (last count_at) IsNumber decimal
-last_count_is = last_is count_is tt
 
 last_actor_is : IsRest (last actor_at) IsActor actor_text
 last_actor_is = last_is actor_is tt
@@ -40,14 +40,14 @@ arbiter_start_of : List ℕ → Option Event
 arbiter_start_of = made arbiter_start (last arbiter_at)
 
 node_start_of : List ℕ → Option Event
-node_start_of = followed node_at (codes " ") (last count_at) node_start
+node_start_of = followed (word_of node_at) (last count_at) node_start
 
 start_found : IsEvent (codes "start ") start_of
 unfolding start_of
 start_found =
-    found_behind Fits event_text (codes "start ") (codes "a") (made arbiter_start (last arbiter_at)) (followed node_at (codes " ") (last count_at) node_start)
+    found_behind Fits event_text (codes "start ") (codes "a") (made arbiter_start (last arbiter_at)) (followed (word_of node_at) (last count_at) node_start)
     (made_found last_arbiter_is Fits event_text (codes "start " ++ codes "a") arbiter_start (λ a h. (h, ap (λ t. codes "start " ++ t) (sym (actor_text_arbiter a h)))))
-    (followed_found node_is last_count_is Fits event_text (codes "start ") (codes " ") node_start (λ n r a b. ((a, b), refl)))
+    (followed_found node_is last_count_is Fits event_text (codes "start ") node_start (λ n r a b. ((a, b), refl)))
 
 stop_found : IsEvent (codes "stop ") (made Stop (last actor_at))
 stop_found = made_found last_actor_is Fits event_text (codes "stop ") Stop (λ a h. (h, refl))
@@ -72,11 +72,11 @@ give_found = made_found last_count_is Fits event_text (codes "give ") Give (λ k
 
 do_found : IsEvent (codes "do ") do_of
 unfolding do_of
-do_found = followed_found node_is command_is Fits event_text (codes "do ") (codes " ") Do (λ n c a b. ((a, b), refl))
+do_found = followed_found node_is command_is Fits event_text (codes "do ") Do (λ n c a b. ((a, b), refl))
 
 junk_found : IsEvent (codes "junk ") junk_of
 unfolding junk_of
-junk_found = followed_found actor_is junk_bytes_are Fits event_text (codes "junk ") (codes " ") Junk (λ n bs a b. ((a, b), refl))
+junk_found = followed_found actor_is junk_bytes_are Fits event_text (codes "junk ") Junk (λ n bs a b. ((a, b), refl))
 
 -- behind the word, or by the other reader
 abbrev or_behind : (word : List ℕ) (reader other : List ℕ → Option Event) → IsEvent word reader → IsEvent [] other → IsEvent [] (behind word reader other)
@@ -138,7 +138,7 @@ start_node_again : (node reading : ℕ) → IsNode node → IsNumber reading →
 unfolding start_of node_start_of arbiter_start_of
 start_node_again node reading h r =
     let words = decimal node ++ (codes " " ++ decimal reading) in
-    let read = followed_again node_is last_count_is (codes " ") node_start node reading refl h r in
+    let read = followed_again node_is last_count_is node_start node reading refl h r in
     behind_other (codes "a") arbiter_start_of node_start_of words (apart node_start_of (codes "a") words (node_start node reading) read no_start) ∙ read
 
 start_arbiter_again : (actor : ℕ) → IsArbiter actor → start_of (actor_text actor) ≡ Some (Start actor None)
@@ -155,11 +155,11 @@ tick_again advance readings h are =
 
 do_again : (node : ℕ) (command : Command) → IsNode node → FitsCommand command → do_of (decimal node ++ (codes " " ++ command_text command)) ≡ Some (Do node command)
 unfolding do_of
-do_again node command h c = followed_again node_is command_is (codes " ") Do node command refl h c
+do_again node command h c = followed_again node_is command_is Do node command refl h c
 
 junk_again : (actor : ℕ) (bytes : List ℕ) → IsActor actor → IsJunk bytes → junk_of (actor_text actor ++ (codes " " ++ bytes_text bytes)) ≡ Some (Junk actor bytes)
 unfolding junk_of
-junk_again actor bytes h b = followed_again actor_is junk_bytes_are (codes " ") Junk actor bytes refl h b
+junk_again actor bytes h b = followed_again actor_is junk_bytes_are Junk actor bytes refl h b
 
 pub spelled_is_read : SpelledIsRead
 spelled_is_read (Start actor None) h = at_start (actor_text actor) ∙ start_arbiter_again actor h

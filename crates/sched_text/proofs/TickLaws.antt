@@ -4,14 +4,16 @@ use Rattle.std.specs.Prelude.{codes}
 use Rattle.std.specs.List.{flat_map}
 use Rattle.std.proofs.lemmas.List.{append-nil}
 use Rattle.std.proofs.lemmas.List.Elements.{All-nil, All-cons, All-head, All-tail}
-use Rattle.sched_text.specs.Fields.{◌>>=◌, Field, after_word, pair_at}
-use Rattle.sched_text.specs.Numbers.{count_at, node_at}
 use Rattle.fabric_terms.specs.Ranges.{IsReading}
-use Rattle.sched_text.specs.Lines.{reading_text, reading_at, readings_of}
+use Rattle.text_fields.specs.Actors.{node_at}
+use Rattle.text_fields.specs.Fields.{◌>>=◌, Field, after_word, pair_at}
+use Rattle.text_fields.specs.Inverses.{IsField, IsRest, EndsNumber}
+use Rattle.text_fields.proofs.ActorLaws.{node_is}
+use Rattle.text_fields.proofs.FieldLaws.{bind_some, word_found, word_again, pair_is}
+use Rattle.text_fields.proofs.Numbers.{some_same, none_found}
+use Rattle.sched_text.specs.Lines.{count_at, reading_text, reading_at, readings_of}
+use Rattle.sched_text.proofs.CountLaws.{count_is}
 use Rattle.sched_text.proofs.Lists.{put_before, put_next}
-use Rattle.sched_text.proofs.Numbers.{EndsNumber, some_same, none_found}
-use Rattle.sched_text.proofs.FieldLaws.{IsField, IsRest, bind_some, word_found, word_again, pair_is}
-use Rattle.sched_text.proofs.NumberLaws.{count_is, node_is}
 
 abbrev pub Pair : Type 0
 Pair = ℕ × ℕ

@@ -1,15 +1,17 @@
 -- The commands of a schedule: what is read as a command, and how a command is spelled.
-use Rattle.std.specs.Prelude.{◌≡◌, ℕ, ◌≤◌, ◌&&◌, Bool, List, [], ◌∷◌, length, Option, Some, All, codes, decimal, nat_le}
+use Rattle.std.specs.Prelude.{◌≡◌, ℕ, ◌&&◌, Bool, List, [], ◌∷◌, Option, Some, codes, decimal, nat_le}
 use Rattle.std.specs.List.{list_all}
-use Rattle.ring_points.specs.declared.interval.Interval.{Interval}
 use Rattle.ring_points.specs.declared.point.Point.{Point}
 use Rattle.fabric_terms.specs.declared.command.Command.{Command}
-use Rattle.fabric_terms.specs.declared.command.Command.TheVariants.{Link, LinkFor, Part, GiveNear, GiveAll, Join, Find, Create, Swap, Heal, Lose, Write, Units}
-use Rattle.sched_text.specs.Fields.{◌>>=◌, Field, whole_of, last, made, followed, pair_at, behind, nothing, such_that, sized}
-use Rattle.fabric_terms.specs.Ranges.{IsNode, IsPoint}
-use Rattle.sched_text.specs.Numbers.{number_in, node_at}
-use Rattle.sched_text.specs.Digits.{point_at}
-use Rattle.sched_text.specs.Texts.{spaced, point_text, interval_text}
+use Rattle.fabric_terms.specs.declared.command.Command.TheVariants.{Link, LinkFor, Part, GiveNear, GiveAll, Join, Find, Create, Swap, Heal, Lose, Write, Units, Resolve, Names}
+use Rattle.fabric_terms.specs.Ranges.{FitsCommand}
+use Rattle.text_fields.specs.Actors.{node_at}
+use Rattle.text_fields.specs.Fields.{◌>>=◌, Field, whole_of, word_of, last, made, followed, behind, nothing, such_that, sized}
+use Rattle.text_fields.specs.Intervals.{span_of, interval_text}
+use Rattle.text_fields.specs.Numbers.{number_in}
+use Rattle.text_fields.specs.Points.{point_at, point_text}
+use Rattle.text_fields.specs.Texts.{spaced}
+use Rattle.sched_text.specs.Names.{name_at}
 
 -- a partition
 abbrev pub partition_at : List ℕ → Field ℕ
@@ -42,34 +44,31 @@ give_of bytes = node_at bytes >>= λ node. given_of node.0 node.1
 abbrev pub point_made : ℕ → Point
 point_made p = record { 0 = p }
 
-abbrev pub interval_made : ℕ × ℕ → Interval
-interval_made ends = record { lo = ends.0; hi = ends.1 }
-
--- the first point is not above the second
-abbrev pub is_rising : ℕ × ℕ → Bool
-is_rising ends = nat_le ends.0 ends.1
-
--- `POINT-POINT`
-unfoldable pub interval_of : List ℕ → Option Interval
-interval_of = made interval_made (such_that is_rising (last (pair_at point_at (codes "-") point_at)))
-
 -- a blank or a visible sign
 abbrev pub is_printable : ℕ → Bool
 is_printable b = nat_le 32 b && nat_le b 126
 
--- a text, to the end of the line
-unfoldable pub text_of : List ℕ → Option (List ℕ)
-text_of = sized 1 512 (such_that (list_all is_printable) Some)
+-- lo to hi such bytes, to the end of the line
+unfoldable pub text_of : ℕ → ℕ → List ℕ → Option (List ℕ)
+text_of lo hi = sized lo hi (such_that (list_all is_printable) Some)
+
+-- a partition, a blank, and what is read behind them
+abbrev pub in_partition : {A B : Type 0} → (List ℕ → Option A) → (ℕ → A → B) → List ℕ → Option B
+in_partition = followed (word_of partition_at)
 
 -- a command to a partition
 unfoldable pub partition_command_of : List ℕ → Option Command
 partition_command_of =
-    behind (codes "create ") (followed partition_at (codes " ") members_of Create) (
-    behind (codes "swap ") (followed partition_at (codes " ") (last node_at) Swap) (
-    behind (codes "heal ") (followed partition_at (codes " ") members_of Heal) (
-    behind (codes "lose ") (followed partition_at (codes " ") (last node_at) Lose) (
-    behind (codes "write ") (followed partition_at (codes " ") text_of Write) (
-    behind (codes "units ") (made Units interval_of) nothing
+    behind (codes "create ") (in_partition members_of Create) (
+    behind (codes "swap ") (in_partition (last node_at) Swap) (
+    behind (codes "heal ") (in_partition members_of Heal) (
+    behind (codes "lose ") (in_partition (last node_at) Lose) (
+    behind (codes "write ") (in_partition (text_of 1 512) Write) (
+    behind (codes "units ") (made Units span_of) (
+    behind (codes "resolve ") (in_partition (last name_at) Resolve) (
+    behind (codes "names ") (in_partition span_of Names) nothing
+    )
+    )
     )
     )
     )
@@ -104,6 +103,8 @@ command_text (Heal partition count) = spaced (codes "heal" ∷ decimal partition
 command_text (Lose partition node) = spaced (codes "lose" ∷ decimal partition ∷ decimal node ∷ [])
 command_text (Write partition text) = spaced (codes "write" ∷ decimal partition ∷ text ∷ [])
 command_text (Units part) = spaced (codes "units" ∷ interval_text part ∷ [])
+command_text (Resolve partition name) = spaced (codes "resolve" ∷ decimal partition ∷ name ∷ [])
+command_text (Names partition part) = spaced (codes "names" ∷ decimal partition ∷ interval_text part ∷ [])
 
 -- what is read as a command is spelled so, and what is spelled so is read
 abbrev pub CommandReadIsSpelled : Type 0

@@ -1,7 +1,8 @@
-pub mod Fields
-pub mod Numbers
-pub mod Digits
+pub mod Names
 pub mod Commands
 pub mod Lines
-pub mod Texts
+pub mod Heads
+pub mod Refusals
+pub mod Lists
 pub mod Reports
+pub mod Readers

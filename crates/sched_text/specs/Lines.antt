@@ -1,14 +1,16 @@
 -- The lines of a schedule: what is read as an event, and how an event is spelled.
-use Rattle.std.specs.Prelude.{◌≡◌, ℕ, zero, suc, ◌≤◌, List, [], ◌∷◌, ◌++◌, length, map, Option, Some, None, Result, Ok, Err, IsSome, All, codes, decimal, ◌==◌, if◌then◌else◌}
+use Rattle.std.specs.Prelude.{◌≡◌, ℕ, zero, suc, ◌+◌, ◌*◌, List, [], ◌∷◌, ◌++◌, map, Option, Some, None, Result, Ok, Err, IsSome, codes, decimal, ◌==◌, if◌then◌else◌}
+use Rattle.std.specs.List.{flat_map}
 use Rattle.fabric_terms.specs.declared.event.Event.{Event}
 use Rattle.fabric_terms.specs.declared.event.Event.TheVariants.{Start, Stop, Tick, Fire, Give, Do, Junk}
-use Rattle.sched_text.specs.Fields.{◌>>=◌, Field, after_word, last, made, followed, pair_at, behind, nothing, sized}
-use Rattle.fabric_terms.specs.Ranges.{IsNumber, IsNode, IsArbiter, IsActor, IsByte, FitsCommand}
-use Rattle.sched_text.specs.Numbers.{count_at, node_at, arbiter_at, actor_at}
+use Rattle.fabric_terms.specs.Ranges.{Fits, most}
+use Rattle.text_fields.specs.Actors.{node_at, arbiter_at, actor_at, actor_text}
+use Rattle.text_fields.specs.Fields.{◌>>=◌, Field, after_word, last, word_of, made, followed, pair_at, behind, nothing, sized}
+use Rattle.text_fields.specs.Numbers.{number_in}
+use Rattle.text_fields.specs.Points.{hex_value, hex_text}
+use Rattle.text_fields.specs.Texts.{spaced}
 use Rattle.sched_text.specs.declared.bad_line.BadLine.{BadLine}
-use Rattle.sched_text.specs.Digits.{bytes_of}
 use Rattle.sched_text.specs.Commands.{command_of, command_text}
-use Rattle.sched_text.specs.Texts.{spaced, actor_text, bytes_text}
 
 -- the lines of some bytes: each ends with a line feed, and the last may end with the bytes
 abbrev pub onto_first : ℕ → List (List ℕ) → List (List ℕ)
@@ -19,6 +21,10 @@ abbrev pub lines_of : List ℕ → List (List ℕ)
 lines_of [] = []
 lines_of (b ∷ bs) = if b == 10 then [] ∷ lines_of bs else onto_first b (lines_of bs)
 
+-- ticks, a reading, or a frame's number
+abbrev pub count_at : List ℕ → Field ℕ
+count_at = number_in 0 most
+
 abbrev pub node_start : ℕ → ℕ → Event
 node_start node reading = Start node (Some reading)
 
@@ -27,7 +33,7 @@ arbiter_start actor = Start actor None
 
 -- behind `start`: `aK` for an arbitrator, or `N READING` for a node
 unfoldable pub start_of : List ℕ → Option Event
-start_of = behind (codes "a") (made arbiter_start (last arbiter_at)) (followed node_at (codes " ") (last count_at) node_start)
+start_of = behind (codes "a") (made arbiter_start (last arbiter_at)) (followed (word_of node_at) (last count_at) node_start)
 
 -- a node and the reading of its clock, behind a blank: ` N:READING`
 unfoldable pub reading_at : List ℕ → Field (ℕ × ℕ)
@@ -43,17 +49,24 @@ readings_of (suc k) (b ∷ bs) = reading_at (b ∷ bs) >>= λ first. readings_of
 unfoldable pub tick_of : List ℕ → Option Event
 tick_of bytes = count_at bytes >>= λ advance. made (Tick advance.0) (readings_of 64) advance.1
 
+-- bytes, two digits each
+abbrev pub bytes_of : List ℕ → Option (List ℕ)
+bytes_of [] = Some []
+bytes_of (d ∷ []) = None
+bytes_of (d ∷ e ∷ rest) =
+    hex_value d >>= λ high. hex_value e >>= λ low. bytes_of rest >>= λ more. Some ((16 * high + low) ∷ more)
+
 -- 1 to 1,200 bytes in hexadecimal digits, to the end of the line
 unfoldable pub junk_bytes_of : List ℕ → Option (List ℕ)
 junk_bytes_of = sized 2 2400 bytes_of
 
 -- behind `do`: `N COMMAND`
 unfoldable pub do_of : List ℕ → Option Event
-do_of = followed node_at (codes " ") command_of Do
+do_of = followed (word_of node_at) command_of Do
 
 -- behind `junk`: `ACTOR HEX`
 unfoldable pub junk_of : List ℕ → Option Event
-junk_of = followed actor_at (codes " ") junk_bytes_of Junk
+junk_of = followed (word_of actor_at) junk_bytes_of Junk
 
 -- a line of the schedule
 unfoldable pub event_of : List ℕ → Option Event
@@ -82,6 +95,9 @@ ReadsTick line readings (Err _) = IsSome (after_word (codes "tick ") line) × (e
 
 abbrev pub reading_text : ℕ × ℕ → List ℕ
 reading_text r = decimal r.0 ++ (codes ":" ++ decimal r.1)
+
+abbrev pub bytes_text : List ℕ → List ℕ
+bytes_text bytes = flat_map (hex_text 2) bytes
 
 abbrev pub event_text : Event → List ℕ
 event_text (Start actor None) = spaced (codes "start" ∷ actor_text actor ∷ [])

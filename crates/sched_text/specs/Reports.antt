@@ -1,53 +1,21 @@
--- The lines of a report.
+-- The lines of a report, as they are printed.
 use Rattle.std.specs.Prelude.{ℕ, List, [], ◌∷◌, ◌++◌, codes, decimal}
-use Rattle.fabric_terms.specs.declared.report.Report.{Report}
-use Rattle.fabric_terms.specs.declared.report.Report.TheVariants.{Own, Accused, Discharged, Heir, TookOver, Gave, Took, Returned, LeftRing, Stopped, Found, Nowhere, Promised, Adopted, Accepted, IsPrimary, Committed, Configured, Superseded, UnitList, Refused}
 use Rattle.fabric_terms.specs.declared.report.Head.{Head}
-use Rattle.fabric_terms.specs.declared.report.Why.{Why}
-use Rattle.fabric_terms.specs.declared.report.Why.TheVariants as why
-use Rattle.fabric_terms.specs.declared.report.Verb.{Verb}
-use Rattle.fabric_terms.specs.declared.report.Verb.TheVariants as verb
-use Rattle.fabric_terms.specs.declared.report.Reason.{Reason}
-use Rattle.fabric_terms.specs.declared.report.Reason.TheVariants as reason
-use Rattle.sched_text.specs.Texts.{spaced, point_text, ranges_text, numbers_text, number_text, who_text, epoch_text}
-
-abbrev pub why_text : Why → List ℕ
-why_text why.Fence = codes "fence"
-why_text why.Lost = codes "lost"
-why_text why.Counters = codes "counters"
-why_text why.AccusedFull = codes "accused"
-
--- a command's first word
-abbrev pub verb_text : Verb → List ℕ
-verb_text verb.Link = codes "link"
-verb_text verb.Part = codes "part"
-verb_text verb.Give = codes "give"
-verb_text verb.Join = codes "join"
-verb_text verb.Create = codes "create"
-verb_text verb.Swap = codes "swap"
-verb_text verb.Heal = codes "heal"
-verb_text verb.Lose = codes "lose"
-verb_text verb.Write = codes "write"
-
-abbrev pub reason_text : Reason → List ℕ
-reason_text reason.NotRouting = codes "notrouting"
-reason_text reason.Full = codes "full"
-reason_text reason.Linked = codes "linked"
-reason_text reason.NotLinked = codes "notlinked"
-reason_text reason.Busy = codes "busy"
-reason_text reason.TooMany = codes "toomany"
-reason_text reason.Empty = codes "empty"
-reason_text reason.NotManager = codes "notmanager"
-reason_text reason.Exists = codes "exists"
-reason_text reason.NoUnit = codes "nounit"
-reason_text reason.NotMember = codes "notmember"
-reason_text reason.NotPrimary = codes "notprimary"
-reason_text reason.Counters = codes "counters"
-reason_text (reason.TooFew n) = spaced (codes "toofew" ∷ decimal n ∷ [])
+use Rattle.fabric_terms.specs.declared.report.Report.{Report}
+use Rattle.fabric_terms.specs.declared.report.Report.TheVariants.{Own, Accused, Discharged, Heir, TookOver, Gave, Took, Returned, LeftRing, Stopped, Found, Nowhere, Promised, Adopted, Accepted, IsPrimary, Committed, Configured, Superseded, UnitList, Resolved, Unresolved, NameList, Refused}
+use Rattle.text_fields.specs.Epochs.{epoch_text}
+use Rattle.text_fields.specs.Instances.{who_text}
+use Rattle.text_fields.specs.Intervals.{ranges_text}
+use Rattle.text_fields.specs.Numbers.{optional_text}
+use Rattle.text_fields.specs.Points.{point_text}
+use Rattle.text_fields.specs.Texts.{spaced}
+use Rattle.sched_text.specs.Heads.{head_text}
+use Rattle.sched_text.specs.Lists.{partitions_text, names_text}
+use Rattle.sched_text.specs.Refusals.{why_text, verb_text, reason_text}
 
 -- the words of a report
 abbrev pub report_text : Report → List ℕ
-report_text (Own ranges fence) = spaced (codes "own" ∷ ranges_text ranges ∷ number_text fence ∷ [])
+report_text (Own ranges fence) = spaced (codes "own" ∷ ranges_text ranges ∷ optional_text fence ∷ [])
 report_text (Accused who) = spaced (codes "accused" ∷ who_text who ∷ [])
 report_text (Discharged who) = spaced (codes "discharged" ∷ who_text who ∷ [])
 report_text (Heir who ripe) = spaced (codes "heir" ∷ who_text who ∷ decimal ripe ∷ [])
@@ -66,15 +34,18 @@ report_text (IsPrimary partition epoch) = spaced (codes "primary" ∷ decimal pa
 report_text (Committed partition epoch lsn) = spaced (codes "committed" ∷ decimal partition ∷ epoch_text epoch ∷ decimal lsn ∷ [])
 report_text (Configured partition epoch) = spaced (codes "configured" ∷ decimal partition ∷ epoch_text epoch ∷ [])
 report_text (Superseded partition epoch) = spaced (codes "superseded" ∷ decimal partition ∷ epoch_text epoch ∷ [])
-report_text (UnitList partitions) = spaced (codes "units" ∷ numbers_text partitions ∷ [])
+report_text (UnitList partitions) = spaced (codes "units" ∷ partitions_text partitions ∷ [])
+report_text (Resolved partition name value) = spaced (codes "resolved" ∷ decimal partition ∷ name ∷ value ∷ [])
+report_text (Unresolved partition name) = spaced (codes "unresolved" ∷ decimal partition ∷ name ∷ [])
+report_text (NameList partition names) = spaced (codes "names" ∷ (decimal partition ++ names_text names) ∷ [])
 report_text (Refused command reason) = spaced (codes "refused" ∷ verb_text command ∷ reason_text reason ∷ [])
 
--- where a report comes from
-abbrev pub head_text : Head → List ℕ
-head_text head = spaced (decimal head.line ∷ number_text head.time ∷ who_text head.who ∷ number_text head.reading ∷ [])
+-- a line, without its line feed
+abbrev pub report_words : Head → Report → List ℕ
+report_words head report = spaced (head_text head ∷ report_text report ∷ [])
 
 abbrev pub report_line : Head → Report → List ℕ
-report_line head report = spaced (head_text head ∷ report_text report ∷ []) ++ codes "\n"
+report_line head report = report_words head report ++ codes "\n"
 
 -- the numbers of the first and the last frame of a step
 abbrev pub sent_line : Head → ℕ × ℕ → List ℕ

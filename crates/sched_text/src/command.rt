@@ -1,16 +1,17 @@
-ghost use Rattle.std.specs.Prelude.{◌≡◌, IfOk, OnErr};
+ghost use Rattle.std.specs.Prelude.{◌≡◌, ◌≤◌, length, IfOk, OnErr};
 ghost use Rattle.std.specs.List.{list_all};
-ghost use Rattle.sched_text.specs.Fields.{Gives, whole_of};
-ghost use Rattle.sched_text.specs.Numbers.{number_in};
-ghost use Rattle.sched_text.specs.Commands.{partition_at, members_of, lease_of, link_of, give_of, interval_of, is_printable, text_of, partition_command_of, command_of, CommandReadIsSpelled, SpelledCommandIsRead};
+ghost use Rattle.fabric_terms.specs.declared.command.Command.{Command};
+ghost use Rattle.text_fields.specs.Fields.{Gives, whole_of, word_of};
+ghost use Rattle.sched_text.specs.Commands.{partition_at, members_of, link_of, give_of, is_printable, text_of, in_partition, partition_command_of, command_of, CommandReadIsSpelled, SpelledCommandIsRead};
 
-use crate::actor::{last_node, node_at};
 use crate::bad_line::BadLine;
-use crate::digit::{last_point, point_at};
-use crate::number::{last_number, number_in};
-use crate::word::after_word;
+use crate::name::last_name;
 use fabric_terms::{Command, Payload};
-use ring_points::{Interval, Point};
+use ring_points::Point;
+use text_fields::{
+    BadField, after_word, last_node, last_number, last_point, last_span, node_at, number_in,
+    number_word,
+};
 
 /// The shortest lease that a link may ask for, in ticks.
 const SHORTEST_LEASE: u64 = 10;
@@ -27,14 +28,23 @@ const MOST_MEMBERS: u64 = 7;
 /// How many bytes a write may have at most.
 const MOST_TEXT: usize = 512;
 
-fn partition_at(bytes: &[u8]) -> Result<(u16, &[u8]), BadLine>
+/// A partition, and what follows it.
+pub fn partition_at(bytes: &[u8]) -> Result<(u16, &[u8]), BadField>
     ensures { Gives (λ x. (x.0, x.1.now)) result (partition_at bytes.now) }
 {
     let (partition, rest) = number_in(0, LAST_PARTITION, bytes)?;
     Ok((partition as u16, rest))
 }
 
-fn members_of(bytes: &[u8]) -> Result<u8, BadLine>
+/// The same, and the blank behind it.
+pub fn partition_word(bytes: &[u8]) -> Result<(u16, &[u8]), BadField>
+    ensures { Gives (λ x. (x.0, x.1.now)) result (word_of partition_at bytes.now) }
+{
+    let (partition, rest) = number_word(0, LAST_PARTITION, bytes)?;
+    Ok((partition as u16, rest))
+}
+
+fn members_of(bytes: &[u8]) -> Result<u8, BadField>
     ensures { Gives (λ x. x) result (members_of bytes.now) }
 {
     Ok(last_number(1, MOST_MEMBERS, bytes)? as u8)
@@ -76,19 +86,6 @@ fn give_of(words: &[u8]) -> Result<Command, BadLine>
     }
 }
 
-#[tactic(auto, unfolding(crate::specs::Commands::interval_of))]
-fn interval_of(words: &[u8]) -> Result<Interval, BadLine>
-    ensures { Gives (λ x. x) result (interval_of words.now) }
-{
-    let (lo, rest) = point_at(words)?;
-    let hi = last_point(after_word(b"-", rest)?)?;
-    if lo <= hi {
-        Ok(Interval { lo, hi })
-    } else {
-        Err(BadLine)
-    }
-}
-
 fn is_printable(b: u8) -> bool
     ensures { result ≡ is_printable b }
 {
@@ -101,14 +98,23 @@ fn all_printable(bytes: &[u8]) -> bool
     bytes.iter().all(|b| is_printable(*b))
 }
 
+/// The same bytes, where there are some, at most so many, and all are blanks or visible signs.
 #[tactic(auto, unfolding(crate::specs::Commands::text_of))]
-fn text_of(bytes: &[u8]) -> Result<Payload, BadLine>
-    ensures { Gives (λ x. x) result (text_of bytes.now) }
+pub fn text_of(most: usize, bytes: &[u8]) -> Result<&[u8], BadLine>
+    ensures read { Gives (λ x. x.now) result (text_of 1 most bytes.now) }
+    ensures short { IfOk result (λ x. length x.now ≤ most) }
 {
-    if bytes.is_empty() || bytes.len() > MOST_TEXT || !all_printable(bytes) {
+    if bytes.is_empty() || bytes.len() > most || !all_printable(bytes) {
         return Err(BadLine);
     }
-    Ok(Payload::from_slice(bytes))
+    Ok(bytes)
+}
+
+fn write_of(words: &[u8]) -> Result<Command, BadLine>
+    ensures { Gives (λ x. x) result (in_partition (text_of 1 512) Command.Write words.now) }
+{
+    let (partition, rest) = partition_word(words)?;
+    Ok(Command::Write(partition, Payload::from_slice(text_of(MOST_TEXT, rest)?)))
 }
 
 #[tactic(auto, unfolding(crate::specs::Commands::partition_command_of))]
@@ -116,22 +122,27 @@ fn partition_command_of(words: &[u8]) -> Result<Command, BadLine>
     ensures { Gives (λ x. x) result (partition_command_of words.now) }
 {
     if let Ok(rest) = after_word(b"create ", words) {
-        let (partition, rest) = partition_at(rest)?;
-        Ok(Command::Create(partition, members_of(after_word(b" ", rest)?)?))
+        let (partition, rest) = partition_word(rest)?;
+        Ok(Command::Create(partition, members_of(rest)?))
     } else if let Ok(rest) = after_word(b"swap ", words) {
-        let (partition, rest) = partition_at(rest)?;
-        Ok(Command::Swap(partition, last_node(after_word(b" ", rest)?)?))
+        let (partition, rest) = partition_word(rest)?;
+        Ok(Command::Swap(partition, last_node(rest)?))
     } else if let Ok(rest) = after_word(b"heal ", words) {
-        let (partition, rest) = partition_at(rest)?;
-        Ok(Command::Heal(partition, members_of(after_word(b" ", rest)?)?))
+        let (partition, rest) = partition_word(rest)?;
+        Ok(Command::Heal(partition, members_of(rest)?))
     } else if let Ok(rest) = after_word(b"lose ", words) {
-        let (partition, rest) = partition_at(rest)?;
-        Ok(Command::Lose(partition, last_node(after_word(b" ", rest)?)?))
+        let (partition, rest) = partition_word(rest)?;
+        Ok(Command::Lose(partition, last_node(rest)?))
     } else if let Ok(rest) = after_word(b"write ", words) {
-        let (partition, rest) = partition_at(rest)?;
-        Ok(Command::Write(partition, text_of(after_word(b" ", rest)?)?))
+        write_of(rest)
+    } else if let Ok(rest) = after_word(b"units ", words) {
+        Ok(Command::Units(last_span(rest)?))
+    } else if let Ok(rest) = after_word(b"resolve ", words) {
+        let (partition, rest) = partition_word(rest)?;
+        Ok(Command::Resolve(partition, last_name(rest)?))
     } else {
-        Ok(Command::Units(interval_of(after_word(b"units ", words)?)?))
+        let (partition, rest) = partition_word(after_word(b"names ", words)?)?;
+        Ok(Command::Names(partition, last_span(rest)?))
     }
 }
 

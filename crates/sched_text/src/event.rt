@@ -1,15 +1,19 @@
 ghost use Rattle.std.specs.Prelude.{◌≡◌, IfOk, OnErr};
-ghost use Rattle.sched_text.specs.Fields.{Gives};
+ghost use Rattle.text_fields.specs.Fields.{Gives};
 ghost use Rattle.sched_text.specs.Lines.{start_of, tick_of, do_of, junk_of, event_of, ReadIsSpelled, SpelledIsRead};
 
-use crate::actor::{actor_at, last_actor, last_arbiter, last_node, node_at};
+mod count;
+mod junk;
+mod tick;
+
 use crate::bad_line::BadLine;
 use crate::command::read_command;
-use crate::junk::junk_bytes_of;
-use crate::number::{count_at, last_count};
-use crate::tick::readings_of;
-use crate::word::after_word;
+use count::{count_at, last_count};
 use fabric_terms::Event;
+use junk::junk_bytes_of;
+use text_fields::{actor_word, after_word, last_actor, last_arbiter, last_node, node_word};
+use tick::readings_of;
+pub use tick::{TickReadings, read_tick};
 
 #[tactic(auto, unfolding(crate::specs::Lines::start_of))]
 fn start_of(words: &[u8]) -> Result<Event, BadLine>
@@ -21,8 +25,8 @@ fn start_of(words: &[u8]) -> Result<Event, BadLine>
             reading: None,
         });
     }
-    let (actor, rest) = node_at(words)?;
-    let reading = last_count(after_word(b" ", rest)?)?;
+    let (actor, rest) = node_word(words)?;
+    let reading = last_count(rest)?;
     Ok(Event::Start {
         actor,
         reading: Some(reading),
@@ -42,8 +46,8 @@ fn tick_of(words: &[u8]) -> Result<Event, BadLine>
 fn do_of(words: &[u8]) -> Result<Event, BadLine>
     ensures { Gives (λ e. e) result (do_of words.now) }
 {
-    let (node, rest) = node_at(words)?;
-    let command = read_command(after_word(b" ", rest)?)?;
+    let (node, rest) = node_word(words)?;
+    let command = read_command(rest)?;
     Ok(Event::Do { node, command })
 }
 
@@ -51,8 +55,8 @@ fn do_of(words: &[u8]) -> Result<Event, BadLine>
 fn junk_of(words: &[u8]) -> Result<Event, BadLine>
     ensures { Gives (λ e. e) result (junk_of words.now) }
 {
-    let (actor, rest) = actor_at(words)?;
-    let bytes = junk_bytes_of(after_word(b" ", rest)?)?;
+    let (actor, rest) = actor_word(words)?;
+    let bytes = junk_bytes_of(rest)?;
     Ok(Event::Junk { actor, bytes })
 }
 

@@ -1,181 +1,67 @@
-ghost use Rattle.std.specs.Prelude.{◌≡◌, [], ◌∷◌, ◌++◌, codes, decimal, take, OnOk, OnErr};
-ghost use Rattle.sched_text.specs.Texts.{Keeps, spaced, who_text, ranges_text, number_text, point_text, epoch_text};
-ghost use Rattle.sched_text.specs.Reports.{why_text, verb_text, reason_text, report_text, head_text, report_line, sent_line};
+ghost use Rattle.std.specs.Prelude.{◌≡◌, ◌++◌, take, OnOk, OnErr};
+ghost use Rattle.text_fields.specs.Fields.{Gives};
+ghost use Rattle.text_fields.specs.Texts.{Keeps};
+ghost use Rattle.sched_text.specs.Readers.{Reads, plain_report_of, report_of, line_of, ReportReadIsSpelled, SpelledReportIsRead};
+ghost use Rattle.sched_text.specs.Reports.{report_text, report_line, sent_line};
 
-use crate::text::{
-    push_bytes, push_epoch, push_number, push_numbers, push_optional, push_point, push_ranges,
-    push_who,
+mod head;
+mod list;
+mod refused;
+mod ring;
+mod unit;
+
+use crate::bad_line::BadLine;
+use crate::refusal::LineRefusal;
+use fabric_terms::{Head, OutOfMemory, Report};
+use head::{head_at, push_head};
+use list::{
+    name_list_of, partitions_of, push_name_list, push_resolved, push_units, push_unresolved,
+    resolved_of, unresolved_of,
 };
-use fabric_terms::{Head, OutOfMemory, Reason, Report, Verb, Why};
-use ring_points::{Epoch, Point, RangeSet, Who};
+use refused::{push_left, push_refused, refused_of};
+use ring::{push_flight, push_found, push_heir, push_nowhere, push_of, push_own, push_ranges_of};
+use std::alloc::Global;
+use text_fields::{after_word, push_bytes, push_number};
+use unit::{push_entry, push_in, unit_report_of};
 
-fn why_text(why: Why) -> &'static [u8]
-    ensures { result.now ≡ why_text why }
+// A report that takes no memory.
+#[tactic(auto, unfolding(crate::specs::Readers::plain_report_of))]
+fn plain_report_of(words: &[u8]) -> Result<Report, BadLine>
+    ensures { Gives (λ x. x) result (plain_report_of words.now) }
 {
-    match why {
-        Why::Fence => b"fence",
-        Why::Lost => b"lost",
-        Why::Counters => b"counters",
-        Why::AccusedFull => b"accused",
+    if let Ok(rest) = after_word(b"unresolved ", words) {
+        unresolved_of(rest)
+    } else if let Ok(rest) = after_word(b"refused ", words) {
+        refused_of(rest)
+    } else {
+        unit_report_of(words)
     }
 }
 
-fn verb_text(verb: Verb) -> &'static [u8]
-    ensures { result.now ≡ verb_text verb }
+#[tactic(auto, unfolding(crate::specs::Readers::report_of))]
+fn report_of(alloc: Global, words: &[u8]) -> Result<Report, LineRefusal>
+    ensures { Reads (λ x. x) result (report_of words.now) }
 {
-    match verb {
-        Verb::Link => b"link",
-        Verb::Part => b"part",
-        Verb::Give => b"give",
-        Verb::Join => b"join",
-        Verb::Create => b"create",
-        Verb::Swap => b"swap",
-        Verb::Heal => b"heal",
-        Verb::Lose => b"lose",
-        Verb::Write => b"write",
+    if let Ok(rest) = after_word(b"units ", words) {
+        Ok(Report::UnitList(partitions_of(alloc, rest)?))
+    } else if let Ok(rest) = after_word(b"resolved ", words) {
+        resolved_of(alloc, rest)
+    } else if let Ok(rest) = after_word(b"names ", words) {
+        name_list_of(alloc, rest)
+    } else {
+        Ok(plain_report_of(words)?)
     }
 }
 
-fn push_reason(into: &mut Vec<u8>, reason: Reason) -> Result<(), OutOfMemory>
-    ensures ok { OnOk result (into.new.items ≡ into.old.items ++ reason_text reason) }
-    ensures kept { Keeps into.old.items into.new.items }
+/// The head and the report of a line, without its line feed. BadLine comes exactly where the bytes are no
+/// report's line, unless memory was short before that was seen.
+#[tactic(auto, unfolding(crate::specs::Readers::line_of))]
+pub fn read_report(alloc: Global, line: &[u8]) -> Result<(Head, Report), LineRefusal>
+    ensures { Reads (λ x. x) result (line_of line.now) }
 {
-    let word: &[u8] = match reason {
-        Reason::NotRouting => b"notrouting",
-        Reason::Full => b"full",
-        Reason::Linked => b"linked",
-        Reason::NotLinked => b"notlinked",
-        Reason::Busy => b"busy",
-        Reason::TooMany => b"toomany",
-        Reason::Empty => b"empty",
-        Reason::NotManager => b"notmanager",
-        Reason::Exists => b"exists",
-        Reason::NoUnit => b"nounit",
-        Reason::NotMember => b"notmember",
-        Reason::NotPrimary => b"notprimary",
-        Reason::Counters => b"counters",
-        Reason::TooFew(domains) => {
-            push_bytes(into, b"toofew ")?;
-            return push_number(into, u64::from(domains));
-        }
-    };
-    push_bytes(into, word)
-}
-
-// A word that ends with a blank, and an instance.
-fn push_of(into: &mut Vec<u8>, word: &[u8], who: Who) -> Result<(), OutOfMemory>
-    ensures ok { OnOk result (into.new.items ≡ into.old.items ++ (word.now ++ who_text who)) }
-    ensures kept { Keeps into.old.items into.new.items }
-{
-    push_bytes(into, word)?;
-    push_who(into, who)
-}
-
-// The same, and ranges.
-fn push_ranges_of(
-    into: &mut Vec<u8>,
-    word: &[u8],
-    who: Who,
-    ranges: &RangeSet,
-) -> Result<(), OutOfMemory>
-    ensures ok { OnOk result (into.new.items
-        ≡ into.old.items ++ (word.now ++ spaced (who_text who ∷ ranges_text ranges.now ∷ []))) }
-    ensures kept { Keeps into.old.items into.new.items }
-{
-    push_of(into, word, who)?;
-    push_bytes(into, b" ")?;
-    push_ranges(into, ranges.intervals())
-}
-
-// The same with a flight's number between.
-fn push_flight(
-    into: &mut Vec<u8>,
-    word: &[u8],
-    who: Who,
-    flight: u32,
-    ranges: &RangeSet,
-) -> Result<(), OutOfMemory>
-    ensures ok { OnOk result (into.new.items
-        ≡ into.old.items ++ (word.now ++ spaced (who_text who ∷ decimal flight ∷ ranges_text ranges.now ∷ []))) }
-    ensures kept { Keeps into.old.items into.new.items }
-{
-    push_of(into, word, who)?;
-    push_bytes(into, b" ")?;
-    push_number(into, u64::from(flight))?;
-    push_bytes(into, b" ")?;
-    push_ranges(into, ranges.intervals())
-}
-
-// A word that ends with a blank, a partition and an epoch.
-fn push_in(into: &mut Vec<u8>, word: &[u8], partition: u16, epoch: Epoch) -> Result<(), OutOfMemory>
-    ensures ok { OnOk result (into.new.items
-        ≡ into.old.items ++ (word.now ++ spaced (decimal partition ∷ epoch_text epoch ∷ []))) }
-    ensures kept { Keeps into.old.items into.new.items }
-{
-    push_bytes(into, word)?;
-    push_number(into, u64::from(partition))?;
-    push_bytes(into, b" ")?;
-    push_epoch(into, epoch)
-}
-
-// The same, and an entry's number.
-fn push_entry(
-    into: &mut Vec<u8>,
-    word: &[u8],
-    partition: u16,
-    epoch: Epoch,
-    lsn: u32,
-) -> Result<(), OutOfMemory>
-    ensures ok { OnOk result (into.new.items
-        ≡ into.old.items ++ (word.now ++ spaced (decimal partition ∷ epoch_text epoch ∷ decimal lsn ∷ []))) }
-    ensures kept { Keeps into.old.items into.new.items }
-{
-    push_in(into, word, partition, epoch)?;
-    push_bytes(into, b" ")?;
-    push_number(into, u64::from(lsn))
-}
-
-fn push_own(into: &mut Vec<u8>, ranges: &RangeSet, fence: Option<u64>) -> Result<(), OutOfMemory>
-    ensures ok { OnOk result (into.new.items
-        ≡ into.old.items ++ spaced (codes "own" ∷ ranges_text ranges.now ∷ number_text fence ∷ [])) }
-    ensures kept { Keeps into.old.items into.new.items }
-{
-    push_bytes(into, b"own ")?;
-    push_ranges(into, ranges.intervals())?;
-    push_bytes(into, b" ")?;
-    push_optional(into, fence)
-}
-
-fn push_heir(into: &mut Vec<u8>, who: Who, ripe: u64) -> Result<(), OutOfMemory>
-    ensures ok { OnOk result (into.new.items
-        ≡ into.old.items ++ spaced (codes "heir" ∷ who_text who ∷ decimal ripe ∷ [])) }
-    ensures kept { Keeps into.old.items into.new.items }
-{
-    push_of(into, b"heir ", who)?;
-    push_bytes(into, b" ")?;
-    push_number(into, ripe)
-}
-
-fn push_found(into: &mut Vec<u8>, key: Point, who: Who) -> Result<(), OutOfMemory>
-    ensures ok { OnOk result (into.new.items
-        ≡ into.old.items ++ spaced (codes "found" ∷ point_text key.0 ∷ who_text who ∷ [])) }
-    ensures kept { Keeps into.old.items into.new.items }
-{
-    push_bytes(into, b"found ")?;
-    push_point(into, key.0)?;
-    push_bytes(into, b" ")?;
-    push_who(into, who)
-}
-
-fn push_refused(into: &mut Vec<u8>, verb: Verb, reason: Reason) -> Result<(), OutOfMemory>
-    ensures ok { OnOk result (into.new.items
-        ≡ into.old.items ++ spaced (codes "refused" ∷ verb_text verb ∷ reason_text reason ∷ [])) }
-    ensures kept { Keeps into.old.items into.new.items }
-{
-    push_bytes(into, b"refused ")?;
-    push_bytes(into, verb_text(verb))?;
-    push_bytes(into, b" ")?;
-    push_reason(into, reason)
+    let (head, rest) = head_at(line)?;
+    let report = report_of(alloc, rest)?;
+    Ok((head, report))
 }
 
 // The words of a report.
@@ -194,16 +80,10 @@ fn push_report(into: &mut Vec<u8>, report: &Report) -> Result<(), OutOfMemory>
         Report::Returned(to, flight, ranges) => {
             push_flight(into, b"returned ", *to, *flight, ranges)
         }
-        Report::LeftRing(why) => {
-            push_bytes(into, b"left ")?;
-            push_bytes(into, why_text(*why))
-        }
+        Report::LeftRing(why) => push_left(into, *why),
         Report::Stopped => push_bytes(into, b"stopped"),
         Report::Found(key, who) => push_found(into, *key, *who),
-        Report::Nowhere(key) => {
-            push_bytes(into, b"nowhere ")?;
-            push_point(into, key.0)
-        }
+        Report::Nowhere(key) => push_nowhere(into, *key),
         Report::Promised(partition, epoch) => push_in(into, b"promised ", *partition, *epoch),
         Report::Adopted(partition, epoch, last) => {
             push_entry(into, b"adopted ", *partition, *epoch, *last)
@@ -217,26 +97,12 @@ fn push_report(into: &mut Vec<u8>, report: &Report) -> Result<(), OutOfMemory>
         }
         Report::Configured(partition, epoch) => push_in(into, b"configured ", *partition, *epoch),
         Report::Superseded(partition, epoch) => push_in(into, b"superseded ", *partition, *epoch),
-        Report::UnitList(partitions) => {
-            push_bytes(into, b"units ")?;
-            push_numbers(into, partitions.as_slice())
-        }
+        Report::UnitList(partitions) => push_units(into, partitions.as_slice()),
+        Report::Resolved(partition, name, value) => push_resolved(into, *partition, name, value),
+        Report::Unresolved(partition, name) => push_unresolved(into, *partition, name),
+        Report::NameList(partition, names) => push_name_list(into, *partition, names.as_slice()),
         Report::Refused(verb, reason) => push_refused(into, *verb, *reason),
     }
-}
-
-// The head of a line.
-fn push_head(into: &mut Vec<u8>, head: &Head) -> Result<(), OutOfMemory>
-    ensures ok { OnOk result (into.new.items ≡ into.old.items ++ head_text head.now) }
-    ensures kept { Keeps into.old.items into.new.items }
-{
-    push_number(into, head.line)?;
-    push_bytes(into, b" ")?;
-    push_optional(into, head.time)?;
-    push_bytes(into, b" ")?;
-    push_who(into, head.who)?;
-    push_bytes(into, b" ")?;
-    push_optional(into, head.reading)
 }
 
 fn push_report_line(into: &mut Vec<u8>, head: &Head, report: &Report) -> Result<(), OutOfMemory>
@@ -297,3 +163,9 @@ pub fn print_sent(head: &Head, sent: (u32, u32), into: &mut Vec<u8>) -> Result<(
     let printed = push_sent_line(into, head, sent);
     cut_back(into, before, printed)
 }
+
+/// Each head and report has one line, and nothing else is read as a report's line.
+pub fn one_report_spelling()
+    ensures read { ReportReadIsSpelled }
+    ensures spelled { SpelledReportIsRead }
+{}

@@ -11,3 +11,4 @@ pub mod IntervalLaws
 pub mod ActorLaws
 pub mod InstanceLaws
 pub mod EpochLaws
+pub mod ChoiceLaws

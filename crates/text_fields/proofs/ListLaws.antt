@@ -96,10 +96,10 @@ more_again {A} {field} {Fits} {text} law ends (suc k) (x ∷ xs) rest h end =
     ∙ (ap (λ (o : Field A). o >>= λ x. more_at field k x.1 >>= λ more. Some (x.0 ∷ more.0, more.1)) (law.again x tail (All-head Fits x xs h.1) (ends_more text ends xs rest end))
     ∙ ap (λ (o : Field (List A)). o >>= λ more. Some (x ∷ more.0, more.1)) (more_again law ends k xs rest (omega (arith, h.0), All-tail Fits x xs h.1) end)))
 
-abbrev AreSome : {A : Type 0} → (A → Type 0) → ℕ → List A → Type 0
+abbrev pub AreSome : {A : Type 0} → (A → Type 0) → ℕ → List A → Type 0
 AreSome Fits k xs = (0 < length xs) × AreUpTo Fits k xs
 
-some_is : {A : Type 0} {field : List ℕ → Field A} {Fits : A → Type 0} {text : A → List ℕ} {Ends EndsAll : List ℕ → Type 0} → IsField field Fits text Ends → EndsWith Ends EndsAll
+pub some_is : {A : Type 0} {field : List ℕ → Field A} {Fits : A → Type 0} {text : A → List ℕ} {Ends EndsAll : List ℕ → Type 0} → IsField field Fits text Ends → EndsWith Ends EndsAll
     → (k : ℕ) → IsField (some_at field k) (AreSome Fits (suc k)) (listed text) EndsAll
 some_is {A} {field} {Fits} {text} {Ends} {EndsAll} law ends k = record {
   found = λ bytes f e.

@@ -65,6 +65,11 @@ behind word reader other bytes = elim (after_word word bytes) [ Some rest ↦ re
 abbrev pub nothing : {A : Type 0} → List ℕ → Option A
 nothing bytes = None
 
+-- the first of these values whose text stands at the front
+abbrev pub first_of : {A : Type 0} → (A → List ℕ) → List A → List ℕ → Field A
+first_of text [] bytes = None
+first_of text (x ∷ xs) bytes = behind (text x) (given x) (first_of text xs) bytes
+
 -- only what passes a test
 abbrev pub such_that : {A : Type 0} → (A → Bool) → (List ℕ → Option A) → List ℕ → Option A
 such_that test reader bytes = reader bytes >>= λ x. if test x then Some x else None

@@ -19,7 +19,7 @@ mod point;
 mod word;
 
 pub use actor::{
-    actor_word, actors_have_one_text, arbiter_at, last_actor, last_arbiter, last_node, node_at,
+    ARBITERS, actor_word, actors_have_one_text, arbiter_at, last_actor, last_arbiter, last_node, node_at,
     node_word,
 };
 pub use bad_field::BadField;

@@ -1,0 +1,13 @@
+use Rattle.std.proofs.Common.{◌≡◌, ◌+◌, ◌*◌, length}
+use Rattle.sched_text.specs.Lines.{bytes_of}
+use Rattle.sched_text.proofs.Lists.{put_before}
+use Rattle.sched_text.proofs.event.junk.junk_bytes_of.Given as goal
+
+-- the bytes so far, and then what is read of the rest
+abbrev pub invariant-loop-rest : goal.invariant-loop-rest
+invariant-loop-rest l =
+    (2 * length l.bytes + length l.rest ≡ length l.digits)
+    × (put_before l.bytes (bytes_of l.rest) ≡ bytes_of l.digits)
+
+abbrev pub decreases-loop-rest : goal.decreases-loop-rest
+decreases-loop-rest l = length l.rest

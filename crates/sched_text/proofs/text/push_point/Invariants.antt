@@ -1,7 +1,0 @@
-use Rattle.std.proofs.Common.{◌≡◌, ◌-◌, ◌++◌, drop, length}
-use Rattle.sched_text.specs.Texts.{hex_text}
-use Rattle.sched_text.proofs.text.push_point.Given as goal
-
--- the digits that are left, and those that stand in the array
-abbrev pub invariant-loop-i : goal.invariant-loop-i
-invariant-loop-i l = (length l.digits ≡ 16) × (hex_text (16 - l.i) l.rest ++ drop (16 - l.i) l.digits ≡ hex_text 16 l.point)

@@ -1,0 +1,94 @@
+ghost use Rattle.std.specs.Prelude.{◌≡◌, ◌≤◌, [], length};
+ghost use Rattle.fabric_terms.specs.declared.event.Event.{Event};
+ghost use Rattle.text_fields.specs.Fields.{Gives};
+ghost use Rattle.sched_text.specs.Lines.{reading_at, readings_of, tick_of, ReadsTick};
+
+use super::count::count_at;
+use crate::bad_line::BadLine;
+use arrayvec::ArrayVec;
+use fabric_terms::Readings;
+use text_fields::{BadField, after_word, node_at};
+
+/// How many readings a tick may have.
+const MOST_READINGS: usize = 64;
+
+/// Nodes, each with the reading of its clock, in a list that is used for many ticks.
+pub type TickReadings = ArrayVec<(u16, u64), MOST_READINGS>;
+
+// A node and the reading of its clock, behind a blank, and what follows them.
+#[tactic(auto, unfolding(crate::specs::Lines::reading_at))]
+fn reading_at(bytes: &[u8]) -> Result<(u16, u64, &[u8]), BadField>
+    ensures { Gives (λ x. ((x.0, x.1), x.2.now)) result (reading_at bytes.now) }
+{
+    let (node, rest) = node_at(after_word(b" ", bytes)?)?;
+    let (reading, rest) = count_at(after_word(b":", rest)?)?;
+    Ok((node, reading, rest))
+}
+
+// Fills an empty list with the readings to the end of the line. A refusal leaves a front of them.
+fn fill(bytes: &[u8], readings: &mut TickReadings) -> Result<(), BadLine>
+    requires { readings.old.items ≡ [] }
+    ensures { Gives (λ _. readings.new.items) result (readings_of 64 bytes.now) }
+{
+    let mut rest = bytes;
+    while !rest.is_empty() {
+        if readings.len() == MOST_READINGS {
+            return Err(BadLine);
+        }
+        let (node, reading, after) = reading_at(rest)?;
+        readings.push((node, reading));
+        rest = after;
+    }
+    Ok(())
+}
+
+fn copy_of(pairs: &[(u16, u64)]) -> Readings
+    requires { length pairs.now ≤ 64 }
+    ensures { result ≡ pairs.now }
+{
+    let mut readings = Readings::new();
+    for (node, reading) in pairs {
+        readings.push(*node, *reading);
+    }
+    readings
+}
+
+/// The readings to the end of the line.
+pub fn readings_of(bytes: &[u8]) -> Result<Readings, BadLine>
+    ensures { Gives (λ x. x) result (readings_of 64 bytes.now) }
+{
+    let mut readings = TickReadings::new();
+    fill(bytes, &mut readings)?;
+    Ok(copy_of(readings.as_slice()))
+}
+
+// The advance of a tick behind its word, and its readings in the list.
+#[tactic(auto, unfolding(crate::specs::Lines::tick_of))]
+fn tick_into(words: &[u8], readings: &mut TickReadings) -> Result<u64, BadLine>
+    requires { readings.old.items ≡ [] }
+    ensures { Gives (λ advance. Event.Tick advance readings.new.items) result (tick_of words.now) }
+{
+    let (advance, rest) = count_at(words)?;
+    fill(rest, readings)?;
+    Ok(advance)
+}
+
+/// Reads a line that begins with the word `tick ` as `read_event` reads it, and makes no event: it gives
+/// the advance, and the list has the readings in the place of what it had. So one list serves any number
+/// of lines. None is for a line that begins otherwise. BadLine comes exactly where the line begins so and
+/// is no tick. In both cases the list is empty then.
+pub fn read_tick(line: &[u8], readings: &mut TickReadings) -> Result<Option<u64>, BadLine>
+    ensures { ReadsTick line.now readings.new.items result }
+{
+    readings.clear();
+    match after_word(b"tick ", line) {
+        Err(_) => Ok(None),
+        Ok(words) => match tick_into(words, readings) {
+            Ok(advance) => Ok(Some(advance)),
+            Err(_) => {
+                readings.clear();
+                Err(BadLine)
+            }
+        },
+    }
+}

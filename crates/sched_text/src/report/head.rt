@@ -1,0 +1,57 @@
+ghost use Rattle.std.specs.Prelude.{◌≡◌, ◌++◌, OnOk};
+ghost use Rattle.text_fields.specs.Fields.{Gives};
+ghost use Rattle.text_fields.specs.Texts.{Keeps};
+ghost use Rattle.sched_text.specs.Heads.{is_arbiter, has_its_reading, head_at, head_text};
+
+use crate::bad_line::BadLine;
+use fabric_terms::{Head, OutOfMemory};
+use ring_points::Who;
+use text_fields::{
+    ARBITERS, number_word, optional_word, push_bytes, push_number, push_optional, push_who,
+    who_word,
+};
+
+// An arbitrator has no reading, and a node has one.
+fn has_its_reading(who: Who, reading: Option<u64>) -> bool
+    ensures { result ≡ has_its_reading who reading }
+{
+    match reading {
+        None => who.actor > ARBITERS,
+        Some(_) => who.actor <= ARBITERS,
+    }
+}
+
+/// A head and the blank behind it, and what follows.
+#[tactic(auto, unfolding(crate::specs::Heads::head_at))]
+pub fn head_at(line: &[u8]) -> Result<(Head, &[u8]), BadLine>
+    ensures { Gives (λ x. (x.0, x.1.now)) result (head_at line.now) }
+{
+    let (line, rest) = number_word(0, u64::MAX, line)?;
+    let (time, rest) = optional_word(rest)?;
+    let (who, rest) = who_word(rest)?;
+    let (reading, rest) = optional_word(rest)?;
+    if !has_its_reading(who, reading) {
+        return Err(BadLine);
+    }
+    let head = Head {
+        line,
+        time,
+        who,
+        reading,
+    };
+    Ok((head, rest))
+}
+
+/// Appends a head.
+pub fn push_head(into: &mut Vec<u8>, head: &Head) -> Result<(), OutOfMemory>
+    ensures ok { OnOk result (into.new.items ≡ into.old.items ++ head_text head.now) }
+    ensures kept { Keeps into.old.items into.new.items }
+{
+    push_number(into, head.line)?;
+    push_bytes(into, b" ")?;
+    push_optional(into, head.time)?;
+    push_bytes(into, b" ")?;
+    push_who(into, head.who)?;
+    push_bytes(into, b" ")?;
+    push_optional(into, head.reading)
+}
