@@ -136,7 +136,9 @@ pub record Ups : Type 0 where
       loads site 30 (ring_of (heard_at 9) [])
         ((1, record known { config = Some (config e1 1 (1 ∷ 2 ∷ [])) }) ∷ (2, known) ∷ (3, seen e1) ∷ [])
       ≡ record { node = 1; domain = 1; up = true; load = 2 } ∷ record { node = 2; domain = 4; up = false; load = 1 } ∷ []
-  pub heard : loads site 30 (ring_of (heard_at 10) []) [] ≡ record { node = 1; domain = 1; up = true; load = 0 } ∷ record { node = 2; domain = 4; up = true; load = 0 } ∷ []
+  pub heard :
+      loads site 30 (ring_of (heard_at 10) []) []
+      ≡ record { node = 1; domain = 1; up = true; load = 0 } ∷ record { node = 2; domain = 4; up = true; load = 0 } ∷ []
 
 -- the manager is the node that holds ring point 0
 pub record Managers : Type 0 where

@@ -13,7 +13,9 @@ abbrev IsRecorded : Who → Registers → Reply → Type 0
 IsRecorded asker rs r = (replied asker rs (Some r)).state ≡ registers_after rs (records_of (replied asker rs (Some r)).deeds)
 
 -- of two replies, whichever is given
-either : (asker : Who) (rs : Registers) (test : Bool) (a b : Reply) → IsRecorded asker rs a → IsRecorded asker rs b → IsRecorded asker rs (if test then a else b)
+either :
+    (asker : Who) (rs : Registers) (test : Bool) (a b : Reply)
+    → IsRecorded asker rs a → IsRecorded asker rs b → IsRecorded asker rs (if test then a else b)
 either asker rs true a b first second = first
 either asker rs false a b first second = second
 

@@ -117,12 +117,20 @@ after_vote p (Ok (Some config)) = copies p.task config (source_by p.task.kind co
 after_vote p (Ok None) = still (Superseded p.task.epoch)
 after_vote p (Err more) = stays (Decide more)
 
+-- then the arbitrators keep it as done
+abbrev pub stores : Task → Config → Acted Step
+stores t config = enters (Phase3 (record { task = t; config = config; poll = poll_of (arbiters_to t.arbitrators) })) (arbiters_to t.arbitrators)
+
 abbrev pub after_copy : CopyPhase → Result (Unit {0}) CopyPhase → Acted Step
-after_copy p (Ok done) = enters (Phase3 (record { task = p.task; config = p.config; poll = poll_of (arbiters_to p.task.arbitrators) })) (arbiters_to p.task.arbitrators)
+after_copy p (Ok done) = stores p.task p.config
 after_copy p (Err more) = stays (Phase2 more)
 
+-- then its members take their roles
+abbrev pub activates : Task → Config → Acted Step
+activates t config = enters (Phase4 (record { task = t; config = config; poll = poll_of config.members })) config.members
+
 abbrev pub after_done : DonePhase → Result (Unit {0}) DonePhase → Acted Step
-after_done p (Ok done) = enters (Phase4 (record { task = p.task; config = p.config; poll = poll_of p.config.members })) p.config.members
+after_done p (Ok done) = activates p.task p.config
 after_done p (Err more) = stays (Phase3 more)
 
 abbrev pub after_activate : ActivatePhase → Result (Unit {0}) ActivatePhase → Acted Step
