@@ -28,6 +28,7 @@ use Rattle.unit_rules.specs.Manager.{reconfig_commanded, manager_answered}
 use Rattle.unit_rules.specs.Steps.{failover_step}
 use Rattle.unit_examples.specs.Arbiters.{AnswersInOrder, PreparesTheFirst, Votes, Dones}
 use Rattle.unit_examples.specs.Managers.{Managers, Refusals as ManagerRefusals, Epochs, Memory, Ups, FiringInOrder, Starts}
+use Rattle.unit_examples.specs.Moves.{MovesThePrimary}
 use Rattle.unit_examples.specs.Phases.{Preparations, AfterPrepare, Moves, Choices, Decisions, Copies, Supersessions}
 use Rattle.unit_examples.specs.Replicas.{Promises, Syncs, Fetches, Pieces, Activations}
 use Rattle.unit_examples.specs.Runs.{CreatesAndWrites, ListsUnits, RefusesMore, LosesAndGoesOn}
@@ -165,3 +166,7 @@ refuses_more = refl
 pub loses_and_goes_on : LosesAndGoesOn
 unfolding all_rules
 loses_and_goes_on = refl
+
+pub moves_the_primary : MovesThePrimary
+unfolding all_rules
+moves_the_primary = refl

@@ -5,3 +5,4 @@ pub mod Arbiters
 pub mod Phases
 pub mod Managers
 pub mod Runs
+pub mod Moves

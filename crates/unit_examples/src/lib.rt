@@ -9,6 +9,7 @@ ghost use Rattle.unit_examples.specs.Arbiters.{AnswersInOrder, Dones, PreparesTh
 ghost use Rattle.unit_examples.specs.Managers.{
     Epochs, FiringInOrder, Managers, Memory, Refusals as ManagerRefusals, Starts, Ups,
 };
+ghost use Rattle.unit_examples.specs.Moves.{MovesThePrimary};
 ghost use Rattle.unit_examples.specs.Phases.{
     AfterPrepare, Choices, Copies, Decisions, Moves, Preparations, Supersessions,
 };
@@ -168,4 +169,9 @@ pub fn refuses_more()
 /// A partition goes on after a loss of data.
 pub fn loses_and_goes_on()
     ensures { LosesAndGoesOn }
+{}
+
+/// A partition of two nodes is created and written, and its primary moves.
+pub fn moves_the_primary()
+    ensures { MovesThePrimary }
 {}
