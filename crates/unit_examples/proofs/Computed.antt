@@ -49,95 +49,95 @@ an_arbitrator_answers_first = refl
 
 pub an_arbitrator_votes : Votes
 unfolding all_rules
-an_arbitrator_votes = record { first = refl; second = refl; of_another = refl; below = refl; unprepared = refl; }
+an_arbitrator_votes = record { first = refl; second = refl; of_another = refl; below = refl; unprepared = refl }
 
 pub an_arbitrator_keeps_what_is_done : Dones
 unfolding all_rules
-an_arbitrator_keeps_what_is_done = record { again = refl; greater = refl; below = refl; }
+an_arbitrator_keeps_what_is_done = record { again = refl; greater = refl; below = refl }
 
 pub the_holder_of_point_0_manages : Managers
 unfolding all_rules
-the_holder_of_point_0_manages = record { holder = refl; no_other = refl; }
+the_holder_of_point_0_manages = record { holder = refl; no_other = refl }
 
 pub a_manager_refuses : ManagerRefusals
 unfolding all_rules
-a_manager_refuses = record { no_manager = refl; busy = refl; exists = refl; past_end = refl; }
+a_manager_refuses = record { no_manager = refl; busy = refl; exists = refl; past_end = refl }
 
 pub epochs_follow : Epochs
 unfolding all_rules
-epochs_follow = record { next = refl; after_loss = refl; }
+epochs_follow = record { next = refl; after_loss = refl }
 
 pub a_manager_remembers : Memory
 unfolding all_rules
-a_manager_remembers = record { commanded = refl; superseded = refl; refused = refl; configured = refl; }
+a_manager_remembers = record { commanded = refl; superseded = refl; refused = refl; configured = refl }
 
 pub nodes_are_up : Ups
 unfolding all_rules
-nodes_are_up = record { two_leases = refl; past = refl; early = refl; itself = refl; accused = refl; loaded = refl; heard = refl; }
+nodes_are_up = record { two_leases = refl; past = refl; early = refl; itself = refl; accused = refl; loaded = refl; heard = refl }
 
 pub epochs_are_prepared : Preparations
 unfolding all_rules
-epochs_are_prepared = record { highest_first = refl; highest_last = refl; once = refl; of_another = refl; }
+epochs_are_prepared = record { highest_first = refl; highest_last = refl; once = refl; of_another = refl }
 
 pub commands_go_on : AfterPrepare
 unfolding all_rules
-commands_go_on = record { exists = refl; no_unit = refl; no_member = refl; too_few = refl; placed = refl; swap = refl; heal = refl; lose = refl; }
+commands_go_on = record { exists = refl; no_unit = refl; no_member = refl; too_few = refl; placed = refl; swap = refl; heal = refl; lose = refl }
 
 pub a_swap_moves : Moves
 unfolding all_rules
-a_swap_moves = record { stranger = refl; of_three = refl; fired_again = refl; of_one = refl; }
+a_swap_moves = record { stranger = refl; of_three = refl; fired_again = refl; of_one = refl }
 
 pub the_furthest_is_chosen : Choices
 unfolding all_rules
-the_furthest_is_chosen = record { once = refl; by_epoch = refl; by_last = refl; at_tie = refl; heal_primary = refl; heal_first = refl; }
+the_furthest_is_chosen = record { once = refl; by_epoch = refl; by_last = refl; at_tie = refl; heal_primary = refl; heal_first = refl }
 
 pub votes_decide : Decisions
 unfolding all_rules
-votes_decide = record { split = refl; decided = refl; still_open = refl; of_no_arbitrator = refl; }
+votes_decide = record { split = refl; decided = refl; still_open = refl; of_no_arbitrator = refl }
 
 pub logs_are_copied : Copies
 unfolding all_rules
-logs_are_copied = record { waits = refl; ends = refl; }
+logs_are_copied = record { waits = refl; ends = refl }
 
 pub a_higher_epoch_supersedes : Supersessions
 unfolding all_rules
-a_higher_epoch_supersedes = record { by_older = refl; by_equal = refl; by_vote = refl; by_done = refl; by_lower = refl; of_another = refl; }
+a_higher_epoch_supersedes = record { by_older = refl; by_equal = refl; by_vote = refl; by_done = refl; by_lower = refl; of_another = refl }
 
 pub a_replica_promises : Promises
 unfolding all_rules
-a_replica_promises = record { raised = refl; again = refl; older = refl; }
+a_replica_promises = record { raised = refl; again = refl; older = refl }
 
 pub a_replica_takes_a_log : Syncs
 unfolding all_rules
-a_replica_takes_a_log = record { again = refl; nothing = refl; own = refl; gap = refl; other = refl; }
+a_replica_takes_a_log = record { again = refl; nothing = refl; own = refl; gap = refl; other = refl }
 
 pub a_replica_gives_entries : Fetches
 unfolding all_rules
-a_replica_gives_entries = record { given = refl; silent = refl; past_end = refl; before_first = refl; }
+a_replica_gives_entries = record { given = refl; silent = refl; past_end = refl; before_first = refl }
 
 pub a_replica_collects_entries : Pieces
 unfolding all_rules
-a_replica_collects_entries = record { collected = refl; last = refl; past_end = refl; of_another = refl; unasked = refl; gap = refl; }
+a_replica_collects_entries = record { collected = refl; last = refl; past_end = refl; of_another = refl; unasked = refl; gap = refl }
 
 pub a_replica_takes_its_role : Activations
 unfolding all_rules
-a_replica_takes_its_role = record { primary = refl; secondary = refl; again = refl; older = refl; no_member = refl; gap = refl; }
+a_replica_takes_its_role = record { primary = refl; secondary = refl; again = refl; older = refl; no_member = refl; gap = refl }
 
 pub a_replica_appends : Appends
 unfolding all_rules
-a_replica_appends = record { taken = refl; held = refl; gap = refl; elsewhere = refl; older = refl; }
+a_replica_appends = record { taken = refl; held = refl; gap = refl; elsewhere = refl; older = refl }
 
 pub a_replica_refuses : ReplicaRefusals
 unfolding all_rules
-a_replica_refuses = record { older = refl; older_after_restart = refl; second_first = refl; first = refl; collected_second_first = refl; }
+a_replica_refuses = record { older = refl; older_after_restart = refl; second_first = refl; first = refl; collected_second_first = refl }
 
 pub a_primary_writes : Writes
 unfolding all_rules
-a_primary_writes = record { sent = refl; moves_nothing = refl; alone = refl; refused = refl; promised_away = refl; }
+a_primary_writes = record { sent = refl; moves_nothing = refl; alone = refl; refused = refl; promised_away = refl }
 
 pub a_primary_commits : Confirmations
 unfolding all_rules
-a_primary_commits = record { commits = refl; waits = refl; again = refl; late = refl; past_end = refl; elsewhere = refl; }
+a_primary_commits = record { commits = refl; waits = refl; again = refl; late = refl; past_end = refl; elsewhere = refl }
 
 pub a_firing_sends_again_primary : FiringOfAPrimary
 unfolding all_rules
@@ -149,7 +149,7 @@ a_firing_sends_again_order = refl
 
 pub a_start_has_its_replicas : Starts
 unfolding all_rules
-a_start_has_its_replicas = record { collecting = refl; collected = refl; own = refl; }
+a_start_has_its_replicas = record { collecting = refl; collected = refl; own = refl }
 
 pub creates_and_writes : CreatesAndWrites
 unfolding all_rules

@@ -24,8 +24,8 @@ deeds_to rs (q ∷ qs) = (question_received q.1 q.0 rs).deeds ++ deeds_to (quest
 abbrev pub AnswersInOrder : Type 0
 AnswersInOrder =
     deeds_to [] (
-      (n1, body.Prepare 1 e2) ∷ (n1, body.Prepare 1 e2) ∷ (n2, body.Prepare 1 e2) ∷ (n2, body.Vote (config e1 1 (1 ∷ [])))
-      ∷ (n1, body.DoneAsk (config e2 1 (1 ∷ []))) ∷ (n2, body.Prepare 1 e3) ∷ [])
+    (n1, body.Prepare 1 e2) ∷ (n1, body.Prepare 1 e2) ∷ (n2, body.Prepare 1 e2) ∷ (n2, body.Vote (config e1 1 (1 ∷ [])))
+    ∷ (n1, body.DoneAsk (config e2 1 (1 ∷ []))) ∷ (n2, body.Prepare 1 e3) ∷ [])
     ≡ Keep (kept.PreparedBy 1 e2 n1) ∷ Send n1 (body.Prepared 1 e2 None)
     ∷ Send n1 (body.Prepared 1 e2 None)
     ∷ Send n2 (body.NoPrepare 1 e2 e2)

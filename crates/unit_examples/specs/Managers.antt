@@ -25,7 +25,7 @@ use Rattle.unit_rules.specs.Reconfigs.{Reconfig, Phase4}
 use Rattle.unit_rules.specs.Starts.{seats_begun}
 use Rattle.unit_rules.specs.Steps.{fired, failover_begun, manage}
 use Rattle.unit_rules.specs.Transitions.{begun}
-use Rattle.unit_examples.specs.Values.{epoch, e1, e2, entry, seat, peer, leading, config}
+use Rattle.unit_examples.specs.Values.{epoch, e1, e2, seat, peer, leading, config}
 
 abbrev pub nothing_managed : Managed
 nothing_managed = record { units = []; reconfigs = [] }
@@ -83,7 +83,7 @@ pub record Memory : Type 0 where
   -- what is active is noted
   pub configured :
       manager_answered [] 1 1 e1 (body.Activated 1 e1)
-        (record { units = []; reconfigs = (1, Phase4 (record { task = task 1 1 e1 (Create 1); config = config e1 1 (1 ∷ []); poll = poll_of (1 ∷ []) })) ∷ [] })
+      (record { units = []; reconfigs = (1, Phase4 (record { task = task 1 1 e1 (Create 1); config = config e1 1 (1 ∷ []); poll = poll_of (1 ∷ []) })) ∷ [] })
       ≡ acted (record { units = (1, known) ∷ []; reconfigs = [] }) (Tell (report.Configured 1 e1) ∷ [])
 
 -- a firing: the reconfigurations first, then the replicas
@@ -134,7 +134,7 @@ pub record Ups : Type 0 where
   -- the load is the number of known units with the node as a member
   pub loaded :
       loads site 30 (ring_of (heard_at 9) [])
-        ((1, record known { config = Some (config e1 1 (1 ∷ 2 ∷ [])) }) ∷ (2, known) ∷ (3, seen e1) ∷ [])
+      ((1, record known { config = Some (config e1 1 (1 ∷ 2 ∷ [])) }) ∷ (2, known) ∷ (3, seen e1) ∷ [])
       ≡ record { node = 1; domain = 1; up = true; load = 2 } ∷ record { node = 2; domain = 4; up = false; load = 1 } ∷ []
   pub heard :
       loads site 30 (ring_of (heard_at 10) []) []
@@ -152,17 +152,17 @@ pub record Starts : Type 0 where
   -- a restarted replica has no role, and nothing that was only collected
   pub collecting :
       seats_begun (
-        kept.Boot 1 ∷ kept.PromisedAt 1 e1 ∷ kept.AdoptedAt 1 e1 0 false ∷ kept.Wrote 1 e1 1 (1 ∷ []) ∷ kept.Wrote 1 e1 2 (2 ∷ [])
-        ∷ kept.PromisedAt 1 e2 ∷ kept.Incoming 1 e2 1 e1 (1 ∷ []) ∷ [])
+      kept.Boot 1 ∷ kept.PromisedAt 1 e1 ∷ kept.AdoptedAt 1 e1 0 false ∷ kept.Wrote 1 e1 1 (1 ∷ []) ∷ kept.Wrote 1 e1 2 (2 ∷ [])
+      ∷ kept.PromisedAt 1 e2 ∷ kept.Incoming 1 e2 1 e1 (1 ∷ []) ∷ [])
       ≡ (1, seat e2 e1 NoRole) ∷ []
   -- it has a log that was collected whole
   pub collected :
       seats_begun (
-        kept.Boot 1 ∷ kept.PromisedAt 1 e2 ∷ kept.Incoming 1 e2 1 e1 (1 ∷ []) ∷ kept.Incoming 1 e2 2 e1 (2 ∷ []) ∷ kept.AdoptedAt 1 e2 2 false ∷ [])
+      kept.Boot 1 ∷ kept.PromisedAt 1 e2 ∷ kept.Incoming 1 e2 1 e1 (1 ∷ []) ∷ kept.Incoming 1 e2 2 e1 (2 ∷ []) ∷ kept.AdoptedAt 1 e2 2 false ∷ [])
       ≡ (1, seat e2 e2 NoRole) ∷ []
   -- and one of its own, with another epoch
   pub own :
       seats_begun (
-        kept.Boot 1 ∷ kept.PromisedAt 1 e1 ∷ kept.AdoptedAt 1 e1 0 false ∷ kept.Wrote 1 e1 1 (1 ∷ []) ∷ kept.Wrote 1 e1 2 (2 ∷ [])
-        ∷ kept.Boot 2 ∷ kept.PromisedAt 1 e2 ∷ kept.AdoptedAt 1 e2 2 true ∷ [])
+      kept.Boot 1 ∷ kept.PromisedAt 1 e1 ∷ kept.AdoptedAt 1 e1 0 false ∷ kept.Wrote 1 e1 1 (1 ∷ []) ∷ kept.Wrote 1 e1 2 (2 ∷ [])
+      ∷ kept.Boot 2 ∷ kept.PromisedAt 1 e2 ∷ kept.AdoptedAt 1 e2 2 true ∷ [])
       ≡ (1, seat e2 e2 NoRole) ∷ []

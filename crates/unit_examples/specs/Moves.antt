@@ -1,6 +1,5 @@
 -- A run of two nodes: a partition is created with two replicas, written, and its primary moves.
 use Rattle.std.specs.Prelude.{◌≡◌, ℕ, List, [], ◌∷◌, ◌++◌, reverse, Some, None}
-use Rattle.ring_points.specs.declared.who.Who.{Who}
 use Rattle.ring_points.specs.Ranges.{whole_ring}
 use Rattle.ring_points.specs.Whos.{node_instance}
 use Rattle.fabric_terms.specs.declared.command.Command.TheVariants as command
@@ -96,7 +95,7 @@ swap_lines =
 abbrev pub MovesThePrimary : Type 0
 MovesThePrimary =
     print_of (create_events ++ write_events ++ swap_events
-      ++ Do 1 (command.Write 1 (120 ∷ [])) ∷ Do 2 (command.Write 1 (121 ∷ [])) ∷ Fire 2 ∷ [])
+    ++ Do 1 (command.Write 1 (120 ∷ [])) ∷ Do 2 (command.Write 1 (121 ∷ [])) ∷ Fire 2 ∷ [])
     ≡ create_lines ++ write_lines ++ swap_lines
     ++ node_1 46 (report.Refused verb.Write reason.NotPrimary ∷ []) (0, 0)
     ∷ node_2 47 (report.Accepted 1 e2 2 ∷ []) (40, 40)

@@ -2,7 +2,6 @@
 use Rattle.std.specs.Prelude.{◌≡◌, ℕ, true, List, [], ◌∷◌, Option, Some, None, Result, Ok, Err}
 use Rattle.ring_points.specs.declared.unit.Config.{Config}
 use Rattle.ring_points.specs.Whos.{node_instance}
-use Rattle.fabric_terms.specs.declared.message.Body.{Body}
 use Rattle.fabric_terms.specs.declared.message.Body.TheVariants as body
 use Rattle.failover_units.specs.declared.refusal.UnitRefusal.TheVariants as refusal
 use Rattle.replica_place.specs.declared.load.NodeLoad.{NodeLoad}
@@ -12,10 +11,10 @@ use Rattle.unit_rules.specs.declared.reconfig.Next.{Next}
 use Rattle.unit_rules.specs.declared.reconfig.Next.TheVariants as next
 use Rattle.unit_rules.specs.declared.reconfig.Standing.{Standing}
 use Rattle.unit_rules.specs.declared.reconfig.Task.{Task}
-use Rattle.unit_rules.specs.Deeds.{Deed, Send, Acted, acted, still, send_all}
+use Rattle.unit_rules.specs.Deeds.{Send, Acted, acted, still, send_all}
 use Rattle.unit_rules.specs.Polls.{Poll, poll_of}
 use Rattle.unit_rules.specs.Questions.{reconfig_fired}
-use Rattle.unit_rules.specs.Reconfigs.{Source, PreparePhase, SwapPhase, PromisePhase, CopyPhase, VotePhase, Reconfig, Prepare, Phase0, Phase1, Decide, Phase2, Step, Stay, Superseded, Refused}
+use Rattle.unit_rules.specs.Reconfigs.{PreparePhase, SwapPhase, PromisePhase, CopyPhase, Reconfig, Prepare, Phase0, Phase1, Decide, Phase2, Step, Stay, Superseded, Refused}
 use Rattle.unit_rules.specs.Phases.{prepare_on, swap_on, promise_on, copy_on}
 use Rattle.unit_rules.specs.Transitions.{answer_received}
 use Rattle.unit_examples.specs.Values.{epoch, e1, e2, e3, config, standing}
@@ -72,8 +71,8 @@ pub record AfterPrepare : Type 0 where
   -- the members of a new partition rise, and the primary is the first that is placed
   pub placed :
       (prepared
-        (record { node = 3; domain = 1; up = true; load = 4 } ∷ record { node = 5; domain = 2; up = true; load = 1 } ∷ [])
-        None (preparing (Create 2) (Some None) None None)).deeds
+      (record { node = 3; domain = 1; up = true; load = 4 } ∷ record { node = 5; domain = 2; up = true; load = 1 } ∷ [])
+      None (preparing (Create 2) (Some None) None None)).deeds
       ≡ send_all (node_instance 32769 0 ∷ node_instance 32770 0 ∷ node_instance 32771 0 ∷ []) (body.Vote (config e2 5 (3 ∷ 5 ∷ [])))
   -- a swap asks the old primary, a heal the old members, and a lost partition its node alone
   pub swap :
@@ -99,13 +98,13 @@ pub record Moves : Type 0 where
   pub of_one :
       answer_received [] 1 e2 (body.Promised 1 e2 e1 5) (Phase0 swapping)
       ≡ acted
-          (Stay (Decide (record {
-            task = task (Swap 1);
-            config = config e2 1 (1 ∷ []);
-            source = record { origin = 1; last = 5 };
-            votes = record { arbitrators = 3; answers = [] };
-          })))
-          (send_all (node_instance 32769 0 ∷ node_instance 32770 0 ∷ node_instance 32771 0 ∷ []) (body.Vote (config e2 1 (1 ∷ []))))
+      (Stay (Decide (record {
+        task = task (Swap 1);
+        config = config e2 1 (1 ∷ []);
+        source = record { origin = 1; last = 5 };
+        votes = record { arbitrators = 3; answers = [] };
+      })))
+      (send_all (node_instance 32769 0 ∷ node_instance 32770 0 ∷ node_instance 32771 0 ∷ []) (body.Vote (config e2 1 (1 ∷ []))))
 
 -- node 2 promises as the second of the old members
 abbrev pub second_promises : Standing → Kind → List ℕ → ℕ → Result Next PromisePhase

@@ -1,5 +1,5 @@
 -- A replica's rows: Promise, Sync, Fetch, Piece, Activate.
-use Rattle.std.specs.Prelude.{◌≡◌, true, false, [], ◌∷◌, Some, None}
+use Rattle.std.specs.Prelude.{◌≡◌, true, false, [], ◌∷◌, Some}
 use Rattle.ring_points.specs.Whos.{node_instance}
 use Rattle.fabric_terms.specs.declared.message.Body.TheVariants as body
 use Rattle.fabric_terms.specs.declared.record.Record.TheVariants as kept
@@ -9,14 +9,14 @@ use Rattle.unit_rules.specs.Deeds.{Keep, Send, Tell, acted, still}
 use Rattle.unit_rules.specs.Promises.{promise_received}
 use Rattle.unit_rules.specs.Copies.{sync_received, fetch_received, piece_received}
 use Rattle.unit_rules.specs.Activations.{activate_received}
-use Rattle.unit_examples.specs.Values.{e1, e2, e3, asker, entry, replica, seat, peer, lead, leading, taking, collecting, config}
+use Rattle.unit_examples.specs.Values.{e1, e2, e3, asker, entry, replica, seat, peer, leading, taking, collecting, config}
 
 pub record Promises : Type 0 where
   -- a promise that is raised is recorded and told, and takes a primary's role
   pub raised :
       promise_received asker e2 (seat e1 e1 Primary)
       ≡ acted (seat e2 e1 ActiveSecondary)
-          (Keep (kept.PromisedAt 1 e2) ∷ Tell (report.Promised 1 e2) ∷ Send asker (body.Promised 1 e2 e1 2) ∷ [])
+      (Keep (kept.PromisedAt 1 e2) ∷ Tell (report.Promised 1 e2) ∷ Send asker (body.Promised 1 e2 e1 2) ∷ [])
   -- the same again is only answered
   pub again : promise_received asker e1 (seat e1 e1 Primary) ≡ acted (seat e1 e1 Primary) (Send asker (body.Promised 1 e1 e1 2) ∷ [])
   -- a greater one that was promised is named
@@ -62,8 +62,8 @@ pub record Pieces : Type 0 where
   pub last :
       piece_received e2 (entry 2) (collecting (entry 1 ∷ []))
       ≡ acted (record (collecting []) { replica = replica e2 e2 IdleSecondary [] })
-          (Keep (kept.Incoming 1 e2 2 e1 (2 ∷ []))
-          ∷ Keep (kept.AdoptedAt 1 e2 2 false) ∷ Tell (report.Adopted 1 e2 2) ∷ Send asker (body.Adopted 1 e2 2) ∷ [])
+      (Keep (kept.Incoming 1 e2 2 e1 (2 ∷ []))
+      ∷ Keep (kept.AdoptedAt 1 e2 2 false) ∷ Tell (report.Adopted 1 e2 2) ∷ Send asker (body.Adopted 1 e2 2) ∷ [])
   -- none is taken past the end of the Sync, none of another epoch, and none without a Sync
   pub past_end : piece_received e2 (entry 3) (collecting (entry 1 ∷ entry 2 ∷ [])) ≡ still (collecting (entry 1 ∷ entry 2 ∷ []))
   pub of_another : piece_received e3 (entry 1) (collecting []) ≡ still (collecting [])

@@ -1,5 +1,5 @@
 -- Runs of the whole product: a partition is created, written and lost.
-use Rattle.std.specs.Prelude.{◌≡◌, ℕ, ◌+◌, List, [], ◌∷◌, ◌++◌, reverse, Some, None}
+use Rattle.std.specs.Prelude.{◌≡◌, ℕ, List, [], ◌∷◌, ◌++◌, reverse, None}
 use Rattle.ring_points.specs.declared.who.Who.{Who}
 use Rattle.ring_points.specs.Ranges.{whole_ring}
 use Rattle.ring_points.specs.Whos.{node_instance}
@@ -71,9 +71,9 @@ CreatesAndWrites = print_of create_events ≡ create_lines
 abbrev pub ListsUnits : Type 0
 ListsUnits =
     print_of (create_events
-      ++ Do 1 (command.Units (interval 0 18446744073709551615))
-      ∷ Do 1 (command.Units (interval 281474976710656 281474976710656))
-      ∷ Do 1 (command.Units (interval 281474976710657 18446744073709551615)) ∷ [])
+    ++ Do 1 (command.Units (interval 0 18446744073709551615))
+    ∷ Do 1 (command.Units (interval 281474976710656 281474976710656))
+    ∷ Do 1 (command.Units (interval 281474976710657 18446744073709551615)) ∷ [])
     ≡ create_lines
     ++ tells 16 (report.UnitList (1 ∷ []) ∷ []) (0, 0)
     ∷ tells 17 (report.UnitList (1 ∷ []) ∷ []) (0, 0)
@@ -83,8 +83,8 @@ ListsUnits =
 abbrev pub RefusesMore : Type 0
 RefusesMore =
     print_of (create_events
-      ++ Do 1 (command.Create 1 1) ∷ Do 1 (command.Write 2 (120 ∷ []))
-      ∷ Do 1 (command.Create 2 3) ∷ Give 11 ∷ Give 12 ∷ [])
+    ++ Do 1 (command.Create 1 1) ∷ Do 1 (command.Write 2 (120 ∷ []))
+    ∷ Do 1 (command.Create 2 3) ∷ Give 11 ∷ Give 12 ∷ [])
     ≡ create_lines
     ++ tells 16 (report.Refused verb.Create reason.Exists ∷ []) (0, 0)
     ∷ tells 17 (report.Refused verb.Write reason.NotPrimary ∷ []) (0, 0)
@@ -95,9 +95,9 @@ RefusesMore =
 abbrev pub LosesAndGoesOn : Type 0
 LosesAndGoesOn =
     print_of (create_events
-      ++ Do 1 (command.Lose 1 1)
-      ∷ Give 11 ∷ Give 12 ∷ Give 13 ∷ Give 14 ∷ Give 15 ∷ Give 16 ∷ Give 17 ∷ Give 18 ∷ Give 19 ∷ Give 20 ∷ Give 21 ∷ Give 22
-      ∷ Do 1 (command.Write 1 again) ∷ [])
+    ++ Do 1 (command.Lose 1 1)
+    ∷ Give 11 ∷ Give 12 ∷ Give 13 ∷ Give 14 ∷ Give 15 ∷ Give 16 ∷ Give 17 ∷ Give 18 ∷ Give 19 ∷ Give 20 ∷ Give 21 ∷ Give 22
+    ∷ Do 1 (command.Write 1 again) ∷ [])
     ≡ create_lines
     ++ tells 16 [] (11, 11) ∷ arbiter_sends 17 12
     ∷ tells 18 [] (13, 13) ∷ tells 19 (report.Promised 1 (epoch 1 1) ∷ []) (14, 14)

@@ -1,5 +1,5 @@
 -- Writes: at the primary, at the other members, and back.
-use Rattle.std.specs.Prelude.{◌≡◌, [], ◌∷◌, Some, None, Err, Ok}
+use Rattle.std.specs.Prelude.{◌≡◌, [], ◌∷◌, Err, Ok}
 use Rattle.ring_points.specs.Whos.{node_instance}
 use Rattle.fabric_terms.specs.declared.message.Body.TheVariants as body
 use Rattle.fabric_terms.specs.declared.record.Record.TheVariants as kept
@@ -8,7 +8,7 @@ use Rattle.fabric_terms.specs.declared.report.Reason.TheVariants as reason
 use Rattle.fabric_terms.specs.declared.report.Verb.TheVariants as verb
 use Rattle.replica_core.specs.declared.refusal.Done.TheVariants.{New}
 use Rattle.replica_core.specs.declared.refusal.ReplicaRefusal.TheVariants.{Older, Gap}
-use Rattle.replica_core.specs.declared.role.Role.TheVariants.{None as NoRole, IdleSecondary, ActiveSecondary, Primary}
+use Rattle.replica_core.specs.declared.role.Role.TheVariants.{IdleSecondary, ActiveSecondary, Primary}
 use Rattle.replica_core.specs.Calls.{promise_call, append_call, adopt_own_call, adopt_call}
 use Rattle.replica_core.specs.Replicas.{first_replica}
 use Rattle.unit_rules.specs.Deeds.{Keep, Send, Tell, acted, still, refuse}
@@ -41,8 +41,8 @@ pub record Appends : Type 0 where
   pub taken :
       append_received asker e1 3 (7 ∷ []) (seat e1 e1 IdleSecondary)
       ≡ acted (seated (seat e1 e1 IdleSecondary)
-            (record (replica e1 e1 IdleSecondary []) { log = entry 1 ∷ entry 2 ∷ record { epoch = e1; lsn = 3; bytes = 7 ∷ [] } ∷ [] }))
-          (Keep (kept.Wrote 1 e1 3 (7 ∷ [])) ∷ Tell (report.Accepted 1 e1 3) ∷ Send asker (body.Appended 1 e1 3) ∷ [])
+      (record (replica e1 e1 IdleSecondary []) { log = entry 1 ∷ entry 2 ∷ record { epoch = e1; lsn = 3; bytes = 7 ∷ [] } ∷ [] }))
+      (Keep (kept.Wrote 1 e1 3 (7 ∷ [])) ∷ Tell (report.Accepted 1 e1 3) ∷ Send asker (body.Appended 1 e1 3) ∷ [])
   -- an entry that it has, and one that is too far, are answered with the last one
   pub held :
       append_received asker e1 1 (7 ∷ []) (seat e1 e1 IdleSecondary) ≡ acted (seat e1 e1 IdleSecondary) (Send asker (body.Appended 1 e1 2) ∷ [])

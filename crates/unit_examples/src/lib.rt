@@ -6,18 +6,12 @@
 #![tactic(auto)]
 
 ghost use Rattle.unit_examples.specs.Arbiters.{AnswersInOrder, Dones, PreparesTheFirst, Votes};
-ghost use Rattle.unit_examples.specs.Managers.{
-    Epochs, FiringInOrder, Managers, Memory, Refusals as ManagerRefusals, Starts, Ups,
-};
+ghost use Rattle.unit_examples.specs.Managers.{Epochs, FiringInOrder, Managers, Memory, Refusals as ManagerRefusals, Starts, Ups};
 ghost use Rattle.unit_examples.specs.Moves.{MovesThePrimary};
-ghost use Rattle.unit_examples.specs.Phases.{
-    AfterPrepare, Choices, Copies, Decisions, Moves, Preparations, Supersessions,
-};
+ghost use Rattle.unit_examples.specs.Phases.{AfterPrepare, Choices, Copies, Decisions, Moves, Preparations, Supersessions};
 ghost use Rattle.unit_examples.specs.Replicas.{Activations, Fetches, Pieces, Promises, Syncs};
 ghost use Rattle.unit_examples.specs.Runs.{CreatesAndWrites, ListsUnits, LosesAndGoesOn, RefusesMore};
-ghost use Rattle.unit_examples.specs.Writes.{
-    Appends, Confirmations, FiringOfAPrimary, Refusals as ReplicaRefusals, Writes,
-};
+ghost use Rattle.unit_examples.specs.Writes.{Appends, Confirmations, FiringOfAPrimary, Refusals as ReplicaRefusals, Writes};
 
 /// A fresh arbitrator answers one question after the other.
 pub fn an_arbitrator_answers()

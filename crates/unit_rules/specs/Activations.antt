@@ -27,7 +27,7 @@ say_activated asker config = Send asker (body.Activated config.partition config.
 abbrev pub role_begun : ℕ → Who → Config → Seat → Replica → Role → Acted Seat
 role_begun me asker config s r Primary =
     acted (record s { replica = r; lead = Some (first_lead me config (last_of r)) })
-      (Tell (report.IsPrimary config.partition config.epoch) ∷ say_activated asker config ∷ [])
+    (Tell (report.IsPrimary config.partition config.epoch) ∷ say_activated asker config ∷ [])
 role_begun me asker config s r _ = acted (record s { replica = r; lead = None }) (say_activated asker config ∷ [])
 
 -- a replica that has the role of this epoch already only answers; a role of a lower epoch was lost with the Sync

@@ -16,16 +16,21 @@ use Rattle.unit_rules.specs.Deeds.{Deed, Keep, Send, Tell, Acted, acted, after_d
 use Rattle.unit_rules.specs.Seats.{Seat, seated, last_of, entry_at}
 use Rattle.unit_rules.specs.Promises.{say_older, raise_told}
 
--- the log is that of the epoch now, which is recorded, told and answered; an empty log is not told, and is nobody's own
+-- The log is that of the epoch now, which is recorded, told and answered. An empty log is not told, and is nobody's own.
+
+abbrev pub nothing_adopted : ℕ → Taking → List Deed
+nothing_adopted partition t =
+    Keep (kept.AdoptedAt partition t.epoch t.last false)
+    ∷ Send t.asker (body.Adopted partition t.epoch t.last) ∷ []
+
+abbrev pub log_adopted : ℕ → Taking → (is_own : Bool) → List Deed
+log_adopted partition t is_own =
+    Keep (kept.AdoptedAt partition t.epoch t.last is_own)
+    ∷ Tell (report.Adopted partition t.epoch t.last)
+    ∷ Send t.asker (body.Adopted partition t.epoch t.last) ∷ []
+
 abbrev pub adoption : ℕ → Taking → (is_own : Bool) → List Deed
-adoption partition t is_own =
-    if t.last == 0 then
-      Keep (kept.AdoptedAt partition t.epoch t.last false)
-      ∷ Send t.asker (body.Adopted partition t.epoch t.last) ∷ []
-    else
-      Keep (kept.AdoptedAt partition t.epoch t.last is_own)
-      ∷ Tell (report.Adopted partition t.epoch t.last)
-      ∷ Send t.asker (body.Adopted partition t.epoch t.last) ∷ []
+adoption partition t is_own = if t.last == 0 then nothing_adopted partition t else log_adopted partition t is_own
 
 -- the next entry of the log is asked for at its origin
 abbrev pub fetch_next : Taking → Replica → Deed

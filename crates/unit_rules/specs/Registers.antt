@@ -12,7 +12,7 @@ use Rattle.fabric_terms.specs.declared.record.Record.{Record}
 use Rattle.fabric_terms.specs.declared.record.Record.TheVariants.{PreparedBy, VotedFor, DoneFor}
 use Rattle.replica_core.specs.Replicas.{first_epoch}
 use Rattle.unit_rules.specs.declared.register.Preparation.{Preparation}
-use Rattle.unit_rules.specs.Deeds.{Deed, Keep, Send, Acted, acted, still}
+use Rattle.unit_rules.specs.Deeds.{Keep, Send, Acted, acted, still}
 
 -- the highest prepared epoch, the first vote of each epoch, and the done configuration of the highest epoch
 pub record Register : Type 0 where

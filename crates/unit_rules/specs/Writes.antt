@@ -41,11 +41,11 @@ append_received asker epoch lsn text s = append_answered asker epoch lsn text s 
 
 -- What a majority has confirmed is committed, and told where it is more than before.
 
+abbrev pub commits : Lead → ℕ → Seat → Acted Seat
+commits l lsn s = acted (record s { lead = Some (record l { committed = lsn }) }) (Tell (report.Committed s.replica.partition s.replica.at lsn) ∷ [])
+
 abbrev pub committed_up_to : Lead → ℕ → Seat → Acted Seat
-committed_up_to l lsn s =
-    if nat_lt l.committed lsn then
-      acted (record s { lead = Some (record l { committed = lsn }) }) (Tell (report.Committed s.replica.partition s.replica.at lsn) ∷ [])
-    else still (record s { lead = Some l })
+committed_up_to l lsn s = if nat_lt l.committed lsn then commits l lsn s else still (record s { lead = Some l })
 
 abbrev pub committed : Lead → Seat → Acted Seat
 committed l s = committed_up_to l (most_confirmed (confirmed_of l (last_of s.replica))) s
