@@ -15,3 +15,5 @@ pub mod Frames
 pub mod Steps
 pub mod Owns
 pub mod Arbiters
+pub mod Up
+pub mod Rising

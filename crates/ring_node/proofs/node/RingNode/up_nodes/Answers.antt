@@ -1,7 +1,9 @@
 use Rattle.std.proofs.Common.{◌≡◌, ◌∙◌, ◌-◌, ◌*◌, ℕ, List, [], ◌∷◌, map, drop, refl, sym, ap, arith, rules}
 use Rattle.std.specs.List.{filter}
 use Rattle.ring_node.specs.Nodes.{Node}
-use Rattle.ring_node.specs.Up.{is_up, rising, up_nodes}
+use Rattle.ring_node.specs.Up.{up_nodes}
+use Rattle.ring_rules.specs.Rising.{rising}
+use Rattle.ring_rules.specs.Up.{is_up}
 use Rattle.ring_points.specs.declared.point.Point.{Point}
 use Rattle.ring_node.proofs.Points.{numbered}
 use Rattle.ring_node.proofs.node.RingNode.up_nodes.Goals as goal

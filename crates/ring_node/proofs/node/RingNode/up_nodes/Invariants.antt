@@ -1,6 +1,7 @@
 use Rattle.std.proofs.Common.{◌≡◌, ◌≤◌, ◌+◌, drop, length, map}
 use Rattle.std.specs.List.{filter}
-use Rattle.ring_node.specs.Up.{is_up, rising}
+use Rattle.ring_rules.specs.Rising.{rising}
+use Rattle.ring_rules.specs.Up.{is_up}
 use Rattle.ring_node.proofs.node.RingNode.up_nodes.Given as goal
 
 abbrev pub invariant-loop-i : goal.invariant-loop-i

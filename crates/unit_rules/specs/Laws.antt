@@ -1,0 +1,12 @@
+-- What is recorded is what stands.
+use Rattle.std.specs.Prelude.{◌≡◌}
+use Rattle.ring_points.specs.declared.who.Who.{Who}
+use Rattle.fabric_terms.specs.declared.message.Body.{Body}
+use Rattle.unit_rules.specs.Deeds.{records_of}
+use Rattle.unit_rules.specs.Registers.{Registers, registers_after, question_received}
+
+-- whatever an arbitrator is asked, its registers change by what it records, and by nothing else
+abbrev pub RegisterIsRecorded : Type 0
+RegisterIsRecorded =
+    (b : Body) (asker : Who) (rs : Registers)
+    → (question_received b asker rs).state ≡ registers_after rs (records_of (question_received b asker rs).deeds)

@@ -1,0 +1,52 @@
+-- What a primary knows of the other members.
+use Rattle.std.specs.Prelude.{ℕ, ◌+◌, Bool, true, false, not, ◌&&◌, ◌==◌, List, [], ◌∷◌, length, map, filter, count_by, max, Option, None, nat_le, if◌then◌else◌}
+use Rattle.ring_points.specs.declared.unit.Config.{Config}
+use Rattle.ring_points.specs.Epochs.{is_older}
+use Rattle.arbiter_quorum.specs.Tallies.{is_majority}
+use Rattle.replica_core.specs.declared.role.Role.{Role}
+use Rattle.replica_core.specs.declared.role.Role.TheVariants.{Primary}
+use Rattle.unit_rules.specs.declared.lead.Peer.{Peer}
+use Rattle.unit_rules.specs.Seats.{Lead, Seat}
+
+-- at its activation a primary knows of no confirmed entry; all that it has is committed, and what comes next is sent
+abbrev pub first_lead : ℕ → Config → ℕ → Lead
+first_lead me config last =
+    record {
+      peers = map (λ n. record { node = n; confirmed = 0; next = last + 1 }) (filter (λ n. not (n == me)) config.members);
+      committed = last;
+    }
+
+abbrev pub is_primary : Role → Bool
+is_primary Primary = true
+is_primary _ = false
+
+-- what the primary knows, where it is one and has promised nothing higher
+abbrev pub lead_of : Seat → Option Lead
+lead_of s = if is_primary s.replica.role && not (is_older s.replica.at s.replica.promised) then s.lead else None
+
+-- A member has its entries up to `last`, and is sent the next one. An entry that the primary has not is not confirmed.
+
+abbrev pub confirmed_up_to : ℕ → ℕ → Peer → ℕ
+confirmed_up_to last own p = if nat_le last own then max p.confirmed last else p.confirmed
+
+abbrev pub peer_confirms : ℕ → ℕ → ℕ → Peer → Peer
+peer_confirms node last own p = if p.node == node then record p { confirmed = confirmed_up_to last own p; next = last + 1 } else p
+
+abbrev pub confirmed_by : ℕ → ℕ → ℕ → Lead → Lead
+confirmed_by node last own l = record l { peers = map (peer_confirms node last own) l.peers }
+
+-- the last confirmed entry of each member, the primary itself among them
+abbrev pub confirmed_of : Lead → ℕ → List ℕ
+confirmed_of l own = own ∷ map (λ p. p.confirmed) l.peers
+
+-- a majority of the members has confirmed the entry
+abbrev pub is_confirmed : List ℕ → ℕ → Bool
+is_confirmed confirmed lsn = is_majority (length confirmed) (count_by (nat_le lsn) confirmed)
+
+abbrev pub greatest : List ℕ → ℕ
+greatest [] = 0
+greatest (n ∷ ns) = max n (greatest ns)
+
+-- the greatest entry that a majority has confirmed
+abbrev pub most_confirmed : List ℕ → ℕ
+most_confirmed confirmed = greatest (filter (is_confirmed confirmed) confirmed)
