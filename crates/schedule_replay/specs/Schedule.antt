@@ -4,7 +4,7 @@ use Rattle.fabric_config.specs.Config.{config_of_line}
 use Rattle.fabric_config.specs.declared.error.ConfigError.{ConfigError}
 use Rattle.fabric_config.specs.declared.error.ConfigError.TheVariants.{NotJson}
 use Rattle.fabric_terms.specs.declared.command.Command.{Command}
-use Rattle.fabric_terms.specs.declared.command.Command.TheVariants.{Create, Swap, Heal, Lose, Write, Units}
+use Rattle.fabric_terms.specs.declared.command.Command.TheVariants.{Create, Swap, Heal, Lose, Write, Units, Resolve, Names}
 use Rattle.fabric_terms.specs.declared.config.FabricConfig.{FabricConfig}
 use Rattle.fabric_terms.specs.declared.event.Event.{Event}
 use Rattle.fabric_terms.specs.declared.event.Event.TheVariants.{Do}
@@ -27,6 +27,8 @@ is_of_partition (Heal partition count) = true
 is_of_partition (Lose partition node) = true
 is_of_partition (Write partition text) = true
 is_of_partition (Units range) = true
+is_of_partition (Resolve partition name) = true
+is_of_partition (Names partition range) = true
 is_of_partition _ = false
 
 -- All events are run but commands about partitions.

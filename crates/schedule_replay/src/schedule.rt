@@ -51,7 +51,9 @@ fn is_of_partition(command: &Command) -> bool
         | Command::Heal(..)
         | Command::Lose(..)
         | Command::Write(..)
-        | Command::Units(_) => true,
+        | Command::Units(_)
+        | Command::Resolve(..)
+        | Command::Names(..) => true,
         _ => false,
     }
 }
