@@ -37,7 +37,8 @@ bytes_again (x ∷ xs) h =
     let whole : 16 * (x / 16 % 16) + x % 16 ≡ x = omega arith in
     ap (λ (o : Option ℕ). o >>= λ high. hex_value (hex_digit (x % 16)) >>= λ low. bytes_of (bytes_text xs) >>= λ more. Some ((16 * high + low) ∷ more)) (value_again (x / 16 % 16) (omega arith))
     ∙ (ap (λ (o : Option ℕ). o >>= λ low. bytes_of (bytes_text xs) >>= λ more. Some ((16 * (x / 16 % 16) + low) ∷ more)) (value_again (x % 16) (omega arith))
-    ∙ (ap (λ (o : Option (List ℕ)). o >>= λ more. Some ((16 * (x / 16 % 16) + x % 16) ∷ more)) (bytes_again xs (All-tail IsByte x xs h)) ∙ ap (λ b. Some (b ∷ xs)) whole))
+    ∙ (ap (λ (o : Option (List ℕ)). o >>= λ more. Some ((16 * (x / 16 % 16) + x % 16) ∷ more)) (bytes_again xs (All-tail IsByte x xs h))
+    ∙ ap (λ b. Some (b ∷ xs)) whole))
 
 pub bytes_are : IsRest bytes_of (All IsByte) bytes_text
 bytes_are = record { found = bytes_found; again = bytes_again }

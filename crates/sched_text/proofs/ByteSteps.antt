@@ -17,14 +17,16 @@ pub bytes_next : (bytes rest : List ℕ) (high low : ℕ) → 2 ≤ length rest 
 bytes_next bytes [] high low h a b = absurd (omega arith)
 bytes_next bytes (d ∷ []) high low h a b = absurd (omega arith)
 bytes_next bytes (d ∷ e ∷ rest) high low h a b =
-    sym (ap (λ o. put_before bytes (after_high e rest o)) a ∙ (ap (λ o. put_before bytes (after_low high rest o)) b ∙ put_next bytes (16 * high + low) (bytes_of rest)))
+    sym (ap (λ o. put_before bytes (after_high e rest o)) a
+    ∙ (ap (λ o. put_before bytes (after_low high rest o)) b ∙ put_next bytes (16 * high + low) (bytes_of rest)))
 
 pub bytes_bad_high : (bytes rest : List ℕ) → 2 ≤ length rest → hex_value (get_or rest 0 0) ≡ None → put_before bytes (bytes_of rest) ≡ None
 bytes_bad_high bytes [] h a = absurd (omega arith)
 bytes_bad_high bytes (d ∷ []) h a = absurd (omega arith)
 bytes_bad_high bytes (d ∷ e ∷ rest) h a = ap (λ o. put_before bytes (after_high e rest o)) a
 
-pub bytes_bad_low : (bytes rest : List ℕ) (high : ℕ) → 2 ≤ length rest → hex_value (get_or rest 0 0) ≡ Some high → hex_value (get_or rest 1 0) ≡ None → put_before bytes (bytes_of rest) ≡ None
+pub bytes_bad_low : (bytes rest : List ℕ) (high : ℕ) → 2 ≤ length rest → hex_value (get_or rest 0 0) ≡ Some high → hex_value (get_or rest 1 0) ≡ None
+    → put_before bytes (bytes_of rest) ≡ None
 bytes_bad_low bytes [] high h a b = absurd (omega arith)
 bytes_bad_low bytes (d ∷ []) high h a b = absurd (omega arith)
 bytes_bad_low bytes (d ∷ e ∷ rest) high h a b = ap (λ o. put_before bytes (after_high e rest o)) a ∙ ap (λ o. put_before bytes (after_low high rest o)) b

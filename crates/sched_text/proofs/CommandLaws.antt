@@ -97,7 +97,8 @@ create_found : IsCommand (codes "create ") (in_partition members_of Create)
 create_found = followed_found partition_is members_are FitsCommand command_text (codes "create ") Create (λ p c a b. ((a, b), refl))
 
 -- behind the word, or by the other reader
-abbrev or_behind : (word : List ℕ) (reader other : List ℕ → Option Command) → IsCommand word reader → IsCommand [] other → IsCommand [] (behind word reader other)
+abbrev or_behind : (word : List ℕ) (reader other : List ℕ → Option Command) → IsCommand word reader → IsCommand [] other
+    → IsCommand [] (behind word reader other)
 or_behind = found_behind FitsCommand command_text []
 
 partition_command_found : IsCommand [] partition_command_of
@@ -199,7 +200,8 @@ unfolding command_of partition_command_of after_word
 at_names words = refl
 
 -- a node and what is read behind it
-behind_node : {E : Type 0} (next : ℕ → List ℕ → Option E) (node : ℕ) (rest : List ℕ) → IsNode node → EndsNumber rest → (node_at (decimal node ++ rest) >>= λ x. next x.0 x.1) ≡ next node rest
+behind_node : {E : Type 0} (next : ℕ → List ℕ → Option E) (node : ℕ) (rest : List ℕ) → IsNode node → EndsNumber rest
+    → (node_at (decimal node ++ rest) >>= λ x. next x.0 x.1) ≡ next node rest
 behind_node next node rest fits ends = ap (λ (o : Field ℕ). o >>= λ x. next x.0 x.1) (node_is.again node rest fits ends)
 
 linked_alone : (node : ℕ) → linked_of node [] ≡ Some (Link node)
@@ -233,7 +235,8 @@ unfolding give_of
 give_all_again node fits = behind_node given_of node (codes " all") fits refl ∙ given_all node
 
 -- a partition, and what is read behind it
-in_again : {B : Type 0} {rest : List ℕ → Option B} {FitsB : B → Type 0} {textB : B → List ℕ} → IsRest rest FitsB textB → (make : ℕ → B → Command) (p : ℕ) (y : B) → IsPartition p → FitsB y
+in_again : {B : Type 0} {rest : List ℕ → Option B} {FitsB : B → Type 0} {textB : B → List ℕ} → IsRest rest FitsB textB
+    → (make : ℕ → B → Command) (p : ℕ) (y : B) → IsPartition p → FitsB y
     → in_partition rest make (decimal p ++ (codes " " ++ textB y)) ≡ Some (make p y)
 in_again law make p y fits fits_y = followed_again partition_is law make p y refl fits fits_y
 

@@ -50,7 +50,8 @@ head_found bytes f e =
     let l = bind_some (word_of long_at bytes) (λ line. after_time line.0 (word_of optional_at line.1)) f e in
     let t = bind_some (word_of optional_at l.0.1) (λ time. after_who l.0.0 time.0 (word_of who_at time.1)) f l.2 in
     let w = bind_some (word_of who_at t.0.1) (λ who. after_reading l.0.0 t.0.0 who.0 (word_of optional_at who.1)) f t.2 in
-    let r = bind_some (word_of optional_at w.0.1) (λ reading. cond (has_its_reading w.0.0 reading.0) (Some (head_made l.0.0 t.0.0 w.0.0 reading.0, reading.1)) None) f w.2 in
+    let r =
+    bind_some (word_of optional_at w.0.1) (λ reading. cond (has_its_reading w.0.0 reading.0) (Some (head_made l.0.0 t.0.0 w.0.0 reading.0, reading.1)) None) f w.2 in
     let read : Head × List ℕ = (head_made l.0.0 t.0.0 w.0.0 r.0.0, r.0.1) in
     ⊎_elim
     (λ yes.

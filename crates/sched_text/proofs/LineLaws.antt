@@ -134,7 +134,8 @@ no_start : (rest : List ℕ) → node_start_of (codes "a" ++ rest) ≡ None
 unfolding number_in node_start_of
 no_start rest = refl
 
-start_node_again : (node reading : ℕ) → IsNode node → IsNumber reading → start_of (decimal node ++ (codes " " ++ decimal reading)) ≡ Some (Start node (Some reading))
+start_node_again : (node reading : ℕ) → IsNode node → IsNumber reading
+    → start_of (decimal node ++ (codes " " ++ decimal reading)) ≡ Some (Start node (Some reading))
 unfolding start_of node_start_of arbiter_start_of
 start_node_again node reading h r =
     let words = decimal node ++ (codes " " ++ decimal reading) in
@@ -147,17 +148,20 @@ start_arbiter_again actor h =
     ap start_of (actor_text_arbiter actor h)
     ∙ (behind_again (codes "a") arbiter_start_of node_start_of (arbiter_number actor) ∙ made_again last_arbiter_is arbiter_start actor h)
 
-tick_again : (advance : ℕ) (readings : List (ℕ × ℕ)) → IsNumber advance → AreReadings readings → tick_of (decimal advance ++ readings_text readings) ≡ Some (Tick advance readings)
+tick_again : (advance : ℕ) (readings : List (ℕ × ℕ)) → IsNumber advance → AreReadings readings
+    → tick_of (decimal advance ++ readings_text readings) ≡ Some (Tick advance readings)
 unfolding tick_of
 tick_again advance readings h are =
     ap (λ (o : Field ℕ). o >>= λ advance. made (Tick advance.0) (readings_of 64) advance.1) (count_is.again advance (readings_text readings) h (ends_readings readings))
     ∙ made_again (readings_are 64) (Tick advance) readings are
 
-do_again : (node : ℕ) (command : Command) → IsNode node → FitsCommand command → do_of (decimal node ++ (codes " " ++ command_text command)) ≡ Some (Do node command)
+do_again : (node : ℕ) (command : Command) → IsNode node → FitsCommand command
+    → do_of (decimal node ++ (codes " " ++ command_text command)) ≡ Some (Do node command)
 unfolding do_of
 do_again node command h c = followed_again node_is command_is Do node command refl h c
 
-junk_again : (actor : ℕ) (bytes : List ℕ) → IsActor actor → IsJunk bytes → junk_of (actor_text actor ++ (codes " " ++ bytes_text bytes)) ≡ Some (Junk actor bytes)
+junk_again : (actor : ℕ) (bytes : List ℕ) → IsActor actor → IsJunk bytes
+    → junk_of (actor_text actor ++ (codes " " ++ bytes_text bytes)) ≡ Some (Junk actor bytes)
 unfolding junk_of
 junk_again actor bytes h b = followed_again actor_is junk_bytes_are Junk actor bytes refl h b
 

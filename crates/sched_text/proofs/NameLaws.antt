@@ -67,11 +67,13 @@ name_is = record {
       again name rest h (name_length (name ++ rest)) long;
 }
   where
-    again : (name rest : List ℕ) → IsName name → (n : ℕ) → n ≡ length name → cond (nat_le 1 n && nat_le n 64) (Some (parted n (name ++ rest))) None ≡ Some (parts name rest)
+    again : (name rest : List ℕ) → IsName name → (n : ℕ) → n ≡ length name
+        → cond (nat_le 1 n && nat_le n 64) (Some (parted n (name ++ rest))) None ≡ Some (parts name rest)
     again name rest h n long =
         ap (λ b. cond (b && nat_le n 64) (Some (parted n (name ++ rest))) None) (not_above 1 n (omega (arith, long, h.0)))
         ∙ (ap (λ b. cond b (Some (parted n (name ++ rest))) None) (not_above n 64 (omega (arith, long, h.1)))
-        ∙ (ap (λ (t : List ℕ). Some (parts t (drop n (name ++ rest)))) (take_at name rest n (sym long)) ∙ ap (λ (t : List ℕ). Some (parts name t)) (drop_at name rest n (sym long))))
+        ∙ (ap (λ (t : List ℕ). Some (parts t (drop n (name ++ rest)))) (take_at name rest n (sym long))
+        ∙ ap (λ (t : List ℕ). Some (parts name t)) (drop_at name rest n (sym long))))
 
 pub last_name_is : IsRest (last name_at) IsName as_they_are
 last_name_is = last_is name_is tt

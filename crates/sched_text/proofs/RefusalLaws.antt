@@ -103,7 +103,8 @@ domains_are =
       again = λ n h. law.again n (omega arith, omega (arith, h));
     }
 
-toofew_found : (bytes : List ℕ) (r : Reason) → made reason.TooFew (last (number_in 0 255)) bytes ≡ Some r → FitsReason r × (codes "toofew " ++ bytes ≡ reason_text r)
+toofew_found : (bytes : List ℕ) (r : Reason) → made reason.TooFew (last (number_in 0 255)) bytes ≡ Some r
+    → FitsReason r × (codes "toofew " ++ bytes ≡ reason_text r)
 toofew_found = made_found domains_are FitsReason reason_text (codes "toofew ") reason.TooFew (λ n h. (h, refl))
 
 no_toofew : (rest : List ℕ) → last (first_of reason_word plain_reasons) (codes "toofew " ++ rest) ≡ None
@@ -132,7 +133,8 @@ reason_is = record {
     plain r h =
         let word = reason_word r in
         let read = plain_is.again r h in
-        ap reason_of (sym (plain_fits r h).1) ∙ (behind_other (codes "toofew ") toofew_of plain_of word (apart plain_of (codes "toofew ") word r read no_toofew) ∙ read)
+        ap reason_of (sym (plain_fits r h).1)
+        ∙ (behind_other (codes "toofew ") toofew_of plain_of word (apart plain_of (codes "toofew ") word r read no_toofew) ∙ read)
 
     again : (r : Reason) → FitsReason r → reason_of (reason_text r) ≡ Some r
     again reason.NotRouting h = plain reason.NotRouting tt

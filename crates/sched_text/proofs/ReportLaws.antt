@@ -45,13 +45,15 @@ use Rattle.sched_text.proofs.Words.{at_own, at_accused, at_discharged, at_heir, 
 name_list_again : (p : ℕ) (names : List (List ℕ)) → IsPartition p → AreNames names → name_list_of (decimal p ++ names_text names) ≡ Some (NameList p names)
 unfolding name_list_of
 name_list_again p names fits h =
-    ap (λ (o : Field ℕ). o >>= λ p. names_behind p.0 p.1) (partition_is.again p (names_text names) fits (ends_names names)) ∙ made_again names_are (NameList p) names h
+    ap (λ (o : Field ℕ). o >>= λ p. names_behind p.0 p.1) (partition_is.again p (names_text names) fits (ends_names names))
+    ∙ made_again names_are (NameList p) names h
   where
     ends_names : (names : List (List ℕ)) → EndsNumber (names_text names)
     ends_names [] = tt
     ends_names (n ∷ ns) = refl
 
-own_again : (ranges : List Interval) (fence : Option ℕ) → AreRanges ranges → IsOptional fence → own_of (ranges_text ranges ++ (codes " " ++ optional_text fence)) ≡ Some (Own ranges fence)
+own_again : (ranges : List Interval) (fence : Option ℕ) → AreRanges ranges → IsOptional fence
+    → own_of (ranges_text ranges ++ (codes " " ++ optional_text fence)) ≡ Some (Own ranges fence)
 unfolding own_of
 own_again ranges fence h k = followed_again ranges_is (last_is optional_is tt) Own ranges fence refl h k
 
@@ -67,7 +69,8 @@ heir_again : (who : Who) (ripe : ℕ) → IsWho who → IsLong ripe → heir_of 
 unfolding heir_of
 heir_again who ripe h k = followed_again who_is (last_is long_is tt) Heir who ripe refl h k
 
-tookover_again : (who : Who) (ranges : List Interval) → IsWho who → AreRanges ranges → tookover_of (who_text who ++ (codes " " ++ ranges_text ranges)) ≡ Some (TookOver who ranges)
+tookover_again : (who : Who) (ranges : List Interval) → IsWho who → AreRanges ranges
+    → tookover_of (who_text who ++ (codes " " ++ ranges_text ranges)) ≡ Some (TookOver who ranges)
 unfolding tookover_of
 tookover_again who ranges h k = followed_again who_is last_ranges_is TookOver who ranges refl h k
 
@@ -79,7 +82,8 @@ unresolved_again : (p : ℕ) (name : List ℕ) → IsPartition p → IsName name
 unfolding unresolved_of
 unresolved_again p name h k = followed_again partition_is last_name_is Unresolved p name refl h k
 
-refused_again : (verb : Verb) (reason : Reason) → FitsReason reason → refused_of (verb_text verb ++ (codes " " ++ reason_text reason)) ≡ Some (Refused verb reason)
+refused_again : (verb : Verb) (reason : Reason) → FitsReason reason
+    → refused_of (verb_text verb ++ (codes " " ++ reason_text reason)) ≡ Some (Refused verb reason)
 unfolding refused_of
 refused_again verb reason h = followed_again verb_is reason_is Refused verb reason tt tt h
 

@@ -26,7 +26,8 @@ abbrev pub IsReport : List ℕ → (List ℕ → Option Report) → Type 0
 IsReport word reader = IsSpelled FitsReport report_text word reader
 
 -- behind the word, or by the other reader
-abbrev pub or_behind : (word : List ℕ) (reader other : List ℕ → Option Report) → IsReport word reader → IsReport [] other → IsReport [] (behind word reader other)
+abbrev pub or_behind : (word : List ℕ) (reader other : List ℕ → Option Report) → IsReport word reader → IsReport [] other
+    → IsReport [] (behind word reader other)
 or_behind = found_behind FitsReport report_text []
 
 pub last_who_is : IsRest (last who_at) IsWho who_text

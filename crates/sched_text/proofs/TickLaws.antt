@@ -51,7 +51,11 @@ readings_found (suc k) (b ∷ bs) rs e =
     let first = reading_is.found (b ∷ bs) f.0 f.1 in
     let more = readings_found k f.0.1 m.0 m.1 in
     let P : List Pair → Type 0 = λ xs. AreUpTo (suc k) xs × ((b ∷ bs) ≡ readings_text xs) in
-    subst P (some_same (f.0.0 ∷ m.0) rs m.2) ((omega (arith, more.0.0), All-cons IsReading f.0.0 m.0 first.0 more.0.1), first.1 ∙ ap (λ t. blank_reading f.0.0 ++ t) more.1)
+    subst P (some_same (f.0.0 ∷ m.0) rs m.2) (
+      (omega (arith, more.0.0), All-cons IsReading f.0.0 m.0 first.0 more.0.1),
+      first.1
+          ∙ ap (λ t. blank_reading f.0.0 ++ t) more.1,
+    )
 
 pub ends_readings : (rs : List Pair) → EndsNumber (readings_text rs)
 ends_readings [] = tt
@@ -80,7 +84,8 @@ pub readings_bad : (k : ℕ) (rs : List Pair) (rest : List ℕ) → 0 < k → 0 
 unfolding readings_of
 readings_bad k rs [] room some bad = absurd (omega arith)
 readings_bad zero rs (b ∷ bs) room some bad = absurd (omega arith)
-readings_bad (suc k) rs (b ∷ bs) room some bad = ap (λ (o : Field Pair). put_before rs (o >>= λ first. readings_of k first.1 >>= λ more. Some (first.0 ∷ more))) bad
+readings_bad (suc k) rs (b ∷ bs) room some bad =
+    ap (λ (o : Field Pair). put_before rs (o >>= λ first. readings_of k first.1 >>= λ more. Some (first.0 ∷ more))) bad
 
 pub readings_next : (k : ℕ) (rs : List Pair) (rest : List ℕ) (r : Pair) (after : List ℕ) → 0 < k → 0 < length rest → reading_at rest ≡ Some (r, after)
     → put_before (rs ++ r ∷ []) (readings_of (k - 1) after) ≡ put_before rs (readings_of k rest)

@@ -22,7 +22,8 @@ pub nothing_more : {A : Type 0} (x y : A) (rest : List ℕ) → whole_of x rest 
 nothing_more x y [] e = (some_same x y e, refl)
 nothing_more x y (b ∷ bs) e = cc
 
-pub last_is : {A : Type 0} {field : List ℕ → Field A} {Fits : A → Type 0} {text : A → List ℕ} {Ends : List ℕ → Type 0} → IsField field Fits text Ends → Ends [] → IsRest (last field) Fits text
+pub last_is : {A : Type 0} {field : List ℕ → Field A} {Fits : A → Type 0} {text : A → List ℕ} {Ends : List ℕ → Type 0} → IsField field Fits text Ends
+    → Ends [] → IsRest (last field) Fits text
 last_is {A} {field} {Fits} {text} {Ends} law ends = record {
   found = λ bytes x e.
       let a = bind_some (field bytes) (λ f. whole_of f.0 f.1) x e in
@@ -38,7 +39,8 @@ pub word_found : (word bytes rest : List ℕ) → after_word word bytes ≡ Some
 unfolding after_word
 word_found word bytes rest e =
     ⊎_elim
-    (λ yes. (starts_is Decides-eqb bytes word (starts_with nat_eq bytes word) refl).0 yes.0 ∙ ap (λ r. word ++ r) (some_same (drop (length word) bytes) rest yes.1))
+    (λ yes. (starts_is Decides-eqb bytes word (starts_with nat_eq bytes word) refl).0 yes.0
+    ∙ ap (λ r. word ++ r) (some_same (drop (length word) bytes) rest yes.1))
     (λ no. absurd (none_found rest no.1))
     (chosen (starts_with nat_eq bytes word) (Some (drop (length word) bytes)) None (Some rest) e)
 
@@ -97,7 +99,8 @@ pub behind_found : {A : Type 0} (word : List ℕ) (reader other : List ℕ → O
     → ((rest : List ℕ) × (bytes ≡ word ++ rest) × (reader rest ≡ Some x)) ⊎ (other bytes ≡ Some x)
 behind_found {A} word reader other bytes x = cases (after_word word bytes) refl
   where
-    cases : (o : Option (List ℕ)) → after_word word bytes ≡ o → elim o [ Some rest ↦ reader rest | None ↦ other bytes ] ≡ Some x → ((rest : List ℕ) × (bytes ≡ word ++ rest) × (reader rest ≡ Some x)) ⊎ (other bytes ≡ Some x)
+    cases : (o : Option (List ℕ)) → after_word word bytes ≡ o → elim o [ Some rest ↦ reader rest | None ↦ other bytes ] ≡ Some x
+        → ((rest : List ℕ) × (bytes ≡ word ++ rest) × (reader rest ≡ Some x)) ⊎ (other bytes ≡ Some x)
     cases None is e = inr e
     cases (Some rest) is e = inl (rest, word_found word bytes rest is, e)
 
@@ -106,12 +109,14 @@ behind_again {A} word reader other rest =
     ap (λ (o : Option (List ℕ)). elim o as (λ _. Option A) [ Some r ↦ reader r | None ↦ other (word ++ rest) ]) (word_again word rest)
 
 -- where the word does not stand
-pub behind_other : {A : Type 0} (word : List ℕ) (reader other : List ℕ → Option A) (bytes : List ℕ) → after_word word bytes ≡ None → behind word reader other bytes ≡ other bytes
+pub behind_other : {A : Type 0} (word : List ℕ) (reader other : List ℕ → Option A) (bytes : List ℕ) → after_word word bytes ≡ None
+    → behind word reader other bytes ≡ other bytes
 behind_other {A} word reader other bytes none =
     ap (λ (o : Option (List ℕ)). elim o as (λ _. Option A) [ Some r ↦ reader r | None ↦ other bytes ]) none
 
 -- a word that stands before nothing that is read does not stand before what is read
-pub apart : {A : Type 0} (reader : List ℕ → Option A) (word bytes : List ℕ) (x : A) → reader bytes ≡ Some x → ((rest : List ℕ) → reader (word ++ rest) ≡ None) → after_word word bytes ≡ None
+pub apart : {A : Type 0} (reader : List ℕ → Option A) (word bytes : List ℕ) (x : A) → reader bytes ≡ Some x
+    → ((rest : List ℕ) → reader (word ++ rest) ≡ None) → after_word word bytes ≡ None
 apart {A} reader word bytes x read never = cases (after_word word bytes) refl
   where
     cases : (o : Option (List ℕ)) → after_word word bytes ≡ o → o ≡ None
@@ -122,12 +127,14 @@ regrouped : (a b c d : List ℕ) → a ++ (b ++ (c ++ d)) ≡ (a ++ (b ++ c)) ++
 regrouped a b c d = simp append_assoc
 
 -- a text that is taken apart three times
-chained : (whole a behind_a b behind_b c rest : List ℕ) → whole ≡ a ++ behind_a → behind_a ≡ b ++ behind_b → behind_b ≡ c ++ rest → whole ≡ (a ++ (b ++ c)) ++ rest
+chained : (whole a behind_a b behind_b c rest : List ℕ) → whole ≡ a ++ behind_a → behind_a ≡ b ++ behind_b → behind_b ≡ c ++ rest
+    → whole ≡ (a ++ (b ++ c)) ++ rest
 chained whole a behind_a b behind_b c rest first second third =
     first ∙ (ap (λ t. a ++ t) (second ∙ ap (λ t. b ++ t) third) ∙ regrouped a b c rest)
 
 -- two fields and the word between them
-pub pair_is : {A B : Type 0} {first : List ℕ → Field A} {second : List ℕ → Field B} {FitsA : A → Type 0} {textA : A → List ℕ} {EndsA : List ℕ → Type 0} {FitsB : B → Type 0} {textB : B → List ℕ} {EndsB : List ℕ → Type 0}
+pub pair_is : {A B : Type 0} {first : List ℕ → Field A} {second : List ℕ → Field B} {FitsA : A → Type 0} {textA : A → List ℕ} {EndsA : List ℕ
+    → Type 0} {FitsB : B → Type 0} {textB : B → List ℕ} {EndsB : List ℕ → Type 0}
     → IsField first FitsA textA EndsA → (word : List ℕ) → IsField second FitsB textB EndsB → ((rest : List ℕ) → EndsA (word ++ rest))
     → IsField (pair_at first word second) (λ (p : A × B). FitsA p.0 × FitsB p.1) (λ (p : A × B). textA p.0 ++ (word ++ textB p.1)) EndsB
 pair_is {A} {B} {first} {second} {FitsA} {textA} {EndsA} {FitsB} {textB} lawA word lawB ends = record {
@@ -152,7 +159,8 @@ pair_is {A} {B} {first} {second} {FitsA} {textA} {EndsA} {FitsB} {textB} lawA wo
 
 -- one field behind a word, and else another, which never begins with that word
 pub choice_is : {A : Type 0} {first second : List ℕ → Field A} {FitsA FitsB : A → Type 0} {textA textB : A → List ℕ} {Ends : List ℕ → Type 0} (word : List ℕ)
-    → IsField first FitsA textA Ends → IsField second FitsB textB Ends → ((rest : List ℕ) → second (word ++ rest) ≡ None) → (Fits : A → Type 0) (text : A → List ℕ)
+    → IsField first FitsA textA Ends → IsField second FitsB textB Ends → ((rest : List ℕ) → second (word ++ rest) ≡ None)
+    → (Fits : A → Type 0) (text : A → List ℕ)
     → ((x : A) → FitsA x → Fits x × (word ++ textA x ≡ text x)) → ((x : A) → FitsB x → Fits x × (textB x ≡ text x)) → ((x : A) → Fits x → FitsA x ⊎ FitsB x)
     → IsField (behind word first second) Fits text Ends
 choice_is {A} {first} {second} {FitsA} {FitsB} {textA} {textB} word lawA lawB never Fits text toA toB split = record {

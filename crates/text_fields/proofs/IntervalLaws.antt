@@ -70,5 +70,6 @@ ranges_is = record {
       ⊎_elim (λ yes. subst P (some_same a.0 f yes.1) (yes.0, r.1)) (λ no. absurd (none_found f no.1)) (chosen (is_proper a.0.0) (Some a.0) None (Some f) a.2);
   again = λ x rest h end.
       let read : List Interval × List ℕ = (x, rest) in
-      ap (λ (o : Field (List Interval)). o >>= λ x. cond (is_proper x.0) (Some x) None) (intervals_are.again x rest (proper_intervals x h) end) ∙ ap (λ b. cond b (Some read) None) h;
+      ap (λ (o : Field (List Interval)). o >>= λ x. cond (is_proper x.0) (Some x) None) (intervals_are.again x rest (proper_intervals x h) end)
+      ∙ ap (λ b. cond b (Some read) None) h;
 }

@@ -39,13 +39,15 @@ pub record EndsWith (Ends EndsAll : List ℕ → Type 0) : Type 0 where
 abbrev IsFound : {A : Type 0} → (A → Type 0) → (A → List ℕ) → ℕ → List ℕ → List A × List ℕ → Type 0
 IsFound Fits text k bytes f = AreUpTo Fits k f.0 × (bytes ≡ more_text text f.0 ++ f.1)
 
-none_found_more : {A : Type 0} (Fits : A → Type 0) (text : A → List ℕ) (k : ℕ) (bytes : List ℕ) (f : List A × List ℕ) → Some ([], bytes) ≡ Some f → IsFound Fits text k bytes f
+none_found_more : {A : Type 0} (Fits : A → Type 0) (text : A → List ℕ) (k : ℕ) (bytes : List ℕ) (f : List A × List ℕ) → Some ([], bytes) ≡ Some f
+    → IsFound Fits text k bytes f
 none_found_more {A} Fits text k bytes f e =
     let none : List A × List ℕ = ([], bytes) in
     let P : List A × List ℕ → Type 0 = λ q. IsFound Fits text k bytes q in
     subst P {x = none} (some_same none f e) ((omega arith, All-nil Fits), refl)
 
-next_found_more : {A : Type 0} {field : List ℕ → Field A} {Fits : A → Type 0} {text : A → List ℕ} {Ends : List ℕ → Type 0} → IsField field Fits text Ends → (k : ℕ)
+next_found_more : {A : Type 0} {field : List ℕ → Field A} {Fits : A → Type 0} {text : A → List ℕ} {Ends : List ℕ → Type 0} → IsField field Fits text Ends
+    → (k : ℕ)
     → ((bytes : List ℕ) (f : List A × List ℕ) → more_at field k bytes ≡ Some f → IsFound Fits text k bytes f)
     → (bytes rest : List ℕ) (f : List A × List ℕ) → after_word (codes ",") bytes ≡ Some rest
     → (field rest >>= λ x. more_at field k x.1 >>= λ more. Some (x.0 ∷ more.0, more.1)) ≡ Some f → IsFound Fits text (suc k) bytes f
@@ -56,31 +58,40 @@ next_found_more {A} {field} {Fits} {text} law k others bytes rest f is e =
     let xs = others a.0.1 m.0 m.1 in
     let all : List A × List ℕ = (a.0.0 ∷ m.0.0, m.0.1) in
     let P : List A × List ℕ → Type 0 = λ q. IsFound Fits text (suc k) bytes q in
-    let spelled : rest ≡ (text a.0.0 ++ more_text text m.0.0) ++ m.0.1 = x.1 ∙ (ap (λ t. text a.0.0 ++ t) xs.1 ∙ sym (append_assoc (text a.0.0) (more_text text m.0.0) m.0.1)) in
-    subst P {x = all} (some_same all f m.2) ((omega (arith, xs.0.0), All-cons Fits a.0.0 m.0.0 x.0 xs.0.1), word_found (codes ",") bytes rest is ∙ ap (λ t. codes "," ++ t) spelled)
+    let spelled : rest ≡ (text a.0.0 ++ more_text text m.0.0) ++ m.0.1 =
+    x.1 ∙ (ap (λ t. text a.0.0 ++ t) xs.1 ∙ sym (append_assoc (text a.0.0) (more_text text m.0.0) m.0.1)) in
+    subst P {x = all} (some_same all f m.2) (
+      (omega (arith, xs.0.0), All-cons Fits a.0.0 m.0.0 x.0 xs.0.1),
+      word_found (codes ",") bytes rest is
+          ∙ ap (λ t. codes "," ++ t) spelled,
+    )
 
 more_found : {A : Type 0} {field : List ℕ → Field A} {Fits : A → Type 0} {text : A → List ℕ} {Ends : List ℕ → Type 0} → IsField field Fits text Ends
     → (k : ℕ) (bytes : List ℕ) (f : List A × List ℕ) → more_at field k bytes ≡ Some f → IsFound Fits text k bytes f
 unfolding more_at
 more_found {A} {field} {Fits} {text} law zero bytes f = cases (after_word (codes ",") bytes) refl
   where
-    cases : (o : Option (List ℕ)) → after_word (codes ",") bytes ≡ o → elim o [ None ↦ Some ([], bytes) | Some rest ↦ None ] ≡ Some f → IsFound Fits text zero bytes f
+    cases : (o : Option (List ℕ)) → after_word (codes ",") bytes ≡ o → elim o [ None ↦ Some ([], bytes) | Some rest ↦ None ] ≡ Some f
+        → IsFound Fits text zero bytes f
     cases None is e = none_found_more Fits text zero bytes f e
     cases (Some rest) is e = absurd (none_found f e)
 more_found {A} {field} {Fits} {text} law (suc k) bytes f = cases (more_found law k) (after_word (codes ",") bytes) refl
   where
-    cases : ((bytes : List ℕ) (f : List A × List ℕ) → more_at field k bytes ≡ Some f → IsFound Fits text k bytes f) → (o : Option (List ℕ)) → after_word (codes ",") bytes ≡ o
+    cases : ((bytes : List ℕ) (f : List A × List ℕ) → more_at field k bytes ≡ Some f → IsFound Fits text k bytes f) → (o : Option (List ℕ))
+        → after_word (codes ",") bytes ≡ o
         → elim o [ None ↦ Some ([], bytes) | Some rest ↦ field rest >>= λ x. more_at field k x.1 >>= λ more. Some (x.0 ∷ more.0, more.1) ] ≡ Some f
         → IsFound Fits text (suc k) bytes f
     cases others None is e = none_found_more Fits text (suc k) bytes f e
     cases others (Some rest) is e = next_found_more law k others bytes rest f is e
 
 -- after a field come more, or the end
-ends_more : {A : Type 0} (text : A → List ℕ) {Ends EndsAll : List ℕ → Type 0} → EndsWith Ends EndsAll → (xs : List A) (rest : List ℕ) → EndsAll rest → Ends (more_text text xs ++ rest)
+ends_more : {A : Type 0} (text : A → List ℕ) {Ends EndsAll : List ℕ → Type 0} → EndsWith Ends EndsAll → (xs : List A) (rest : List ℕ) → EndsAll rest
+    → Ends (more_text text xs ++ rest)
 ends_more text ends [] rest h = ends.last rest h
 ends_more text ends (x ∷ xs) rest h = ends.comma ((text x ++ more_text text xs) ++ rest)
 
-more_again : {A : Type 0} {field : List ℕ → Field A} {Fits : A → Type 0} {text : A → List ℕ} {Ends EndsAll : List ℕ → Type 0} → IsField field Fits text Ends → EndsWith Ends EndsAll
+more_again : {A : Type 0} {field : List ℕ → Field A} {Fits : A → Type 0} {text : A → List ℕ} {Ends EndsAll : List ℕ → Type 0} → IsField field Fits text Ends
+    → EndsWith Ends EndsAll
     → (k : ℕ) (xs : List A) (rest : List ℕ) → AreUpTo Fits k xs → EndsAll rest → more_at field k (more_text text xs ++ rest) ≡ Some (xs, rest)
 unfolding more_at
 more_again {A} law ends zero [] rest h end =
@@ -99,7 +110,8 @@ more_again {A} {field} {Fits} {text} law ends (suc k) (x ∷ xs) rest h end =
 abbrev pub AreSome : {A : Type 0} → (A → Type 0) → ℕ → List A → Type 0
 AreSome Fits k xs = (0 < length xs) × AreUpTo Fits k xs
 
-pub some_is : {A : Type 0} {field : List ℕ → Field A} {Fits : A → Type 0} {text : A → List ℕ} {Ends EndsAll : List ℕ → Type 0} → IsField field Fits text Ends → EndsWith Ends EndsAll
+pub some_is : {A : Type 0} {field : List ℕ → Field A} {Fits : A → Type 0} {text : A → List ℕ} {Ends EndsAll : List ℕ → Type 0} → IsField field Fits text Ends
+    → EndsWith Ends EndsAll
     → (k : ℕ) → IsField (some_at field k) (AreSome Fits (suc k)) (listed text) EndsAll
 some_is {A} {field} {Fits} {text} {Ends} {EndsAll} law ends k = record {
   found = λ bytes f e.
@@ -125,7 +137,8 @@ some_is {A} {field} {Fits} {text} {Ends} {EndsAll} law ends k = record {
         ∙ ap (λ (o : Field (List A)). o >>= λ more. Some (x ∷ more.0, more.1)) (more_again law ends k xs rest (omega (arith, h.1.0), All-tail Fits x xs h.1.1) end))
 
 -- a list of fields that never begin with a dash
-pub list_is : {A : Type 0} {field : List ℕ → Field A} {Fits : A → Type 0} {text : A → List ℕ} {Ends EndsAll : List ℕ → Type 0} → IsField field Fits text Ends → EndsWith Ends EndsAll
+pub list_is : {A : Type 0} {field : List ℕ → Field A} {Fits : A → Type 0} {text : A → List ℕ} {Ends EndsAll : List ℕ → Type 0} → IsField field Fits text Ends
+    → EndsWith Ends EndsAll
     → ((rest : List ℕ) → field (codes "-" ++ rest) ≡ None) → (k : ℕ) → IsField (list_at field k) (AreUpTo Fits (suc k)) (listed text) EndsAll
 list_is {A} {field} {Fits} {text} {Ends} {EndsAll} law ends never k =
     choice_is (codes "-") (given_is [] EndsAll) (some_is law ends k) (λ rest. ap (λ (o : Field A). o >>= λ x. more_at field k x.1 >>= λ more. Some (x.0 ∷ more.0, more.1)) (never rest))

@@ -22,7 +22,8 @@ put_next xs x None = refl
 put_next {A} xs x (Some more) = ap (λ (ys : List A). Some (ys, more.1)) (sym (append_assoc xs (x ∷ []) more.0))
 
 -- the first field, where no dash stands
-pub list_first : {A : Type 0} (field : List ℕ → Field A) (k : ℕ) (bytes : List ℕ) (x : A) (rest : List ℕ) → after_word (codes "-") bytes ≡ None → field bytes ≡ Some (x, rest)
+pub list_first : {A : Type 0} (field : List ℕ → Field A) (k : ℕ) (bytes : List ℕ) (x : A) (rest : List ℕ) → after_word (codes "-") bytes ≡ None
+    → field bytes ≡ Some (x, rest)
     → put_at (x ∷ []) (more_at field k rest) ≡ list_at field k bytes
 list_first {A} field k bytes x rest no_dash read =
     sym (
@@ -30,24 +31,31 @@ list_first {A} field k bytes x rest no_dash read =
     ∙ (ap (λ (o : Field A). o >>= λ x. more_at field k x.1 >>= λ more. Some (x.0 ∷ more.0, more.1)) read ∙ put_first x (more_at field k rest))
     )
 
-pub more_done : {A : Type 0} (field : List ℕ → Field A) (k : ℕ) (xs : List A) (rest : List ℕ) → after_word (codes ",") rest ≡ None → put_at xs (more_at field k rest) ≡ Some (xs, rest)
+pub more_done : {A : Type 0} (field : List ℕ → Field A) (k : ℕ) (xs : List A) (rest : List ℕ) → after_word (codes ",") rest ≡ None
+    → put_at xs (more_at field k rest) ≡ Some (xs, rest)
 unfolding more_at
 more_done {A} field zero xs rest e =
-    ap (λ (o : Option (List ℕ)). put_at xs (elim o as (λ _. Field (List A)) [ None ↦ Some ([], rest) | Some r ↦ None ])) e ∙ ap (λ (ys : List A). Some (ys, rest)) (append-nil xs)
+    ap (λ (o : Option (List ℕ)). put_at xs (elim o as (λ _. Field (List A)) [ None ↦ Some ([], rest) | Some r ↦ None ])) e
+    ∙ ap (λ (ys : List A). Some (ys, rest)) (append-nil xs)
 more_done {A} field (suc k) xs rest e = ap (λ o. put_at xs (after_comma field k rest o)) e ∙ ap (λ (ys : List A). Some (ys, rest)) (append-nil xs)
 
-pub more_full : {A : Type 0} (field : List ℕ → Field A) (k : ℕ) (xs : List A) (rest after : List ℕ) → k ≡ 0 → after_word (codes ",") rest ≡ Some after → put_at xs (more_at field k rest) ≡ None
+pub more_full : {A : Type 0} (field : List ℕ → Field A) (k : ℕ) (xs : List A) (rest after : List ℕ) → k ≡ 0 → after_word (codes ",") rest ≡ Some after
+    → put_at xs (more_at field k rest) ≡ None
 unfolding more_at
-more_full {A} field zero xs rest after full e = ap (λ (o : Option (List ℕ)). put_at xs (elim o as (λ _. Field (List A)) [ None ↦ Some ([], rest) | Some r ↦ None ])) e
+more_full {A} field zero xs rest after full e =
+    ap (λ (o : Option (List ℕ)). put_at xs (elim o as (λ _. Field (List A)) [ None ↦ Some ([], rest) | Some r ↦ None ])) e
 more_full field (suc k) xs rest after full e = absurd (omega arith)
 
-pub more_bad : {A : Type 0} (field : List ℕ → Field A) (k : ℕ) (xs : List A) (rest after : List ℕ) → 0 < k → after_word (codes ",") rest ≡ Some after → field after ≡ None → put_at xs (more_at field k rest) ≡ None
+pub more_bad : {A : Type 0} (field : List ℕ → Field A) (k : ℕ) (xs : List A) (rest after : List ℕ) → 0 < k → after_word (codes ",") rest ≡ Some after
+    → field after ≡ None → put_at xs (more_at field k rest) ≡ None
 unfolding more_at
 more_bad field zero xs rest after room e bad = absurd (omega arith)
 more_bad {A} field (suc k) xs rest after room e bad =
-    ap (λ o. put_at xs (after_comma field k rest o)) e ∙ ap (λ (o : Field A). put_at xs (o >>= λ x. more_at field k x.1 >>= λ more. Some (x.0 ∷ more.0, more.1))) bad
+    ap (λ o. put_at xs (after_comma field k rest o)) e
+    ∙ ap (λ (o : Field A). put_at xs (o >>= λ x. more_at field k x.1 >>= λ more. Some (x.0 ∷ more.0, more.1))) bad
 
-pub more_next : {A : Type 0} (field : List ℕ → Field A) (k : ℕ) (xs : List A) (rest after : List ℕ) (x : A) (left : List ℕ) → 0 < k → after_word (codes ",") rest ≡ Some after → field after ≡ Some (x, left)
+pub more_next : {A : Type 0} (field : List ℕ → Field A) (k : ℕ) (xs : List A) (rest after : List ℕ) (x : A) (left : List ℕ) → 0 < k
+    → after_word (codes ",") rest ≡ Some after → field after ≡ Some (x, left)
     → put_at (xs ++ x ∷ []) (more_at field (k - 1) left) ≡ put_at xs (more_at field k rest)
 unfolding more_at
 more_next field zero xs rest after x left room e read = absurd (omega arith)

@@ -51,7 +51,8 @@ more_found hi n (b ∷ bs) found small some e =
     (λ fits.
     let range = digit_is b digit.0 in
     let back : 48 + (b - 48) ≡ b = omega arith in
-    let step : decimal (10 * n + (b - 48)) ≡ decimal n ++ (48 + (b - 48)) ∷ [] = decimal_more n (b - 48) some (omega arith) (omega (arith, within (10 * n + (b - 48)) hi fits.0)) in
+    let step : decimal (10 * n + (b - 48)) ≡ decimal n ++ (48 + (b - 48)) ∷ [] =
+    decimal_more n (b - 48) some (omega arith) (omega (arith, within (10 * n + (b - 48)) hi fits.0)) in
     let rest = more_found hi (10 * n + (b - 48)) bs found small (omega arith) fits.1 in
     sym (append_assoc (decimal n) (b ∷ []) bs) ∙ (ap (λ c. (decimal n ++ c ∷ []) ++ bs) (sym back) ∙ (ap (λ t. t ++ bs) (sym step) ∙ rest)))
     (λ no. absurd (none_found found no.1))
@@ -73,7 +74,8 @@ number_found hi (b ∷ bs) found small e =
     ⊎_elim
     (λ nought.
     let pair : Pair = (0, bs) in
-    ap (λ c. c ∷ bs) (test_eq b 48 nought.0) ∙ (ap (λ ds. ds ++ bs) (sym (decimal_digit 0 (omega arith))) ∙ ap (λ (p : Pair). decimal p.0 ++ p.1) (some_same pair found nought.1)))
+    ap (λ c. c ∷ bs) (test_eq b 48 nought.0)
+    ∙ (ap (λ ds. ds ++ bs) (sym (decimal_digit 0 (omega arith))) ∙ ap (λ (p : Pair). decimal p.0 ++ p.1) (some_same pair found nought.1)))
     (λ other. ⊎_elim
     (λ digit.
     let range = digit_is b digit.0 in
@@ -123,7 +125,8 @@ written hi n fits = decimal_by_steps (Written hi) one more n fits
 pub number_again : (hi n : ℕ) (rest : List ℕ) → hi < 2 ^ 64 → n ≤ hi → EndsNumber rest → number_at hi (decimal n ++ rest) ≡ Some (n, rest)
 unfolding Written
 number_again hi n rest small le ends =
-    ⊎_elim (λ none. ap (λ m. number_at hi (decimal m ++ rest)) none ∙ (ap (λ ds. number_at hi (ds ++ rest)) (decimal_digit 0 (omega arith)) ∙ ap (λ (m : ℕ). Some (m, rest)) (sym none)))
+    ⊎_elim (λ none. ap (λ m. number_at hi (decimal m ++ rest)) none
+    ∙ (ap (λ ds. number_at hi (ds ++ rest)) (decimal_digit 0 (omega arith)) ∙ ap (λ (m : ℕ). Some (m, rest)) (sym none)))
     (λ some. written hi n (omega arith) some le rest ∙ more_end hi n rest ends)
     (cases n)
   where

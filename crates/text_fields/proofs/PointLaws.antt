@@ -93,7 +93,8 @@ hex_found (suc k) n (b ∷ bs) f e =
     let more = hex_found k (16 * n + d.0) bs f d.2 in
     let front : (16 * n + d.0) / 16 ≡ n = omega (arith, v.0) in
     let last : (16 * n + d.0) % 16 ≡ d.0 = omega (arith, v.0) in
-    let begins : hex_text (suc k) f.0 ≡ hex_digit d.0 ∷ hex_text k f.0 = hex_first k f.0 ∙ (ap (λ q. hex_digit (q % 16) ∷ hex_text k f.0) more.0 ∙ ap (λ m. hex_digit m ∷ hex_text k f.0) last) in (
+    let begins : hex_text (suc k) f.0 ≡ hex_digit d.0 ∷ hex_text k f.0 =
+    hex_first k f.0 ∙ (ap (λ q. hex_digit (q % 16) ∷ hex_text k f.0) more.0 ∙ ap (λ m. hex_digit m ∷ hex_text k f.0) last) in (
       above_more k f.0 ∙ (ap (λ q. q / 16) more.0 ∙ front),
       ap (λ c. c ∷ bs) v.1 ∙ (ap (λ t. hex_digit d.0 ∷ t) more.1 ∙ ap (λ t. t ++ f.1) (sym begins)),
     )
@@ -107,7 +108,8 @@ hex_again (suc k) n x rest e =
     let front : q / 16 ≡ n = sym (above_more k x) ∙ e in
     let whole : q ≡ 16 * n + q % 16 = omega arith in
     ap (λ t. hex_at (suc k) n (t ++ rest)) (hex_first k x)
-    ∙ (ap (λ (o : Option ℕ). o >>= λ d. hex_at k (16 * n + d) (hex_text k x ++ rest)) (value_again (q % 16) (omega arith)) ∙ hex_again k (16 * n + q % 16) x rest whole)
+    ∙ (ap (λ (o : Option ℕ). o >>= λ d. hex_at k (16 * n + d) (hex_text k x ++ rest)) (value_again (q % 16) (omega arith))
+    ∙ hex_again k (16 * n + q % 16) x rest whole)
 
 pub point_is : IsField point_at IsPoint point_text EndsAnyhow
 unfolding point_at point_text

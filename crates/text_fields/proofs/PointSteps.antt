@@ -5,12 +5,14 @@ use Rattle.std.proofs.lemmas.List.{at_drop_more}
 use Rattle.text_fields.specs.Fields.{◌>>=◌}
 use Rattle.text_fields.specs.Points.{hex_at, hex_value}
 
-hex_front : (i n : ℕ) (bs : List ℕ) → i < 16 → i < length bs → hex_at (16 - i) n (drop i bs) ≡ (hex_value (get_or bs i 0) >>= λ d. hex_at (16 - (i + 1)) (16 * n + d) (drop (i + 1) bs))
+hex_front : (i n : ℕ) (bs : List ℕ) → i < 16 → i < length bs
+    → hex_at (16 - i) n (drop i bs) ≡ (hex_value (get_or bs i 0) >>= λ d. hex_at (16 - (i + 1)) (16 * n + d) (drop (i + 1) bs))
 hex_front i n bs h lt =
     let one_less : 16 - i ≡ suc (16 - (i + 1)) = omega arith in
     at_drop_more (hex_at (16 - i) n) bs i 0 lt ∙ ap (λ k. hex_at k n (get_or bs i 0 ∷ drop (i + 1) bs)) one_less
 
-pub hex_next : (i n d : ℕ) (bs : List ℕ) → i < 16 → i < length bs → hex_value (get_or bs i 0) ≡ Some d → hex_at (16 - (i + 1)) (16 * n + d) (drop (i + 1) bs) ≡ hex_at (16 - i) n (drop i bs)
+pub hex_next : (i n d : ℕ) (bs : List ℕ) → i < 16 → i < length bs → hex_value (get_or bs i 0) ≡ Some d
+    → hex_at (16 - (i + 1)) (16 * n + d) (drop (i + 1) bs) ≡ hex_at (16 - i) n (drop i bs)
 hex_next i n d bs h lt e = sym (hex_front i n bs h lt ∙ ap (λ o. o >>= λ d. hex_at (16 - (i + 1)) (16 * n + d) (drop (i + 1) bs)) e)
 
 pub hex_bad : (i n : ℕ) (bs : List ℕ) → i < 16 → i < length bs → hex_value (get_or bs i 0) ≡ None → hex_at (16 - i) n (drop i bs) ≡ None

@@ -23,14 +23,16 @@ pub found_nothing : {E : Type 0} (Fits : E → Type 0) (text : E → List ℕ) (
 found_nothing Fits text first bytes e h = absurd (none_found e h)
 
 -- where nothing is left
-pub whole_found : {E : Type 0} (Fits : E → Type 0) (text : E → List ℕ) (first : List ℕ) (whole : E) → Fits whole → first ≡ text whole → IsSpelled Fits text first (whole_of whole)
+pub whole_found : {E : Type 0} (Fits : E → Type 0) (text : E → List ℕ) (first : List ℕ) (whole : E) → Fits whole → first ≡ text whole
+    → IsSpelled Fits text first (whole_of whole)
 whole_found Fits text first whole fits spelled bytes e h =
     let w = nothing_more whole e bytes h in
     subst (λ v. Fits v × (first ++ bytes ≡ text v)) w.0 (fits, ap (λ t. first ++ t) w.1 ∙ (append-nil first ∙ spelled))
 
 -- a field, and then what is read behind it
 pub headed_found : {A E : Type 0} {field : List ℕ → Field A} {FitsA : A → Type 0} {textA : A → List ℕ} {Ends : List ℕ → Type 0} → IsField field FitsA textA Ends
-    → (Fits : E → Type 0) (text : E → List ℕ) (first : List ℕ) (next : A → List ℕ → Option E) → ((x : A) → FitsA x → IsSpelled Fits text (first ++ textA x) (next x))
+    → (Fits : E → Type 0) (text : E → List ℕ) (first : List ℕ) (next : A → List ℕ → Option E)
+    → ((x : A) → FitsA x → IsSpelled Fits text (first ++ textA x) (next x))
     → IsSpelled Fits text first (λ bytes. field bytes >>= λ x. next x.0 x.1)
 headed_found {A} {E} {field} {FitsA} {textA} law Fits text first next read bytes e h =
     let a = bind_some (field bytes) (λ x. next x.0 x.1) e h in
@@ -39,7 +41,8 @@ headed_found {A} {E} {field} {FitsA} {textA} law Fits text first next read bytes
     (r.0, ap (λ t. first ++ t) x.1 ∙ (sym (append_assoc first (textA a.0.0) a.0.1) ∙ r.1))
 
 -- a field, a blank and what is left
-pub followed_found : {A B E : Type 0} {field : List ℕ → Field A} {rest : List ℕ → Option B} {FitsA : A → Type 0} {textA : A → List ℕ} {Ends : List ℕ → Type 0} {FitsB : B → Type 0} {textB : B → List ℕ}
+pub followed_found : {A B E : Type 0} {field : List ℕ → Field A} {rest : List ℕ → Option B} {FitsA : A → Type 0} {textA : A → List ℕ} {Ends : List ℕ
+    → Type 0} {FitsB : B → Type 0} {textB : B → List ℕ}
     → IsField field FitsA textA Ends → IsRest rest FitsB textB → (Fits : E → Type 0) (text : E → List ℕ) (first : List ℕ) (make : A → B → E)
     → ((x : A) (y : B) → FitsA x → FitsB y → Fits (make x y) × (first ++ (textA x ++ (codes " " ++ textB y)) ≡ text (make x y)))
     → IsSpelled Fits text first (followed (word_of field) rest make)
@@ -53,7 +56,8 @@ followed_found {A} {B} {E} {field} {rest} {FitsA} {textA} {Ends} {FitsB} {textB}
     let P : E → Type 0 = λ v. Fits v × (first ++ bytes ≡ text v) in
     subst P (some_same (make a.0.0 b.0) e b.2) (m.0, ap (λ t. first ++ t) spelled ∙ m.1)
 
-pub followed_again : {A B E : Type 0} {field : List ℕ → Field A} {rest : List ℕ → Option B} {FitsA : A → Type 0} {textA : A → List ℕ} {Ends : List ℕ → Type 0} {FitsB : B → Type 0} {textB : B → List ℕ}
+pub followed_again : {A B E : Type 0} {field : List ℕ → Field A} {rest : List ℕ → Option B} {FitsA : A → Type 0} {textA : A → List ℕ} {Ends : List ℕ
+    → Type 0} {FitsB : B → Type 0} {textB : B → List ℕ}
     → IsField field FitsA textA Ends → IsRest rest FitsB textB → (make : A → B → E) (x : A) (y : B) → Ends (codes " " ++ textB y) → FitsA x → FitsB y
     → followed (word_of field) rest make (textA x ++ (codes " " ++ textB y)) ≡ Some (make x y)
 followed_again {A} {B} {E} {field} {rest} {FitsA} {textA} {Ends} {FitsB} {textB} lawA lawB make x y ends fits_x fits_y =
@@ -61,16 +65,19 @@ followed_again {A} {B} {E} {field} {rest} {FitsA} {textA} {Ends} {FitsB} {textB}
     ∙ ap (λ (o : Option B). o >>= λ y. Some (make x y)) (lawB.again y fits_y)
 
 -- the same as a reader of two values
-pub both_are : {A B : Type 0} {field : List ℕ → Field A} {rest : List ℕ → Option B} {FitsA : A → Type 0} {textA : A → List ℕ} {Ends : List ℕ → Type 0} {FitsB : B → Type 0} {textB : B → List ℕ}
+pub both_are : {A B : Type 0} {field : List ℕ → Field A} {rest : List ℕ → Option B} {FitsA : A → Type 0} {textA : A → List ℕ} {Ends : List ℕ
+    → Type 0} {FitsB : B → Type 0} {textB : B → List ℕ}
     → IsField field FitsA textA Ends → IsRest rest FitsB textB → ((rest : List ℕ) → Ends (codes " " ++ rest))
     → IsRest (followed (word_of field) rest both) (λ (p : A × B). FitsA p.0 × FitsB p.1) (λ (p : A × B). textA p.0 ++ (codes " " ++ textB p.1))
 both_are {A} {B} {field} {rest} {FitsA} {textA} {Ends} {FitsB} {textB} lawA lawB ends = record {
-  found = followed_found lawA lawB (λ (p : A × B). FitsA p.0 × FitsB p.1) (λ (p : A × B). textA p.0 ++ (codes " " ++ textB p.1)) [] both (λ x y a b. ((a, b), refl));
+  found =
+      followed_found lawA lawB (λ (p : A × B). FitsA p.0 × FitsB p.1) (λ (p : A × B). textA p.0 ++ (codes " " ++ textB p.1)) [] both (λ x y a b. ((a, b), refl));
   again = λ p h. followed_again lawA lawB both p.0 p.1 (ends (textB p.1)) h.0 h.1;
 }
 
 -- what is made of what is read
-pub made_found : {A E : Type 0} {reader : List ℕ → Option A} {FitsA : A → Type 0} {textA : A → List ℕ} → IsRest reader FitsA textA → (Fits : E → Type 0) (text : E → List ℕ) (first : List ℕ) (make : A → E)
+pub made_found : {A E : Type 0} {reader : List ℕ → Option A} {FitsA : A → Type 0} {textA : A → List ℕ} → IsRest reader FitsA textA
+    → (Fits : E → Type 0) (text : E → List ℕ) (first : List ℕ) (make : A → E)
     → ((x : A) → FitsA x → Fits (make x) × (first ++ textA x ≡ text (make x))) → IsSpelled Fits text first (made make reader)
 made_found {A} {E} {reader} {FitsA} {textA} law Fits text first make made bytes e h =
     let a = bind_some (reader bytes) (λ x. Some (make x)) e h in
@@ -79,7 +86,8 @@ made_found {A} {E} {reader} {FitsA} {textA} law Fits text first make made bytes 
     let P : E → Type 0 = λ v. Fits v × (first ++ bytes ≡ text v) in
     subst P (some_same (make a.0) e a.2) (m.0, ap (λ t. first ++ t) f.1 ∙ m.1)
 
-pub made_again : {A E : Type 0} {reader : List ℕ → Option A} {FitsA : A → Type 0} {textA : A → List ℕ} → IsRest reader FitsA textA → (make : A → E) (x : A) → FitsA x → made make reader (textA x) ≡ Some (make x)
+pub made_again : {A E : Type 0} {reader : List ℕ → Option A} {FitsA : A → Type 0} {textA : A → List ℕ} → IsRest reader FitsA textA → (make : A → E) (x : A)
+    → FitsA x → made make reader (textA x) ≡ Some (make x)
 made_again {A} law make x h = ap (λ (o : Option A). o >>= λ x. Some (make x)) (law.again x h)
 
 -- only what passes a test
@@ -132,5 +140,6 @@ made_are {A} {B} {reader} {Fits} {text} law make FitsB textB there back = record
 }
 
 -- the same law with what fits in other words
-pub refit : {A : Type 0} {reader : List ℕ → Option A} {Fits Fits' : A → Type 0} {text : A → List ℕ} → IsRest reader Fits text → ((x : A) → Fits x → Fits' x) → ((x : A) → Fits' x → Fits x) → IsRest reader Fits' text
+pub refit : {A : Type 0} {reader : List ℕ → Option A} {Fits Fits' : A → Type 0} {text : A → List ℕ} → IsRest reader Fits text → ((x : A) → Fits x → Fits' x)
+    → ((x : A) → Fits' x → Fits x) → IsRest reader Fits' text
 refit law to back = record { found = λ bytes x e. let f = law.found bytes x e in (to x f.0, f.1); again = λ x h. law.again x (back x h) }

@@ -19,8 +19,8 @@ mod point;
 mod word;
 
 pub use actor::{
-    ARBITERS, actor_word, actors_have_one_text, arbiter_at, last_actor, last_arbiter, last_node, node_at,
-    node_word,
+    ARBITERS, actor_word, actors_have_one_text, arbiter_at, last_actor, last_arbiter, last_node,
+    node_at, node_word,
 };
 pub use bad_field::BadField;
 pub use digit::hex_value;

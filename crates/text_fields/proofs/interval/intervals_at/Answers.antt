@@ -16,7 +16,8 @@ returns-in_err-next c =
     let is = c.loop-more.intervals.items in
     let room : 0 < 32 - length is = omega (arith, c.loop-more.invariant.0, c.len.ensures.value, c.if-len-eq-MAX_INTERVALS.false) in
     let p = err_from_is_err_and c.from_residual-in_err-next.result c.from_residual-in_err-next.ensures.1 in
-    rw p.1 (sym c.loop-more.invariant.1 ∙ more_bad interval_at (32 - length is) is c.loop-more.rest.now c.in-Ok-after_word.more.now room c.in-Ok-after_word.ensures c.in_err-next.ensures)
+    rw p.1 (sym c.loop-more.invariant.1
+    ∙ more_bad interval_at (32 - length is) is c.loop-more.rest.now c.in-Ok-after_word.more.now room c.in-Ok-after_word.ensures c.in_err-next.ensures)
 
 pub loop-more-preserved : goal.loop-more-preserved
 loop-more-preserved c =

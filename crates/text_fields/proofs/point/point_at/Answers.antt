@@ -10,7 +10,8 @@ unfolding point_at
 returns-then-bytes-lt-POINT_DIGITS c = hex_short 16 0 c.args.bytes.now (omega arith)
 
 pub overflow_mul-point : goal.overflow_mul-point
-overflow_mul-point c = omega (arith, hex_room c.loop-digit.digit-index c.loop-digit.point 0 (omega arith) (omega arith) (omega (arith, c.split_at.ensures.front_len)))
+overflow_mul-point c =
+    omega (arith, hex_room c.loop-digit.digit-index c.loop-digit.point 0 (omega arith) (omega arith) (omega (arith, c.split_at.ensures.front_len)))
 
 pub returns-in_err-hex_value : goal.returns-in_err-hex_value
 unfolding point_at
@@ -35,5 +36,6 @@ loop-digit-preserved c =
     let same : get_or c.split_at.result.0.now i 0 ≡ get_or bytes i 0 = ap (λ xs. get_or xs i 0) c.split_at.ensures.front ∙ get_or-take 16 bytes i 0 early in
     let read = c.in_ok-hex_value.ensures in (
       (hex_room i c.loop-digit.point c.from.result (omega arith) (omega (arith, read.small)) early).0,
-      hex_next i c.loop-digit.point c.from.result bytes early (omega arith) (ap hex_value (sym same) ∙ (read.value ∙ ap Some (sym c.from.ensures))) ∙ c.loop-digit.invariant.1,
+      hex_next i c.loop-digit.point c.from.result bytes early (omega arith) (ap hex_value (sym same) ∙ (read.value ∙ ap Some (sym c.from.ensures)))
+          ∙ c.loop-digit.invariant.1,
     )

@@ -27,13 +27,15 @@ loop-rest-preserved c =
     let rs = c.loop-rest.readings.items in
     let more = rs ++ (c.in_ok-node.node, c.in_ok-node.reading) ∷ [] in
     let some : 0 < length rest = grind (arith, nat_tests) in
-    let longer : length c.push.new.self.items ≡ length rs + 1 = ap length c.push.ensures.items ∙ length-append rs ((c.in_ok-node.node, c.in_ok-node.reading) ∷ []) in
+    let longer : length c.push.new.self.items ≡ length rs + 1 =
+    ap length c.push.ensures.items ∙ length-append rs ((c.in_ok-node.node, c.in_ok-node.reading) ∷ []) in
     let room : 0 < 64 - length rs = omega (arith, c.loop-rest.invariant.0) in
     let less : 64 - length c.push.new.self.items ≡ 64 - length rs - 1 = omega arith in (
       omega arith,
       ap (λ xs. put_before xs (readings_of (64 - length c.push.new.self.items) c.in_ok-node.after.now)) c.push.ensures.items
           ∙ (ap (λ n. put_before more (readings_of n c.in_ok-node.after.now)) less
-          ∙ (readings_next (64 - length rs) rs rest (c.in_ok-node.node, c.in_ok-node.reading) c.in_ok-node.after.now room some c.in_ok-node.ensures ∙ c.loop-rest.invariant.1)),
+          ∙ (readings_next (64 - length rs) rs rest (c.in_ok-node.node, c.in_ok-node.reading) c.in_ok-node.after.now room some c.in_ok-node.ensures
+          ∙ c.loop-rest.invariant.1)),
     )
 
 pub returns : goal.returns

@@ -9,5 +9,9 @@ returns-in-Ok-tick_into c = tick_line c.args.line.now c.in-Ok.words.now c.in-Ok.
 pub returns-in-Err-tick_into : goal.returns-in-Err-tick_into
 returns-in-Err-tick_into c =
     let begins : Option (List ℕ) → Type 0 = λ o. IsSome o in
-    let some : IsSome (Some c.in-Ok.words.now) = search rules in
-    (subst begins (sym c.in-Ok.ensures) some, tick_line c.args.line.now c.in-Ok.words.now c.in-Ok.ensures ∙ c.in-Err-tick_into.ensures, c.clear-in-Err-tick_into.ensures)
+    let some : IsSome (Some c.in-Ok.words.now) = search rules in (
+      subst begins (sym c.in-Ok.ensures) some,
+      tick_line c.args.line.now c.in-Ok.words.now c.in-Ok.ensures
+          ∙ c.in-Err-tick_into.ensures,
+      c.clear-in-Err-tick_into.ensures,
+    )

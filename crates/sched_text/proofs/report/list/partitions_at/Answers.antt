@@ -17,7 +17,8 @@ loop-more-init c =
     let room : length ws + 1 - length ps ≡ length ws = omega (arith, one) in (
       omega (arith, one, behind_partition ws p rest c.in_ok-first.ensures),
       ap (λ (xs : List ℕ). put_at xs (more_at partition_at (length ws + 1 - length ps) rest)) pushed
-          ∙ (ap (λ (n : ℕ). put_at (p ∷ []) (more_at partition_at n rest)) room ∙ list_first partition_at (length ws) ws p rest c.in_default.ensures c.in_ok-first.ensures),
+          ∙ (ap (λ (n : ℕ). put_at (p ∷ []) (more_at partition_at n rest)) room
+          ∙ list_first partition_at (length ws) ws p rest c.in_default.ensures c.in_ok-first.ensures),
     )
 
 pub returns-in_err-next : goal.returns-in_err-next
@@ -28,7 +29,8 @@ returns-in_err-next c =
     let more = c.in-Ok-after_word.more.now in
     let room : 0 < length ws + 1 - length ps = omega (arith, c.loop-more.invariant.0, behind_comma rest more c.in-Ok-after_word.ensures) in
     let p = err_from_is_err_and c.from_residual-in_err-next.result c.from_residual-in_err-next.ensures.1 in
-    rw (p.1, p.2) (sym c.loop-more.invariant.1 ∙ more_bad partition_at (length ws + 1 - length ps) ps rest more room c.in-Ok-after_word.ensures c.in_err-next.ensures)
+    rw (p.1, p.2) (sym c.loop-more.invariant.1
+    ∙ more_bad partition_at (length ws + 1 - length ps) ps rest more room c.in-Ok-after_word.ensures c.in_err-next.ensures)
 
 pub loop-more-smaller : goal.loop-more-smaller
 loop-more-smaller c =
@@ -53,7 +55,8 @@ loop-more-preserved c =
       omega (arith, c.loop-more.invariant.0, comma, short, longer),
       ap (λ (xs : List ℕ). put_at xs (more_at partition_at (length ws + 1 - length now) after)) pushed
           ∙ (ap (λ (n : ℕ). put_at (ps ++ next ∷ []) (more_at partition_at n after)) less
-          ∙ (more_next partition_at (length ws + 1 - length ps) ps rest more next after room c.in-Ok-after_word.ensures c.in_ok-next.ensures ∙ c.loop-more.invariant.1)),
+          ∙ (more_next partition_at (length ws + 1 - length ps) ps rest more next after room c.in-Ok-after_word.ensures c.in_ok-next.ensures
+          ∙ c.loop-more.invariant.1)),
     )
 
 pub returns : goal.returns

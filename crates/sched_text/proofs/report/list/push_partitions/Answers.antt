@@ -7,6 +7,7 @@ pub loop-n-init : goal.loop-n-init
 loop-n-init c =
     let before = c.args.into.now.items in
     let ensured = c.in_ok-push_number-in-len1-up.ensures in (
-      written_on before c.push_number.new.into.items _ _ _ (ensured.ok ∙ ap (λ n. before ++ decimal n) c.from.ensures) (listed_first decimal c.args.partitions.now _ (omega arith)),
+      written_on before c.push_number.new.into.items _ _ _ (ensured.ok
+          ∙ ap (λ n. before ++ decimal n) c.from.ensures) (listed_first decimal c.args.partitions.now _ (omega arith)),
       ensured.kept,
     )

@@ -16,7 +16,8 @@ returns-in_err-next c =
     let names = c.loop-more.names.items in
     let room : 0 < 64 - length names = omega (arith, c.loop-more.invariant.0, c.len.ensures, c.if-len-eq-MOST_NAMES.false) in
     let p = err_from_is_err_and c.from_residual-in_err-next.result c.from_residual-in_err-next.ensures.1 in
-    rw (p.1, p.2) (sym c.loop-more.invariant.1 ∙ more_bad name_at (64 - length names) names c.loop-more.rest.now c.in-Ok.more.now room c.in-Ok.ensures c.in_err-next.ensures)
+    rw (p.1, p.2) (sym c.loop-more.invariant.1
+    ∙ more_bad name_at (64 - length names) names c.loop-more.rest.now c.in-Ok.more.now room c.in-Ok.ensures c.in_err-next.ensures)
 
 pub loop-more-preserved : goal.loop-more-preserved
 loop-more-preserved c =
@@ -31,7 +32,8 @@ loop-more-preserved c =
       omega (arith, longer, room),
       ap (λ (xs : List (List ℕ)). put_at xs (more_at name_at (64 - length now) after)) pushed
           ∙ (ap (λ (n : ℕ). put_at (names ++ next ∷ []) (more_at name_at n after)) less
-          ∙ (more_next name_at (64 - length names) names c.loop-more.rest.now c.in-Ok.more.now next after room c.in-Ok.ensures c.in_ok-next.ensures ∙ c.loop-more.invariant.1)),
+          ∙ (more_next name_at (64 - length names) names c.loop-more.rest.now c.in-Ok.more.now next after room c.in-Ok.ensures c.in_ok-next.ensures
+          ∙ c.loop-more.invariant.1)),
     )
 
 pub returns : goal.returns

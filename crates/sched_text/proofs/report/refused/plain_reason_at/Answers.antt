@@ -7,7 +7,8 @@ use Rattle.sched_text.proofs.report.refused.plain_reason_at.Goals as goal
 pub returns-in-Ok : goal.returns-in-Ok
 returns-in-Ok c =
     let e = ap (λ (t : List ℕ). after_word t c.args.words.now) (sym c.reason_word.ensures) ∙ c.in-Ok.ensures in
-    sym c.loop-reason.invariant.1 ∙ first_here reason_word _ plain_reasons c.loop-reason.reason-index _ c.args.words.now c.in-Ok.rest.now c.loop-reason.invariant.0 (omega (arith, c.loop-reason-test.true)) e
+    sym c.loop-reason.invariant.1
+    ∙ first_here reason_word _ plain_reasons c.loop-reason.reason-index _ c.args.words.now c.in-Ok.rest.now c.loop-reason.invariant.0 (omega (arith, c.loop-reason-test.true)) e
 
 pub loop-reason-preserved : goal.loop-reason-preserved
 loop-reason-preserved c =
