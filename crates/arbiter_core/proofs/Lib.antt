@@ -1,3 +1,4 @@
+pub mod Keeping
 pub mod Restores
 pub mod Rounds
 pub mod Rulings

@@ -97,7 +97,8 @@ refused : (own : ℕ) (records rest : List Record) (item : Record) (a : Arbiter)
     → IsRestoring own records (item ∷ rest) a → remember_call item a ≡ (Err e, a) → restore_call own records ≡ Err e
 refused own records rest item a e state refusal = by (is_full_for (table_records item) a.table) refl refusal
   where
-    by : (t : Bool) → is_full_for (table_records item) a.table ≡ t → kept_where_full t (table_records item) (tt {0}) a ≡ (Err e, a) → restore_call own records ≡ Err e
+    by : (t : Bool) → is_full_for (table_records item) a.table ≡ t → kept_where_full t (table_records item) (tt {0}) a ≡ (Err e, a)
+        → restore_call own records ≡ Err e
     by true f refusal =
         let same : ◌≡◌ {A = Result (Unit {0}) ArbiterError} (Err TableFull) (Err e) = ap (λ (o : Outcome (Unit {0})). o.0) refusal in
         let is : TableFull ≡ e = cc in
@@ -107,7 +108,8 @@ refused own records rest item a e state refusal = by (is_full_for (table_records
     by false f refusal = let done : ◌≡◌ {A = Result (Unit {0}) ArbiterError} (Ok tt) (Err e) = ap (λ (o : Outcome (Unit {0})). o.0) refusal in absurd (cc)
 
 -- an item for which there is no place
-pub restore_refused : (own : ℕ) (records : List Record) (i : ℕ) (item : Record) (a : Arbiter) (e : ArbiterError) → i < length records → item ≡ get_or records i item
+pub restore_refused : (own : ℕ) (records : List Record) (i : ℕ) (item : Record) (a : Arbiter) (e : ArbiterError)
+    → i < length records → item ≡ get_or records i item
     → IsRestoring own records (drop i records) a → remember_call item a ≡ (Err e, a) → restore_call own records ≡ Err e
 restore_refused own records i item a e inside is state refusal =
     let P : List Record → Type 0 = λ rest. IsRestoring own records rest a in

@@ -56,4 +56,5 @@ ruling_again table accuser victim other =
     by None (Some y) e f = accusation_ruled-is table.accusations accuser victim ∙ rw (e, f) refl
     by None None e f =
         accusation_ruled-is (table.accusations ++ (victim, accuser) ∷ []) accuser victim
-        ∙ rw (accuser_of_another table.accusations accuser victim accuser e (swapped accuser victim other), accuser_of_new table.accusations victim accuser f, same_itself accuser) refl
+        ∙ rw (accuser_of_another table.accusations accuser victim accuser e (swapped accuser victim other))
+        (rw (accuser_of_new table.accusations victim accuser f, same_itself accuser) refl)

@@ -1,8 +1,9 @@
 -- What answers keep.
-use Rattle.std.specs.Prelude.{◌≡◌, ℕ, true, false}
+use Rattle.std.specs.Prelude.{◌≡◌, ℕ, true, false, List, Some}
 use Rattle.ring_points.specs.declared.who.Who.{Who}
 use Rattle.ring_points.specs.Whos.{same_who}
-use Rattle.ring_rules.specs.Arbiters.{Table, accusation_kept, accusation_ruled, claim_kept, claim_settled, table_after}
+use Rattle.fabric_terms.specs.declared.record.Record.{Record}
+use Rattle.ring_rules.specs.Arbiters.{Table, accusation_kept, accusation_ruled, claim_kept, claim_settled, first_accuser, first_claimer, table_after}
 use Rattle.keep_log.specs.Places.{is_once}
 
 -- what is recorded of an accusation or of a claim is the first record of its victim, or of its round
@@ -22,3 +23,10 @@ abbrev pub SettledAgain : Type 0
 SettledAgain =
     (table : Table) (claimer victim again : Who) (round : ℕ)
     → claim_settled (table_after table (claim_kept table claimer victim round)) again victim round ≡ claim_settled table claimer victim round
+
+-- a victim's first accuser and a round's first claimer stay, whatever is recorded after
+pub record KeptForGood (table : Table) (records : List Record) : Type 0 where
+  pub accuser : (victim first : Who) → first_accuser victim table.accusations ≡ Some first
+      → first_accuser victim (table_after table records).accusations ≡ Some first
+  pub claimer : (victim : Who) (round : ℕ) (first : Who) → first_claimer victim round table.claims ≡ Some first
+      → first_claimer victim round (table_after table records).claims ≡ Some first

@@ -16,4 +16,6 @@ mod laws;
 pub use answer::{Answer, ArbiterError};
 pub use arbiter::{Arbiter, MOST_ENTRIES};
 pub use keep_log::Record;
-pub use laws::{the_same_question_gets_the_same_ruling, what_is_recorded_is_new};
+pub use laws::{
+    the_same_question_gets_the_same_ruling, what_is_kept_stays, what_is_recorded_is_new,
+};

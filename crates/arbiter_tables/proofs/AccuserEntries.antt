@@ -37,7 +37,8 @@ inserted [] k first none = refl
 inserted (e ∷ es) k first none = by (same_who (who_of e.0) (who_of k)) refl (inserted es k first)
   where
     by : (b : Bool) → same_who (who_of e.0) (who_of k) ≡ b
-        → (first_accuser (who_of k) (accusations_of es) ≡ None → accusations_of (insert_entry same_key es k first) ≡ accusations_of es ++ (who_of k, first) ∷ [])
+        → (first_accuser (who_of k) (accusations_of es) ≡ None
+        → accusations_of (insert_entry same_key es k first) ≡ accusations_of es ++ (who_of k, first) ∷ [])
         → accusations_of (insert_entry same_key (e ∷ es) k first) ≡ accusations_of (e ∷ es) ++ (who_of k, first) ∷ []
     by true same rest = let some : Some e.1 ≡ None = rw same at none in absurd (cc)
     by false other rest =

@@ -42,7 +42,8 @@ claim_inserted [] k claimer none = refl
 claim_inserted (e ∷ es) k claimer none = by (is_its k e) refl (claim_inserted es k claimer)
   where
     by : (b : Bool) → is_its k e ≡ b
-        → (first_claimer (victim_of k) k.round (claims_of es) ≡ None → claims_of (insert_entry same_key es k claimer) ≡ claims_of es ++ (victim_of k, k.round, claimer) ∷ [])
+        → (first_claimer (victim_of k) k.round (claims_of es) ≡ None
+        → claims_of (insert_entry same_key es k claimer) ≡ claims_of es ++ (victim_of k, k.round, claimer) ∷ [])
         → claims_of (insert_entry same_key (e ∷ es) k claimer) ≡ claims_of (e ∷ es) ++ (victim_of k, k.round, claimer) ∷ []
     by true same rest = let some : Some e.1 ≡ None = rw same at none in absurd (cc)
     by false other rest =

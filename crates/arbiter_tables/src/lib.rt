@@ -12,6 +12,4 @@ mod claimers;
 mod round;
 mod table;
 
-pub use accusers::FirstAccusers;
-pub use claimers::FirstClaimers;
 pub use table::Table;

@@ -40,7 +40,8 @@ abbrev pub Pass : {A : Type 0} → (ℕ → Bool) → (A → Bool) → List (ℕ
 Pass f p answers = AllByRecursion (λ answer. p answer.1 ≡ true → f answer.0 ≡ true) answers
 
 -- also where one does not pass that did not answer
-still_pass : {A : Type 0} (f : ℕ → Bool) (p : A → Bool) (a : ℕ) (answers : List (ℕ × A)) → has_answered a answers ≡ false → Pass f p answers → Pass (but f a) p answers
+still_pass : {A : Type 0} (f : ℕ → Bool) (p : A → Bool) (a : ℕ) (answers : List (ℕ × A)) → has_answered a answers ≡ false
+    → Pass f p answers → Pass (but f a) p answers
 still_pass f p a [] h pass = tt
 still_pass f p a (answer ∷ answers) h pass =
     let parts = or_parts (answer.0 == a) (has_answered a answers) h in

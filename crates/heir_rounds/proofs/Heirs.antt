@@ -24,7 +24,8 @@ kept_is (Some kept) who h = ap Some (same_who-true kept who h)
 some_same : (x y : Who) (o : Option Who) → o ≡ Some x → o ≡ Some y → x ≡ y
 some_same x y o a b = cc
 
-one_of_round : (kept : Keeping) (n round : ℕ) (x y : Who) → is_majority n (keepers kept n round x) ≡ true → is_majority n (keepers kept n round y) ≡ true → x ≡ y
+one_of_round : (kept : Keeping) (n round : ℕ) (x y : Who) → is_majority n (keepers kept n round x) ≡ true
+    → is_majority n (keepers kept n round y) ≡ true → x ≡ y
 one_of_round kept n round x y a b =
     let p = ltb-true n (2 * keepers kept n round x) a in
     let q = ltb-true n (2 * keepers kept n round y) b in
@@ -66,7 +67,8 @@ won_has : (kept : Keeping) (n : ℕ) (who : Who) (u : RoundTally) → IsTold kep
 won_has kept n who u state won =
     let own : is_majority u.arbitrators (kept_count u who) ≡ true = subst (λ (w : Who). has_majority u w ≡ true) state.me won in
     let all : is_majority n (kept_count u who) ≡ true = subst (λ (m : ℕ). is_majority m (kept_count u who) ≡ true) state.arbitrators own in
-    let few = few_given n (λ a. is_kept who (kept a u.round)) (λ w. same_who w who) u.answers state.counted (told_pass kept u.round who u.answers state.given) in
+    let keeps = λ (a : ℕ). is_kept who (kept a u.round) in
+    let few = few_given n keeps (λ w. same_who w who) u.answers state.counted (told_pass kept u.round who u.answers state.given) in
     let most = ltb-true n (2 * kept_count u who) all in
     record { from = state.from; most = lt-ltb n (2 * keepers kept n u.round who) (omega arith); split = state.split }
 

@@ -8,10 +8,16 @@ use Rattle.ring_points.specs.Whos.{same_who}
 use Rattle.ring_points.proofs.Whos.{same_who-true}
 use Rattle.arbiter_quorum.specs.Counted.{count_given}
 use Rattle.arbiter_quorum.specs.Tallies.{is_majority}
+use Rattle.heir_rounds.specs.declared.verdict.RoundVerdict.{RoundVerdict}
 use Rattle.heir_rounds.specs.declared.verdict.RoundVerdict.TheVariants as verdict
 use Rattle.heir_rounds.specs.Rounds.{RoundTally, has_majority, is_won, one_may_win, may_win, unanswered, round_verdict_of}
 
-won_by : (a b d e : Bool) (next : ℕ) → cond a verdict.Won (cond b verdict.Over (cond d verdict.Open (cond e verdict.Over (verdict.Next next)))) ≡ verdict.Won → a ≡ true
+-- the verdict by its four tests
+abbrev by_tests : (own other may over : Bool) → ℕ → RoundVerdict
+by_tests own other may over next =
+    cond own verdict.Won (cond other verdict.Over (cond may verdict.Open (cond over verdict.Over (verdict.Next next))))
+
+won_by : (a b d e : Bool) (next : ℕ) → by_tests a b d e next ≡ verdict.Won → a ≡ true
 won_by true b d e next h = refl
 won_by false true d e next h = absurd (cc)
 won_by false false true e next h = absurd (cc)
@@ -21,8 +27,7 @@ won_by false false false false next h = absurd (cc)
 pub won_is : (u : RoundTally) → round_verdict_of u ≡ verdict.Won → has_majority u u.me ≡ true
 won_is u h = won_by (has_majority u u.me) (is_won u) (one_may_win u) (nat_le u.limit u.round) (u.round + 1) h
 
-next_by : (a b d e : Bool) (next r : ℕ) → cond a verdict.Won (cond b verdict.Over (cond d verdict.Open (cond e verdict.Over (verdict.Next next)))) ≡ verdict.Next r
-    → (d ≡ false) × (r ≡ next)
+next_by : (a b d e : Bool) (next r : ℕ) → by_tests a b d e next ≡ verdict.Next r → (d ≡ false) × (r ≡ next)
 next_by true b d e next r h = absurd (cc)
 next_by false true d e next r h = absurd (cc)
 next_by false false true e next r h = absurd (cc)

@@ -88,7 +88,8 @@ split_here kept n who u state none z =
     le-ltb n (2 * keepers kept n u.round z) (omega arith)
 
 -- the next round, or the same
-gone_more : (kept : Keeping) (n : ℕ) (who : Who) (u : RoundTally) (v : RoundVerdict) → IsTold kept n who u → round_verdict_of u ≡ v → IsTold kept n who (gone_on u v)
+gone_more : (kept : Keeping) (n : ℕ) (who : Who) (u : RoundTally) (v : RoundVerdict)
+    → IsTold kept n who u → round_verdict_of u ≡ v → IsTold kept n who (gone_on u v)
 gone_more kept n who u verdict.Won state e = state
 gone_more kept n who u verdict.Over state e = state
 gone_more kept n who u verdict.Open state e = state
@@ -115,11 +116,18 @@ gone_more kept n who u (verdict.Next r) state e =
 
 pub is_told : (kept : Keeping) (n : ℕ) (who : Who) (limit : ℕ) (answers : List Answer) → AllByRecursion (IsGiven kept n) answers
     → IsTold kept n who (told (no_rounds who n limit) answers)
-is_told kept n who limit [] given = record { me = refl; arbitrators = refl; counted = refl; given = tt; from = omega arith; split = λ round from before. absurd (omega arith) }
+is_told kept n who limit [] given = record {
+  me = refl;
+  arbitrators = refl;
+  counted = refl;
+  given = tt;
+  from = omega arith;
+  split = λ round from before. absurd (omega arith);
+}
 is_told kept n who limit (answer ∷ before) given =
     let t = told (no_rounds who n limit) before in
-    let u = counted_more kept n who t answer (is_told kept n who limit before given.1) given.0 in
-    gone_more kept n who (round_counted t answer.round answer.arbitrator answer.who) (round_verdict_of (round_counted t answer.round answer.arbitrator answer.who)) u refl
+    let u = round_counted t answer.round answer.arbitrator answer.who in
+    gone_more kept n who u (round_verdict_of u) (counted_more kept n who t answer (is_told kept n who limit before given.1) given.0) refl
 
 -- before its verdict
 pub is_told_last : (kept : Keeping) (n : ℕ) (who : Who) (limit : ℕ) (newest : Answer) (before : List Answer) → AllByRecursion (IsGiven kept n) (newest ∷ before)

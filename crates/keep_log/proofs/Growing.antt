@@ -5,7 +5,9 @@ use Rattle.std.proofs.lemmas.Bool.{and_parts, and_from}
 use Rattle.fabric_terms.specs.declared.memory.OutOfMemory.{OutOfMemory}
 use Rattle.fabric_terms.specs.declared.record.Record.{Record}
 use Rattle.ring_rules.specs.Arbiters.{Table, no_table, table_with, table_after}
-use Rattle.keep_log.specs.Places.{is_new, is_once}
+use Rattle.fabric_terms.specs.declared.record.Record.TheVariants.{Boot, AccusedBy, ClaimedBy}
+use Rattle.keep_log.specs.declared.kept.Kept.{Kept}
+use Rattle.keep_log.specs.Places.{is_new, is_once, with_record, with_records}
 
 pub table_after-append : (table : Table) (rs : List Record) (r : Record) → table_after table (rs ++ r ∷ []) ≡ table_with (table_after table rs) r
 table_after-append table [] r = refl
@@ -25,3 +27,16 @@ pub table_more : (result : Result (Unit {0}) OutOfMemory) (old new : List Record
 table_more (Ok done) old new table grown r same more is =
     more ∙ (ap (λ (t : Table). table_with t r) same ∙ sym (ap (table_after no_table) is ∙ table_after-append no_table old r))
 table_more (Err e) old new table grown r same more is = is
+
+-- the table of what is kept is that of all records
+pub table_of_kept : (kept : Kept) (rs : List Record)
+    → table_after no_table (with_records kept rs).arbiter ≡ table_after (table_after no_table kept.arbiter) rs
+table_of_kept kept [] = refl
+table_of_kept kept (AccusedBy victim first ∷ rs) =
+    table_of_kept (with_record kept (AccusedBy victim first)) rs
+    ∙ ap (λ (t : Table). table_after t rs) (table_after-append no_table kept.arbiter (AccusedBy victim first))
+table_of_kept kept (ClaimedBy victim round claimer ∷ rs) =
+    table_of_kept (with_record kept (ClaimedBy victim round claimer)) rs
+    ∙ ap (λ (t : Table). table_after t rs) (table_after-append no_table kept.arbiter (ClaimedBy victim round claimer))
+table_of_kept kept (Boot instance ∷ rs) = table_of_kept (record kept { boots = instance }) rs
+table_of_kept kept (r ∷ rs) = table_of_kept kept rs

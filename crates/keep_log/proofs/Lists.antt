@@ -14,7 +14,9 @@ pub follows_more : (before : Kept) (r : Record) (bytes : List ℕ) (rest : List 
     → Stands before r bytes → Follows (with_record before r) rest rs → Follows before (bytes ∷ rest) (r ∷ rs)
 follows_more before r bytes rest rs s f = record {
   spelled = ap (λ b. b ∷ rest) s.spelled ∙ ap (λ l. spelling r ∷ l) f.spelled;
-  in_place = and_from (is_sound r && is_next before r) (stand_in_place (with_record before r) rs) (and_from (is_sound r) (is_next before r) s.sound s.next) f.in_place;
+  in_place =
+      and_from (is_sound r && is_next before r) (stand_in_place (with_record before r) rs)
+      (and_from (is_sound r) (is_next before r) s.sound s.next) f.in_place;
 }
 
 heads : (x y : List ℕ) (xs ys : List (List ℕ)) → x ∷ xs ≡ y ∷ ys → (x ≡ y) × (xs ≡ ys)

@@ -65,12 +65,15 @@ only_accusation kept rest (AccusedBy v f) s =
     record {
       victim = v;
       first = f;
-      is = spelled_two kept rest v f (eqb-true kept.boots 0 p.0) q.0 q.1 (none (first_accuser v (table_after no_table kept.arbiter).accusations) p.1) (tail_same 2 rest (who_bytes v ++ who_bytes f) s.spelled);
+      is =
+          spelled_two kept rest v f (eqb-true kept.boots 0 p.0) q.0 q.1 (none (first_accuser v (table_after no_table kept.arbiter).accusations) p.1)
+          (tail_same 2 rest (who_bytes v ++ who_bytes f) s.spelled);
     }
 only_accusation kept rest (Boot i) s = let e = s.spelled in absurd (cc)
 only_accusation kept rest (ClaimedBy v r c) s = let e = s.spelled in absurd (cc)
 only_accusation kept rest r s = let e = s.sound in absurd (cc)
 
 -- two instances at one place are the same
-pub same_victim : (rest : List ℕ) (v w : Who) → IsTrue (is_who v) → IsTrue (is_who w) → StandsAt (who_bytes v) rest 0 6 → StandsAt (who_bytes w) rest 0 6 → v ≡ w
+pub same_victim : (rest : List ℕ) (v w : Who) → IsTrue (is_who v) → IsTrue (is_who w)
+    → StandsAt (who_bytes v) rest 0 6 → StandsAt (who_bytes w) rest 0 6 → v ≡ w
 same_victim rest v w hv hw a b = (same_field who_is v w (drop 6 rest) (drop 6 rest) hv hw (sym a.stands ∙ b.stands)).0

@@ -1,16 +1,21 @@
 -- Which records stand in their place, and what a list of them amounts to.
 use Rattle.std.specs.Prelude.{◌≡◌, ℕ, zero, suc, ◌+◌, Bool, true, false, not, ◌&&◌, ◌==◌, List, [], ◌∷◌, ◌++◌, map, Option, Some, None, is_some, IsTrue}
+use Rattle.ring_points.specs.declared.who.Who.{Who}
 use Rattle.fabric_terms.specs.declared.record.Record.{Record}
 use Rattle.fabric_terms.specs.declared.record.Record.TheVariants.{Boot, AccusedBy, ClaimedBy}
 use Rattle.ring_rules.specs.Arbiters.{Table, no_table, first_accuser, first_claimer, table_with, table_after}
 use Rattle.keep_log.specs.declared.kept.Kept.{Kept}
 use Rattle.keep_log.specs.Spellings.{is_sound, spelling}
 
+-- the victim is accused, and nobody has claimed the round
+abbrev pub is_free_round : Table → Who → ℕ → Bool
+is_free_round table victim round =
+    is_some (first_accuser victim table.accusations) && not (is_some (first_claimer victim round table.claims))
+
 -- a first accuser is a victim's first record, and a claimer the first record of a round about an accused victim
 abbrev pub is_new : Table → Record → Bool
 is_new table (AccusedBy victim first) = not (is_some (first_accuser victim table.accusations))
-is_new table (ClaimedBy victim round claimer) =
-    is_some (first_accuser victim table.accusations) && not (is_some (first_claimer victim round table.claims))
+is_new table (ClaimedBy victim round claimer) = is_free_round table victim round
 is_new table _ = true
 
 -- after this table, each victim and each round has one record

@@ -1,10 +1,10 @@
 // How lists of records are read.
 
-ghost use Rattle.std.specs.Prelude.{◌≡◌, ◌&&◌, ◌∷◌, [], true, not, is_some, map, length, IfOk};
-ghost use Rattle.ring_rules.specs.Arbiters.{first_accuser, first_claimer, no_table, table_after};
+ghost use Rattle.std.specs.Prelude.{◌≡◌, ◌&&◌, ◌∷◌, [], true, map, length, IfOk};
+ghost use Rattle.ring_rules.specs.Arbiters.{no_table, table_after};
 ghost use Rattle.ring_wire.specs.Texts.{number_bytes};
 ghost use Rattle.keep_log.specs.Outcomes.{Reads};
-ghost use Rattle.keep_log.specs.Places.{Next, is_once};
+ghost use Rattle.keep_log.specs.Places.{Next, is_free_round, is_once};
 ghost use Rattle.keep_log.specs.Spellings.{is_later_round};
 
 use crate::encode::{ACCUSED_BY, BOOT, CLAIMED_BY};
@@ -66,7 +66,7 @@ fn next_accusation(rest: &[u8], kept: &Kept, table: &Table) -> Option<Record>
 
 // Whether a claimer's record can come next: of a round after the first about an accused victim, which has none.
 fn is_new_claim(table: &Table, victim: Who, round: u8) -> bool
-    ensures { result ≡ (is_later_round round && (is_some (first_accuser victim table.now.accusations) && not (is_some (first_claimer victim round table.now.claims)))) }
+    ensures { result ≡ (is_later_round round && is_free_round table.now victim round) }
 {
     1 < round
         && round <= LAST_ROUND

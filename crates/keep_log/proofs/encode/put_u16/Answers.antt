@@ -6,4 +6,5 @@ use Rattle.keep_log.proofs.encode.put_u16.Goals as goal
 pub returns-clause-wrote : goal.returns-clause-wrote
 unfolding number_bytes
 returns-clause-wrote c =
-    puts_mid c.args.at _ 2 c.args.into.now c.write_u16.new.buf (number_bytes 2 c.args.n) _ (omega arith) c.write_u16.ensures (omega (arith, c.write_u16.auto.buf)) (number_length 2 c.args.n) (omega arith)
+    puts_mid c.args.at _ 2 c.args.into.now c.write_u16.new.buf (number_bytes 2 c.args.n) _ (omega arith) c.write_u16.ensures
+    (omega (arith, c.write_u16.auto.buf)) (number_length 2 c.args.n) (omega arith)

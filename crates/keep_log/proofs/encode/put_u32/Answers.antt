@@ -6,4 +6,5 @@ use Rattle.keep_log.proofs.encode.put_u32.Goals as goal
 pub returns-clause-wrote : goal.returns-clause-wrote
 unfolding number_bytes
 returns-clause-wrote c =
-    puts_mid c.args.at _ 4 c.args.into.now c.write_u32.new.buf (number_bytes 4 c.args.n) _ (omega arith) c.write_u32.ensures (omega (arith, c.write_u32.auto.buf)) (number_length 4 c.args.n) (omega arith)
+    puts_mid c.args.at _ 4 c.args.into.now c.write_u32.new.buf (number_bytes 4 c.args.n) _ (omega arith) c.write_u32.ensures
+    (omega (arith, c.write_u32.auto.buf)) (number_length 4 c.args.n) (omega arith)

@@ -24,6 +24,7 @@ returns-then-is_some c = λ r s.
     let same : a.victim ≡ c.in-Some.victim =
     same_victim c.args.rest.now a.victim c.in-Some.victim a.is.victim_sound c.in-Some.ensures.0 a.is.victim_at c.in-Some.ensures.1 in
     let P : Who → Type 0 = λ w. first_accuser w (table_after no_table c.args.kept.now.arbiter).accusations ≡ None in
-    let got : c.first_accuser.result ≡ None = c.first_accuser.ensures ∙ (ap (λ (t : Table). first_accuser c.in-Some.victim t.accusations) c.requires ∙ subst P same a.is.new) in
+    let got : c.first_accuser.result ≡ None =
+    c.first_accuser.ensures ∙ (ap (λ (t : Table). first_accuser c.in-Some.victim t.accusations) c.requires ∙ subst P same a.is.new) in
     let unaccused : is_some c.first_accuser.result ≡ false = ap is_some got in
     absurd (cc (unaccused, c.is_some.ensures, c.if-is_some.true))

@@ -37,6 +37,8 @@ returns-then-not-is_new_claim c = λ r s.
 
 pub returns : goal.returns
 returns c =
-    let Test : Table → Bool = λ t. is_later_round (slice_index_or c.args.rest.now 6 0) && is_new t (ClaimedBy c.in-Some.victim (slice_index_or c.args.rest.now 6 0) c.in-Some-read_who.claimer) in
-    claim_stands c.args.kept.now c.args.rest.now c.in-Some.victim c.in-Some-read_who.claimer (omega arith) (omega arith) c.in-Some.ensures c.in-Some-read_who.ensures
+    let round = slice_index_or c.args.rest.now 6 0 in
+    let Test : Table → Bool = λ t. is_later_round round && is_new t (ClaimedBy c.in-Some.victim round c.in-Some-read_who.claimer) in
+    claim_stands c.args.kept.now c.args.rest.now c.in-Some.victim c.in-Some-read_who.claimer (omega arith) (omega arith)
+    c.in-Some.ensures c.in-Some-read_who.ensures
     (sym (ap Test c.requires) ∙ (sym c.is_new_claim.ensures ∙ c.if-not-is_new_claim.false))

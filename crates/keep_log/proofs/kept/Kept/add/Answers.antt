@@ -10,4 +10,5 @@ returns-in_ok-accuse-in-AccusedBy-clause-table c =
 pub returns-in_ok-claim-in-ClaimedBy-clause-table : goal.returns-in_ok-claim-in-ClaimedBy-clause-table
 returns-in_ok-claim-in-ClaimedBy-clause-table c =
     table_more c.push-in-ClaimedBy.result c.args.self.now.arbiter c.push-in-ClaimedBy.new.self c.args.table.now c.claim.new.self
-    (ClaimedBy c.in-ClaimedBy.victim c.in-ClaimedBy.round c.in-ClaimedBy.claimer) c.requires.table c.in_ok-claim-in-ClaimedBy.ensures.ok c.push-in-ClaimedBy.ensures
+    (ClaimedBy c.in-ClaimedBy.victim c.in-ClaimedBy.round c.in-ClaimedBy.claimer)
+    c.requires.table c.in_ok-claim-in-ClaimedBy.ensures.ok c.push-in-ClaimedBy.ensures
