@@ -113,7 +113,12 @@ fn the_smaller_length_counts(rt: HostRuntime) {
 #[test]
 fn the_fence_is_the_least_of_all(rt: HostRuntime) {
     let mut one = links(1);
-    for (node, length, fence) in [(2, 2000, 3000), (3, 900, 1900), (4, 2500, 1900), (5, 900, 1900)] {
+    for (node, length, fence) in [
+        (2, 2000, 3000),
+        (3, 900, 1900),
+        (4, 2500, 1900),
+        (5, 900, 1900),
+    ] {
         let _ = hear(&mut one, 0, node, Body::HelloFor { mine: 1, length });
         assert_eq!(rt; one.fence(), Some(fence), "with {node}");
     }

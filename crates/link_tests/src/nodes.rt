@@ -84,7 +84,10 @@ fn refusal(ring: &mut RingNode, command: Command) -> Option<(Verb, Reason)> {
 
 #[test]
 fn commands_are_refused(rt: HostRuntime) {
-    let (mut first, mut seeking) = (one_of_three(&rt, rt.alloc(), true), one_of_three(&rt, rt.alloc(), false));
+    let (mut first, mut seeking) = (
+        one_of_three(&rt, rt.alloc(), true),
+        one_of_three(&rt, rt.alloc(), false),
+    );
     assert_eq!(rt; refusal(&mut first, Command::Link(2)), None);
     for (command, want) in [
         (Command::Link(2), (Verb::Link, Reason::Linked)),

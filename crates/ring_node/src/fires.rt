@@ -31,11 +31,16 @@ impl RingNode {
         ensures few { length told.new ≤ length told.old + 2 }
         ensures short { length out.new ≤ length out.old + 11 }
     {
-        whole_row!(self, out, told, {
-            let announce = announced(&self.token, &self.phase);
-            let notes = self.links.fire(i, now, &announce, out);
-            self.notes(&NO_FRAME, notes.as_slice(), out, told)
-        })
+        whole_row!(
+            self,
+            out,
+            told,
+            {
+                let announce = announced(&self.token, &self.phase);
+                let notes = self.links.fire(i, now, &announce, out);
+                self.notes(&NO_FRAME, notes.as_slice(), out, told)
+            }
+        )
     }
 
     /// Whether the slot is free.

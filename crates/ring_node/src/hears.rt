@@ -35,10 +35,15 @@ impl RingNode {
         ensures few { length told.new ≤ length told.old + 2 }
         ensures short { length out.new ≤ length out.old + 11 }
     {
-        whole_row!(self, out, told, {
-            let announce = announced(&self.token, &self.phase);
-            let notes = self.links.hear(now, message, &announce, out);
-            self.notes(&message.body, notes.as_slice(), out, told)
-        })
+        whole_row!(
+            self,
+            out,
+            told,
+            {
+                let announce = announced(&self.token, &self.phase);
+                let notes = self.links.hear(now, message, &announce, out);
+                self.notes(&message.body, notes.as_slice(), out, told)
+            }
+        )
     }
 }

@@ -21,6 +21,7 @@ macro_rules! whole_row {
         }
     }};
 }
+
 pub(crate) use whole_row;
 
 impl RingNode {

@@ -155,6 +155,11 @@ impl RingNode {
         ensures few { length told.new ≤ length told.old + 1 }
         ensures short { length out.new ≤ length out.old + 1 }
     {
-        whole_row!(self, out, told, self.greet_holder(now, key, holder, out, told))
+        whole_row!(
+            self,
+            out,
+            told,
+            self.greet_holder(now, key, holder, out, told)
+        )
     }
 }

@@ -78,13 +78,7 @@ impl Links16 {
         self.fired(slot, now, announce, out)
     }
 
-    fn fired(
-        &mut self,
-        slot: usize,
-        now: u64,
-        announce: &Announced,
-        out: &mut Outbox,
-    ) -> LinkNotes
+    fn fired(&mut self, slot: usize, now: u64, announce: &Announced, out: &mut Outbox) -> LinkNotes
         requires slot { slot < 16 }
         requires now { now ≤ 1_000_000_000_000_000 }
         requires room { length out.old + 9 ≤ 192 }
