@@ -9,6 +9,7 @@
 mod batch;
 mod boots;
 mod desk;
+mod kept;
 mod node;
 mod outcome;
 mod room;
@@ -16,5 +17,6 @@ mod room;
 mod tests;
 
 pub use batch::Batch;
+pub use kept::NodeKept;
 pub use node::NodeCore;
 pub use outcome::Outcome;

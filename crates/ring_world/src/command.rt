@@ -2,7 +2,7 @@ ghost use Rattle.std.specs.Prelude.{◌≡◌, ◌≤◌, length};
 ghost use Rattle.fabric_terms.specs.Ranges.{FitsCommand};
 ghost use Rattle.world_rules.specs.Schedules.{command_names};
 
-use crate::find::is_configured;
+use crate::actors::is_configured;
 use fabric_terms::{Command, FabricConfig, Payload};
 
 fn payload_of(text: &Payload) -> Payload

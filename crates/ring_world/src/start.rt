@@ -13,7 +13,7 @@ ghost use Rattle.ring_world.specs.Running.{last_node};
 ghost use Rattle.ring_world.specs.Stands.{Stands};
 ghost use Rattle.ring_world.specs.Starts.{Begins, place_for};
 
-use crate::find::is_configured;
+use crate::actors::is_configured;
 use crate::running::Running;
 use crate::world::{Acted, EventRefusal, World};
 use drift_clock::Drift;

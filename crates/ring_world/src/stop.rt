@@ -5,7 +5,7 @@ ghost use Rattle.world_rules.specs.Worlds.{World as RuledWorld};
 ghost use Rattle.ring_world.specs.Moves.{Comes};
 ghost use Rattle.ring_world.specs.Stands.{Stands};
 
-use crate::find::ARBITRATORS;
+use crate::actors::ARBITRATORS;
 use crate::world::{Acted, EventRefusal, World};
 use fabric_terms::{Event, OutOfMemory, Report};
 use node_core::Batch;
@@ -55,7 +55,7 @@ impl World {
         let Some(place) = self.seat_of(actor) else {
             return Err(EventRefusal::NoSuch);
         };
-        if self.seats[place].running.is_none() {
+        if !self.seats[place].runs {
             return Err(EventRefusal::NoSuch);
         }
         if !self.has_room(false) {
@@ -63,7 +63,7 @@ impl World {
         }
         let reports = stopped(self.alloc)?;
         let seat = &mut self.seats[place];
-        seat.running = None;
+        seat.runs = false;
         self.events += 1;
         Ok(Some(Acted {
             line,

@@ -1,4 +1,4 @@
-ghost use Rattle.std.specs.Prelude.{◌≡◌, [], IfOk, OnOk, OnErr, length, map, replicate};
+ghost use Rattle.std.specs.Prelude.{◌≡◌, ◌≢◌, ◌≤◌, [], Err, IfOk, OnOk, OnErr, length};
 ghost use Rattle.fabric_terms.specs.Places.{place_of};
 ghost use Rattle.fabric_terms.specs.Reports.{told};
 ghost use Rattle.fabric_terms.specs.Runs.{clocks_of};
@@ -8,13 +8,14 @@ ghost use Rattle.point_places.specs.Lines.{IsAppended};
 ghost use Rattle.ring_points.specs.Whos.{node_instance};
 ghost use Rattle.ring_world.specs.Answers.{Answers, AnswersTick, IsWorld, StandsFor, ruled};
 ghost use Rattle.ring_world.specs.Holders.{holders_in, holds_in};
-ghost use Rattle.ring_world.specs.Seen.{empty_seat, seen_seat};
+ghost use Rattle.ring_world.specs.Seats.{AreEmpty};
 ghost use Rattle.fabric_terms.specs.Ranges.{Fits};
 ghost use Rattle.fabric_above.specs.Fabric.{fabric};
 ghost use Rattle.world_rules.specs.Runs.{History, run_of};
 
 use crate::running::Running;
 use crate::seat::Seat;
+use arbiter_core::Arbiter;
 use drift_clock::DriftBroken;
 use fabric_terms::{Event, FabricConfig, OutOfMemory, Report};
 use frame_bag::FrameBag;
@@ -63,14 +64,15 @@ pub struct Acted {
 const NODE_NUMBERS: usize = 1000;
 
 /// So many arbitrators that have recorded nothing and do not run.
-fn empty_seats(alloc: Global, count: usize) -> Result<Vec<Seat>, OutOfMemory>
-    ensures { IfOk result (λ seats. map seen_seat seats.items ≡ replicate count empty_seat) }
+fn empty_seats(alloc: Global, count: u16) -> Result<Vec<Seat>, OutOfMemory>
+    requires { count ≤ 9 }
+    ensures { IfOk result (λ seats. AreEmpty count seats.items) }
 {
     let mut seats = Vec::new(alloc);
-    for _ in 0..count {
+    for i in 0..count {
         seats.push(Seat {
-            records: Vec::new(alloc),
-            running: None,
+            arbiter: Arbiter::new(alloc, i + 1),
+            runs: false,
         })?;
     }
     Ok(seats)
@@ -110,7 +112,7 @@ impl World {
             instance: 1,
         };
         let boots = vec![in alloc; 0; NODE_NUMBERS]?;
-        let seats = empty_seats(alloc, config.arbiters.as_slice().len())?;
+        let seats = empty_seats(alloc, config.arbiters.as_slice().len() as u16)?;
         let places = Places::new(alloc, first)?;
         Ok(World {
             alloc,
@@ -148,7 +150,8 @@ impl World {
         }
     }
 
-    /// Takes a tick: what `apply` does of it, with the readings where they lie.
+    /// Takes a tick: what `apply` does of it, with the readings where they lie. It takes no memory, and is refused for
+    /// one of the other three reasons alone.
     pub fn tick(
         &mut self,
         line: u64,
@@ -157,7 +160,8 @@ impl World {
     ) -> Result<(), EventRefusal>
         requires world { IsWorld self.old }
         requires fits { Fits (Event.Tick advance readings.now) }
-        ensures { (c : Configuration) (h : History) → StandsFor self.old c h → AnswersTick self.new c h line (Event.Tick advance readings.now) result }
+        ensures answers { (c : Configuration) (h : History) → StandsFor self.old c h → AnswersTick self.new c h line (Event.Tick advance readings.now) result }
+        ensures memory { result ≢ Err EventRefusal.OutOfMemory }
     {
         let _ = line;
         self.take_tick(advance, readings)
@@ -191,12 +195,5 @@ impl World {
         ensures { (c : Configuration) (h : History) → StandsFor self.now c h → result ≡ holders_in (run_of fabric c h) }
     {
         self.count_holders()
-    }
-
-    /// The configuration.
-    pub fn config(&self) -> &FabricConfig
-        ensures { result.now ≡ self.now.config }
-    {
-        &self.config
     }
 }

@@ -2,7 +2,7 @@ use Rattle.std.proofs.Common.{◌∙◌, ◌++◌, List, ap}
 use Rattle.fabric_terms.specs.declared.report.Report.{Report}
 use Rattle.ring_points.specs.Whos.{node_instance}
 use Rattle.node_core.proofs.Steps.{does_start, starts_by}
-use Rattle.node_core.proofs.node.NodeCore.start.Goals as goal
+use Rattle.node_core.proofs.node.NodeCore.begin.Goals as goal
 
 pub returns-clause-begins : goal.returns-clause-begins
 returns-clause-begins c = λ records kept.

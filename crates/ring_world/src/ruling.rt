@@ -1,4 +1,5 @@
-ghost use Rattle.std.specs.Prelude.{◌≡◌, ◌∷◌, ◌++◌, vec_len, vec_capacity, ◌<◌, ◌+◌, Some, OnErr, IfOk, IfSome, IsTrue, length};
+ghost use Rattle.std.specs.Prelude.{◌≡◌, ◌∷◌, ◌<◌, ◌+◌, Some, OnErr, IfOk, IfSome, IsTrue, length};
+ghost use Rattle.arbiter_tables.specs.Tables.{entries_of};
 ghost use Rattle.fabric_terms.specs.declared.config.FabricConfig.{FabricConfig as Configuration};
 ghost use Rattle.ring_points.specs.Whos.{arbiter_actor};
 ghost use Rattle.fabric_terms.specs.Messages.{is_sound};
@@ -9,48 +10,26 @@ ghost use Rattle.fabric_above.specs.Fabric.{fabric};
 ghost use Rattle.world_rules.specs.Worlds.{World as RuledWorld, arbiter_acted, numbers_of, posted};
 ghost use Rattle.ring_world.specs.Moves.{Same, Steps};
 ghost use Rattle.ring_world.specs.Room.{most_events, most_frames};
-ghost use Rattle.ring_world.specs.Rulings.{CanRule, HeardAt, Hears, IsRunning};
-ghost use Rattle.ring_world.specs.Seen.{seen_seat};
+ghost use Rattle.ring_world.specs.Rulings.{CanRule, HeardAt, Hears};
 ghost use Rattle.ring_world.specs.Stands.{Stands};
 
 use crate::seat::Seat;
 use crate::world::{Acted, World};
 use arbiter_core::{Answer, ArbiterError};
-use fabric_terms::{Body, Message, OutOfMemory, Record};
+use fabric_terms::{Body, Message, OutOfMemory};
 use node_core::Batch;
 use ring_points::Who;
 
-/// Keeps a record, for which there is room.
-fn keep(records: &mut Vec<Record>, kept: Option<Record>)
-    requires { vec_len records.old < vec_capacity records.old }
-    ensures { records.new.items ≡ records.old.items ++ option_to_list kept }
-{
-    if let Some(item) = kept {
-        match records.push(item) {
-            Ok(()) => {}
-            Err(_) => unreachable!(),
-        }
-    }
-}
-
 impl Seat {
-    /// The running arbitrator hears a message: what it records is kept, and its answer is given.
+    /// The arbitrator hears a message: what it records is kept, and its answer is given.
     fn hear(&mut self, message: &Message) -> Result<Option<(Who, Body)>, OutOfMemory>
-        requires runs { IsRunning (seen_seat self.old) }
-        requires few { length self.old.records.items < most_events }
-        ensures hears { IfOk result (λ reply. (c : Configuration) → Hears c message.now (seen_seat self.old) (seen_seat self.new) reply) }
-        ensures refused { OnErr result (seen_seat self.new ≡ seen_seat self.old) }
+        requires few { entries_of self.old.arbiter.table < most_events }
+        ensures hears { IfOk result (λ reply. (c : Configuration) → Hears c message.now self.old self.new reply) }
+        ensures refused { OnErr result (self.new ≡ self.old) }
     {
-        self.records.reserve(1)?;
-        let Some(arbiter) = &mut self.running else {
-            unreachable!()
-        };
-        match arbiter.on_frame(message) {
+        match self.arbiter.on_frame(message) {
             Ok(Answer::Nothing) => Ok(None),
-            Ok(Answer::Reply { kept, to, body }) => {
-                keep(&mut self.records, kept);
-                Ok(Some((to, body)))
-            }
+            Ok(Answer::Reply { to, body, .. }) => Ok(Some((to, body))),
             Err(ArbiterError::OutOfMemory) => Err(OutOfMemory),
             Err(ArbiterError::TableFull) => unreachable!(),
         }

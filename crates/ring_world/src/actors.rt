@@ -58,7 +58,7 @@ impl World {
         }
         match self.seat_of(actor) {
             None => false,
-            Some(place) => self.seats[place].running.is_some(),
+            Some(place) => self.seats[place].runs,
         }
     }
 }

@@ -11,7 +11,7 @@ ghost use Rattle.ring_world.specs.Room.{most_events, most_frames};
 ghost use Rattle.ring_world.specs.Stands.{Stands};
 ghost use Rattle.ring_world.specs.Steps.{IsSoundFrame, LeavesSound};
 
-use crate::find::ARBITRATORS;
+use crate::actors::ARBITRATORS;
 use crate::world::{Acted, EventRefusal, World};
 use fabric_terms::{Event, Message, OutOfMemory};
 use ring_node::Input;
@@ -60,7 +60,7 @@ impl World {
             self.pass();
             return Ok(None);
         };
-        if self.seats[place].running.is_none() {
+        if !self.seats[place].runs {
             self.pass();
             return Ok(None);
         }
