@@ -47,10 +47,11 @@ found_bound node None h = absurd (cc (h))
 found_bound node (Some l) h = found_state is_bound node l h
 
 module _ (c : FabricConfig) (w : Work) (a : Going c w) where
-  link_going : (set : Settings) (now node wire len : ℕ) → IsTrue (is_node node) → IsTrue (is_lease len) → Going c (link_commanded set now node wire len w)
+  link_going : (set : Settings) → SettingsInRange set → (now node wire len : ℕ) → IsTrue (is_node node) → IsTrue (is_lease len) →
+      Going c (link_commanded set now node wire len w)
   unfolding link_commanded
-  link_going set now node wire len h k =
-      greets c w a (greeting_link set now w.ring node wire len) (refuse verb.Link) refl (λ m. greeting_in_range set now w.ring node wire len h k m)
+  link_going set fine now node wire len h k =
+      greets c w a (greeting_link set now w.ring node wire len) (refuse verb.Link) refl (λ m. greeting_in_range set fine now w.ring node wire len h k m)
       (node_addressed (node_instance node 0) h refl) (λ why. a)
 
   part_going : (node : ℕ) → Going c (part_commanded node w)
@@ -62,7 +63,7 @@ module _ (c : FabricConfig) (w : Work) (a : Going c w) where
       parts i l e met =
           let parted : Going c (put_slot i (parting_link l) (undo_freeze i w)) = puts c (undo_freeze i w) (undoes c w a i) i (parting_link l)
           (λ r. let m = link_in_range i l e r in
-          record { names = (in_session_of l m met).names; mine = m.mine; length = m.length; held = refl; got = m.got; flight = m.flight })
+          record { names = (in_session_of l m met).names; mine = m.mine; length = m.length; held = refl; got = m.got; flight = m.flight; rounds = m.rounds })
           (λ r z. let none : is_frozen_in i (undo_freeze i w).ring.token.freeze ≡ false = undone_not_in i w.ring.token in absurd (cc (none, z))) in
           says_gone c (put_slot i (parting_link l) (undo_freeze i w)) parted (parting_link l)
           (λ r. link_in_range i (parting_link l) (set_at w.ring.slots i l (Some (parting_link l)) e) r) refl
@@ -115,12 +116,13 @@ module _ (c : FabricConfig) (w : Work) (a : Going c w) where
       unless : (b : Bool) → Going c (rows.join_unless member w b)
       unless true = a
       unless false =
-          seek_place_going c (on_ring (λ r. record r { target = Some member }) w) (routes c w a w.ring.routes.known (Some member) (λ r. r.known) (λ r. h)) sound member h
+          seek_place_going c (on_ring (λ r. record r { target = Some member }) w)
+          (routes c w a w.ring.routes.known (Some member) (λ r. r.known) (λ r. h)) sound member h
 
   pub command_going : IsSound c → (set : Settings) → SettingsInRange set → (now : ℕ) (d : Command) → FitsCommand d → Going c (command_row set now d w)
-  command_going sound set fine now (command.Link node) h = link_going set now node 1 set.lease (node_from node h) fine.lease
+  command_going sound set fine now (command.Link node) h = link_going set fine now node 1 set.lease (node_from node h) fine.lease
   command_going sound set fine now (command.LinkFor node length) h =
-      link_going set now node 2 (min length set.longest) (node_from node h.0) (least_lease length set.longest (lease_from length h.1) fine.longest)
+      link_going set fine now node 2 (min length set.longest) (node_from node h.0) (least_lease length set.longest (lease_from length h.1) fine.longest)
   command_going sound set fine now (command.Part node) h = part_going node
   command_going sound set fine now (command.GiveNear node) h = give_going false node
   command_going sound set fine now (command.GiveAll node) h = give_going true node

@@ -5,10 +5,11 @@ use Rattle.std.proofs.lemmas.Bool.{and_parts, and_from, or_left, or_right, leb-t
 use Rattle.fabric_terms.specs.declared.message.Body.TheVariants as body
 use Rattle.ring_points.specs.declared.interval.Interval.{Interval}
 use Rattle.ring_points.specs.declared.point.Point.{Point}
+use Rattle.ring_points.specs.declared.who.Ruling.{Ruling}
 use Rattle.ring_points.specs.declared.who.Who.{Who}
 use Rattle.ring_points.specs.Ranges.{is_proper}
 use Rattle.ring_points.specs.Whos.{arbiter_actor, node_instance}
-use Rattle.fabric_terms.specs.Fields.{is_addressee, is_arbiter, is_counted, is_hops, is_lease, is_long, is_node, is_part, is_sender, is_session, is_stamp, is_who, is_within, is_word}
+use Rattle.fabric_terms.specs.Fields.{is_addressee, is_arbiter, is_counted, is_hops, is_lease, is_long, is_node, is_part, is_round, is_sender, is_session, is_stamp, is_who, is_within, is_word}
 use Rattle.frames_fit.specs.Formats.{in_format}
 
 -- Numbers.
@@ -106,19 +107,32 @@ module _ (to : Who) (named : IsTrue (is_addressee to)) where
   pub accuse_format : (victim : Who) → IsTrue (is_who victim) → IsTrue (in_format (to, body.Accuse victim))
   accuse_format victim h = and_from (is_addressee to) (is_who victim) named h
 
+  pub ruled_format : (victim : Who) (ruling : Ruling) → IsTrue (is_who victim) → IsTrue (in_format (to, body.Ruled victim ruling))
+  ruled_format victim ruling h = and_from (is_addressee to) (is_who victim) named h
+
+  pub claim_format : (victim : Who) (round : ℕ) → IsTrue (is_who victim) → IsTrue (is_round round) → IsTrue (in_format (to, body.Claim victim round))
+  claim_format victim round h k = and_from (is_addressee to) (is_who victim && is_round round) named (and_from (is_who victim) (is_round round) h k)
+
+  pub kept_format : (victim : Who) (round : ℕ) (claimer : Who) → IsTrue (is_who victim) → IsTrue (is_round round) → IsTrue (is_who claimer) →
+      IsTrue (in_format (to, body.Kept victim round claimer))
+  kept_format victim round claimer h k l =
+      and_from (is_addressee to) ((is_who victim && is_round round) && is_who claimer) named
+      (and_from (is_who victim && is_round round) (is_who claimer) (and_from (is_who victim) (is_round round) h k) l)
+
   -- in a session
   module _ (mine yours : ℕ) (h : IsTrue (is_session mine yours)) where
     pub offer_format : IsTrue (in_format (to, body.Offer mine yours))
     offer_format = and_from (is_addressee to) (is_session mine yours) named h
 
     pub offer_for_format : (length : ℕ) → IsTrue (is_lease length) → IsTrue (in_format (to, body.OfferFor mine yours length))
-    offer_for_format length k = and_from (is_addressee to) (is_session mine yours && is_lease length) named (and_from (is_session mine yours) (is_lease length) h k)
+    offer_for_format length k =
+        and_from (is_addressee to) (is_session mine yours && is_lease length) named (and_from (is_session mine yours) (is_lease length) h k)
 
     pub take_format : IsTrue (in_format (to, body.Take mine yours))
     take_format = and_from (is_addressee to) (is_session mine yours) named h
 
-    pub renew_format : (stamp version got : ℕ) (want : Bool) (ranges : List Interval) → IsTrue (is_stamp stamp) → IsTrue (is_word version) → IsTrue (is_word got) →
-        IsTrue (is_proper ranges) → IsTrue (in_format (to, body.Renew mine yours stamp version got want ranges))
+    pub renew_format : (stamp version got : ℕ) (want : Bool) (ranges : List Interval) → IsTrue (is_stamp stamp) → IsTrue (is_word version) →
+        IsTrue (is_word got) → IsTrue (is_proper ranges) → IsTrue (in_format (to, body.Renew mine yours stamp version got want ranges))
     renew_format stamp version got want ranges k l m n =
         and_from (is_addressee to) ((((is_session mine yours && is_stamp stamp) && is_word version) && is_word got) && is_proper ranges) named
         (and_from (((is_session mine yours && is_stamp stamp) && is_word version) && is_word got) (is_proper ranges)
@@ -130,7 +144,8 @@ module _ (to : Who) (named : IsTrue (is_addressee to)) where
         and_from (is_addressee to) ((is_session mine yours && is_stamp stamp) && is_word version) named
         (and_from (is_session mine yours && is_stamp stamp) (is_word version) (and_from (is_session mine yours) (is_stamp stamp) h k) l)
 
-    pub transfer_format : (flight : ℕ) (ranges : List Interval) → IsTrue (is_counted flight && is_part ranges) → IsTrue (in_format (to, body.Transfer mine yours flight ranges))
+    pub transfer_format : (flight : ℕ) (ranges : List Interval) → IsTrue (is_counted flight && is_part ranges) →
+        IsTrue (in_format (to, body.Transfer mine yours flight ranges))
     transfer_format flight ranges k =
         let parts = and_parts (is_counted flight) (is_part ranges) k in
         and_from (is_addressee to) ((is_session mine yours && is_counted flight) && is_part ranges) named

@@ -1,75 +1,46 @@
 -- A firing keeps a ring in range.
-use Rattle.std.proofs.Common.{◌≡◌, ℕ, zero, suc, ◌+◌, ◌≤◌, Bool, true, false, ◌&&◌, List, [], ◌∷◌, ◌++◌, length, Option, Some, None, IsTrue, refl, subst, arith}
+use Rattle.std.proofs.Common.{◌≡◌, ℕ, zero, suc, ◌+◌, Bool, true, false, ◌&&◌, List, [], ◌∷◌, ◌++◌, length, Option, Some, None, IsTrue, refl, subst, arith}
 use Rattle.std.specs.Prelude.{All, nat_le, nat_lt}
 use Rattle.std.proofs.lemmas.Bool.{and_parts, and_from}
 use Rattle.std.proofs.lemmas.List.Elements.{All-head, All-tail}
-use Rattle.arbiter_quorum.specs.Tallies.{has_answered}
 use Rattle.fabric_terms.specs.declared.config.FabricConfig.{FabricConfig}
-use Rattle.fabric_terms.specs.declared.message.Body.TheVariants as body
 use Rattle.fabric_terms.specs.declared.report.Report.TheVariants as report
 use Rattle.fabric_terms.specs.declared.report.Why.TheVariants.{AccusedFull}
 use Rattle.fabric_terms.specs.Sound.{IsSound}
 use Rattle.join_phases.specs.Phases.{holding_phase, is_routing}
 use Rattle.ring_points.specs.declared.interval.Interval.{Interval}
 use Rattle.ring_points.specs.declared.who.Flight.{Flight}
-use Rattle.ring_points.specs.declared.who.Who.{Who}
 use Rattle.ring_points.specs.Ranges.{fits}
-use Rattle.ring_points.specs.Whos.{arbiter_actor, node_instance}
 use Rattle.ring_route.specs.Routes.{near_nodes}
 use Rattle.ring_rules.specs.declared.link.Link.{Link}
 use Rattle.ring_rules.specs.declared.link.LinkState.{LinkState}
 use Rattle.ring_rules.specs.declared.link.LinkState.TheVariants as state
 use Rattle.ring_rules.specs.Deeds.{drop_slot, on_ring, put_slot, say_gone, send, set_phase, set_token, tell, then_unless_left, undo_freeze}
 use Rattle.ring_rules.specs.Firing as rows
-use Rattle.ring_rules.specs.Firing.{ask_first, discharged_fired, freeze_given, peer_accused, place_sought, slot_fired, slots_fired, timer_fired}
+use Rattle.ring_rules.specs.Firing.{ask_arbiters, discharged_fired, freeze_given, peer_accused, place_sought, slot_fired, slots_fired, timer_fired}
 use Rattle.ring_rules.specs.Handshakes.{greet_plainly}
 use Rattle.ring_rules.specs.Links.{accused_link, flight_part, hello_body, offer_body, renew_body, transfer_body}
 use Rattle.ring_rules.specs.Rings.{Settings, Work, accused_limit, slot_count, ◌▷◌}
 use Rattle.ring_rules.specs.Slots.{is_bound, is_hello, slot_at}
-use Rattle.fabric_terms.specs.Fields.{is_counted, is_part, is_stamp, is_who}
+use Rattle.fabric_terms.specs.Fields.{is_counted, is_part, is_stamp}
 use Rattle.token_core.specs.Tokens.{Freeze, can_gain, gained, given, inherited}
 use Rattle.frames_fit.specs.InRange.{FlightInRange, FreezeInRange, IsInRange, LinkInRange, TargetInRange, holds_bound, is_frozen_for_bound, names_peer}
-use Rattle.frames_fit.proofs.Facts.{accuse_format, arbiter_addressed, counted_from}
+use Rattle.frames_fit.proofs.Asking.{asked_ring, asks, claims}
+use Rattle.frames_fit.proofs.Facts.{counted_from}
 use Rattle.frames_fit.proofs.Going.{Done, Going, accuses, counts, drops, gains, goes_on, leaves, numbers_parts, phases, puts, sends, tokens, undoes}
 use Rattle.frames_fit.proofs.Greetings.{greets_plainly}
 use Rattle.frames_fit.proofs.Places.{bound_met, hello_unbound, is_frozen_in, set_at}
 use Rattle.frames_fit.proofs.Routes.{NodeInRange, near_in_range}
-use Rattle.frames_fit.proofs.Saying.{SettingsInRange, hello_said, in_session_of, link_in_range, not_frozen, offer_said, renew_said, says_gone, transfer_said, unbound_at}
+use Rattle.frames_fit.proofs.Saying.{SettingsInRange, first_round, hello_said, in_session_of, link_in_range, moved_in_range, not_frozen, offer_said, renew_said, says_gone, transfer_said, unbound_at}
 use Rattle.frames_fit.proofs.Seeks.{seek_place_going}
 use Rattle.frames_fit.proofs.Tokens.{Rises, given_in_range, inherited_rises, part_rises, proper_rises, undone_not_in}
 
--- The arbitrators are asked.
-
--- the ring stays
-asked_ring : (k : ℕ) (l : Link) (w : Work) → (ask_first k l w).ring ≡ w.ring
-asked_ring zero l w = refl
-asked_ring (suc k) l w = asked (has_answered (suc k) l.tally.answers) (asked_ring k l w)
-  where
-    asked : (b : Bool) → (ask_first k l w).ring ≡ w.ring → (rows.ask_if (suc k) l (ask_first k l w) b).ring ≡ w.ring
-    asked true e = e
-    asked false e = e
-
--- about a peer in range
-asks_first : (c : FabricConfig) (k : ℕ) (l : Link) (w : Work) → k ≤ 9 → (IsInRange c w.ring → IsTrue (is_who l.peer)) → Going c w → Going c (ask_first k l w)
-asks_first c zero l w few named a = a
-asks_first c (suc k) l w few named a = asked (has_answered (suc k) l.tally.answers) (asks_first c k l w (omega arith) named a)
-  where
-    asked : (b : Bool) → Going c (ask_first k l w) → Going c (rows.ask_if (suc k) l (ask_first k l w) b)
-    asked true g = g
-    asked false g =
-        let to : Who = node_instance (arbiter_actor (suc k)) 0 in
-        sends c (ask_first k l w) g to (body.Accuse l.peer)
-        (λ r. accuse_format to (arbiter_addressed (suc k) (omega arith) few) l.peer (named (subst (IsInRange c) (asked_ring k l w) r)))
-
 -- A slot.
 
-module _ (c : FabricConfig) (w : Work) (a : Going c w) (set : Settings) (fine : SettingsInRange set) (now i : ℕ) (l : Link) (e : slot_at i w.ring.slots ≡ Some l) where
+module _ (c : FabricConfig) (w : Work) (a : Going c w) (set : Settings) (fine : SettingsInRange set) (now i : ℕ) (l : Link)
+    (e : slot_at i w.ring.slots ≡ Some l) where
   link : IsInRange c w.ring → LinkInRange l
   link r = link_in_range i l e r
-
-  -- the peer of a link that does not greet is asked about
-  asks : is_hello l.state ≡ false → Going c (ask_first set.arbitrators l w)
-  asks met = asks_first c set.arbitrators l w fine.arbitrators (λ r. (in_session_of l (link r) met).peer) a
 
   -- a link that is not bound goes
   goes : is_bound l.state ≡ false → Going c (drop_slot i w)
@@ -92,11 +63,18 @@ module _ (c : FabricConfig) (w : Work) (a : Going c w) (set : Settings) (fine : 
           let undoes_it : Going c undone = undoes c named (accuses c w a (w.ring.accused ++ l.peer ∷ [])) i in
           let k : Link = accused_link set w.ring.me l in
           let puts_it : Going c (put_slot i k undone) = puts c undone undoes_it i k
-          (λ r. let m : LinkInRange l = link_in_range i l e r in
-          record { names = (in_session_of l m met).names; mine = m.mine; length = m.length; held = m.held; got = m.got; flight = m.flight })
+          (λ r. let m = moved_in_range l (link_in_range i l e r) met state.Accused refl l.ripe k.tally in
+          record {
+            names = m.names;
+            mine = m.mine;
+            length = m.length;
+            held = m.held;
+            got = m.got;
+            flight = m.flight;
+            rounds = first_round set fine w.ring.me;
+          })
           (λ r z. let none : is_frozen_in i undone.ring.token.freeze ≡ false = undone_not_in i w.ring.token in absurd (cc (none, z))) in
-          asks_first c set.arbitrators k (tell (report.Accused l.peer) (put_slot i k undone)) fine.arbitrators
-          (λ r. (in_session_of k (link_in_range i k (set_at w.ring.slots i l (Some k) e) r) refl).peer) puts_it
+          asks c set fine k refl (tell (report.Accused l.peer) (put_slot i k undone)) (λ r. link_in_range i k (set_at w.ring.slots i l (Some k) e) r) puts_it
 
   leased_fires : (says : Work → Work) → is_hello l.state ≡ false → Going c (says w) → Going c (rows.leased set now i l says w)
   leased_fires says met g = by_time (nat_le l.until now)
@@ -107,11 +85,13 @@ module _ (c : FabricConfig) (w : Work) (a : Going c w) (set : Settings) (fine : 
 
   discharged_fires : is_hello l.state ≡ false → is_bound l.state ≡ false → Going c (discharged_fired set now i l w)
   unfolding discharged_fired
-  discharged_fires met idle = by_time (nat_le (l.until + set.answer) now)
+  discharged_fires met idle = by_time (nat_le (l.until + set.answer + rows.rounds_time set l) now)
     where
       by_time : (b : Bool) → Going c (rows.discharged_due set i l w b)
       by_time true = goes idle
-      by_time false = asks met
+      by_time false =
+          claims c set fine l met (ask_arbiters set l w) (λ r. link (subst (IsInRange c) (asked_ring set.arbitrators l w) r))
+          (asks c set fine l met w link a)
 
   -- what is in its flight is in its list
   flight_rises : (o : Option Flight) → FlightInRange o → Rises (flight_part o)
@@ -122,13 +102,15 @@ module _ (c : FabricConfig) (w : Work) (a : Going c w) (set : Settings) (fine : 
   heir_fires idle false = a
   heir_fires idle true = by_fit _ refl
     where
-      by_fit : (b : Bool) → (fits (inherited w.ring.token l.held (flight_part l.flight)) && can_gain w.ring.token (inherited w.ring.token l.held (flight_part l.flight))) ≡ b →
+      by_fit : (b : Bool) →
+          (fits (inherited w.ring.token l.held (flight_part l.flight)) && can_gain w.ring.token (inherited w.ring.token l.held (flight_part l.flight))) ≡ b →
           Going c (rows.take_over i l (inherited w.ring.token l.held (flight_part l.flight)) w b)
       by_fit false f = a
       by_fit true f =
           let more : List Interval = inherited w.ring.token l.held (flight_part l.flight) in
           let gains_it : Going c (set_token (gained w.ring.token more) w) = gains c w a more
-          (λ r. let m = link r in inherited_rises w.ring.token r.token l.held (flight_part l.flight) (proper_rises l.held m.held) (flight_rises l.flight m.flight))
+          (λ r. let m = link r in
+          inherited_rises w.ring.token r.token l.held (flight_part l.flight) (proper_rises l.held m.held) (flight_rises l.flight m.flight))
           (and_parts (fits more) (can_gain w.ring.token more) f).1 in
           let told : Work = tell (report.TookOver l.peer more) (set_token (gained w.ring.token more) w) in
           drops c (set_phase holding_phase told) (phases c told gains_it holding_phase) i (λ r. not_frozen i (unbound_at w.ring.slots i l e idle) r)
@@ -150,7 +132,7 @@ module _ (c : FabricConfig) (w : Work) (a : Going c w) (set : Settings) (fine : 
       leased_fires (λ v. v ▷ send l.peer (renew_body now l v.ring) ▷ rows.transfer_again l l.flight) met
       (flies met l.flight refl (send l.peer (renew_body now l w.ring) w) refl renews)
   fires_in reads state.Parting f = leased_fires (say_gone l) (λ j. is_hello (f j)) (says_gone c w a l link (λ j. is_hello (f j)))
-  fires_in reads state.Accused f = asks (λ j. is_hello (f j))
+  fires_in reads state.Accused f = asks c set fine l (λ j. is_hello (f j)) w link a
   fires_in reads state.Discharged f = discharged_fires (λ j. is_hello (f j)) (λ j. is_bound (f j))
   fires_in reads state.Heir f = heir_fires (λ j. is_bound (f j)) (nat_le l.ripe now)
 
@@ -192,7 +174,7 @@ gives_freeze c w d = counts c w (rows.give_frozen w.ring.token.freeze w) d (froz
         and_from (is_counted w.ring.token.next_flight) (is_part z.part) (counted_from w.ring.token.next_flight one (omega arith)) part) in
         let put : Work = put_slot z.slot (record l { flight = Some flight }) (tell (report.Gave l.peer w.ring.token.next_flight z.part) given_by) in
         let puts_it : Going c put = puts c given_by gives_it z.slot (record l { flight = Some flight })
-        (λ r. record { names = m.names; mine = m.mine; length = m.length; held = m.held; got = m.got; flight = counted r })
+        (λ r. record { names = m.names; mine = m.mine; length = m.length; held = m.held; got = m.got; flight = counted r; rounds = m.rounds })
         (λ r k. absurd (cc (k))) in
         sends c put puts_it l.peer (transfer_body l flight)
         (λ r. transfer_said l m (in_session_of l m met) flight (counted (gives_it r.numbers).ring))
@@ -209,7 +191,8 @@ module _ (c : FabricConfig) (sound : IsSound c) (set : Settings) (fine : Setting
   greets_each : (nodes : List ℕ) (w : Work) → All NodeInRange nodes → Going c w → Going c (rows.greet_all set now nodes w)
   greets_each [] w h a = a
   greets_each (node ∷ nodes) w h a =
-      greets_each nodes (greet_plainly set now node w) (All-tail NodeInRange node nodes h) (greets_plainly c w a set fine now node (All-head NodeInRange node nodes h))
+      greets_each nodes (greet_plainly set now node w) (All-tail NodeInRange node nodes h)
+      (greets_plainly c w a set fine now node (All-head NodeInRange node nodes h))
 
   seeks : (w : Work) → Done c w → Done c (place_sought set now w)
   unfolding place_sought
@@ -220,7 +203,8 @@ module _ (c : FabricConfig) (sound : IsSound c) (set : Settings) (fine : Setting
       from (Some member) h = seek_place_going c w (λ n. d) sound member h
 
       by_phase : (b : Bool) → Going c (rows.search_by set now w b)
-      by_phase true = greets_each (near_nodes w.ring.routes set.near w.ring.accused) w (near_in_range w.ring.routes set.near w.ring.accused d.ring.known) (λ n. d)
+      by_phase true =
+          greets_each (near_nodes w.ring.routes set.near w.ring.accused) w (near_in_range w.ring.routes set.near w.ring.accused d.ring.known) (λ n. d)
       by_phase false = from w.ring.target d.ring.target
 
   pub timer_done : IsTrue (is_stamp now) → (w : Work) → Done c w → Done c (timer_fired set now w)

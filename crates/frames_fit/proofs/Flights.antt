@@ -34,13 +34,13 @@ greets_unbound mine None h = absurd (cc (h))
 greets_unbound mine (Some l) h = hello_unbound l.state (and_parts (l.mine == mine) (is_hello l.state) h).1
 
 module _ (c : FabricConfig) (w : Work) (a : Going c w) where
-  pub answers_if : (b : Bool) (to : Who) (said : Body) → (IsInRange c w.ring → IsTrue (in_format (to, said))) → Going c (rows.answer_if b to said w)
+  answers_if : (b : Bool) (to : Who) (said : Body) → (IsInRange c w.ring → IsTrue (in_format (to, said))) → Going c (rows.answer_if b to said w)
   answers_if true to said fine = sends c w a to said fine
   answers_if false to said fine = a
 
 module _ (c : FabricConfig) (w : Work) (a : Going c w) where
   -- the slot of a session ends
-  pub closes : (i : ℕ) (l : Link) (bound : Bool) → slot_at i w.ring.slots ≡ Some l → is_hello l.state ≡ false → Going c (close i l bound w)
+  closes : (i : ℕ) (l : Link) (bound : Bool) → slot_at i w.ring.slots ≡ Some l → is_hello l.state ≡ false → Going c (close i l bound w)
   closes i l bound e met = ends bound
     where
       undone : Going c (undo_freeze i w)
@@ -72,7 +72,7 @@ module _ (c : FabricConfig) (w : Work) (a : Going c w) where
           let gains_it : Going c gained_by = gains c w a part (λ r. part_rises part m) fit.1 in
           let puts_it : Going c (put_slot i (record l { got = number }) gained_by) = puts c gained_by gains_it i (record l { got = number })
           (λ r. let n = link_in_range i l e r in
-          record { names = n.names; mine = n.mine; length = n.length; held = n.held; got = counted_word number k; flight = n.flight })
+          record { names = n.names; mine = n.mine; length = n.length; held = n.held; got = counted_word number k; flight = n.flight; rounds = n.rounds })
           (λ r. still_bound i l e r) in
           phases c (tell (report.Took l.peer number part) (put_slot i (record l { got = number }) gained_by)) puts_it holding_phase
 

@@ -17,6 +17,7 @@ use Rattle.ring_rules.specs.Rings.{Ring, Settings, Work}
 use Rattle.fabric_terms.specs.Fields.{is_addressee, is_counted, is_hops, is_lease, is_long, is_part, is_sender, is_session, is_stamp, is_who, is_word}
 use Rattle.fabric_terms.specs.Messages.{is_sound, is_sound_body}
 use Rattle.frames_fit.specs.InRange.{IsInRange}
+use Rattle.frames_fit.proofs.Claims.{kept_going}
 use Rattle.frames_fit.proofs.Facts.{node_sends}
 use Rattle.frames_fit.proofs.Flights.{gone_going, transfer_going}
 use Rattle.frames_fit.proofs.Going.{Done, Going, counts, routes}
@@ -60,16 +61,17 @@ module _ (c : FabricConfig) (sound : IsSound c) where
   listed_sends r from h k e =
       node_sends from k (node_in_range c sound from.actor (subst (λ (ps : List (ℕ × ℕ)). list_any (λ p. p.0 == from.actor) ps ≡ true) h.points e))
 
-  between_sends : (set : Settings) (r : Ring) (m : Message) → IsInRange c r → IsTrue (is_sender m.from) → passes set r m ≡ true → is_between_nodes m.body ≡ true →
-      IsTrue (is_who m.from)
+  between_sends : (set : Settings) (r : Ring) (m : Message) → IsInRange c r → IsTrue (is_sender m.from) → passes set r m ≡ true →
+      is_between_nodes m.body ≡ true → IsTrue (is_who m.from)
   between_sends set r m h k e b =
-      let may = (and_parts (is_for r.me m.to && not (is_among m.from r.accused)) (may_send set r m.from.actor (is_between_nodes m.body) (is_arbiters_answer m.body)) e).1 in
+      let may = (and_parts (is_for r.me m.to && not (is_among m.from r.accused))
+      (may_send set r m.from.actor (is_between_nodes m.body) (is_arbiters_answer m.body)) e).1 in
       let as_node : may_send set r m.from.actor (is_between_nodes m.body) false ≡ true =
       subst (λ (t : Bool). may_send set r m.from.actor (is_between_nodes m.body) t ≡ true) (not_answer m.body b) may in
       listed_sends r m.from h k (and_parts (rows.is_node r m.from.actor) (not (is_between_nodes m.body && m.from.actor == r.me.actor)) as_node).0
 
   -- the sender is heard
-  pub hears : (now : ℕ) (from : Who) (w : Work) → IsTrue (is_sender from) → Done c w → Done c (sender_heard now from w)
+  hears : (now : ℕ) (from : Who) (w : Work) → IsTrue (is_sender from) → Done c w → Done c (sender_heard now from w)
   hears now from w k d = by_test (rows.is_node w.ring from.actor && not (from.actor == w.ring.me.actor)) refl
     where
       by_test : (b : Bool) → (rows.is_node w.ring from.actor && not (from.actor == w.ring.me.actor)) ≡ b → Done c (rows.heard_if now from w b)
@@ -81,12 +83,13 @@ module _ (c : FabricConfig) (sound : IsSound c) where
 
 -- The row of a frame.
 
-module _ (c : FabricConfig) (set : Settings) (fine : SettingsInRange set) (now : ℕ) (reads : IsTrue (is_stamp now)) (from : Who) (w : Work) (a : Going c w) where
+module _ (c : FabricConfig) (set : Settings) (fine : SettingsInRange set) (now : ℕ) (reads : IsTrue (is_stamp now)) (from : Who) (w : Work)
+    (a : Going c w) where
   row : (b : Body) → (is_between_nodes b ≡ true → IsTrue (is_who from)) → IsTrue (is_sound_body b) → Going c (frame_row set now from b w)
-  row (body.Hello mine) who h = hello_going c w a set now from mine 1 set.lease (who refl) h fine.lease
+  row (body.Hello mine) who h = hello_going c w a set fine now from mine 1 set.lease (who refl) h fine.lease
   row (body.HelloFor mine length) who h =
       let p = and_parts (is_counted mine) (is_lease length) h in
-      hello_going c w a set now from mine 2 (min length set.longest) (who refl) p.0 (least_lease length set.longest p.1 fine.longest)
+      hello_going c w a set fine now from mine 2 (min length set.longest) (who refl) p.0 (least_lease length set.longest p.1 fine.longest)
   row (body.Offer mine yours) who h = offer_going c w a now from mine yours set.lease (who refl) h fine.lease
   row (body.OfferFor mine yours length) who h =
       let p = and_parts (is_session mine yours) (is_lease length) h in
@@ -112,10 +115,11 @@ module _ (c : FabricConfig) (set : Settings) (fine : SettingsInRange set) (now :
       seek_going c w a origin key hops q.0 q.1
   row (body.Found key holder) who h = found_going c w a set fine now key holder (and_parts (is_long key.0) (is_who holder) h).1
   row (body.Ruled victim ruling) who h = ruling_going c w a set now from victim ruling
+  row (body.Kept victim round claimer) who h = kept_going c w a set fine now from victim round claimer
   row b who h = a
 
-pub frame_done : (c : FabricConfig) → IsSound c → (set : Settings) → SettingsInRange set → (now : ℕ) → IsTrue (is_stamp now) → (m : Message) → IsTrue (is_sound m) →
-    (w : Work) → Done c w → passes set w.ring m ≡ true → Done c (frame_received set now m.from m.body (sender_heard now m.from w))
+pub frame_done : (c : FabricConfig) → IsSound c → (set : Settings) → SettingsInRange set → (now : ℕ) → IsTrue (is_stamp now) → (m : Message) →
+    IsTrue (is_sound m) → (w : Work) → Done c w → passes set w.ring m ≡ true → Done c (frame_received set now m.from m.body (sender_heard now m.from w))
 unfolding frame_received
 frame_done c sound set fine now reads m h w d e =
     let parts = sound_parts m h in

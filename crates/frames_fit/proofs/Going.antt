@@ -57,7 +57,7 @@ numbers_parts r h =
       flights = leb-true r.token.next_flight (last_number + 1) all.1;
     }
 
-pub numbers_from : (r : Ring) → Numbers r → IsTrue (has_numbers r)
+numbers_from : (r : Ring) → Numbers r → IsTrue (has_numbers r)
 numbers_from r h =
     and_from (nat_le r.token.version last_number && nat_le r.next_session (last_number + 1)) (nat_le r.token.next_flight (last_number + 1))
     (and_from (nat_le r.token.version last_number) (nat_le r.next_session (last_number + 1)) (le-leb r.token.version last_number h.version)
@@ -70,7 +70,7 @@ pub record Rose (old new : Ring) : Type 0 where
   pub sessions : old.next_session ≤ new.next_session
   pub flights : old.token.next_flight ≤ new.token.next_flight
 
-pub numbers_before : (old new : Ring) → Rose old new → IsTrue (has_numbers new) → IsTrue (has_numbers old)
+numbers_before : (old new : Ring) → Rose old new → IsTrue (has_numbers new) → IsTrue (has_numbers old)
 numbers_before old new h n =
     let all = numbers_parts new n in
     let a = all.version in let b = all.sessions in let d = all.flights in
@@ -80,7 +80,7 @@ numbers_before old new h n =
 -- A ring of which something changed.
 
 -- how far it has come, and whom it accused
-pub range_phased : (c : FabricConfig) (r : Ring) (p : Phase) (accused : List Who) → IsInRange c r → IsInRange c (record r { phase = p; accused = accused })
+range_phased : (c : FabricConfig) (r : Ring) (p : Phase) (accused : List Who) → IsInRange c r → IsInRange c (record r { phase = p; accused = accused })
 range_phased c r p accused h = record {
   me = h.me;
   configured = h.configured;
@@ -96,7 +96,7 @@ range_phased c r p accused h = record {
 }
 
 -- a place
-pub range_placed : (c : FabricConfig) (r : Ring) (i : ℕ) (o : Option Link) → IsInRange c r → SlotInRange o →
+range_placed : (c : FabricConfig) (r : Ring) (i : ℕ) (o : Option Link) → IsInRange c r → SlotInRange o →
     (is_frozen_in i r.token.freeze ≡ true → holds_bound o ≡ true) → IsInRange c (record r { slots = slice_set r.slots i o })
 range_placed c r i o h fine bound = record {
   me = h.me;
@@ -113,8 +113,8 @@ range_placed c r i o h fine bound = record {
 }
 
 -- the token
-pub range_tokened : (c : FabricConfig) (r : Ring) (t : Token) → IsInRange c r → IsTrue (has_numbers (record r { token = t })) → r.token.next_flight ≤ t.next_flight →
-    TokenInRange t → IsTrue (is_frozen_for_bound t.freeze r.slots) → IsInRange c (record r { token = t })
+range_tokened : (c : FabricConfig) (r : Ring) (t : Token) → IsInRange c r → IsTrue (has_numbers (record r { token = t })) →
+    r.token.next_flight ≤ t.next_flight → TokenInRange t → IsTrue (is_frozen_for_bound t.freeze r.slots) → IsInRange c (record r { token = t })
 range_tokened c r t h n more fine bound = record {
   me = h.me;
   configured = h.configured;
@@ -130,7 +130,7 @@ range_tokened c r t h n more fine bound = record {
 }
 
 -- whom it knows, and by whom it joins
-pub range_routed : (c : FabricConfig) (r : Ring) (known : List Known) (target : Option ℕ) → IsInRange c r → All KnownInRange known → TargetInRange target →
+range_routed : (c : FabricConfig) (r : Ring) (known : List Known) (target : Option ℕ) → IsInRange c r → All KnownInRange known → TargetInRange target →
     IsInRange c (record r { routes = record r.routes { known = known }; target = target })
 range_routed c r known target h fine to = record {
   me = h.me;
@@ -208,13 +208,14 @@ module _ (c : FabricConfig) (w : Work) (a : Going c w) where
   pub accuses : (accused : List Who) → Going c (record w { ring = record w.ring { accused = accused } })
   accuses accused n = let d = a n in record { ring = range_phased c w.ring w.ring.phase accused d.ring; sent = d.sent }
 
-  pub gains : (part : List Interval) → (IsInRange c w.ring → Rises part) → IsTrue (can_gain w.ring.token part) → Going c (set_token (gained w.ring.token part) w)
+  pub gains : (part : List Interval) → (IsInRange c w.ring → Rises part) → IsTrue (can_gain w.ring.token part) →
+      Going c (set_token (gained w.ring.token part) w)
   gains part rises fit =
       tokens (gained w.ring.token part) (omega arith) (omega arith) (λ r. gained_in_range w.ring.token r.token part (rises r) fit) (λ r. r.frozen)
 
   -- for a link that is bound
-  pub freezes : (part : List Interval) (i : ℕ) → (IsInRange c w.ring → Rises part) → owns_none w.ring.token part ≡ false → IsTrue (may_freeze w.ring.token part) →
-      holds_bound (slot_at i w.ring.slots) ≡ true → Going c (set_token (frozen w.ring.token part i) w)
+  pub freezes : (part : List Interval) (i : ℕ) → (IsInRange c w.ring → Rises part) → owns_none w.ring.token part ≡ false →
+      IsTrue (may_freeze w.ring.token part) → holds_bound (slot_at i w.ring.slots) ≡ true → Going c (set_token (frozen w.ring.token part i) w)
   freezes part i rises some fit bound =
       tokens (frozen w.ring.token part i) (omega arith) (omega arith) (λ r. frozen_in_range w.ring.token r.token part i (rises r) some fit) (λ r. bound)
 

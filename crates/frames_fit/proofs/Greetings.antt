@@ -23,7 +23,7 @@ use Rattle.frames_fit.specs.InRange.{IsInRange, LinkInRange, holds_bound}
 use Rattle.frames_fit.proofs.Facts.{node_addressed, session_from, take_format, who_addressed, within_from, within_parts}
 use Rattle.frames_fit.proofs.Going.{Going, begins, drops, phases, puts, sends}
 use Rattle.frames_fit.proofs.Places.{found_passes, free_unbound, hello_unbound, is_frozen_in}
-use Rattle.frames_fit.proofs.Saying.{SettingsInRange, answers, found, hello_said, in_session_of, link_in_range, not_frozen, offer_said, renew_said, says_gone, take_said}
+use Rattle.frames_fit.proofs.Saying.{SettingsInRange, answers, first_round, found, hello_said, in_session_of, link_in_range, moved_in_range, not_frozen, offer_said, renew_said, says_gone, take_said}
 
 -- the smaller of two lengths
 pub least_lease : (m n : ℕ) → IsTrue (is_lease m) → IsTrue (is_lease n) → IsTrue (is_lease (min m n))
@@ -35,16 +35,30 @@ least_lease m n h k =
 
 -- links that begin
 
-module _ (set : Settings) (now : ℕ) (r : Ring) where
+module _ (set : Settings) (fine : SettingsInRange set) (now : ℕ) (r : Ring) where
   pub greeting_in_range : (node wire len : ℕ) → IsTrue (is_node node) → IsTrue (is_lease len) → IsTrue (is_counted r.next_session) →
       LinkInRange (greeting_link set now r node wire len)
-  greeting_in_range node wire len h k m =
-      record { names = node_addressed (node_instance node 0) h refl; mine = m; length = k; held = refl; got = refl; flight = tt }
+  greeting_in_range node wire len h k m = record {
+    names = node_addressed (node_instance node 0) h refl;
+    mine = m;
+    length = k;
+    held = refl;
+    got = refl;
+    flight = tt;
+    rounds = first_round set fine r.me;
+  }
 
-  pub offered_in_range : (from : Who) (theirs wire len : ℕ) → IsTrue (is_who from) → IsTrue (is_counted theirs) → IsTrue (is_lease len) →
+  offered_in_range : (from : Who) (theirs wire len : ℕ) → IsTrue (is_who from) → IsTrue (is_counted theirs) → IsTrue (is_lease len) →
       IsTrue (is_counted r.next_session) → LinkInRange (offered_link set now r from theirs wire len)
-  offered_in_range from theirs wire len h t k m =
-      record { names = and_from (is_who from) (is_counted theirs) h t; mine = m; length = k; held = refl; got = refl; flight = tt }
+  offered_in_range from theirs wire len h t k m = record {
+    names = and_from (is_who from) (is_counted theirs) h t;
+    mine = m;
+    length = k;
+    held = refl;
+    got = refl;
+    flight = tt;
+    rounds = first_round set fine r.me;
+  }
 
 -- places that greet
 
@@ -70,12 +84,13 @@ module _ (c : FabricConfig) (w : Work) (a : Going c w) where
 
   pub greets_plainly : (set : Settings) → SettingsInRange set → (now node : ℕ) → IsTrue (is_node node) → Going c (greet_plainly set now node w)
   greets_plainly set fine now node h =
-      greets (greeting_link set now w.ring node 1 set.lease) (λ why v. v) refl (λ m. greeting_in_range set now w.ring node 1 set.lease h fine.lease m)
+      greets (greeting_link set now w.ring node 1 set.lease) (λ why v. v) refl (λ m. greeting_in_range set fine now w.ring node 1 set.lease h fine.lease m)
       (node_addressed (node_instance node 0) h refl) (λ why. a)
 
   -- a Hello is accepted by a new link
 
-  accepts : (l : Link) → l.mine ≡ w.ring.next_session → (IsTrue (is_counted l.mine) → LinkInRange l) → is_hello l.state ≡ false → Going c (rows.hello_accepted l w)
+  accepts : (l : Link) → l.mine ≡ w.ring.next_session → (IsTrue (is_counted l.mine) → LinkInRange l) → is_hello l.state ≡ false →
+      Going c (rows.hello_accepted l w)
   accepts l next fine met = free (slot_where is_free w.ring.slots) refl
     where
       free : (o : Option ℕ) → slot_where is_free w.ring.slots ≡ o → Going c (rows.accept_free l w o)
@@ -102,7 +117,8 @@ module _ (c : FabricConfig) (w : Work) (a : Going c w) where
       crossed i e true = a
       crossed i e false =
           accepts c (drop_slot i w)
-          (drops c w a i (λ r. not_frozen i (greets_unbound l.peer.actor (slot_at i w.ring.slots) (found_passes (of_node is_hello l.peer.actor) w.ring.slots i e)) r))
+          (drops c w a i (λ r. not_frozen i
+          (greets_unbound l.peer.actor (slot_at i w.ring.slots) (found_passes (of_node is_hello l.peer.actor) w.ring.slots i e)) r))
           l next fine met
 
       of_node_at : (o : Option ℕ) → slot_where (of_node is_hello l.peer.actor) w.ring.slots ≡ o → Going c (rows.hello_of_node l w o)
@@ -113,11 +129,11 @@ module _ (c : FabricConfig) (w : Work) (a : Going c w) where
       of_instance_at (Some i) = repeated i (slot_at i w.ring.slots) refl
       of_instance_at None = of_node_at (slot_where (of_node is_hello l.peer.actor) w.ring.slots) refl
 
-  pub hello_going : (set : Settings) (now : ℕ) (from : Who) (theirs wire len : ℕ) → IsTrue (is_who from) → IsTrue (is_counted theirs) → IsTrue (is_lease len) →
-      Going c (hello_received set now from theirs wire len w)
+  pub hello_going : (set : Settings) → SettingsInRange set → (now : ℕ) (from : Who) (theirs wire len : ℕ) → IsTrue (is_who from) →
+      IsTrue (is_counted theirs) → IsTrue (is_lease len) → Going c (hello_received set now from theirs wire len w)
   unfolding hello_received
-  hello_going set now from theirs wire len h t k =
-      meets (offered_link set now w.ring from theirs wire len) refl (λ m. offered_in_range set now w.ring from theirs wire len h t k m) refl
+  hello_going set fine now from theirs wire len h t k =
+      meets (offered_link set now w.ring from theirs wire len) refl (λ m. offered_in_range set fine now w.ring from theirs wire len h t k m) refl
 
   -- an Offer is taken
 
@@ -137,6 +153,7 @@ module _ (c : FabricConfig) (w : Work) (a : Going c w) where
         held = m.held;
         got = m.got;
         flight = m.flight;
+        rounds = m.rounds;
       }
 
       taken : (i : ℕ) (o : Option Link) → slot_at i w.ring.slots ≡ o → Going c (rows.offer_taken now from theirs len i o w)
@@ -164,16 +181,15 @@ module _ (c : FabricConfig) (w : Work) (a : Going c w) where
       Going c (take_received now from theirs own w)
   unfolding take_received
   take_going now from theirs own reads h s =
-      found c w a (rows.take_seen now) (answer_unknown from theirs own) (slot_where (of_session from own theirs) w.ring.slots) inside (answers c w a from theirs own h s)
+      found c w a (rows.take_seen now) (answer_unknown from theirs own) (slot_where (of_session from own theirs) w.ring.slots) inside
+      (answers c w a from theirs own h s)
     where
       inside : (i : ℕ) (l : Link) (st : LinkState) → slot_at i w.ring.slots ≡ Some l → l.state ≡ st → Going c (rows.take_seen now i l st w)
       inside i l state.Offered e f =
           let put : Work = put_slot i (record l { state = state.Bound }) w in
           let met : is_hello l.state ≡ false = λ j. is_hello (f j) in
           let puts_it : Going c put = puts c w a i (record l { state = state.Bound })
-          (λ r. let m = link_in_range i l e r in
-          record { names = (in_session_of l m met).names; mine = m.mine; length = m.length; held = m.held; got = m.got; flight = m.flight })
-          (λ r z. refl) in
+          (λ r. moved_in_range l (link_in_range i l e r) met state.Bound refl l.ripe l.tally) (λ r z. refl) in
           let says_it : Going c (send l.peer (renew_body now l w.ring) put) = sends c put puts_it l.peer (renew_body now l w.ring)
           (λ r. let old = (a r.numbers).ring in let m = link_in_range i l e old in renew_said l m (in_session_of l m met) now w.ring old reads) in
           phases c (send l.peer (renew_body now l w.ring) put) says_it bound_phase

@@ -6,7 +6,9 @@ pub mod Saying
 pub mod Greetings
 pub mod Renewals
 pub mod Flights
+pub mod Asking
 pub mod Rulings
+pub mod Claims
 pub mod Settled
 pub mod Routes
 pub mod Commands
@@ -15,7 +17,9 @@ pub mod Firing
 pub mod Frames
 pub mod Steps
 pub mod Posting
+pub mod Each
 pub mod Nodes
+pub mod Tables
 pub mod Arbiters
 pub mod Worlds
 pub mod Valid

@@ -25,7 +25,7 @@ use Rattle.frames_fit.specs.Formats.{InputInFormat, in_format}
 use Rattle.frames_fit.specs.InRange.{IsInRange}
 use Rattle.frames_fit.proofs.Facts.{counted_from, who_sends}
 use Rattle.frames_fit.proofs.Going.{Done}
-use Rattle.frames_fit.proofs.Posting.{ActsInFormat, posted_sound}
+use Rattle.frames_fit.proofs.Posting.{ActsInFormat, KeptInRange, posted_sound}
 use Rattle.frames_fit.proofs.Steps.{ring_done, spent_left, started_in_range}
 
 pub record NodeInRange (a : Upper) (p : SendsInFormat a) (c : FabricConfig) (s : NodeState a) : Type 0 where
@@ -39,7 +39,7 @@ LiveInRange a p c s = is_left s.ring.phase ≡ false → NodeInRange a p c s
 -- what it leaves in a step
 pub record NodeActs (a : Upper) (p : SendsInFormat a) (c : FabricConfig) (d : Did (NodeState a)) : Type 0 where
   pub state : LiveInRange a p c d.state
-  pub acts : ActsInFormat p.Kept d.state.ring.me d
+  pub acts : ActsInFormat p d.state.ring.me d
 
 module _ (a : Upper) (p : SendsInFormat a) (c : FabricConfig) (sound : IsSound c) where
   -- Its step.
@@ -65,12 +65,12 @@ module _ (a : Upper) (p : SendsInFormat a) (c : FabricConfig) (sound : IsSound c
     left_acts : is_left s.ring.phase ≡ true → NodeActs a p c (both_did a c s.ring (begun s.ring) (idle s.above))
     left_acts e = record {
       state = λ f. absurd (cc (e, f));
-      acts = record { records = All-nil p.Kept; posts = λ frames h. h };
+      acts = record { records = All-nil (KeptInRange p); posts = λ frames h. h };
     }
 
     -- where it goes on
 
-    both_acts : (k : Work) (d : Did a.Above) → Done c k → DidInFormat (p.Above c) p.Kept d → NodeActs a p c (both_did a c s.ring k d)
+    both_acts : (k : Work) (d : Did a.Above) → Done c k → DidInFormat (p.Above c) (KeptInRange p) d → NodeActs a p c (both_did a c s.ring k d)
     both_acts k d done above = record {
       state = λ f. record { ring = done.ring; above = above.state };
       acts = record {
@@ -80,12 +80,14 @@ module _ (a : Upper) (p : SendsInFormat a) (c : FabricConfig) (sound : IsSound c
       };
     }
 
-    goes_acts : IsNumber now → InputInFormat i → NodeInRange a p c s → (k : Work) → Done c k → NodeActs a p c (both_did a c s.ring k (above_acts a c now i s k.ring))
-    goes_acts reads h r k done = both_acts k (above_acts a c now i s k.ring) done (by_test (not (is_left k.ring.phase) && comes_above (settings_of c s.ring.me.actor) s.ring i))
+    goes_acts : IsNumber now → InputInFormat i → NodeInRange a p c s → (k : Work) → Done c k →
+        NodeActs a p c (both_did a c s.ring k (above_acts a c now i s k.ring))
+    goes_acts reads h r k done =
+        both_acts k (above_acts a c now i s k.ring) done (by_test (not (is_left k.ring.phase) && comes_above (settings_of c s.ring.me.actor) s.ring i))
       where
-        by_test : (b : Bool) → DidInFormat (p.Above c) p.Kept (above_if a c now k.ring s.above i b)
+        by_test : (b : Bool) → DidInFormat (p.Above c) (KeptInRange p) (above_if a c now k.ring s.above i b)
         by_test true = p.above_step c now k.ring s.above i sound reads done.ring r.above h
-        by_test false = record { state = r.above; records = All-nil p.Kept; sent = All-nil (λ m. IsTrue (in_format m)) }
+        by_test false = record { state = r.above; records = All-nil (KeptInRange p); sent = All-nil (λ m. IsTrue (in_format m)) }
 
     pub node_acts : IsNumber now → InputInFormat i → LiveInRange a p c s → NodeActs a p c (node_step a c now i s)
     unfolding node_step
@@ -104,7 +106,8 @@ module _ (a : Upper) (p : SendsInFormat a) (c : FabricConfig) (sound : IsSound c
 
   -- Its start.
 
-  module _ (node : ℕ) (records : List Record) (named : IsTrue (is_node node)) (listed : is_configured_node c node ≡ true) (kept : All p.Kept records) where
+  module _ (node : ℕ) (records : List Record) (named : IsTrue (is_node node)) (listed : is_configured_node c node ≡ true)
+      (kept : All (KeptInRange p) records) where
     me : Who
     me = node_instance node (instance_begun records)
 
@@ -116,12 +119,12 @@ module _ (a : Upper) (p : SendsInFormat a) (c : FabricConfig) (sound : IsSound c
         by_spent true f = absurd (cc (f))
         by_spent false f = let few = leb-false last_number (boots_of records) e in counted_from (boots_of records + 1) (omega arith) (omega arith)
 
-    boot_recorded : All p.Kept (boot_kept records)
+    boot_recorded : All (KeptInRange p) (boot_kept records)
     boot_recorded = by_spent (is_spent records) refl
       where
-        by_spent : (b : Bool) → is_spent records ≡ b → All p.Kept (cond b [] (Boot (instance_begun records) ∷ []))
-        by_spent true e = All-nil p.Kept
-        by_spent false e = All-cons p.Kept (Boot (instance_begun records)) [] (p.boot (instance_begun records) (counted e)) (All-nil p.Kept)
+        by_spent : (b : Bool) → is_spent records ≡ b → All (KeptInRange p) (cond b [] (Boot (instance_begun records) ∷ []))
+        by_spent true e = All-nil (KeptInRange p)
+        by_spent false e = All-cons (KeptInRange p) (Boot (instance_begun records)) [] (counted e) (All-nil (KeptInRange p))
 
     not_spent : is_left (node_started c (node_instance node (instance_begun records)) (is_spent records)).ring.phase ≡ false → is_spent records ≡ false
     not_spent = by_spent (is_spent records)

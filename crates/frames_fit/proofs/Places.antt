@@ -50,7 +50,7 @@ found_passes t slots i e =
     subst (λ (j : ℕ). t (slot_at j slots) ≡ true) same f.passes
 
 -- a used place is within the table, and holds what is put there
-pub used_within : (slots : Slots) (i : ℕ) (l : Link) → slot_at i slots ≡ Some l → i < length slots
+used_within : (slots : Slots) (i : ℕ) (l : Link) → slot_at i slots ≡ Some l → i < length slots
 used_within [] i l e = absurd (cc (e))
 used_within (o ∷ os) zero l e = omega arith
 used_within (o ∷ os) (suc i) l e = let lt = used_within os i l e in omega arith
@@ -88,7 +88,8 @@ bound_within (o ∷ os) zero h = omega arith
 bound_within (o ∷ os) (suc i) h = let lt = bound_within os i h in omega arith
 
 -- it is for a link that is bound
-pub frozen_bound : (slots : Slots) (i : ℕ) (f : Option Freeze) → IsTrue (is_frozen_for_bound f slots) → is_frozen_in i f ≡ true → holds_bound (slot_at i slots) ≡ true
+pub frozen_bound : (slots : Slots) (i : ℕ) (f : Option Freeze) → IsTrue (is_frozen_for_bound f slots) → is_frozen_in i f ≡ true →
+    holds_bound (slot_at i slots) ≡ true
 frozen_bound slots i None h k = absurd (cc (k))
 frozen_bound slots i (Some z) h k = subst (λ (j : ℕ). holds_bound (slot_at j slots) ≡ true) (eqb-true z.slot i k) h
 

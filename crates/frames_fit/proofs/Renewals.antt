@@ -36,7 +36,7 @@ confirmed_in_range (Some f) got h = by_test (nat_le f.number got)
     by_test true = tt
     by_test false = h
 
-pub renewed_in_range : (l : Link) (version got : ℕ) (ranges : List Interval) → LinkInRange l → is_hello l.state ≡ false → IsTrue (is_proper ranges) →
+renewed_in_range : (l : Link) (version got : ℕ) (ranges : List Interval) → LinkInRange l → is_hello l.state ≡ false → IsTrue (is_proper ranges) →
     LinkInRange (renewed l version got ranges)
 renewed_in_range l version got ranges h met k = by_test (nat_lt l.held_version version)
   where
@@ -48,6 +48,7 @@ renewed_in_range l version got ranges h met k = by_test (nat_lt l.held_version v
       held = k;
       got = h.got;
       flight = confirmed_in_range l.flight got h.flight;
+      rounds = h.rounds;
     }
     by_test false = record {
       names = (in_session_of l h met).names;
@@ -56,6 +57,7 @@ renewed_in_range l version got ranges h met k = by_test (nat_lt l.held_version v
       held = h.held;
       got = h.got;
       flight = confirmed_in_range l.flight got h.flight;
+      rounds = h.rounds;
     }
 
 pub near_rises : {c : FabricConfig} (r : Ring) (l : Link) → IsInRange c r → Rises (near_part r l)
@@ -64,7 +66,7 @@ near_rises r l h =
 
 module _ (c : FabricConfig) (w : Work) (a : Going c w) where
   -- the nearer part is frozen for a link that is bound
-  pub grants : (i : ℕ) (l : Link) (want : Bool) → holds_bound (slot_at i w.ring.slots) ≡ true → Going c (grant_wanted i l want w)
+  grants : (i : ℕ) (l : Link) (want : Bool) → holds_bound (slot_at i w.ring.slots) ≡ true → Going c (grant_wanted i l want w)
   grants i l want bound = granted (want && is_routing w.ring.phase && not (is_some w.ring.token.freeze) && not (has_flight l))
     where
       frozen : (b : Bool) → (not (owns_none w.ring.token (near_part w.ring l)) && may_freeze w.ring.token (near_part w.ring l)) ≡ b →
@@ -81,11 +83,13 @@ module _ (c : FabricConfig) (w : Work) (a : Going c w) where
 module _ (c : FabricConfig) (w : Work) (a : Going c w) where
   -- a Renew is heard: the link l in place of the one that was met
   heard : (i : ℕ) (before l : Link) (stamp version : ℕ) (want : Bool) → slot_at i w.ring.slots ≡ Some before → (IsInRange c w.ring → LinkInRange l) →
-      is_bound l.state ≡ true → is_hello l.state ≡ false → IsTrue (is_stamp stamp) → IsTrue (is_word version) → Going c (rows.renew_heard i l stamp version want w)
+      is_bound l.state ≡ true → is_hello l.state ≡ false → IsTrue (is_stamp stamp) → IsTrue (is_word version) →
+      Going c (rows.renew_heard i l stamp version want w)
   heard i before l stamp version want e fine bound met k m =
       let put : Work = put_slot i l w in
       let puts_it : Going c put = puts c w a i l fine (λ r z. bound) in
-      let says_it : Going c (send l.peer (body.RenewAck l.mine l.yours stamp version) put) = sends c put puts_it l.peer (body.RenewAck l.mine l.yours stamp version)
+      let says_it : Going c (send l.peer (body.RenewAck l.mine l.yours stamp version) put) =
+      sends c put puts_it l.peer (body.RenewAck l.mine l.yours stamp version)
       (λ r. let h = fine (a r.numbers).ring in ack_said l h (in_session_of l h met) stamp version k m) in
       grants c (send l.peer (body.RenewAck l.mine l.yours stamp version) put) says_it i l want
       (subst (λ (o : Option Link). holds_bound o ≡ true) (sym (set_at w.ring.slots i before (Some l) e)) bound)
@@ -99,7 +103,8 @@ module _ (c : FabricConfig) (w : Work) (a : Going c w) where
       found c w a (rows.renew_seen stamp version got want ranges) (answer_unknown from theirs own) (slot_where (of_session from own theirs) w.ring.slots) inside
       (answers c w a from theirs own h s)
     where
-      inside : (i : ℕ) (l : Link) (st : LinkState) → slot_at i w.ring.slots ≡ Some l → l.state ≡ st → Going c (rows.renew_seen stamp version got want ranges i l st w)
+      inside : (i : ℕ) (l : Link) (st : LinkState) → slot_at i w.ring.slots ≡ Some l → l.state ≡ st →
+          Going c (rows.renew_seen stamp version got want ranges i l st w)
       inside i l state.Offered e f =
           heard c (set_phase bound_phase w) (phases c w a bound_phase) i l (renewed l version got ranges) stamp version want e
           (λ r. renewed_in_range l version got ranges (link_in_range i l e r) (λ j. is_hello (f j)) n) refl refl k m
@@ -117,7 +122,7 @@ module _ (c : FabricConfig) (w : Work) (a : Going c w) where
       later : (i : ℕ) (l : Link) → slot_at i w.ring.slots ≡ Some l → Going c (put_slot i (acknowledged l stamp version) w)
       later i l e = puts c w a i (acknowledged l stamp version)
           (λ r. let m = link_in_range i l e r in
-          record { names = m.names; mine = m.mine; length = m.length; held = m.held; got = m.got; flight = m.flight })
+          record { names = m.names; mine = m.mine; length = m.length; held = m.held; got = m.got; flight = m.flight; rounds = m.rounds })
           (λ r. still_bound i l e r)
 
       inside : (i : ℕ) (l : Link) (st : LinkState) → slot_at i w.ring.slots ≡ Some l → l.state ≡ st → Going c (rows.ack_seen stamp version i l st w)

@@ -1,17 +1,13 @@
 -- The calls on a token keep it in range.
-use Rattle.std.proofs.Common.{◌≡◌, ℕ, ◌+◌, ◌-◌, ◌/◌, ◌%◌, ◌^◌, ◌<◌, ◌≤◌, Bool, true, false, cond, List, [], ◌∷◌, ◌++◌, Option, Some, None, IsTrue, refl, sym, subst, arith}
-use Rattle.std.specs.Prelude.{◌==◌, nat_le, nat_lt}
+use Rattle.std.proofs.Common.{◌≡◌, ℕ, Bool, true, false, List, [], ◌∷◌, Option, Some, None, IsTrue, refl, sym, subst}
+use Rattle.std.specs.Prelude.{◌==◌}
 use Rattle.std.proofs.lemmas.Bool.{and_parts, and_from}
-use Rattle.std.proofs.lemmas.Bool.Decides.{nat_tests}
 use Rattle.ring_points.specs.declared.interval.Interval.{Interval}
-use Rattle.ring_points.specs.Distances.{ahead_of}
 use Rattle.ring_points.specs.Ranges.{fits, is_proper, rises_from}
-use Rattle.ring_points.specs.Sets.{span, arc, nearer_from, nearer_arc, nearer_part_of, union_of, minus_of, meet_of}
+use Rattle.ring_points.specs.Sets.{union_of, minus_of, meet_of}
 use Rattle.ring_points.proofs.Cuts.{rises_from-minus_of}
 use Rattle.ring_points.proofs.Joins.{rises_from-union_of}
-use Rattle.ring_points.proofs.NearerPart.{nearer_part_rises}
-use Rattle.ring_points.proofs.Rising.{rises_from-append}
-use Rattle.ring_points.proofs.Spans.{in_ranges-span, rises_from-span}
+use Rattle.ring_points.proofs.Meets.{rises_from-meet_of}
 use Rattle.ring_rules.specs.Deeds.{undone, undone_at, undone_if}
 use Rattle.ring_rules.specs.Renewals.{may_freeze, owns_none}
 use Rattle.fabric_terms.specs.Fields.{is_part, is_some}
@@ -25,7 +21,7 @@ Rises is = IsTrue (rises_from 0 is)
 
 -- Lists.
 
-pub proper_from : (is : List Interval) → IsTrue (fits is) → Rises is → IsTrue (is_proper is)
+proper_from : (is : List Interval) → IsTrue (fits is) → Rises is → IsTrue (is_proper is)
 proper_from is h k = and_from (fits is) (rises_from 0 is) h k
 
 pub proper_rises : (is : List Interval) → IsTrue (is_proper is) → Rises is
@@ -46,20 +42,18 @@ freeze_rises None h = refl
 freeze_rises (Some z) h = part_rises z.part h
 
 module _ (t : Token) (h : TokenInRange t) where
-  ranges_rise : Rises t.ranges
-  ranges_rise = proper_rises t.ranges h.ranges
-
   pub owned_rises : Rises t.ranges
-  owned_rises = ranges_rise
+  owned_rises = proper_rises t.ranges h.ranges
 
   pub announced_proper : IsTrue (is_proper (announced t))
-  announced_proper = proper_from (announced t) h.announced (rises_from-minus_of 0 0 t.ranges (frozen_part t.freeze) ranges_rise (freeze_rises t.freeze h.freeze))
+  announced_proper =
+      proper_from (announced t) h.announced (rises_from-minus_of 0 0 t.ranges (frozen_part t.freeze) owned_rises (freeze_rises t.freeze h.freeze))
 
   pub gained_in_range : (part : List Interval) → Rises part → IsTrue (can_gain t part) → TokenInRange (gained t part)
   gained_in_range part k fit =
       let fits_both = and_parts (fits (gained t part).ranges) (fits (announced (gained t part))) fit in
       record {
-        ranges = proper_from (union_of t.ranges part) fits_both.0 (rises_from-union_of 0 0 t.ranges part ranges_rise k);
+        ranges = proper_from (union_of t.ranges part) fits_both.0 (rises_from-union_of 0 0 t.ranges part owned_rises k);
         announced = fits_both.1;
         freeze = h.freeze;
       }
@@ -73,7 +67,7 @@ module _ (t : Token) (h : TokenInRange t) where
         announced = fits_both.1;
         freeze =
             and_from (is_proper (meet_of t.ranges part)) (is_some (meet_of t.ranges part))
-            (proper_from (meet_of t.ranges part) fits_both.0 (rises_from-meet_of 0 0 t.ranges part ranges_rise k)) (some_from (meet_of t.ranges part) some);
+            (proper_from (meet_of t.ranges part) fits_both.0 (rises_from-meet_of 0 0 t.ranges part owned_rises k)) (some_from (meet_of t.ranges part) some);
       }
 
   pub unfrozen_in_range : TokenInRange (unfrozen t)
@@ -81,24 +75,14 @@ module _ (t : Token) (h : TokenInRange t) where
 
   pub given_in_range : (z : Freeze) → t.freeze ≡ Some z → TokenInRange (given t z)
   given_in_range z e =
-      let left : IsTrue (is_proper (minus_of t.ranges z.part)) = subst (λ (o : Option Freeze). IsTrue (is_proper (minus_of t.ranges (frozen_part o)))) e announced_proper in
+      let left : IsTrue (is_proper (minus_of t.ranges z.part)) =
+      subst (λ (o : Option Freeze). IsTrue (is_proper (minus_of t.ranges (frozen_part o)))) e announced_proper in
       record { ranges = left; announced = (and_parts (fits (minus_of t.ranges z.part)) (rises_from 0 (minus_of t.ranges z.part)) left).0; freeze = tt }
 
   pub inherited_rises : (held flight : List Interval) → Rises held → Rises flight → Rises (inherited t held flight)
-  inherited_rises held flight k l = rises_from-minus_of 0 0 (union_of held flight) t.ranges (rises_from-union_of 0 0 held flight k l) ranges_rise
+  inherited_rises held flight k l = rises_from-minus_of 0 0 (union_of held flight) t.ranges (rises_from-union_of 0 0 held flight k l) owned_rises
 
 -- A freeze that is undone.
-
-pub undone_in_range : (i : ℕ) (t : Token) → TokenInRange t → TokenInRange (undone i t)
-undone_in_range i t h = at t.freeze
-  where
-    by_place : (b : Bool) → TokenInRange (undone_if t b)
-    by_place true = unfrozen_in_range t h
-    by_place false = h
-
-    at : (o : Option Freeze) → TokenInRange (undone_at i t o)
-    at None = h
-    at (Some z) = by_place (z.slot == i)
 
 -- no part is frozen for the place any more
 pub undone_not_in : (i : ℕ) (t : Token) → is_frozen_in i (undone i t).freeze ≡ false

@@ -23,11 +23,12 @@ use Rattle.world_rules.specs.Worlds.{Running, World, arbiter_acted, arbiter_who,
 use Rattle.world_rules.proofs.Rows.{is_there-start}
 use Rattle.frames_fit.specs.Above.{SendsInFormat}
 use Rattle.frames_fit.specs.Formats.{InputInFormat}
-use Rattle.frames_fit.proofs.Arbiters.{ArbiterActs, arbiter_acts}
+use Rattle.frames_fit.proofs.Arbiters.{ArbiterActs, ArbiterInRange, arbiter_acts, arbiter_begins}
 use Rattle.frames_fit.proofs.Facts.{within_from}
 use Rattle.frames_fit.proofs.Nodes as nodes
 use Rattle.frames_fit.proofs.Nodes.{LiveInRange, NodeActs, node_begins}
-use Rattle.frames_fit.proofs.Posting.{Each, Sound, at_each, got_all, put_each, without_each}
+use Rattle.frames_fit.proofs.Each.{Each, at_each, got_all, put_each, without_each}
+use Rattle.frames_fit.proofs.Posting.{KeptInRange, Sound}
 
 -- a running node: its clock and its state
 pub record RunningInRange (a : Upper) (p : SendsInFormat a) (c : FabricConfig) (s : Running a) : Type 0 where
@@ -36,15 +37,15 @@ pub record RunningInRange (a : Upper) (p : SendsInFormat a) (c : FabricConfig) (
 
 pub record WorldInRange (a : Upper) (p : SendsInFormat a) (c : FabricConfig) (w : World a) : Type 0 where
   pub nodes : Each (RunningInRange a p c) w.nodes
-  pub arbiters : Each (λ s. p.Beside c s.beside) w.arbiters
-  pub kept : Each (All p.Kept) w.kept
+  pub arbiters : Each (ArbiterInRange a p c) w.arbiters
+  pub kept : Each (All (KeptInRange p)) w.kept
   pub frames : All Sound w.frames
 
 pub empty_in_range : (a : Upper) (p : SendsInFormat a) (c : FabricConfig) → WorldInRange a p c (empty_world a)
 empty_in_range a p c = record {
   nodes = All-nil (λ e. RunningInRange a p c e.1);
-  arbiters = All-nil (λ e. p.Beside c e.1.beside);
-  kept = All-nil (λ e. All p.Kept e.1);
+  arbiters = All-nil (λ e. ArbiterInRange a p c e.1);
+  kept = All-nil (λ e. All (KeptInRange p) e.1);
   frames = All-nil Sound;
 }
 
@@ -54,22 +55,25 @@ module _ (a : Upper) (p : SendsInFormat a) (c : FabricConfig) (sound : IsSound c
 
   -- records of an actor, and with more of them
 
-  kept_in_range : (actor : ℕ) → All p.Kept (kept_of w actor)
+  kept_in_range : (actor : ℕ) → All (KeptInRange p) (kept_of w actor)
   kept_in_range actor = found (at actor w.kept) refl
     where
-      found : (o : Option (List Record)) → at actor w.kept ≡ o → All p.Kept (unwrap_or o [])
-      found None e = All-nil p.Kept
-      found (Some rs) e = at_each (All p.Kept) actor w.kept rs h.kept e
+      found : (o : Option (List Record)) → at actor w.kept ≡ o → All (KeptInRange p) (unwrap_or o [])
+      found None e = All-nil (KeptInRange p)
+      found (Some rs) e = at_each (All (KeptInRange p)) actor w.kept rs h.kept e
 
-  kept_with : (actor : ℕ) (records : List Record) → All p.Kept records → Each (All p.Kept) (put actor (kept_of w actor ++ records) w.kept)
+  kept_with : (actor : ℕ) (records : List Record) → All (KeptInRange p) records → Each (All (KeptInRange p)) (put actor (kept_of w actor ++ records) w.kept)
   kept_with actor records more =
-      put_each (All p.Kept) actor (kept_of w actor ++ records) w.kept (All-append p.Kept (kept_of w actor) records (kept_in_range actor) more) h.kept
+      put_each (All (KeptInRange p)) actor (kept_of w actor ++ records) w.kept
+      (All-append (KeptInRange p) (kept_of w actor) records (kept_in_range actor) more) h.kept
 
   -- what a node and an arbitrator do
 
   node_did : (n reading : ℕ) (pairs : List Pair) (d : Did (NodeState a)) → IsNumber reading → NodeActs a p c d → Fine (node_acted a w n reading pairs d).world
   node_did n reading pairs d reads did = record {
-    nodes = put_each (RunningInRange a p c) n (record { node = d.state; reading = reading; pairs = pairs }) w.nodes (record { reading = reads; node = did.state }) h.nodes;
+    nodes =
+        put_each (RunningInRange a p c) n (record { node = d.state; reading = reading; pairs = pairs }) w.nodes
+        (record { reading = reads; node = did.state }) h.nodes;
     arbiters = h.arbiters;
     kept = kept_with d.state.ring.me.actor d.records did.acts.records;
     frames = did.acts.posts w.frames h.frames;
@@ -78,16 +82,12 @@ module _ (a : Upper) (p : SendsInFormat a) (c : FabricConfig) (sound : IsSound c
   arbiter_did : (arbiter : ℕ) (d : Did (ArbiterState a)) → ArbiterActs a p c (arbiter_who arbiter) d → Fine (arbiter_acted a w arbiter d).world
   arbiter_did arbiter d did = record {
     nodes = h.nodes;
-    arbiters = put_each (λ s. p.Beside c s.beside) arbiter d.state w.arbiters did.state h.arbiters;
+    arbiters = put_each (ArbiterInRange a p c) arbiter d.state w.arbiters did.state h.arbiters;
     kept = kept_with (arbiter_who arbiter).actor d.records did.acts.records;
     frames = did.acts.posts w.frames h.frames;
   }
 
   -- starts and stops
-
-  table_begins : (arbiter : ℕ) (records : List Record) → All p.Kept records → p.Beside c (arbiter_begun a c arbiter records).beside
-  unfolding arbiter_begun
-  table_begins arbiter records kept = p.beside_begun c arbiter records sound kept
 
   start : (actor : ℕ) (o : Option ℕ) → Fits (Start actor o) → IsTrue (may_start c w actor o) → Fine (starts a c w actor o).world
   start actor (Some reading) f may =
@@ -96,8 +96,8 @@ module _ (a : Upper) (p : SendsInFormat a) (c : FabricConfig) (sound : IsSound c
       (node_begins a p c sound actor (kept_of w actor) (within_from 1 999 actor f.0.0 f.0.1) listed (kept_in_range actor))
   start actor None f may = record {
     nodes = h.nodes;
-    arbiters = put_each (λ s. p.Beside c s.beside) (arbiter_number actor) (arbiter_begun a c (arbiter_number actor) (kept_of w actor)) w.arbiters
-        (table_begins (arbiter_number actor) (kept_of w actor) (kept_in_range actor)) h.arbiters;
+    arbiters = put_each (ArbiterInRange a p c) (arbiter_number actor) (arbiter_begun a c (arbiter_number actor) (kept_of w actor)) w.arbiters
+        (arbiter_begins a p c sound (arbiter_number actor) (kept_of w actor) (kept_in_range actor)) h.arbiters;
     kept = h.kept;
     frames = h.frames;
   }
@@ -109,7 +109,7 @@ module _ (a : Upper) (p : SendsInFormat a) (c : FabricConfig) (sound : IsSound c
       table None = h
       table (Some s) = record {
         nodes = h.nodes;
-        arbiters = without_each (λ s. p.Beside c s.beside) (arbiter_number actor) w.arbiters h.arbiters;
+        arbiters = without_each (ArbiterInRange a p c) (arbiter_number actor) w.arbiters h.arbiters;
         kept = h.kept;
         frames = h.frames;
       }
@@ -163,10 +163,12 @@ module _ (a : Upper) (p : SendsInFormat a) (c : FabricConfig) (sound : IsSound c
   arrive_at_node f None e m = h
   arrive_at_node f (Some s) e m = arrive_if f s (f.to.instance == 0 || f.to.instance == s.node.ring.me.instance) e m
 
-  arrive_at_arbiter : (f : Message) (arbiter : ℕ) (o : Option (ArbiterState a)) → at arbiter w.arbiters ≡ o → Sound f → Fine (arrives_at_arbiter a c w f arbiter o).world
+  arrive_at_arbiter : (f : Message) (arbiter : ℕ) (o : Option (ArbiterState a)) → at arbiter w.arbiters ≡ o → Sound f →
+      Fine (arrives_at_arbiter a c w f arbiter o).world
   arrive_at_arbiter f arbiter None e m = h
   arrive_at_arbiter f arbiter (Some s) e m =
-      arbiter_did arbiter (arbiter_step a c arbiter f s) (arbiter_acts a p c sound arbiter f m s (at_each (λ s. p.Beside c s.beside) arbiter w.arbiters s h.arbiters e))
+      arbiter_did arbiter (arbiter_step a c arbiter f s)
+      (arbiter_acts a p c sound arbiter f m s (at_each (ArbiterInRange a p c) arbiter w.arbiters s h.arbiters e))
 
   arrive_at : (f : Message) (b : Bool) → Sound f → Fine (arrives_at a c w f b).world
   arrive_at f true m = arrive_at_arbiter f (arbiter_number f.to.actor) (at (arbiter_number f.to.actor) w.arbiters) refl m

@@ -1,6 +1,7 @@
 -- A ring whose numbers, names and ranges a frame can carry.
 use Rattle.std.specs.Prelude.{◌≡◌, ℕ, ◌≤◌, Bool, true, false, ◌&&◌, Option, Some, None, All, IsTrue}
 use Rattle.fabric_terms.specs.declared.config.FabricConfig.{FabricConfig}
+use Rattle.heir_rounds.specs.Rounds.{RoundTally}
 use Rattle.ring_points.specs.declared.who.Flight.{Flight}
 use Rattle.ring_points.specs.declared.who.Who.{Who}
 use Rattle.ring_points.specs.Ranges.{fits, is_proper}
@@ -9,7 +10,7 @@ use Rattle.ring_rules.specs.declared.link.Link.{Link}
 use Rattle.ring_rules.specs.Deeds.{has_numbers}
 use Rattle.ring_rules.specs.Rings.{Ring, Slots, points_of}
 use Rattle.ring_rules.specs.Slots.{slot_at, is_bound, is_hello}
-use Rattle.fabric_terms.specs.Fields.{is_addressee, is_counted, is_lease, is_node, is_part, is_who, is_word}
+use Rattle.fabric_terms.specs.Fields.{is_addressee, is_counted, is_lease, is_node, is_part, is_round, is_who, is_word}
 use Rattle.token_core.specs.Tokens.{Freeze, Token, announced}
 use Rattle.world_rules.specs.Schedules.{is_configured_node}
 
@@ -24,6 +25,11 @@ abbrev pub FlightInRange : Option Flight → Type 0
 FlightInRange None = Unit {0}
 FlightInRange (Some f) = IsTrue (is_counted f.number && is_part f.part)
 
+-- a round that is claimed, and the last one that can be
+pub record RoundsInRange (t : RoundTally) : Type 0 where
+  pub round : IsTrue (is_round t.round)
+  pub limit : IsTrue (is_round t.limit)
+
 -- what a link's frames carry, and the record that its heir would take over
 pub record LinkInRange (l : Link) : Type 0 where
   pub names : IsTrue (names_peer (is_hello l.state) l.peer l.yours)
@@ -32,6 +38,7 @@ pub record LinkInRange (l : Link) : Type 0 where
   pub held : IsTrue (is_proper l.held)
   pub got : IsTrue (is_word l.got)
   pub flight : FlightInRange l.flight
+  pub rounds : RoundsInRange l.rounds
 
 abbrev pub SlotInRange : Option Link → Type 0
 SlotInRange None = Unit {0}

@@ -1,23 +1,21 @@
 -- That nothing above the ring keeps to the ranges of frames: it sends and records nothing.
 use Rattle.std.proofs.lemmas.List.Elements.{All-nil}
 use Rattle.std.specs.Prelude.{IsTrue}
-use Rattle.fabric_terms.specs.declared.record.Record.{Record}
 use Rattle.world_rules.specs.Nothing.{nothing}
 use Rattle.world_rules.specs.Uppers.{idle}
 use Rattle.frames_fit.specs.Above.{DidInFormat, SendsInFormat}
 use Rattle.frames_fit.specs.Formats.{in_format}
+use Rattle.frames_fit.specs.Tables.{RecordInRange}
 
 -- of an actor that does nothing, all that it does is in its format
-idle_in_format : DidInFormat {S = Unit {0}} (λ s. Unit {0}) (λ r. Unit {0}) (idle tt)
-idle_in_format = record { state = tt; records = All-nil (λ (r : Record). Unit {0}); sent = All-nil (λ m. IsTrue (in_format m)) }
+idle_in_format : DidInFormat {S = Unit {0}} (λ s. Unit {0}) (RecordInRange (λ r. Unit {0})) (idle tt)
+idle_in_format = record { state = tt; records = All-nil (RecordInRange (λ r. Unit {0})); sent = All-nil (λ m. IsTrue (in_format m)) }
 
 pub nothing_sends : SendsInFormat nothing
 nothing_sends = record {
   Above = λ c s. Unit {0};
   Beside = λ c s. Unit {0};
   Kept = λ r. Unit {0};
-  boot = λ instance h. tt;
-  accused = λ victim first h k. tt;
   above_begun = λ c me records sound h kept. tt;
   above_step = λ c now r s i sound reads h above fits. idle_in_format;
   beside_begun = λ c arbiter records sound kept. tt;

@@ -3,6 +3,8 @@ ghost use Rattle.frames_fit.specs.Nothing.{nothing_sends};
 ghost use Rattle.world_rules.specs.Nothing.{nothing};
 ghost use Rattle.world_rules.specs.Uppers.{Upper};
 
+use world_rules::Nothing;
+
 /// What runs above the ring at a node and beside the accusations at an arbitrator, and that it keeps to the ranges of
 /// frames.
 pub trait InFormat {
@@ -10,9 +12,6 @@ pub trait InFormat {
 
     ghost sends: { SendsInFormat upper };
 }
-
-/// Nothing runs above.
-pub struct Nothing;
 
 impl InFormat for Nothing {
     ghost upper = { nothing };

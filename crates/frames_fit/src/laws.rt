@@ -1,7 +1,8 @@
 ghost use Rattle.frames_fit.specs.Laws.{FramesAreInFormat};
 ghost use Rattle.world_rules.specs.Nothing.{nothing};
 
-use crate::above::{InFormat, Nothing};
+use crate::above::InFormat;
+use world_rules::Nothing;
 
 /// In every valid schedule of a sound configuration whose events are in their ranges, every frame that is ever sent is
 /// in the ranges of frames.
