@@ -1,12 +1,13 @@
 -- An arbitrator as a value, and what each call answers and makes of it.
-use Rattle.std.specs.Prelude.{◌≡◌, ◌≢◌, ℕ, Bool, true, false, not, ◌&&◌, nat_lt, nat_le, List, [], ◌∷◌, ◌++◌, length, Option, Some, None, is_some, Result, Ok, Err, if◌then◌else◌}
+use Rattle.std.specs.Prelude.{◌≡◌, ◌≢◌, ℕ, Bool, true, false, nat_lt, nat_le, List, [], ◌∷◌, Option, Some, None, Result, Ok, Err, if◌then◌else◌}
 use Rattle.ring_points.specs.declared.who.Who.{Who}
 use Rattle.fabric_terms.specs.declared.message.Body.{Body}
 use Rattle.fabric_terms.specs.declared.message.Body.TheVariants as body
 use Rattle.fabric_terms.specs.declared.message.Message.{Message}
 use Rattle.fabric_terms.specs.declared.record.Record.{Record}
-use Rattle.fabric_terms.specs.declared.record.Record.TheVariants.{AccusedBy}
-use Rattle.ring_rules.specs.Arbiters.{Accusations, first_accuser, accusation_kept, accusation_ruled, accusations_after, accused_after, takes_frame}
+use Rattle.fabric_terms.specs.declared.record.Record.TheVariants.{AccusedBy, ClaimedBy}
+use Rattle.ring_rules.specs.Arbiters.{Table, no_table, accusation_kept, accusation_ruled, claim_kept, claim_settled, table_after, takes_frame}
+use Rattle.arbiter_tables.specs.Tables.{entries_of}
 use Rattle.arbiter_core.specs.declared.answer.Answer.{Answer}
 use Rattle.arbiter_core.specs.declared.answer.Answer.TheVariants.{Reply, Nothing}
 use Rattle.arbiter_core.specs.declared.answer.ArbiterError.{ArbiterError}
@@ -14,7 +15,7 @@ use Rattle.arbiter_core.specs.declared.answer.ArbiterError.TheVariants.{OutOfMem
 
 pub record Arbiter : Type 0 where
   pub number : ℕ
-  pub accusations : Accusations
+  pub table : Table
 
 -- the answer of a call, and the arbitrator after it
 abbrev pub Outcome : Type 0 → Type 0
@@ -24,41 +25,56 @@ Outcome A = Result A ArbiterError × Arbiter
 abbrev pub most_entries : ℕ
 most_entries = 1000000
 
-abbrev pub keep_where_full : Bool → Who → Who → Arbiter → Outcome (Unit {0})
-keep_where_full true victim first a = (Err TableFull, a)
-keep_where_full false victim first a = (Ok tt, record a { accusations = a.accusations ++ (victim, first) ∷ [] })
+-- what is recorded would need a place that the table has not
+abbrev pub is_full_for : List Record → Table → Bool
+is_full_for [] table = false
+is_full_for (r ∷ rs) table = nat_le most_entries (entries_of table)
 
--- an accusation is recorded, where the table has a place
-abbrev pub keep_call : Who → Who → Arbiter → Outcome (Unit {0})
-keep_call victim first a = keep_where_full (nat_le most_entries (length a.accusations)) victim first a
+-- these records are kept and this is answered, where the table has a place
+abbrev pub kept_where_full : {A : Type 0} → Bool → List Record → A → Arbiter → Outcome A
+kept_where_full true records answer a = (Err TableFull, a)
+kept_where_full false records answer a = (Ok answer, record a { table = table_after a.table records })
+
+abbrev pub keep_call : {A : Type 0} → List Record → A → Arbiter → Outcome A
+keep_call records answer a = kept_where_full (is_full_for records a.table) records answer a
+
+-- a record that an arbitrator's table keeps
+abbrev pub table_records : Record → List Record
+table_records (AccusedBy victim first) = AccusedBy victim first ∷ []
+table_records (ClaimedBy victim round claimer) = ClaimedBy victim round claimer ∷ []
+table_records _ = []
 
 -- what a record says is kept again
 abbrev pub remember_call : Record → Arbiter → Outcome (Unit {0})
-remember_call (AccusedBy victim first) a = keep_call victim first a
-remember_call _ a = (Ok tt, a)
+remember_call r a = keep_call (table_records r) tt a
 
 abbrev pub first_of : List Record → Option Record
 first_of [] = None
 first_of (r ∷ rs) = Some r
 
--- what is recorded would need a place that the table has not
-abbrev pub is_full_for : List Record → Accusations → Bool
-is_full_for [] table = false
-is_full_for (r ∷ rs) table = nat_le most_entries (length table)
-
 -- an accusation is ruled on, and a first one is recorded
 abbrev pub accuse_call : Who → Who → Arbiter → Outcome Answer
 accuse_call accuser victim a =
-    if is_full_for (accusation_kept a.accusations accuser victim) a.accusations then (Err TableFull, a)
-    else (
-      Ok (Reply (first_of (accusation_kept a.accusations accuser victim)) accuser (body.Ruled victim (accusation_ruled a.accusations accuser victim))),
-      record a { accusations = accusations_after a.accusations (accusation_kept a.accusations accuser victim) },
-    )
+    let records = accusation_kept a.table.accusations accuser victim in
+    let ruling = accusation_ruled a.table.accusations accuser victim in
+    keep_call records (Reply (first_of records) accuser (body.Ruled victim ruling)) a
 
--- only an accusation that the arbitrator takes is answered
+-- what a claimer is told, where somebody is kept
+abbrev pub claim_told : Option Record → Who → Who → ℕ → Option Who → Answer
+claim_told item claimer victim round None = Nothing
+claim_told item claimer victim round (Some kept) = Reply item claimer (body.Kept victim round kept)
+
+-- a claim is answered by whom the arbitrator keeps of the round, and the first of a later round is recorded
+abbrev pub claim_call : Who → Who → ℕ → Arbiter → Outcome Answer
+claim_call claimer victim round a =
+    let records = claim_kept a.table claimer victim round in
+    keep_call records (claim_told (first_of records) claimer victim round (claim_settled a.table claimer victim round)) a
+
+-- only an accusation and a claim that the arbitrator takes are answered
 abbrev pub taken : Bool → Body → Who → Arbiter → Outcome Answer
 taken false said from a = (Ok Nothing, a)
 taken true (body.Accuse victim) from a = accuse_call from victim a
+taken true (body.Claim victim round) from a = claim_call from victim round a
 taken true _ from a = (Ok Nothing, a)
 
 abbrev pub frame_call : Message → Arbiter → Outcome Answer
@@ -71,11 +87,11 @@ Answers defined old new (Err e) = (new ≡ old) × (e ≢ OutOfMemory → define
 
 -- the arbitrator that made these records
 abbrev pub restored : ℕ → List Record → Arbiter
-restored number records = record { number = number; accusations = accusations_after [] records }
+restored number records = record { number = number; table = table_after no_table records }
 
 abbrev pub restore_call : ℕ → List Record → Result Arbiter ArbiterError
 restore_call number records =
-    if nat_lt most_entries (length (restored number records).accusations) then Err TableFull else Ok (restored number records)
+    if nat_lt most_entries (entries_of (restored number records).table) then Err TableFull else Ok (restored number records)
 
 -- the result is the one that is defined, but for want of memory
 abbrev pub Gives : Result Arbiter ArbiterError → Result Arbiter ArbiterError → Type 0

@@ -1,11 +1,15 @@
-ghost use Rattle.arbiter_core.specs.Laws.{RecordingOnce, RulingAgain};
+ghost use Rattle.ring_rules.specs.Arbiters.{Table};
+ghost use Rattle.arbiter_core.specs.Laws.{RecordingOnce, RulingAgain, SettledAgain};
 
-/// What is recorded of an accusation is the first record of its victim.
+/// What is recorded of an accusation is the first record of its victim, and what is recorded of a claim the first of its
+/// round, about an accused victim.
 pub fn what_is_recorded_is_new()
-    ensures { RecordingOnce }
+    ensures { (table : Table) → RecordingOnce table }
 {}
 
-/// The same accusation is ruled on as before, once it is recorded.
+/// The same accusation is ruled on as before, once it is recorded; and whoever claims a round again is told whom the
+/// first claim was told.
 pub fn the_same_question_gets_the_same_ruling()
-    ensures { RulingAgain }
+    ensures rulings { RulingAgain }
+    ensures rounds { SettledAgain }
 {}

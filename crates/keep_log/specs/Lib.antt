@@ -1,4 +1,3 @@
-pub mod Keys
 pub mod Spellings
 pub mod Places
 pub mod Outcomes

@@ -17,6 +17,8 @@ pub(crate) const BOOT: u8 = 1;
 
 pub(crate) const ACCUSED_BY: u8 = 2;
 
+pub(crate) const CLAIMED_BY: u8 = 10;
+
 fn put_u8(into: &mut [u8; RECORD_LIMIT], at: usize, n: u8) -> usize
     requires { at + 1 ≤ 600 }
     ensures wrote { Puts (one_byte n) into.old at into.new result }
@@ -69,6 +71,16 @@ pub fn encode_record(item: &Record, into: &mut [u8; RECORD_LIMIT]) -> usize
             let at = put_u8(into, 0, ACCUSED_BY);
             let at = put_who(into, at, *victim);
             put_who(into, at, *first)
+        }
+        Record::ClaimedBy {
+            victim,
+            round,
+            claimer,
+        } => {
+            let at = put_u8(into, 0, CLAIMED_BY);
+            let at = put_who(into, at, *victim);
+            let at = put_u8(into, at, *round);
+            put_who(into, at, *claimer)
         }
         _ => 0,
     }

@@ -1,8 +1,8 @@
 ghost use Rattle.std.specs.Prelude.{◌≡◌, ◌∷◌, ◌++◌, [], true, OnOk};
-ghost use Rattle.ring_rules.specs.Arbiters.{accusations_after};
+ghost use Rattle.ring_rules.specs.Arbiters.{no_table, table_after};
 ghost use Rattle.keep_log.specs.Places.{nothing_kept, is_next, with_record};
 
-use crate::accusers::FirstAccusers;
+use arbiter_tables::Table;
 use fabric_terms::{OutOfMemory, Record};
 use std::alloc::Global;
 use std::marker::Model;
@@ -59,16 +59,12 @@ impl Kept {
         }
     }
 
-    /// Keeps a record that can come next, and the accuser that it names.
-    pub(crate) fn add(
-        &mut self,
-        accused: &mut FirstAccusers,
-        item: Record,
-    ) -> Result<(), OutOfMemory>
-        requires table { accused.old ≡ accusations_after [] self.old.arbiter }
+    /// Keeps a record that can come next, and in the table what it says.
+    pub(crate) fn add(&mut self, table: &mut Table, item: Record) -> Result<(), OutOfMemory>
+        requires table { table.old ≡ table_after no_table self.old.arbiter }
         requires next { is_next self.old item ≡ true }
         ensures kept { OnOk result (self.new ≡ with_record self.old item) }
-        ensures table { OnOk result (accused.new ≡ accusations_after [] self.new.arbiter) }
+        ensures table { OnOk result (table.new ≡ table_after no_table self.new.arbiter) }
     {
         match item {
             Record::Boot { instance } => {
@@ -76,8 +72,20 @@ impl Kept {
                 Ok(())
             }
             Record::AccusedBy { victim, first } => {
-                accused.insert(victim, first)?;
+                table.accuse(victim, first)?;
                 self.arbiter.push(Record::AccusedBy { victim, first })
+            }
+            Record::ClaimedBy {
+                victim,
+                round,
+                claimer,
+            } => {
+                table.claim(victim, round, claimer)?;
+                self.arbiter.push(Record::ClaimedBy {
+                    victim,
+                    round,
+                    claimer,
+                })
             }
             _ => Ok(()),
         }

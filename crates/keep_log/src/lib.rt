@@ -2,22 +2,17 @@
 //!
 //! Each record is synced before anything that the actor says rests on it, so a restarted actor is made of its records
 //! alone. This crate says which bytes are a record, writes and reads them, and says of a whole list at which record it
-//! is good no more. A node's list has its boots, an arbitrator's the first accuser of each victim. The crate stands on
-//! the fields of frames. It promises that what is written is read as the same record, that a list is read exactly where
+//! is good no more. A node's list has its boots, an arbitrator's the first accuser of each victim and the first claimer
+//! of each later round about one. The crate stands on the fields of frames and on an arbitrator's tables. It promises that what is written is read as the same record, that a list is read exactly where
 //! each record stands in its place, and that every front of a good list is a good list.
 #![tactic(auto)]
 
-mod accused;
-mod accusers;
 mod encode;
 mod kept;
 mod kept_error;
 mod laws;
 mod read;
-#[cfg(test)]
-mod tests;
 
-pub use accusers::FirstAccusers;
 pub use encode::{RECORD_LIMIT, encode_record};
 pub use fabric_terms::Record;
 pub use kept::{Kept, Records};

@@ -7,9 +7,9 @@ use Rattle.indexmap.specs.IndexMap.{insert_entry}
 use Rattle.ring_points.specs.declared.who.Who.{Who}
 use Rattle.ring_points.specs.Whos.{same_who}
 use Rattle.ring_rules.specs.Arbiters.{first_accuser}
-use Rattle.keep_log.specs.declared.accused.Accused.{Accused}
-use Rattle.keep_log.specs.contracts.accused.AccusedPartialEq.TheImpl.{eq-value}
-use Rattle.keep_log.specs.Keys.{who_of, accusations_of}
+use Rattle.arbiter_tables.specs.declared.accused.Accused.{Accused}
+use Rattle.arbiter_tables.specs.contracts.accused.AccusedPartialEq.TheImpl.{eq-value}
+use Rattle.arbiter_tables.specs.Keys.{who_of, accusations_of}
 
 -- what `==` says of two keys
 abbrev pub same_key : Accused → Accused → Bool

@@ -1,4 +1,4 @@
-ghost use Rattle.std.specs.Prelude.{◌≡◌, ◌≤◌, ◌∷◌, ◌++◌, [], None, length, OnOk, OnErr};
+ghost use Rattle.std.specs.Prelude.{◌≡◌, ◌<◌, ◌^◌, ◌∷◌, ◌++◌, [], None, length, OnOk, OnErr};
 ghost use Rattle.ring_rules.specs.Arbiters.{first_accuser};
 
 use crate::accused::Accused;
@@ -15,12 +15,11 @@ pub struct FirstAccusers {
 }
 
 impl Model for FirstAccusers {
-    ghost use Rattle.std.specs.Prelude.{List};
-    ghost use Rattle.ring_points.specs.declared.who.Who.{Who};
+    ghost use Rattle.ring_rules.specs.Arbiters.{Accusations};
 
-    ghost Value = { List (Who × Who) };
+    ghost Value = { Accusations };
 
-    ghost use Rattle.keep_log.specs.Keys.{accusations_of};
+    ghost use Rattle.arbiter_tables.specs.Keys.{accusations_of};
 
     ghost view = { λ a. accusations_of a.table.entries };
 }
@@ -36,7 +35,7 @@ impl FirstAccusers {
     }
 
     /// The first accuser of an instance, if it is accused.
-    #[tactic(auto, using(crate::proofs::Tables::as_accusations))]
+    #[tactic(auto, using(crate::proofs::AccuserEntries::as_accusations))]
     pub fn get(&self, victim: Who) -> Option<Who>
         ensures { result ≡ first_accuser victim self.now }
     {
@@ -44,15 +43,16 @@ impl FirstAccusers {
     }
 
     /// How many instances are accused.
-    #[tactic(auto, using(crate::proofs::Tables::as_accusations))]
+    #[tactic(auto, using(crate::proofs::AccuserEntries::as_accusations))]
     pub fn len(&self) -> usize
-        ensures { result ≡ length self.now }
+        ensures len { result ≡ length self.now }
+        ensures small { result < 2 ^ 63 }
     {
         self.table.len()
     }
 
     /// Keeps the first accuser of an instance that is not accused yet.
-    #[tactic(auto, using(crate::proofs::Tables::as_accusations))]
+    #[tactic(auto, using(crate::proofs::AccuserEntries::as_accusations))]
     pub fn insert(&mut self, victim: Who, first: Who) -> Result<(), OutOfMemory>
         requires { first_accuser victim self.old ≡ None }
         ensures ok { OnOk result (self.new ≡ self.old ++ (victim, first) ∷ []) }

@@ -1,5 +1,5 @@
 ghost use Rattle.std.specs.Prelude.{◌≡◌};
-ghost use Rattle.keep_log.specs.Keys.{key_of};
+ghost use Rattle.arbiter_tables.specs.Keys.{key_of};
 
 use ring_points::Who;
 

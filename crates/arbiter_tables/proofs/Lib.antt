@@ -1,0 +1,2 @@
+mod AccuserEntries
+mod ClaimerEntries
