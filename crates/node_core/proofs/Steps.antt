@@ -23,7 +23,7 @@ use Rattle.world_rules.specs.Nodes.{NodeState, above_if, boots_of, both_did, com
 use Rattle.fabric_above.specs.Fabric.{fabric}
 use Rattle.world_rules.specs.Uppers.{Did, idle}
 use Rattle.node_core.specs.declared.outcome.Outcome.{Outcome}
-use Rattle.node_core.specs.Nodes.{Core, Does, GoesBy, core_of}
+use Rattle.node_core.specs.Nodes.{Does, GoesBy, core_of}
 
 -- the name of a node stays
 pub name_stays : (now : ℕ) (i : Input) (old new : Node) (sent : List (Who × Body)) (told : List Report) → step new sent told ≡ acted now i old → new.ring.me ≡ old.ring.me

@@ -47,6 +47,7 @@ impl NodeCore {
     /// Starts a node from what is kept of it: its next instance, or the last again where all numbers are used up, and
     /// then it has left. What was kept is the node's from here on. It is an error where memory is short, and then
     /// `kept` is as it was.
+    #[tactic(auto, unfolding(crate::specs::Nodes::most_frames))]
     pub fn begin(
         alloc: Global,
         config: &FabricConfig,
@@ -131,6 +132,7 @@ impl NodeCore {
     }
 
     /// The step of the node at a desk that is ready for it.
+    #[tactic(auto, unfolding(crate::specs::Nodes::most_frames))]
     fn step_at(&mut self, now: u64, input: &Input, desk: &mut Desk) -> Outcome
         requires now { now ≤ 10 ^ 15 }
         requires input { FitsInput input.now }
@@ -169,6 +171,7 @@ impl NodeCore {
     }
 
     /// How many frames the next step sends at most.
+    #[tactic(auto, unfolding(crate::specs::Nodes::most_frames))]
     pub fn most_frames(&self) -> usize
         ensures frames { result ≡ most_frames self.now.state }
         ensures limit { result ≤ frames_limit }

@@ -2,15 +2,15 @@ ghost use Rattle.std.specs.Prelude.{◌≡◌, ◌<◌, ◌^◌, [], true, IfOk}
 ghost use Rattle.fabric_terms.specs.Sound.{IsSound};
 ghost use Rattle.world_rules.specs.Schedules.{is_configured_node};
 
-use crate::NodeCore;
 use drift_clock::Bound;
 use fabric_terms::{
     Address, Arbiters, Body, Command, FabricConfig, Message, NodeEntry, Nodes, OutOfMemory, Record,
     Report, Why,
 };
 use keep_log::{Kept, KeptError, read_records};
+use node_core::{NodeCore, NodeKept};
 use ring_node::Input;
-use ring_points::{Point, RangeSet};
+use ring_points::{Point, RangeSet, Who};
 use std::alloc::Global;
 use std::test::Fail;
 
@@ -88,5 +88,20 @@ fn a_node_without_numbers_has_left(rt: HostRuntime) -> Result<(), Fail> {
     assert!(rt; matches!(reports, [Report::LeftRing(Why::Counters), Report::Own(..)]));
     let linked = node.step(100, &Input::Do(Command::Link(2)))?;
     assert!(rt; linked.frames.as_slice().is_empty() && node.ranges().intervals().is_empty());
+    Ok(())
+}
+
+// What a node has at its stop is what its next start is made of.
+#[test]
+fn a_node_starts_again_from_what_it_gave_back(rt: HostRuntime) -> Result<(), Fail> {
+    let config = two_nodes(rt.alloc())?;
+    let mut kept = NodeKept::new();
+    for instance in 1..4 {
+        let (mut node, begun) = NodeCore::begin(rt.alloc(), &config, 1, &mut kept, 7)?;
+        assert_eq!(rt; node.me(), Who { actor: 1, instance });
+        assert_eq!(rt; begun.records.as_slice().len(), 1);
+        kept = node.take_kept();
+        assert_eq!(rt; kept.boots, instance);
+    }
     Ok(())
 }
