@@ -16,7 +16,7 @@ use Rattle.ring_world.specs.declared.seat.Seat.{Seat}
 use Rattle.ring_world.proofs.Maps.{unequal, equal}
 
 -- what stands in a list after a change is new, or was there
-get_set : {X : Type 0} (xs : List X) (i k : ℕ) (y x : X) → slice_get (slice_set xs i y) k ≡ Some x → ((k ≡ i) × (x ≡ y)) ⊎ ((k ≡ i → ⊥) × (slice_get xs k ≡ Some x))
+pub get_set : {X : Type 0} (xs : List X) (i k : ℕ) (y x : X) → slice_get (slice_set xs i y) k ≡ Some x → ((k ≡ i) × (x ≡ y)) ⊎ ((k ≡ i → ⊥) × (slice_get xs k ≡ Some x))
 get_set [] i k y x e = inr ((λ s. absurd (cc)), e)
 get_set (q ∷ xs) zero zero y x e = inl (refl, cc)
 get_set (q ∷ xs) zero (suc k) y x e = inr ((λ s. absurd (omega arith)), e)

@@ -2,6 +2,7 @@
 use Rattle.std.specs.Prelude.{ℕ, List}
 use Rattle.fabric_terms.specs.declared.config.FabricConfig.{FabricConfig}
 use Rattle.fabric_terms.specs.declared.message.Message.{Message}
+use Rattle.node_core.specs.declared.kept.NodeKept.{NodeKept}
 use Rattle.ring_points.specs.declared.who.Who.{Who}
 use Rattle.ring_world.specs.declared.running.Running.{Running}
 use Rattle.ring_world.specs.declared.seat.Seat.{Seat}
@@ -13,7 +14,7 @@ pub record Seen : Type 0 where
   pub events : ℕ
   pub running : List Running
   pub clocks : List (Who × ℕ)
-  pub boots : List ℕ
+  pub kept : List NodeKept
   pub seats : List Seat
   pub frames : List Message
   pub sent : ℕ
@@ -26,7 +27,7 @@ seen_of a =
       events = a.events;
       running = a.running.items;
       clocks = a.clocks.items;
-      boots = a.boots.items;
+      kept = a.kept.items;
       seats = a.seats.items;
       frames = a.frames.frames;
       sent = a.sent;
