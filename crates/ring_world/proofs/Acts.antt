@@ -1,6 +1,6 @@
 -- A node's step: the world stands for the world after it.
 use Rattle.std.proofs.Common.{◌≡◌, ℕ, zero, suc, ◌+◌, ◌≤◌, ◌<◌, ◌^◌, Bool, true, false, List, [], ◌∷◌, ◌++◌, Option, Some, refl, sym, ap, subst, ◌∙◌, arith, length, get_or}
-use Rattle.std.specs.Prelude.{◌&&◌, not, unwrap_or, slice_get, slice_set, slice_index, map, option_map, All, Vec, Box}
+use Rattle.std.specs.Prelude.{◌&&◌, not, unwrap_or, slice_get, slice_set, map, option_map, All, Vec, Box}
 use Rattle.std.proofs.lemmas.List.{length-set, set-get_or}
 use Rattle.std.proofs.lemmas.Option.{slice_get-map, slice_get_within, get_or_from_slice_get}
 use Rattle.drift_clock.specs.Extremes.{Kept, Stands as DriftStands}
@@ -12,11 +12,11 @@ use Rattle.fabric_terms.specs.declared.config.FabricConfig.{FabricConfig}
 use Rattle.fabric_terms.specs.declared.message.Body.{Body}
 use Rattle.fabric_terms.specs.declared.message.Message.{Message}
 use Rattle.fabric_terms.specs.declared.report.Report.{Report}
-use Rattle.node_core.specs.Nodes.{Does, GoesBy, IsSmall, state_of}
+use Rattle.node_core.specs.Nodes.{Core, Does, GoesBy, IsSmall, frames_limit}
+use Rattle.node_core.proofs.Rooms.{frames_limited}
 use Rattle.fabric_terms.specs.Sent.{from_all}
 use Rattle.node_core.specs.declared.outcome.Outcome.{Outcome}
 use Rattle.point_places.specs.Spots.{place_at}
-use Rattle.ring_node.specs.Nodes.{Node}
 use Rattle.ring_points.specs.Whos.{arbiter_actor}
 use Rattle.ring_points.specs.declared.who.Who.{Who}
 use Rattle.ring_rules.specs.Rings.{Ring, settings_of}
@@ -25,7 +25,7 @@ use Rattle.join_phases.specs.Phases.{is_left}
 use Rattle.ring_rules.specs.declared.input.Input.{Input}
 use Rattle.world_rules.specs.Events.{node_acts}
 use Rattle.fabric_lemmas.specs.Maps.{at, put}
-use Rattle.world_rules.specs.Nodes.{NodeState, node_step, above_if, comes_above, boots_of}
+use Rattle.world_rules.specs.Nodes.{NodeState, node_step, above_if, comes_above}
 use Rattle.fabric_above.specs.Fabric.{fabric}
 use Rattle.world_rules.specs.Uppers.{Did}
 use Rattle.world_rules.specs.Worlds.{World as RuledWorld, Running as RuledRunning, kept_of, posted, numbers_of}
@@ -36,13 +36,15 @@ use Rattle.ring_world.specs.Moves.{Moves, Same, placed_by}
 use Rattle.ring_world.specs.Room.{most_events, most_frames}
 use Rattle.ring_world.specs.Running.{AllRun, RunsAs}
 use Rattle.ring_world.specs.Seen.{Seen, seen_of}
-use Rattle.ring_world.specs.Stands.{Stands, SeenStands, NodesStand, FramesStand}
+use Rattle.ring_world.specs.Stands.{Stands, SeenStands, KeptStand, NodesStand, FramesStand}
 use Rattle.ring_world.specs.Steps.{IsSoundFrame, LeavesSound}
 use Rattle.ring_world.specs.declared.running.Running.{Running}
 use Rattle.ring_world.specs.declared.world.Acted.{Acted}
 use Rattle.ring_world.specs.declared.world.World.{World}
 use Rattle.ring_world.proofs.Growth.{kept_same, posted_is, posted-length, from-length, numbers_are, arbiters_on}
-use Rattle.ring_world.proofs.Maps.{put_place}
+use Rattle.node_core.specs.declared.kept.NodeKept.{NodeKept}
+use Rattle.ring_world.proofs.KeptNodes.{kept_follows, put_run}
+use Rattle.ring_world.proofs.Maps.{at_place, put_place}
 use Rattle.ring_world.proofs.Nodes.{Ruled, clock_of, run_at, run_set}
 
 -- nothing above a node records anything
@@ -63,7 +65,7 @@ clocks_set (q ∷ es) zero e f g same = let is : q ≡ e = cc in ap (λ k. k ∷
 clocks_set (q ∷ es) (suc i) e f g same = ap (λ ks. clock_of q ∷ ks) (clocks_set es i e f g same)
 
 -- frames and their count after an outcome
-pub frames_more : (a : Seen) (w v : RuledWorld fabric) (who : Who) (d : Did (NodeState fabric)) (o : Outcome) → FramesStand a w → o.frames ≡ from_all who d.sent → length o.frames ≤ 201
+pub frames_more : (a : Seen) (w v : RuledWorld fabric) (who : Who) (d : Did (NodeState fabric)) (o : Outcome) → FramesStand a w → o.frames ≡ from_all who d.sent → length o.frames ≤ frames_limit
     → a.sent < most_frames → v.frames ≡ posted_all o.frames w.frames → v.count ≡ w.count + length d.sent
     → (b : Seen) → b.frames ≡ posted_all o.frames a.frames → b.sent ≡ a.sent + length o.frames → FramesStand b v
 frames_more a w v who d o s is few room frames count b bag sent =
@@ -138,12 +140,12 @@ seen_committed a m new runs place q o same running set rest frames =
     ∙ ap (λ (fs : List Message). record (seen_of a) { running = slice_set a.running.items place q; events = a.events + 1; sent = a.sent + length o.frames; frames = fs }) bag))
 
 -- a node that is put back as it was
-pub put_back : (a m : World) (place : ℕ) (r : Running) (old n : Node) → Same a m → r ≡ get_or m.running.items place r → old ≡ r.node.value → n ≡ old
+pub put_back : (a m : World) (place : ℕ) (r : Running) (old n : Core) → Same a m → r ≡ get_or m.running.items place r → old ≡ r.node.value → n ≡ old
     → Same a (record m { running = with_item m.running place (record { drift = r.drift; node = with_value r.node n }) })
 put_back a m place r old n same here inside back =
-    let node : with_value r.node n ≡ r.node = ap (λ (v : Node). with_value r.node v) (back ∙ inside) in
+    let node : with_value r.node n ≡ r.node = ap (λ (v : Core). with_value r.node v) (back ∙ inside) in
     let items : slice_set m.running.items place (record { drift = r.drift; node = with_value r.node n }) ≡ m.running.items =
-    ap (λ (b : Box Node Global). slice_set m.running.items place (record { drift = r.drift; node = b })) node
+    ap (λ (b : Box Core Global). slice_set m.running.items place (record { drift = r.drift; node = b })) node
     ∙ (ap (λ (q : Running). slice_set m.running.items place q) here ∙ set-get_or m.running.items place r) in
     record {
       seen = ap (λ (rs : List Running). record (seen_of m) { running = rs }) items ∙ same.seen;
@@ -152,19 +154,19 @@ put_back a m place r old n same here inside back =
 
 -- What the step of a node leaves of the code, against what the rules say of it.
 
-pub record NodeDid (old : Node) (i : Input) (now : ℕ) (n : Node) (o : Outcome) : Type 0 where
-  pub does : (c : FabricConfig) → GoesBy c old → Does (node_step fabric c now i (state_of old)) n o
+pub record NodeDid (old : Core) (i : Input) (now : ℕ) (n : Core) (o : Outcome) : Type 0 where
+  pub does : (c : FabricConfig) → GoesBy c old → Does (node_step fabric c now i old.state) n o
   pub settings : n.settings ≡ old.settings
-  pub me : n.ring.me ≡ old.ring.me
-  pub small : IsSmall o
+  pub me : n.state.ring.me ≡ old.state.ring.me
+  pub small : IsSmall old.state o
 
 -- the node of the code that was read there, and its clock
-pub record IsRead (a : World) (place : ℕ) (r : Running) (clock : Who × ℕ) (old : Node) : Type 0 where
+pub record IsRead (a : World) (place : ℕ) (r : Running) (clock : Who × ℕ) (old : Core) : Type 0 where
   pub is_node : r ≡ get_or a.running.items place r
   pub is_clock : clock ≡ get_or a.clocks.items place clock
   pub inside : old ≡ r.node.value
 
-module _ (a : World) (w : RuledWorld fabric) (place node : ℕ) (s : RuledRunning fabric) (i : Input) (r : Running) (clock : Who × ℕ) (old n : Node) (o : Outcome)
+module _ (a : World) (w : RuledWorld fabric) (place node : ℕ) (s : RuledRunning fabric) (i : Input) (r : Running) (clock : Who × ℕ) (old n : Core) (o : Outcome)
     (st : Stands a w) (here : slice_get w.nodes place ≡ Some (node, s)) (read : IsRead a place r clock old) (did : NodeDid old i clock.1 n o) where
   -- what the rules say
   abbrev pub done : Did (NodeState fabric)
@@ -182,11 +184,11 @@ module _ (a : World) (w : RuledWorld fabric) (place node : ℕ) (s : RuledRunnin
   runs : RunsAs a.config a.time r (node, s)
   runs = subst (λ (q : Running). RunsAs a.config a.time q (node, s)) (sym is_code) there.runs
 
-  is_state : state_of old ≡ s.node
-  is_state = ap state_of read.inside ∙ runs.node
+  is_state : old.state ≡ s.node
+  is_state = ap (λ (q : Core). q.state) read.inside ∙ runs.node
 
   goes_by : GoesBy a.config old
-  goes_by = subst (λ (q : Node). GoesBy a.config q) (sym read.inside) runs.goes_by
+  goes_by = subst (λ (q : Core). GoesBy a.config q) (sym read.inside) runs.goes_by
 
   pub node_does : Does done n o
   node_does =
@@ -196,8 +198,8 @@ module _ (a : World) (w : RuledWorld fabric) (place node : ℕ) (s : RuledRunnin
   -- it is the same instance
   pub same_me : done.state.ring.me ≡ s.node.ring.me
   same_me =
-      let now : n.ring.me ≡ done.state.ring.me = ap (λ q. q.ring.me) node_does.state in
-      let was : old.ring.me ≡ s.node.ring.me = ap (λ q. q.ring.me) is_state in
+      let now : n.state.ring.me ≡ done.state.ring.me = ap (λ q. q.ring.me) node_does.state in
+      let was : old.state.ring.me ≡ s.node.ring.me = ap (λ q. q.ring.me) is_state in
       sym now ∙ (did.me ∙ was)
 
   -- it leaves sound messages
@@ -226,13 +228,13 @@ module _ (a : World) (w : RuledWorld fabric) (place node : ℕ) (s : RuledRunnin
   runs_next : (q : Running) → q.node.value ≡ n → q.drift ≡ r.drift → RunsAs a.config a.time q (node, is_next)
   unfolding is_next
   runs_next q value drift =
-      let settings : n.settings ≡ settings_of a.config n.ring.me.actor =
+      let settings : n.settings ≡ settings_of a.config n.state.ring.me.actor =
       did.settings ∙ (goes_by ∙ ap (λ (m : Who). settings_of a.config m.actor) (sym did.me)) in
       record {
         number = ap (λ (m : Who). m.actor) same_me ∙ runs.number;
         in_range = runs.in_range;
-        node = ap state_of value ∙ node_does.state;
-        goes_by = subst (λ (m : Node). GoesBy a.config m) (sym value) settings;
+        node = ap (λ (q : Core). q.state) value ∙ node_does.state;
+        goes_by = subst (λ (m : Core). GoesBy a.config m) (sym value) settings;
         drift = subst (λ (k : Kept). DriftStands k s.pairs) (sym drift) runs.drift;
         bound = ap (λ (k : Kept). k.bound) drift ∙ runs.bound;
         latest = subst (λ (k : Kept). k.latest.0 ≤ a.time) (sym drift) runs.latest;
@@ -240,9 +242,9 @@ module _ (a : World) (w : RuledWorld fabric) (place node : ℕ) (s : RuledRunnin
       }
 
   nodes_stand : (b : Seen) (q : Running) → q.node.value ≡ n → q.drift ≡ r.drift → b.config ≡ a.config → b.time ≡ a.time → b.running ≡ slice_set a.running.items place q → b.clocks ≡ a.clocks.items
-      → b.events ≡ a.events + 1 → b.boots ≡ a.boots.items → NodesStand b after
+      → b.events ≡ a.events + 1 → b.kept ≡ a.kept.items → NodesStand b after
   unfolding is_next
-  nodes_stand b q value drift config time running clocks events boots =
+  nodes_stand b q value drift config time running clocks events kept =
       record {
         rise = rises-put node is_next w.nodes st.nodes.rise;
         running =
@@ -253,9 +255,14 @@ module _ (a : World) (w : RuledWorld fabric) (place node : ℕ) (s : RuledRunnin
             (run_set a.config a.time a.running.items w.nodes place q (node, is_next) st.nodes.running (runs_next q value drift)))));
         clocks = clocks ∙ (st.nodes.clocks ∙ sym (ap (λ (es : List Ruled). map clock_of es) nodes_are ∙ clocks_set w.nodes place (node, s) (node, is_next) here (ap (λ m. (m, s.reading)) same_me)));
         few = let k : length after.nodes ≡ length w.nodes = ap length nodes_are ∙ length-set w.nodes place (node, is_next) in omega (arith, st.nodes.few);
-        table = ap length boots ∙ st.nodes.table;
-        boots = λ m le. ap (λ bs. slice_index bs m) boots ∙ (st.nodes.boots m le ∙ ap boots_of (sym (kept_on m)));
+        kept = subst (λ (ks : List NodeKept). KeptStand ks after) (sym kept)
+            (kept_follows a.kept.items w after st.nodes.kept
+            (put_run w.nodes node s is_next (at_place 0 w.nodes place node s st.nodes.rise here) (ap (λ (m : Who). m.instance) (sym same_me)))
+            (λ m le. kept_on m));
       }
+
+  few_sent : length o.frames ≤ frames_limit
+  few_sent = let limit = frames_limited old.state in omega (arith, did.small.frames)
 
   -- the code after it
   abbrev pub seen_next : Running → Seen
@@ -274,7 +281,7 @@ module _ (a : World) (w : RuledWorld fabric) (place node : ℕ) (s : RuledRunnin
     few_events = omega arith;
     nodes = nodes_stand (seen_next q) q value drift refl refl refl refl refl refl;
     arbiters = arbiters_on (seen_of a) (seen_next q) w after st.arbiters refl (λ k. kept_on (arbiter_actor k)) refl refl refl;
-    frames = frames_more (seen_of a) w after done.state.ring.me done o st.frames node_does.frames did.small.frames room (posted_is done.state.ring.me done.sent w.frames ∙ sym (ap (λ ms. posted_all ms w.frames) node_does.frames)) refl (seen_next q) refl refl;
+    frames = frames_more (seen_of a) w after done.state.ring.me done o st.frames node_does.frames few_sent room (posted_is done.state.ring.me done.sent w.frames ∙ sym (ap (λ ms. posted_all ms w.frames) node_does.frames)) refl (seen_next q) refl refl;
   }
 
   -- what is seen of it

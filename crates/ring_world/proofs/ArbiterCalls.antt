@@ -33,29 +33,25 @@ full_is [] table e = absurd (cc)
 full_is (r ∷ rs) table e = let h : nat_le most_entries (entries_of table) ≡ true = e in grind (arith, nat_tests)
 
 module _ (c : FabricConfig) (m : Message) (a : Arbiter) where
-  accused : (victim : Who) → Agrees a (arbiter_takes fabric c a.number m (state_of a) (body.Accuse victim) true) (taken true (body.Accuse victim) m.from a)
-  accused victim = by_test (is_full_for records a.table) refl
-    where
-      abbrev records : List Record
-      records = accusation_kept a.table.accusations m.from victim
+  accused_by_test : (victim : Who) (records : List Record) (b : Bool) → is_full_for records a.table ≡ b
+      → Agrees a (accused_by fabric (state_of a) m.from victim (accusation_ruled a.table.accusations m.from victim) records)
+      (kept_where_full b records (Reply (first_of records) m.from (body.Ruled victim (accusation_ruled a.table.accusations m.from victim))) a)
+  accused_by_test victim records true e = full_is records a.table e
+  accused_by_test victim records false e = (refl, refl)
 
-      by_test : (b : Bool) → is_full_for records a.table ≡ b
-          → Agrees a (accused_by fabric (state_of a) m.from victim (accusation_ruled a.table.accusations m.from victim) records)
-          (kept_where_full b records (Reply (first_of records) m.from (body.Ruled victim (accusation_ruled a.table.accusations m.from victim))) a)
-      by_test true e = full_is records a.table e
-      by_test false e = (refl, refl)
+  accused : (victim : Who) → Agrees a (arbiter_takes fabric c a.number m (state_of a) (body.Accuse victim) true) (taken true (body.Accuse victim) m.from a)
+  accused victim =
+      accused_by_test victim (accusation_kept a.table.accusations m.from victim) (is_full_for (accusation_kept a.table.accusations m.from victim) a.table) refl
+
+  claimed_by_test : (victim : Who) (round : ℕ) (records : List Record) (b : Bool) → is_full_for records a.table ≡ b → (o : Option Who)
+      → Agrees a (claimed_by fabric (state_of a) m.from victim round o records) (kept_where_full b records (claim_told (first_of records) m.from victim round o) a)
+  claimed_by_test victim round records true e o = full_is records a.table e
+  claimed_by_test victim round records false e None = (refl, refl)
+  claimed_by_test victim round records false e (Some kept) = (refl, refl)
 
   claimed : (victim : Who) (round : ℕ) → Agrees a (arbiter_takes fabric c a.number m (state_of a) (body.Claim victim round) true) (taken true (body.Claim victim round) m.from a)
-  claimed victim round = by_test (is_full_for records a.table) refl (claim_settled a.table m.from victim round)
-    where
-      abbrev records : List Record
-      records = claim_kept a.table m.from victim round
-
-      by_test : (b : Bool) → is_full_for records a.table ≡ b → (o : Option Who)
-          → Agrees a (claimed_by fabric (state_of a) m.from victim round o records) (kept_where_full b records (claim_told (first_of records) m.from victim round o) a)
-      by_test true e o = full_is records a.table e
-      by_test false e None = (refl, refl)
-      by_test false e (Some kept) = (refl, refl)
+  claimed victim round =
+      claimed_by_test victim round (claim_kept a.table m.from victim round) (is_full_for (claim_kept a.table m.from victim round) a.table) refl (claim_settled a.table m.from victim round)
 
   by_body : (said : Body) (b : Bool) → Agrees a (arbiter_takes fabric c a.number m (state_of a) said b) (taken b said m.from a)
   by_body said false = (refl, refl)

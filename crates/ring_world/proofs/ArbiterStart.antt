@@ -1,5 +1,5 @@
 -- A start of an arbitrator: the world stands for the world after it.
-use Rattle.std.proofs.Common.{◌≡◌, ℕ, ◌+◌, ◌<◌, [], Some, None, refl, sym, ap, subst, ◌∙◌, arith, length}
+use Rattle.std.proofs.Common.{◌≡◌, ℕ, ◌+◌, ◌<◌, true, [], Some, None, refl, sym, ap, subst, ◌∙◌, arith, length}
 use Rattle.std.specs.Prelude.{slice_get, slice_set}
 use Rattle.point_places.specs.Spots.{place_at}
 use Rattle.ring_points.specs.Whos.{arbiter_actor}
@@ -19,6 +19,7 @@ use Rattle.ring_world.specs.Stands.{Stands, SeenStands}
 use Rattle.ring_world.specs.declared.seat.Seat.{Seat}
 use Rattle.ring_world.specs.declared.world.Acted.{Acted}
 use Rattle.ring_world.specs.declared.world.World.{World}
+use Rattle.ring_world.proofs.KeptNodes.{kept_follows, same_run}
 use Rattle.ring_world.proofs.SeatChanges.{arbiters_set, at_other_put, at_same_put}
 
 module _ (a : World) (w : RuledWorld fabric) (place : ℕ) (q : Seat)
@@ -63,7 +64,7 @@ module _ (a : World) (w : RuledWorld fabric) (place : ℕ) (q : Seat)
     time = st.time;
     in_time = st.in_time;
     few_events = omega arith;
-    nodes = record { rise = st.nodes.rise; running = st.nodes.running; clocks = st.nodes.clocks; few = omega (arith, st.nodes.few); table = st.nodes.table; boots = st.nodes.boots };
+    nodes = record { rise = st.nodes.rise; running = st.nodes.running; clocks = st.nodes.clocks; few = omega (arith, st.nodes.few); kept = kept_follows (seen_of a).kept w begun st.nodes.kept (same_run w.nodes) (λ node le. refl) };
     arbiters = arbiters_set (seen_of a) seen_started w begun place started_seat st.arbiters within refl refl refl is_started
         (λ k other. ap (λ ts. at k ts) tables_are ∙ at_other_put (place + 1) k (state_of q.arbiter) w.arbiters other) (λ k other. refl);
     frames = record { frames = st.frames.frames; counted = st.frames.counted; sent = st.frames.sent; few = st.frames.few };

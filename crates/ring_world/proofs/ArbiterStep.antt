@@ -20,7 +20,6 @@ use Rattle.ring_rules.specs.Arbiters.{Table, accusation_kept, claim_kept, claime
 use Rattle.fabric_terms.specs.Messages.{is_sound}
 use Rattle.world_rules.specs.Arbiters.{ArbiterState, arbiter_step, arbiter_takes}
 use Rattle.fabric_lemmas.specs.Maps.{at}
-use Rattle.world_rules.specs.Nodes.{boots_of}
 use Rattle.fabric_above.specs.Fabric.{fabric}
 use Rattle.world_rules.specs.Uppers.{Did}
 use Rattle.world_rules.specs.Worlds.{World as RuledWorld, arbiter_acted, arbiter_who, kept_of, numbers_of, posted}
@@ -34,12 +33,12 @@ use Rattle.ring_world.specs.Seats.{IsSeat, state_of, state_where}
 use Rattle.ring_world.specs.Seen.{Seen, seen_of}
 use Rattle.ring_world.specs.Stands.{SeenStands, Stands}
 use Rattle.ring_world.specs.Steps.{IsSoundFrame}
-use Rattle.ring_world.specs.declared.seat.Seat.{Seat}
 use Rattle.ring_world.specs.declared.world.Acted.{Acted}
 use Rattle.ring_world.specs.declared.world.World.{World}
 use Rattle.ring_world.proofs.Acts.{sound_sent}
 use Rattle.ring_world.proofs.Maps.{unequal}
 use Rattle.ring_world.proofs.Growth.{kept_here, kept_there, posted-length}
+use Rattle.ring_world.proofs.KeptNodes.{kept_follows, same_run}
 use Rattle.ring_world.proofs.SeatChanges.{arbiters_set, at_other_put, at_same_put}
 
 -- one record makes one entry at most
@@ -191,8 +190,7 @@ module _ (a : World) (w : RuledWorld fabric) (place : ℕ) (s : ArbiterState fab
       running = st.nodes.running;
       clocks = st.nodes.clocks;
       few = omega (arith, st.nodes.few);
-      table = st.nodes.table;
-      boots = λ node le. st.nodes.boots node le ∙ ap boots_of (sym (kept_on node (other_node place node le)));
+      kept = kept_follows (seen_of a).kept w after st.nodes.kept (same_run w.nodes) (λ node le. kept_on node (other_node place node le));
     };
     arbiters = arbiters_set (seen_of a) seen_ruled w after place heard.after st.arbiters (slice_get_within (seen_of a).seats place heard.before heard.here) refl refl refl seat_after
         (λ k other. at_other_put (place + 1) k done.state w.arbiters other)

@@ -1,5 +1,5 @@
 -- A stop of an arbitrator: the world stands for the world after it.
-use Rattle.std.proofs.Common.{◌≡◌, ℕ, ◌+◌, ◌<◌, [], ◌∷◌, Some, None, refl, sym, ap, subst, ◌∙◌, arith, length}
+use Rattle.std.proofs.Common.{◌≡◌, ℕ, ◌+◌, ◌<◌, false, [], ◌∷◌, Some, None, refl, sym, ap, subst, ◌∙◌, arith, length}
 use Rattle.std.specs.Prelude.{slice_get, slice_set}
 use Rattle.fabric_terms.specs.declared.report.Report.TheVariants.{Stopped}
 use Rattle.point_places.specs.Spots.{place_at}
@@ -18,6 +18,7 @@ use Rattle.ring_world.specs.Stands.{Stands, SeenStands}
 use Rattle.ring_world.specs.declared.seat.Seat.{Seat}
 use Rattle.ring_world.specs.declared.world.Acted.{Acted}
 use Rattle.ring_world.specs.declared.world.World.{World}
+use Rattle.ring_world.proofs.KeptNodes.{kept_follows, same_run}
 use Rattle.ring_world.proofs.SeatChanges.{arbiters_set, at_other_without, at_same_without}
 
 module _ (a : World) (w : RuledWorld fabric) (place : ℕ) (q : Seat) (t : ArbiterState fabric)
@@ -42,7 +43,7 @@ module _ (a : World) (w : RuledWorld fabric) (place : ℕ) (q : Seat) (t : Arbit
     time = st.time;
     in_time = st.in_time;
     few_events = omega arith;
-    nodes = record { rise = st.nodes.rise; running = st.nodes.running; clocks = st.nodes.clocks; few = omega (arith, st.nodes.few); table = st.nodes.table; boots = st.nodes.boots };
+    nodes = record { rise = st.nodes.rise; running = st.nodes.running; clocks = st.nodes.clocks; few = omega (arith, st.nodes.few); kept = kept_follows (seen_of a).kept w after st.nodes.kept (same_run w.nodes) (λ node le. refl) };
     arbiters = arbiters_set (seen_of a) seen_stopped w after place stopped_seat st.arbiters within refl refl refl is_stopped (λ k other. at_other_without (place + 1) k w.arbiters other) (λ k other. refl);
     frames = record { frames = st.frames.frames; counted = st.frames.counted; sent = st.frames.sent; few = st.frames.few };
   }

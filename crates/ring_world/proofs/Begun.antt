@@ -1,10 +1,11 @@
 -- A start of a node: the world stands for the world after it.
-use Rattle.std.proofs.Common.{◌≡◌, ℕ, zero, suc, ◌+◌, ◌≤◌, ◌<◌, ◌^◌, Bool, true, false, cond, List, [], ◌∷◌, ◌++◌, Option, Some, None, refl, sym, ap, subst, ◌∙◌, arith, length}
-use Rattle.std.specs.Prelude.{◌==◌, nat_lt, unwrap_or, slice_set, slice_index, insert, map, Vec}
-use Rattle.std.proofs.lemmas.List.{append-nil, get_or-set_same, get_or-set_other, length-set}
+use Rattle.std.proofs.Common.{◌≡◌, ℕ, zero, suc, ◌+◌, ◌≤◌, ◌<◌, ◌^◌, Bool, true, false, cond, List, [], ◌∷◌, ◌++◌, Option, Some, None, refl, sym, ap, subst, ◌∙◌, arith, length, get_or}
+use Rattle.std.specs.Prelude.{◌==◌, nat_lt, unwrap_or, slice_get, slice_set, insert, map, Vec}
+use Rattle.std.specs.Vec.{with_item}
+use Rattle.std.proofs.lemmas.Option.{slice_get_read}
+use Rattle.std.proofs.lemmas.List.{append-nil}
 use Rattle.std.proofs.lemmas.List.Edits.{length-insert}
 use Rattle.std.proofs.lemmas.List.Sums.{sum_by-cons}
-use Rattle.std.proofs.lemmas.Bool.{eqb-true}
 use Rattle.std.specs.declared.alloc.Global.{Global}
 use Rattle.fabric_terms.specs.declared.message.Message.{Message}
 use Rattle.drift_clock.specs.Extremes.{Kept, Stands as DriftStands}
@@ -13,11 +14,12 @@ use Rattle.fabric_terms.specs.declared.config.FabricConfig.{FabricConfig}
 use Rattle.fabric_terms.specs.declared.record.Record.{Record}
 use Rattle.fabric_terms.specs.declared.record.Record.TheVariants.{Boot}
 use Rattle.fabric_terms.specs.declared.report.Report.{Report}
-use Rattle.node_core.specs.Nodes.{Does, GoesBy, state_of}
+use Rattle.node_core.specs.Nodes.{Amounts, Core, Does, GoesBy, IsSmall, frames_limit, nothing_kept}
+use Rattle.node_core.proofs.Rooms.{frames_limited}
+use Rattle.node_core.specs.declared.kept.NodeKept.{NodeKept}
 use Rattle.fabric_terms.specs.Sent.{from_all}
 use Rattle.node_core.specs.declared.outcome.Outcome.{Outcome}
 use Rattle.point_places.specs.Spots.{place_at}
-use Rattle.ring_node.specs.Nodes.{Node}
 use Rattle.ring_points.specs.Whos.{arbiter_actor, node_instance}
 use Rattle.ring_points.specs.declared.who.Who.{Who}
 use Rattle.run_facts.proofs.Steps.{started_as}
@@ -30,7 +32,7 @@ use Rattle.fabric_lemmas.proofs.Maps.{rises-put}
 use Rattle.world_rules.proofs.Rows.{node_begun-is}
 use Rattle.ring_world.specs.Answers.{entry_of}
 use Rattle.ring_world.specs.Commits.{numbers_after, posted_all}
-use Rattle.ring_world.specs.Moves.{Moves, placed_by}
+use Rattle.ring_world.specs.Moves.{Moves, Same, placed_by}
 use Rattle.ring_world.specs.Room.{most_events, most_frames, most_time}
 use Rattle.ring_world.specs.Running.{AllRun, RunsAs, last_node}
 use Rattle.ring_world.specs.Seen.{Seen, seen_of}
@@ -40,8 +42,10 @@ use Rattle.ring_world.specs.declared.running.Running.{Running}
 use Rattle.ring_world.specs.declared.world.Acted.{Acted}
 use Rattle.ring_world.specs.declared.world.World.{World}
 use Rattle.ring_world.proofs.Acts.{frames_more}
+use Rattle.ring_world.proofs.Edits.{set_same}
 use Rattle.ring_world.proofs.Growth.{arbiters_on, from-length, kept_here, kept_there, numbers_are, posted_is}
-use Rattle.ring_world.proofs.Maps.{equal, place_in, put_new, unequal}
+use Rattle.ring_world.proofs.KeptNodes.{kept_begun}
+use Rattle.ring_world.proofs.Maps.{place_in, put_new, unequal}
 use Rattle.ring_world.proofs.Nodes.{AreNumbered, Ruled, clock_of, run-length, run_insert, run_numbered}
 
 -- what a start records and sends
@@ -94,26 +98,20 @@ place_within node (e ∷ es) = by_test (nat_lt node e.0) (place_within node es)
     by_test true h = omega arith
     by_test false h = omega arith
 
-equal_test : (i j : ℕ) → i ≡ j → (i == j) ≡ true
-equal_test i j g = ap (λ x. i == x) (sym g) ∙ equal i
-
-differs : (i j : ℕ) → (i == j) ≡ false → i ≡ j → ⊥
-differs i j f g = let e = equal_test i j g in absurd (cc (e, f))
-
 -- the drift of a clock that has shown its first reading
 pub record IsFirst (a : World) (reading : ℕ) (k : Kept) : Type 0 where
   pub bound : k.bound ≡ a.config.bound
   pub latest : k.latest ≡ (a.time, reading)
   pub first : DriftStands k ((a.time, reading) ∷ [])
 
-module _ (a : World) (w : RuledWorld fabric) (node reading : ℕ) (n : Node) (o : Outcome) (k : Kept) (q : Running)
+module _ (a : World) (w : RuledWorld fabric) (node reading : ℕ) (n : Core) (o : Outcome) (k : Kept) (q : Running)
     (st : Stands a w) (le : node ≤ last_node) (fits : reading ≤ most_time) (begins : Begins a node n o) (drift : IsFirst a reading k)
     (inside : q.node.value ≡ n) (kept : q.drift ≡ k) (absent : at node w.nodes ≡ None) where
   abbrev pub begun : Did (NodeState fabric)
   begun = node_begun fabric a.config node (kept_of w node)
 
   does : Does begun n o
-  does = begins.begins (kept_of w node) (sym (st.nodes.boots node le))
+  does = begins.begins (kept_of w node) (st.nodes.kept.stopped node begins.kept absent begins.here)
 
   me_is : begun.state.ring.me ≡ node_instance node (instance_begun (kept_of w node))
   me_is = begun_me a.config node (kept_of w node)
@@ -121,7 +119,7 @@ module _ (a : World) (w : RuledWorld fabric) (node reading : ℕ) (n : Node) (o 
   actor_is : begun.state.ring.me.actor ≡ node
   actor_is = ap (λ (x : Who). x.actor) me_is
 
-  new_me : n.ring.me ≡ begun.state.ring.me
+  new_me : n.state.ring.me ≡ begun.state.ring.me
   new_me = ap (λ (x : NodeState fabric). x.ring.me) does.state
 
   is_new : RuledRunning fabric
@@ -136,9 +134,9 @@ module _ (a : World) (w : RuledWorld fabric) (node reading : ℕ) (n : Node) (o 
   kept_other : (m : ℕ) → (node == m) ≡ false → kept_of after m ≡ kept_of w m
   kept_other m other = kept_after m ∙ kept_there w node m begun.records other
 
-  boots_node : n.ring.me.instance ≡ boots_of (kept_of after node)
+  boots_node : begun.state.ring.me.instance ≡ boots_of (kept_of after node)
   boots_node =
-      ap (λ (x : Who). x.instance) (new_me ∙ me_is)
+      ap (λ (x : Who). x.instance) me_is
       ∙ sym (ap boots_of (kept_after node ∙ (kept_here w node begun.records ∙ ap (λ (rs : List Record). kept_of w node ++ rs) (begun_keeps a.config node (kept_of w node)))) ∙ boots_more (kept_of w node))
 
   numbered : AreNumbered w.nodes
@@ -162,8 +160,8 @@ module _ (a : World) (w : RuledWorld fabric) (node reading : ℕ) (n : Node) (o 
       record {
         number = actor_is;
         in_range = le;
-        node = ap state_of inside ∙ does.state;
-        goes_by = subst (λ (x : Node). GoesBy a.config x) (sym inside) begins.goes_by;
+        node = ap (λ (x : Core). x.state) inside ∙ does.state;
+        goes_by = subst (λ (x : Core). GoesBy a.config x) (sym inside) begins.goes_by;
         drift = subst (λ (x : Kept). DriftStands x ((w.time, reading) ∷ [])) (sym kept) (subst (λ (t : ℕ). DriftStands k ((t, reading) ∷ [])) st.time drift.first);
         bound = ap (λ (x : Kept). x.bound) kept ∙ drift.bound;
         latest = omega arith;
@@ -175,23 +173,13 @@ module _ (a : World) (w : RuledWorld fabric) (node reading : ℕ) (n : Node) (o 
     events = a.events + 1;
     sent = a.sent + length o.frames;
     frames = posted_all o.frames a.frames.frames;
-    clocks = insert a.clocks.items place (n.ring.me, reading);
+    clocks = insert a.clocks.items place (n.state.ring.me, reading);
     running = insert a.running.items place q;
-    boots = slice_set a.boots.items node n.ring.me.instance;
+    kept = slice_set a.kept.items node nothing_kept;
   }
 
-  boots_are : (m : ℕ) → m ≤ last_node → slice_index (slice_set a.boots.items node n.ring.me.instance) m ≡ boots_of (kept_of after m)
-  boots_are m small = by_test (node == m) refl
-    where
-      by_test : (b : Bool) → (node == m) ≡ b → slice_index (slice_set a.boots.items node n.ring.me.instance) m ≡ boots_of (kept_of after m)
-      by_test true e =
-          let same : node ≡ m = eqb-true node m e in
-          let table : length a.boots.items ≡ last_node + 1 = st.nodes.table in
-          subst (λ (j : ℕ). slice_index (slice_set a.boots.items node n.ring.me.instance) j ≡ boots_of (kept_of after j)) same
-          (get_or-set_same a.boots.items node n.ring.me.instance 0 (omega arith) ∙ boots_node)
-      by_test false e =
-          get_or-set_other a.boots.items node m n.ring.me.instance 0 (λ s. differs node m e (sym s))
-          ∙ (st.nodes.boots m small ∙ ap boots_of (sym (kept_other m e)))
+  small : length o.frames ≤ frames_limit
+  small = let limit = frames_limited n.state in omega (arith, begins.small.frames)
 
   stands_begun : a.events < most_events → a.sent < most_frames → SeenStands seen_begun after
   unfolding is_new
@@ -209,16 +197,15 @@ module _ (a : World) (w : RuledWorld fabric) (node reading : ℕ) (n : Node) (o 
       few = let within : place ≤ length w.nodes = let p = place_within node w.nodes in omega (arith, place_same) in
           let size : length after.nodes ≡ length w.nodes + 1 = ap length nodes_are ∙ length-insert w.nodes place (node, is_new) within in
           omega (arith, st.nodes.few);
-      table = length-set a.boots.items node n.ring.me.instance ∙ st.nodes.table;
-      boots = boots_are;
+      kept = kept_begun a.kept.items w after node nothing_kept is_new st.nodes.kept refl (record { boots = sym boots_node }) kept_other;
     };
     arbiters = arbiters_on (seen_of a) seen_begun w after st.arbiters refl (λ j. kept_other (arbiter_actor j) (unequal node (arbiter_actor j) (λ e. absurd (omega arith)))) refl refl refl;
-    frames = frames_more (seen_of a) w after begun.state.ring.me begun o st.frames does.frames begins.small.frames room
+    frames = frames_more (seen_of a) w after begun.state.ring.me begun o st.frames does.frames small room
         (posted_is begun.state.ring.me begun.sent w.frames ∙ sym (ap (λ ms. posted_all ms w.frames) does.frames)) refl seen_begun refl refl;
   }
 
   abbrev pub begun_as : ℕ → Acted
-  begun_as line = record { line = line; time = a.time; who = n.ring.me; reading = Some reading; sent = numbers_after a.sent (length o.frames); reports = o.reports }
+  begun_as line = record { line = line; time = a.time; who = n.state.ring.me; reading = Some reading; sent = numbers_after a.sent (length o.frames); reports = o.reports }
 
   entry_begun : (line : ℕ) → entry_of (Some (begun_as line)) ≡ (node_acted fabric w node reading ((w.time, reading) ∷ []) begun).entry
   entry_begun line =
@@ -232,7 +219,7 @@ module _ (a : World) (w : RuledWorld fabric) (node reading : ℕ) (n : Node) (o 
       told_by x s rs = Some (record { who = x; reading = Some reading; sent = s; reports = rs })
 
   pub begin_moves : (new : World) (line : ℕ) (acted : Acted) → a.events < most_events → a.sent < most_frames → seen_of new ≡ seen_begun
-      → ((p : ℕ) → p < 2 ^ 64 → place_at new.places p ≡ placed_by n.ring.me o.reports p (place_at a.places p)) → acted ≡ begun_as line
+      → ((p : ℕ) → p < 2 ^ 64 → place_at new.places p ≡ placed_by n.state.ring.me o.reports p (place_at a.places p)) → acted ≡ begun_as line
       → Moves a new (node_acted fabric w node reading ((w.time, reading) ∷ []) begun) line (Some acted)
   begin_moves new line acted few room seen places is = record {
     config = ap (λ (x : Seen). x.config) seen;
@@ -244,9 +231,9 @@ module _ (a : World) (w : RuledWorld fabric) (node reading : ℕ) (n : Node) (o 
   }
 
 -- what is seen after the start is committed
-pub seen_entered : (a new : World) (clocks : Vec (Who × ℕ) Global) (running : Vec Running Global) (boots : Vec ℕ Global) (place node : ℕ) (k : Who × ℕ) (q : Running) (v : ℕ) (o : Outcome)
-    → clocks.items ≡ insert a.clocks.items place k → running.items ≡ insert a.running.items place q → boots.items ≡ slice_set a.boots.items node v
-    → new ≡ record a { clocks = clocks; running = running; boots = boots; events = a.events + 1; sent = a.sent + length o.frames; frames = new.frames; places = new.places }
+pub seen_entered : (a new : World) (clocks : Vec (Who × ℕ) Global) (running : Vec Running Global) (kept : Vec NodeKept Global) (place node : ℕ) (k : Who × ℕ) (q : Running) (o : Outcome)
+    → clocks.items ≡ insert a.clocks.items place k → running.items ≡ insert a.running.items place q → kept.items ≡ slice_set a.kept.items node nothing_kept
+    → new ≡ record a { clocks = clocks; running = running; kept = kept; events = a.events + 1; sent = a.sent + length o.frames; frames = new.frames; places = new.places }
     → new.frames.frames ≡ posted_all o.frames a.frames.frames
     → seen_of new ≡ record (seen_of a) {
       events = a.events + 1;
@@ -254,23 +241,23 @@ pub seen_entered : (a new : World) (clocks : Vec (Who × ℕ) Global) (running :
       frames = posted_all o.frames a.frames.frames;
       clocks = insert a.clocks.items place k;
       running = insert a.running.items place q;
-      boots = slice_set a.boots.items node v;
+      kept = slice_set a.kept.items node nothing_kept;
     }
-seen_entered a new clocks running boots place node k q v o cs rs bs rest frames =
+seen_entered a new clocks running kept place node k q o cs rs ks rest frames =
     ap seen_of rest
-    ∙ (ap (λ (x : List (Who × ℕ)). with_parts x running.items boots.items new.frames.frames) cs
-    ∙ (ap (λ (x : List Running). with_parts (insert a.clocks.items place k) x boots.items new.frames.frames) rs
-    ∙ (ap (λ (x : List ℕ). with_parts (insert a.clocks.items place k) (insert a.running.items place q) x new.frames.frames) bs
-    ∙ ap (λ (x : List Message). with_parts (insert a.clocks.items place k) (insert a.running.items place q) (slice_set a.boots.items node v) x) frames)))
+    ∙ (ap (λ (x : List (Who × ℕ)). with_parts x running.items kept.items new.frames.frames) cs
+    ∙ (ap (λ (x : List Running). with_parts (insert a.clocks.items place k) x kept.items new.frames.frames) rs
+    ∙ (ap (λ (x : List NodeKept). with_parts (insert a.clocks.items place k) (insert a.running.items place q) x new.frames.frames) ks
+    ∙ ap (λ (x : List Message). with_parts (insert a.clocks.items place k) (insert a.running.items place q) (slice_set a.kept.items node nothing_kept) x) frames)))
   where
-    with_parts : List (Who × ℕ) → List Running → List ℕ → List Message → Seen
-    with_parts x y z fs = record (seen_of a) { events = a.events + 1; sent = a.sent + length o.frames; frames = fs; clocks = x; running = y; boots = z }
+    with_parts : List (Who × ℕ) → List Running → List NodeKept → List Message → Seen
+    with_parts x y z fs = record (seen_of a) { events = a.events + 1; sent = a.sent + length o.frames; frames = fs; clocks = x; running = y; kept = z }
 
 -- a start sends nothing
-pub frames_none : (a : World) (w : RuledWorld fabric) (node : ℕ) (n : Node) (o : Outcome) → Stands a w → node ≤ last_node → Begins a node n o → o.frames ≡ []
-frames_none a w node n o st le begins =
+pub frames_none : (a : World) (w : RuledWorld fabric) (node : ℕ) (n : Core) (o : Outcome) → Stands a w → at node w.nodes ≡ None → Begins a node n o → o.frames ≡ []
+frames_none a w node n o st absent begins =
     let d : Did (NodeState fabric) = node_begun fabric a.config node (kept_of w node) in
-    let does : Does d n o = begins.begins (kept_of w node) (sym (st.nodes.boots node le)) in
+    let does : Does d n o = begins.begins (kept_of w node) (st.nodes.kept.stopped node begins.kept absent begins.here) in
     does.frames ∙ ap (λ ms. from_all d.state.ring.me ms) (begun_sends a.config node (kept_of w node))
 
 -- and its place is one of the running nodes'
@@ -281,3 +268,17 @@ place_fits_in a w node st =
     let p = place_within node w.nodes in
     let m = run-length a.config a.time a.running.items w.nodes st.nodes.running in
     omega arith
+
+-- by what the start of the node answers
+module _ (a : World) (node : ℕ) (k : NodeKept) (within : node < length a.kept.items) (read : k ≡ get_or a.kept.items node k) where
+  here : slice_get a.kept.items node ≡ Some k
+  here = slice_get_read a.kept.items (length a.kept.items) node k refl within read
+
+  pub begun_from : (n : Core) (o : Outcome) → ((records : List Record) → Amounts records k → Does (node_begun fabric a.config node records) n o) → GoesBy a.config n → IsSmall n.state o → Begins a node n o
+  begun_from n o begins goes_by small = record { kept = k; here = here; begins = begins; goes_by = goes_by; small = small }
+
+  -- what is kept of it stays where it does not start
+  pub put_kept_back : (q : NodeKept) → q ≡ k → Same a (record a { kept = with_item a.kept node q })
+  put_kept_back q same =
+      let items : slice_set a.kept.items node q ≡ a.kept.items = ap (λ x. slice_set a.kept.items node x) same ∙ set_same a.kept.items node k here in
+      record { seen = ap (λ (ks : List NodeKept). record (seen_of a) { kept = ks }) items; places = λ p lt. refl }

@@ -1,6 +1,6 @@
 -- What is kept of nodes, before and after an event.
-use Rattle.std.proofs.Common.{◌≡◌, ℕ, zero, suc, ◌+◌, ◌≤◌, ◌<◌, Bool, true, false, cond, List, [], ◌∷◌, Option, Some, None, refl, sym, ap, subst, ◌∙◌, arith, length}
-use Rattle.std.specs.Prelude.{◌==◌, inl, inr, map, slice_get, slice_set, unwrap_or}
+use Rattle.std.proofs.Common.{◌≡◌, ℕ, ◌+◌, ◌≤◌, inl, inr, Bool, true, false, cond, List, [], ◌∷◌, Some, None, refl, sym, ap, subst, ◌∙◌, arith, length}
+use Rattle.std.specs.Prelude.{◌==◌, map, slice_get, slice_set, unwrap_or}
 use Rattle.std.proofs.lemmas.Bool.{eqb-true}
 use Rattle.std.proofs.lemmas.List.{length-set}
 use Rattle.std.proofs.lemmas.Option.{slice_get_within}
@@ -14,7 +14,7 @@ use Rattle.fabric_above.specs.Fabric.{fabric}
 use Rattle.world_rules.specs.Worlds.{World as RuledWorld, Running as RuledRunning, kept_of}
 use Rattle.ring_world.specs.Running.{last_node}
 use Rattle.ring_world.specs.Stands.{KeptStand}
-use Rattle.ring_world.proofs.Maps.{equal, unequal}
+use Rattle.ring_world.proofs.Maps.{equal}
 use Rattle.ring_world.proofs.Nodes.{Ruled}
 use Rattle.ring_world.proofs.SeatChanges.{get_set}
 
@@ -67,28 +67,32 @@ put_run es node s y there instance = record {
     some_by m x false t e = record { before = x; there = e; instance = refl }
 
 -- clocks show other readings
-pub tick_run : (time : ℕ) (readings : List (ℕ × ℕ)) (es : List Ruled) → SameRun es (map (ticked {a = fabric} time readings) es)
-tick_run time readings es = record { none = λ m e. none_at m es e; some = λ m x e. some_at m x es e }
-  where
-    none_at : (m : ℕ) (es : List Ruled) → at m (map (ticked {a = fabric} time readings) es) ≡ None → at m es ≡ None
-    none_at m [] e = refl
-    none_at m (q ∷ es) e = by_test (q.0 == m) e
-      where
-        by_test : (b : Bool) → cond b (Some (ticked {a = fabric} time readings q).1) (at m (map (ticked {a = fabric} time readings) es)) ≡ None → cond b (Some q.1) (at m es) ≡ None
-        by_test true e = absurd (cc)
-        by_test false e = none_at m es e
+module _ (time : ℕ) (readings : List (ℕ × ℕ)) where
+  abbrev ticks : List Ruled → List Ruled
+  ticks es = map (ticked {a = fabric} time readings) es
 
-    some_at : (m : ℕ) (x : RuledRunning fabric) (es : List Ruled) → at m (map (ticked {a = fabric} time readings) es) ≡ Some x → RanAs es m x
-    some_at m x [] e = absurd (cc)
-    some_at m x (q ∷ es) e = by_test (q.0 == m) refl e
-      where
-        by_test : (b : Bool) → (q.0 == m) ≡ b → cond b (Some (ticked {a = fabric} time readings q).1) (at m (map (ticked {a = fabric} time readings) es)) ≡ Some x → RanAs (q ∷ es) m x
-        by_test true t e =
-            let is : (ticked {a = fabric} time readings q).1 ≡ x = cc in
-            record { before = q.1; there = ap (λ b. cond b (Some q.1) (at m es)) t; instance = ap (λ (z : RuledRunning fabric). z.node.ring.me.instance) is }
-        by_test false t e =
-            let more = some_at m x es e in
-            record { before = more.before; there = ap (λ b. cond b (Some q.1) (at m es)) t ∙ more.there; instance = more.instance }
+  none_before : (m : ℕ) (es : List Ruled) → at m (ticks es) ≡ None → at m es ≡ None
+  none_before m [] e = refl
+  none_before m (q ∷ es) e = by_test (q.0 == m) (none_before m es) e
+    where
+      by_test : (b : Bool) → (at m (ticks es) ≡ None → at m es ≡ None) → cond b (Some (ticked {a = fabric} time readings q).1) (at m (ticks es)) ≡ None → cond b (Some q.1) (at m es) ≡ None
+      by_test true more e = absurd (cc)
+      by_test false more e = more e
+
+  ran_before : (m : ℕ) (x : RuledRunning fabric) (es : List Ruled) → at m (ticks es) ≡ Some x → RanAs es m x
+  ran_before m x [] e = absurd (cc)
+  ran_before m x (q ∷ es) e = by_test (q.0 == m) refl (ran_before m x es) e
+    where
+      by_test : (b : Bool) → (q.0 == m) ≡ b → (at m (ticks es) ≡ Some x → RanAs es m x) → cond b (Some (ticked {a = fabric} time readings q).1) (at m (ticks es)) ≡ Some x → RanAs (q ∷ es) m x
+      by_test true t more e =
+          let is : (ticked {a = fabric} time readings q).1 ≡ x = cc in
+          record { before = q.1; there = ap (λ b. cond b (Some q.1) (at m es)) t; instance = ap (λ (z : RuledRunning fabric). z.node.ring.me.instance) is }
+      by_test false t more e =
+          let ran = more e in
+          record { before = ran.before; there = ap (λ b. cond b (Some q.1) (at m es)) t ∙ ran.there; instance = ran.instance }
+
+  pub tick_run : (es : List Ruled) → SameRun es (ticks es)
+  tick_run es = record { none = λ m e. none_before m es e; some = λ m x e. ran_before m x es e }
 
 -- a node starts: what was kept of it is its own
 pub kept_begun : (kept : List NodeKept) (w v : RuledWorld fabric) (node : ℕ) (none : NodeKept) (y : RuledRunning fabric) → KeptStand kept w → v.nodes ≡ put node y w.nodes

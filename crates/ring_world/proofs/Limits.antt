@@ -64,6 +64,9 @@ module _ (a : World) (w : RuledWorld fabric) where
 pub same_world : (a : World) → Same a a
 same_world a = record { seen = refl; places = λ p lt. refl }
 
+pub same_on : {a m b : World} → Same a m → Same m b → Same a b
+same_on s t = record { seen = t.seen ∙ s.seen; places = λ p lt. t.places p lt ∙ s.places p lt }
+
 both : (b c : Bool) → (b && c) ≡ true → (b ≡ true) × (c ≡ true)
 both true c e = (refl, e)
 both false c e = absurd (cc)

@@ -59,7 +59,7 @@ pub at_same_put : {X : Type 0} (k : ℕ) (x : X) (es : List (ℕ × X)) → at k
 at_same_put k x es = at-put k x es k ∙ ap (λ b. cond b (Some x) (at k es)) (equal k)
 
 pub at_other_without : {X : Type 0} (k q : ℕ) (es : List (ℕ × X)) → (q ≡ k → ⊥) → at q (without k es) ≡ at q es
-pub at_other_without k q es h = at-without k es q ∙ ap (λ b. cond b None (at q es)) (unequal k q (λ e. h (sym e)))
+at_other_without k q es h = at-without k es q ∙ ap (λ b. cond b None (at q es)) (unequal k q (λ e. h (sym e)))
 
 pub at_same_without : {X : Type 0} (k : ℕ) (es : List (ℕ × X)) → at k (without k es) ≡ None
 at_same_without {X = X} k es = at-without k es k ∙ ap (λ b. cond b (none X) (at k es)) (equal k)

@@ -22,6 +22,7 @@ use Rattle.ring_world.specs.Ticks.{Shows, after_tick, are_of_clocks}
 use Rattle.ring_world.specs.declared.running.Running.{Running}
 use Rattle.ring_world.specs.declared.world.World.{World}
 use Rattle.ring_world.proofs.Growth.{arbiters_on}
+use Rattle.ring_world.proofs.KeptNodes.{kept_follows, tick_run}
 use Rattle.ring_world.proofs.Limits.{room_test}
 use Rattle.ring_world.proofs.Nodes.{Ruled, run_numbered}
 use Rattle.ring_world.proofs.Ticked.{of_nodes}
@@ -97,8 +98,7 @@ module _ (a : World) (w : RuledWorld fabric) (advance : ℕ) (readings : List (�
       running = shows.running;
       clocks = shows.clocks_are;
       few = let n = ticked-length time readings w.nodes in omega (arith, st.nodes.few);
-      table = st.nodes.table;
-      boots = st.nodes.boots;
+      kept = kept_follows a.kept.items w after st.nodes.kept (tick_run time readings w.nodes) (λ node le. refl);
     };
     arbiters = arbiters_on (seen_of a) seen_after w after st.arbiters refl (λ k. refl) refl refl refl;
     frames = record { frames = st.frames.frames; counted = st.frames.counted; sent = st.frames.sent; few = st.frames.few };

@@ -7,7 +7,7 @@ use Rattle.std.proofs.lemmas.List.Elements.{filter-append}
 use Rattle.std.proofs.lemmas.List.Sums.{count_by-le-length, length-filter}
 use Rattle.std.proofs.lemmas.Slice.Zip.{get_or-zip, length-zip}
 use Rattle.point_places.specs.declared.unheld.Holder.{Holder}
-use Rattle.ring_node.specs.Nodes.{Node}
+use Rattle.node_core.specs.Nodes.{Core}
 use Rattle.ring_points.specs.declared.who.Who.{Who}
 use Rattle.ring_world.specs.Holders.{held_now, is_some_range}
 use Rattle.ring_world.specs.declared.running.Running.{Running}
@@ -43,7 +43,7 @@ module _ (ks : List (Who × ℕ)) (vs : List Running) (n m : ℕ) (k : Clocked) 
       ∙ (ap (filter holds_some) (map-append holder_here (take n (zip ks vs)) (k ∷ []))
       ∙ filter-append holds_some (map holder_here (take n (zip ks vs))) (holder_here k ∷ [])))
 
-  module _ (node : Node) (same : node ≡ k.1.node.value) where
+  module _ (node : Core) (same : node ≡ k.1.node.value) where
     -- a list that has the holders so far, and then this one
     pub gathered : (items new : List Holder) → items ≡ so_far → new ≡ items ++ filter holds_some (record { who = k.0.0; ranges = held_now k.0.1 node } ∷ [])
         → new ≡ holders_here (take m (zip ks vs))

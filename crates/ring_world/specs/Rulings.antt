@@ -1,5 +1,5 @@
 -- What an arbitrator does with a message, at its seat.
-use Rattle.std.specs.Prelude.{◌≡◌, ℕ, ◌+◌, ◌<◌, Option, Some, slice_get, slice_set}
+use Rattle.std.specs.Prelude.{◌≡◌, ℕ, ◌<◌, Option, Some, slice_get, slice_set}
 use Rattle.std.specs.Option.{option_to_list}
 use Rattle.arbiter_core.specs.Arbiters.{Arbiter}
 use Rattle.fabric_terms.specs.declared.config.FabricConfig.{FabricConfig}

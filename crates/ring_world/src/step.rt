@@ -1,5 +1,5 @@
 ghost use Rattle.std.specs.Prelude.{◌≡◌, ◌≤◌, ◌<◌, ℕ, Some, OnOk, slice_get};
-ghost use Rattle.node_core.specs.Nodes.{FitsInput, most_reports};
+ghost use Rattle.node_core.specs.Nodes.{FitsInput, frames_limit, most_reports};
 ghost use Rattle.world_rules.specs.Events.{node_acts};
 ghost use Rattle.fabric_lemmas.specs.Maps.{at};
 ghost use Rattle.fabric_above.specs.Fabric.{fabric};
@@ -19,7 +19,7 @@ const MOST_REPORTS: usize = 72;
 impl World {
     /// Makes room for so many frames and for what one step tells.
     pub(crate) fn make_room(&mut self, frames: usize) -> Result<(), OutOfMemory>
-        requires { frames ≤ 1000 }
+        requires { frames ≤ frames_limit }
         ensures same { Same self.old self.new }
         ensures rest { self.new ≡ record self.old { frames = self.new.frames; places = self.new.places } }
         ensures frames { OnOk result (frames ≤ self.new.frames.room) }
@@ -50,6 +50,6 @@ impl World {
         let (who, reading) = self.clocks[place];
         let running = &mut self.running[place];
         let outcome = running.node.step(reading, input)?;
-        Ok(self.commit(line, who, Some(reading), outcome))
+        Ok(self.commit(line, who, Some(reading), outcome.frames, outcome.reports))
     }
 }

@@ -35,7 +35,8 @@ impl World {
         }
         let reports = stopped(self.alloc)?;
         let (who, reading) = self.clocks.remove(place);
-        let _ended = self.running.remove(place);
+        let mut ended = self.running.remove(place);
+        self.kept[usize::from(node)] = ended.node.take_kept();
         self.events += 1;
         Ok(Some(Acted {
             line,

@@ -1,4 +1,5 @@
-ghost use Rattle.std.specs.Prelude.{◌≡◌, ◌≢◌, ◌≤◌, [], Err, IfOk, OnOk, OnErr, length};
+ghost use Rattle.std.specs.Prelude.{◌≡◌, ◌≢◌, ◌≤◌, [], Err, IfOk, OnOk, OnErr, length, replicate};
+ghost use Rattle.node_core.specs.Nodes.{nothing_kept};
 ghost use Rattle.fabric_terms.specs.Places.{place_of};
 ghost use Rattle.fabric_terms.specs.Reports.{told};
 ghost use Rattle.fabric_terms.specs.Runs.{clocks_of};
@@ -19,7 +20,7 @@ use arbiter_core::Arbiter;
 use drift_clock::DriftBroken;
 use fabric_terms::{Event, FabricConfig, OutOfMemory, Report};
 use frame_bag::FrameBag;
-use node_core::Batch;
+use node_core::{Batch, NodeKept};
 use point_places::Places;
 use ring_points::Who;
 use std::alloc::Global;
@@ -63,6 +64,17 @@ pub struct Acted {
 /// Nodes have the numbers below this.
 const NODE_NUMBERS: usize = 1000;
 
+/// Nothing is kept of so many nodes.
+fn nothing_kept(alloc: Global, count: usize) -> Result<Vec<NodeKept>, OutOfMemory>
+    ensures { IfOk result (λ kept. kept.items ≡ replicate count nothing_kept) }
+{
+    let mut kept = Vec::new(alloc);
+    for _ in 0..count {
+        kept.push(NodeKept::new())?;
+    }
+    Ok(kept)
+}
+
 /// So many arbitrators that have recorded nothing and do not run.
 fn empty_seats(alloc: Global, count: u16) -> Result<Vec<Seat>, OutOfMemory>
     requires { count ≤ 9 }
@@ -90,8 +102,8 @@ pub struct World {
     /// The running nodes rise by number; the clock of each stands at its place in `clocks`.
     pub(crate) running: Vec<Running>,
     pub(crate) clocks: Vec<(Who, u64)>,
-    /// How many starts are recorded for each node, by its number.
-    pub(crate) boots: Vec<u32>,
+    /// What is kept of each node that does not run, by its number.
+    pub(crate) kept: Vec<NodeKept>,
     /// The arbitrators, from number 1.
     pub(crate) seats: Vec<Seat>,
     pub(crate) frames: FrameBag,
@@ -111,7 +123,7 @@ impl World {
             actor: config.first,
             instance: 1,
         };
-        let boots = vec![in alloc; 0; NODE_NUMBERS]?;
+        let kept = nothing_kept(alloc, NODE_NUMBERS)?;
         let seats = empty_seats(alloc, config.arbiters.as_slice().len() as u16)?;
         let places = Places::new(alloc, first)?;
         Ok(World {
@@ -121,7 +133,7 @@ impl World {
             events: 0,
             running: Vec::new(alloc),
             clocks: Vec::new(alloc),
-            boots,
+            kept,
             seats,
             frames: FrameBag::new(alloc),
             sent: 0,

@@ -48,14 +48,14 @@ returns-in_err-take_tick-in-Tick c k h s =
     rw (p.1, p.2) (
     answered_tick_as c.args.self.now c.take_tick.new.self k h c.args.line (Tick c.in-Tick.advance c.as_slice.result.now) c.args.event.now
     (Err c.in_err-take_tick-in-Tick.field-0.0) (c.in-Tick.is ∙ ap (λ rs. Tick c.in-Tick.advance rs) (sym c.as_slice.ensures)) s c.requires.fits
-    (c.in_err-take_tick-in-Tick.ensures (ruled k h) c.args.line s.keeps.state)
+    (c.in_err-take_tick-in-Tick.ensures.comes (ruled k h) c.args.line s.keeps.state)
     )
 
 pub returns-in_ok-take_tick-in-Tick : goal.returns-in_ok-take_tick-in-Tick
 returns-in_ok-take_tick-in-Tick c k h s =
     answered_tick_as c.args.self.now c.take_tick.new.self k h c.args.line (Tick c.in-Tick.advance c.as_slice.result.now) c.args.event.now (Ok tt)
     (c.in-Tick.is ∙ ap (λ rs. Tick c.in-Tick.advance rs) (sym c.as_slice.ensures)) s c.requires.fits
-    (c.in_ok-take_tick-in-Tick.ensures (ruled k h) c.args.line s.keeps.state)
+    (c.in_ok-take_tick-in-Tick.ensures.comes (ruled k h) c.args.line s.keeps.state)
 
 -- a node's timer fires
 
