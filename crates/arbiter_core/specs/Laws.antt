@@ -15,7 +15,7 @@ abbrev pub RulingAgain : Type 0
 RulingAgain =
     (table : Table) (accuser victim : Who) → same_who accuser victim ≡ false
     → accusation_ruled (table_after table (accusation_kept table.accusations accuser victim)).accusations accuser victim
-      ≡ accusation_ruled table.accusations accuser victim
+    ≡ accusation_ruled table.accusations accuser victim
 
 -- once a claim is recorded, whoever claims the round again is told whom the first claim was told
 abbrev pub SettledAgain : Type 0

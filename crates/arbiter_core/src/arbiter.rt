@@ -102,12 +102,7 @@ impl Arbiter {
     }
 
     /// Keeps the first claimer of a later round, and gives the record of it.
-    fn keep_claimer(
-        &mut self,
-        victim: Who,
-        round: u8,
-        claimer: Who,
-    ) -> Result<Record, ArbiterError>
+    fn keep_claimer(&mut self, victim: Who, round: u8, claimer: Who) -> Result<Record, ArbiterError>
         requires { first_claimer victim round self.old.table.claims ≡ None }
         ensures { Answers (keep_call (ClaimedBy victim round claimer ∷ []) (ClaimedBy victim round claimer) self.old) self.old self.new result }
     {

@@ -11,8 +11,6 @@
 mod laws;
 mod quorum;
 mod tally;
-#[cfg(test)]
-mod tests;
 mod verdict;
 mod votes;
 

@@ -5,7 +5,7 @@ use Rattle.std.proofs.lemmas.Bool.Decides.{nat_tests}
 use Rattle.std.specs.Map.{lookup}
 use Rattle.indexmap.specs.IndexMap.{insert_entry}
 use Rattle.ring_points.specs.declared.who.Who.{Who}
-use Rattle.ring_rules.specs.Arbiters.{RoundClaims, first_claimer, is_round_of}
+use Rattle.ring_rules.specs.Arbiters.{first_claimer, is_round_of}
 use Rattle.arbiter_tables.specs.declared.round.Round.{Round}
 use Rattle.arbiter_tables.specs.contracts.round.RoundPartialEq.TheImpl.{eq-value}
 use Rattle.arbiter_tables.specs.Keys.{victim_of, claims_of}
@@ -27,7 +27,6 @@ test k e = by (is_its k e) refl
     by : (b : Bool) → is_its k e ≡ b → (nat_eq k.actor e.0.actor && (nat_eq k.instance e.0.instance && nat_eq k.round e.0.round)) ≡ is_its k e
     by true s = grind (arith, nat_tests, s)
     by false s = grind (arith, nat_tests, s)
-
 
 pub lookup-claims : (es : List (Round × Who)) (k : Round) → lookup (same_key k) es ≡ first_claimer (victim_of k) k.round (claims_of es)
 lookup-claims [] k = refl

@@ -1,31 +1,9 @@
-ghost use Rattle.std.specs.Prelude.{◌≤◌};
-
-use crate::{Answer, Arbiter, Record};
+use crate::questions::{accusation, arbitrator, node};
+use arbiter_core::{Answer, Arbiter, Record};
 use fabric_terms::{Body, Message};
 use ring_points::{Ruling, Who};
 use std::process::Abort;
 use std::test::Fail;
-
-fn node(actor: u16) -> Who {
-    Who { actor, instance: 1 }
-}
-
-fn arbitrator(number: u16) -> Who
-    requires { number ≤ 9 }
-{
-    Who {
-        actor: 32768 + number,
-        instance: 0,
-    }
-}
-
-fn accusation(accuser: Who, to: Who, victim: Who) -> Message {
-    Message {
-        from: accuser,
-        to,
-        body: Body::Accuse { victim },
-    }
-}
 
 // What arbitrator 1 rules, and whom it records as the first accuser.
 fn ruled(

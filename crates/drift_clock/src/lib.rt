@@ -11,8 +11,6 @@ mod bound;
 mod drift;
 mod laws;
 mod pair;
-#[cfg(test)]
-mod tests;
 mod wait;
 
 pub use bound::{Bound, MAX_DRIFT, MAX_GRAIN, MAX_READING, MAX_TRUE_TIME};

@@ -22,8 +22,6 @@ mod mem_source;
 mod refusal;
 mod sink;
 mod source;
-#[cfg(test)]
-mod tests;
 
 pub use clock::Clock;
 pub use datagram::{DATAGRAM_BYTES, Datagram, DatagramBytes};

@@ -8,8 +8,15 @@ use std::{env, io};
 
 fn main(rt: HostRuntime) -> io::Result<ExitCode> {
     let mut words = Vec::new(rt.alloc());
-    for word in env::args(&rt)?.skip(1) {
-        words.push(word)?;
+    match env::args(&rt) {
+        Ok(args) => {
+            for word in args.skip(1) {
+                words.push(word)?;
+            }
+        }
+        // A word that is no UTF-8 is in none of the program's forms, and neither are no words at all.
+        Err(error) if error.kind() == io::ErrorKind::InvalidData => {}
+        Err(error) => return Err(error),
     }
     let mut source = StdinSource::new(&rt);
     let mut sink = StdoutSink::new(&rt);

@@ -16,8 +16,6 @@ mod nodes;
 mod numbers;
 mod point;
 mod read;
-#[cfg(test)]
-mod tests;
 mod worked;
 
 pub use error::ConfigError;

@@ -8,16 +8,12 @@
 #![tactic(auto)]
 
 mod failures;
-#[cfg(test)]
-mod fakes;
 mod folder;
 mod folder_keeper;
 mod mono_clock;
 mod record_file;
 mod stdin_source;
 mod stdout_sink;
-#[cfg(test)]
-mod tests;
 mod udp_links;
 
 pub use folder_keeper::FolderKeeper;

@@ -1,8 +1,1 @@
-pub mod Positions
-pub mod Cuts
-pub mod Judging
-pub mod Accepted
 pub mod Safe
-pub mod OneOutput
-pub mod Along
-pub mod Written

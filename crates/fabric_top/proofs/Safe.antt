@@ -8,11 +8,11 @@ use Rattle.fabric_above.specs.Fabric.{fabric_stays, fabric}
 use Rattle.ring_safety.proofs.Safe.{ring_is_safe_lem, leaves_before_take_over_lem, places_are_kept_lem}
 use Rattle.ring_world.specs.Answers.{is_frame}
 use Rattle.world_rules.specs.Runs.{History}
-use Rattle.fabric_top.specs.Laws.{IsValidHistory}
-use Rattle.fabric_top.specs.Output.{run_judged}
-use Rattle.fabric_top.specs.Schedule.{judge}
+use Rattle.schedule_replay.specs.Laws.{IsValidHistory}
+use Rattle.schedule_replay.specs.Output.{run_judged}
+use Rattle.schedule_replay.specs.Schedule.{judge}
 use Rattle.fabric_top.specs.Top.{IsSafe, KeepsPlaces}
-use Rattle.fabric_top.proofs.Accepted.{accepted_valid}
+use Rattle.schedule_replay.proofs.Accepted.{accepted_valid}
 
 -- before any event nobody holds anything
 no_clock : (ago : ℕ) (w : Who) (p : ℕ) → Holds (drop ago []) w p → ⊥

@@ -10,8 +10,6 @@
 mod laws;
 mod range;
 mod refusal;
-#[cfg(test)]
-mod tests;
 mod unit;
 mod units;
 

@@ -5,7 +5,5 @@
 #![tactic(auto)]
 
 mod bag;
-#[cfg(test)]
-mod tests;
 
 pub use bag::FrameBag;

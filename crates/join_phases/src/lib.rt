@@ -8,8 +8,6 @@
 #![tactic(auto)]
 
 mod phases;
-#[cfg(test)]
-mod tests;
 
 pub use fabric_terms::Why;
 pub use phases::{Booting, Left, Linked, Phase, Routing, Seeking};

@@ -1,6 +1,6 @@
-pub mod Tables
-pub mod Accusations
+pub mod Growing
 pub mod Spelled
 pub mod Lists
 pub mod Nexts
+pub mod NextClaims
 pub mod Reading

@@ -1,13 +1,13 @@
 -- Which bytes are an accusation that can come next.
-use Rattle.std.proofs.Common.{◌≡◌, ℕ, true, List, [], ◌∷◌, ◌++◌, length, drop, Option, Some, None, refl, ap, sym, ◌∙◌, arith, length-append}
+use Rattle.std.proofs.Common.{◌≡◌, ℕ, true, List, ◌∷◌, ◌++◌, length, drop, Option, Some, None, refl, ap, sym, ◌∙◌, arith, length-append}
 use Rattle.std.specs.Prelude.{◌==◌, not, is_some, IsTrue}
 use Rattle.std.proofs.lemmas.Bool.{and_parts, eqb-true}
 use Rattle.std.proofs.lemmas.List.{append-nil, drop_at}
 use Rattle.std.proofs.Math.ListN.{drop_of_length-le}
 use Rattle.ring_points.specs.declared.who.Who.{Who}
 use Rattle.fabric_terms.specs.declared.record.Record.{Record}
-use Rattle.fabric_terms.specs.declared.record.Record.TheVariants.{Boot, AccusedBy}
-use Rattle.ring_rules.specs.Arbiters.{first_accuser, accusations_after}
+use Rattle.fabric_terms.specs.declared.record.Record.TheVariants.{Boot, AccusedBy, ClaimedBy}
+use Rattle.ring_rules.specs.Arbiters.{first_accuser, no_table, table_after}
 use Rattle.fabric_terms.specs.Fields.{is_who}
 use Rattle.ring_wire.specs.Stands.{StandsAt}
 use Rattle.ring_wire.specs.Texts.{who_bytes}
@@ -25,14 +25,14 @@ pub record IsAccusation (kept : Kept) (rest : List ℕ) (victim first : Who) : T
   pub victim_at : StandsAt (who_bytes victim) rest 0 6
   pub first_sound : IsTrue (is_who first)
   pub first_at : StandsAt (who_bytes first) rest 6 12
-  pub new : first_accuser victim (accusations_after [] kept.arbiter) ≡ None
+  pub new : first_accuser victim (table_after no_table kept.arbiter).accusations ≡ None
 
 none : (o : Option Who) → not (is_some o) ≡ true → o ≡ None
 none None e = refl
 none (Some x) e = absurd (cc)
 
 spelled_two : (kept : Kept) (rest : List ℕ) (v f : Who) → kept.boots ≡ 0 → IsTrue (is_who v) → IsTrue (is_who f)
-    → first_accuser v (accusations_after [] kept.arbiter) ≡ None → rest ≡ who_bytes v ++ who_bytes f → IsAccusation kept rest v f
+    → first_accuser v (table_after no_table kept.arbiter).accusations ≡ None → rest ≡ who_bytes v ++ who_bytes f → IsAccusation kept rest v f
 spelled_two kept rest v f boots hv hf new is =
     let lv = who_length v in
     let lf = who_length f in
@@ -60,14 +60,15 @@ pub record Accuses (kept : Kept) (rest : List ℕ) : Type 0 where
 
 pub only_accusation : (kept : Kept) (rest : List ℕ) (r : Record) → Stands kept r (2 ∷ rest) → Accuses kept rest
 only_accusation kept rest (AccusedBy v f) s =
-    let p = and_parts (kept.boots == 0) (not (is_some (first_accuser v (accusations_after [] kept.arbiter)))) s.next in
+    let p = and_parts (kept.boots == 0) (not (is_some (first_accuser v (table_after no_table kept.arbiter).accusations))) s.next in
     let q = and_parts (is_who v) (is_who f) s.sound in
     record {
       victim = v;
       first = f;
-      is = spelled_two kept rest v f (eqb-true kept.boots 0 p.0) q.0 q.1 (none (first_accuser v (accusations_after [] kept.arbiter)) p.1) (tail_same 2 rest (who_bytes v ++ who_bytes f) s.spelled);
+      is = spelled_two kept rest v f (eqb-true kept.boots 0 p.0) q.0 q.1 (none (first_accuser v (table_after no_table kept.arbiter).accusations) p.1) (tail_same 2 rest (who_bytes v ++ who_bytes f) s.spelled);
     }
 only_accusation kept rest (Boot i) s = let e = s.spelled in absurd (cc)
+only_accusation kept rest (ClaimedBy v r c) s = let e = s.spelled in absurd (cc)
 only_accusation kept rest r s = let e = s.sound in absurd (cc)
 
 -- two instances at one place are the same

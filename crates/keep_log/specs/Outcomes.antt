@@ -6,8 +6,12 @@ use Rattle.keep_log.specs.declared.kept_error.KeptError.{KeptError}
 use Rattle.keep_log.specs.declared.kept_error.KeptError.TheVariants.{BadRecord, OutOfMemory}
 use Rattle.keep_log.specs.Places.{Follows, IsBadAfter, nothing_kept, with_records}
 
--- the bytes are records in their places, and what is read is what they amount to; or the place, from 1, of the first that is bad
+-- the bytes are records, each in its place, and this is what they amount to
+abbrev pub AmountsTo : List (List ℕ) → Kept → Type 0
+AmountsTo lists kept = (records : List Record) × (Follows nothing_kept lists records × (kept ≡ with_records nothing_kept records))
+
+-- what all records amount to, or the place, from 1, of the first that is bad
 abbrev pub Reads : List (List ℕ) → Result Kept KeptError → Type 0
-Reads lists (Ok kept) = (records : List Record) × (Follows nothing_kept lists records × (kept ≡ with_records nothing_kept records))
+Reads lists (Ok kept) = AmountsTo lists kept
 Reads lists (Err (BadRecord place)) = (n : ℕ) × (place ≡ n + 1) × IsBadAfter nothing_kept lists n
 Reads lists (Err OutOfMemory) = ⊤

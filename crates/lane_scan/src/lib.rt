@@ -10,8 +10,6 @@ mod laws;
 mod mask;
 mod near;
 mod span;
-#[cfg(test)]
-mod tests;
 
 pub use laws::no_other_is_nearer;
 pub use mask::mask_in;

@@ -6,7 +6,9 @@ use Rattle.ring_points.specs.declared.who.Who.{Who}
 use Rattle.ring_points.specs.Ranges.{in_ranges, rises_from}
 use Rattle.ring_points.specs.Whos.{same_who}
 use Rattle.fabric_terms.specs.Places.{Place, With, Flying}
-use Rattle.sched_text.specs.Texts.{spaced, who_text, ranges_text}
+use Rattle.text_fields.specs.Texts.{spaced}
+use Rattle.text_fields.specs.Instances.{who_text}
+use Rattle.text_fields.specs.Intervals.{ranges_text}
 use Rattle.point_places.specs.declared.unheld.Holder.{Holder}
 use Rattle.point_places.specs.Order.{is_before, is_same}
 

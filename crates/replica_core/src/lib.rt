@@ -13,8 +13,6 @@ mod laws;
 mod refusal;
 mod replica;
 mod role;
-#[cfg(test)]
-mod tests;
 
 pub use entry::{Entry, EntryBytes};
 pub use laws::{

@@ -10,8 +10,6 @@
 mod candidate;
 mod load;
 mod placement;
-#[cfg(test)]
-mod tests;
 
 pub use load::NodeLoad;
 pub use placement::{TooFewDomains, place, placement_is_a_cheapest_choice};

@@ -11,8 +11,6 @@ mod interval;
 mod laws;
 mod point;
 mod ranges;
-#[cfg(test)]
-mod tests;
 mod unit;
 mod who;
 

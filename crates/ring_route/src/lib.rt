@@ -12,8 +12,6 @@ mod known;
 mod laws;
 mod near;
 mod table;
-#[cfg(test)]
-mod tests;
 
 pub use hop::Hop;
 pub use laws::chains_end;

@@ -10,8 +10,6 @@ mod fields;
 mod laws;
 mod not_frame;
 mod read;
-#[cfg(test)]
-mod tests;
 mod write;
 
 pub use fabric_terms::{Body, Message, OUTBOX_LIMIT, Outbox};

@@ -11,8 +11,6 @@
 mod freeze;
 mod laws;
 mod refusal;
-#[cfg(test)]
-mod tests;
 mod token;
 
 pub use freeze::Freeze;

@@ -1,5 +1,6 @@
-use Rattle.arbiter_core.proofs.Rulings.{recording_once}
+use Rattle.arbiter_core.proofs.Rounds.{claim_once}
+use Rattle.arbiter_core.proofs.Rulings.{accusation_once}
 use Rattle.arbiter_core.proofs.laws.what_is_recorded_is_new.Goals as goal
 
 pub returns : goal.returns
-returns c = recording_once
+returns c = λ table. record { accusation = accusation_once table; claim = claim_once table }

@@ -10,3 +10,9 @@ pub returns-in-AccusedBy-clause-written : goal.returns-in-AccusedBy-clause-writt
 unfolding one_byte
 returns-in-AccusedBy-clause-written c =
     rw c.in-AccusedBy.is (puts_front (puts_more c.put_u8-at-in-AccusedBy.ensures.wrote (puts_more c.put_who-at.ensures.wrote c.put_who.ensures.wrote)))
+
+pub returns-in-ClaimedBy-clause-written : goal.returns-in-ClaimedBy-clause-written
+unfolding one_byte
+returns-in-ClaimedBy-clause-written c =
+    rw c.in-ClaimedBy.is (puts_front (puts_more c.put_u8-at-in-ClaimedBy.ensures.wrote
+    (puts_more c.put_who-at-in-ClaimedBy.ensures.wrote (puts_more c.put_u8-at-in-ClaimedBy-2.ensures.wrote c.put_who-in-ClaimedBy.ensures.wrote))))

@@ -1,0 +1,34 @@
+ghost use Rattle.std.specs.Prelude.{◌≤◌};
+
+use fabric_terms::{Body, Message};
+use ring_points::Who;
+
+pub fn node(actor: u16) -> Who {
+    Who { actor, instance: 1 }
+}
+
+pub fn arbitrator(number: u16) -> Who
+    requires { number ≤ 9 }
+{
+    Who {
+        actor: 32768 + number,
+        instance: 0,
+    }
+}
+
+pub fn accusation(accuser: Who, to: Who, victim: Who) -> Message {
+    Message {
+        from: accuser,
+        to,
+        body: Body::Accuse { victim },
+    }
+}
+
+/// A claim of a round, to arbitrator 1.
+pub fn claim(claimer: Who, victim: Who, round: u8) -> Message {
+    Message {
+        from: claimer,
+        to: arbitrator(1),
+        body: Body::Claim { victim, round },
+    }
+}

@@ -1,5 +1,0 @@
-use Rattle.std.proofs.Common.{◌≡◌}
-use Rattle.drift_clock.proofs.tests.last_answer.Given as goal
-
-abbrev pub invariant-loop-time : goal.invariant-loop-time
-invariant-loop-time g l = l.drift.latest.0 ≡ l.latest

@@ -1,0 +1,87 @@
+use edge_io::{
+    Clock, EdgeRefusal, Failed, Keeper, Links, MemClock, MemKeeper, MemLinks, MemSink, MemSource,
+    Sink, Source, write_all,
+};
+use std::test::Fail;
+
+#[test]
+fn a_source_fails_at_its_listed_calls(rt: HostRuntime) -> Result<(), Fail> {
+    let bytes = b"abcde".to_vec(rt.alloc())?;
+    let mut source = MemSource::new(bytes, vec![in rt.alloc(); 2, 3]?);
+    let mut buffer = [0; 3];
+    for want in [Ok(3), Err(Failed), Err(Failed), Ok(2), Ok(0)] {
+        assert_eq!(rt; source.read(&mut buffer), want);
+    }
+    assert_eq!(rt; &buffer, b"dec");
+    Ok(())
+}
+
+#[test]
+fn a_sink_fails_at_its_listed_calls(rt: HostRuntime) -> Result<(), Fail> {
+    let mut sink = MemSink::new(rt.alloc(), vec![in rt.alloc(); 2, 3]?);
+    assert_eq!(rt; sink.write(b"ab"), Ok(2));
+    assert_eq!(rt; sink.write(b"cd"), Err(EdgeRefusal::Failed));
+    assert_eq!(rt; write_all(&mut sink, b"ef"), Err(EdgeRefusal::Failed));
+    assert_eq!(rt; write_all(&mut sink, b""), Ok(()));
+    assert_eq!(rt; write_all(&mut sink, b"gh"), Ok(()));
+    assert_eq!(rt; sink.held(), b"abgh".as_slice());
+    Ok(())
+}
+
+#[test]
+fn a_failing_append_keeps_its_record_at_even_calls(rt: HostRuntime) -> Result<(), Fail> {
+    let mut first = Vec::new(rt.alloc());
+    first.push(b"old".to_vec(rt.alloc())?)?;
+    let mut lists = Vec::new(rt.alloc());
+    lists.push((7, first))?;
+    let mut keeper = MemKeeper::new(rt.alloc(), lists, vec![in rt.alloc(); 2, 3, 5]?);
+    assert_eq!(rt; keeper.append_synced(7, b"a"), Ok(()));
+    assert_eq!(rt; keeper.append_synced(8, b"b"), Err(EdgeRefusal::Failed));
+    assert_eq!(rt; keeper.append_synced(7, b"c"), Err(EdgeRefusal::Failed));
+    let seven = keeper.records(7).ok().ok_or("fails")?;
+    assert!(rt; keeper.records(8).is_err());
+    let eight = keeper.records(8).ok().ok_or("fails")?;
+    let nine = keeper.records(9).ok().ok_or("fails")?;
+    assert_eq!(rt; seven.len(), 2);
+    assert_eq!(rt; seven[0].as_slice(), b"old".as_slice());
+    assert_eq!(rt; seven[1].as_slice(), b"a".as_slice());
+    assert_eq!(rt; eight.len(), 1);
+    assert_eq!(rt; eight[0].as_slice(), b"b".as_slice());
+    assert_eq!(rt; nine.len(), 0);
+    Ok(())
+}
+
+#[test]
+fn links_fail_at_their_listed_calls(rt: HostRuntime) -> Result<(), Fail> {
+    let mut arrivals = Vec::new(rt.alloc());
+    arrivals.push((1, None))?;
+    arrivals.push((2, Some(b"two".to_vec(rt.alloc())?)))?;
+    arrivals.push((1, Some(b"one".to_vec(rt.alloc())?)))?;
+    let mut links = MemLinks::new(rt.alloc(), arrivals, vec![in rt.alloc(); 1, 3, 5]?);
+    assert_eq!(rt; links.listen(1, "here"), Err(EdgeRefusal::Failed));
+    assert_eq!(rt; links.listen(1, "here"), Ok(()));
+    assert_eq!(rt; links.send(1, "there", b"lost"), Err(EdgeRefusal::Failed));
+    assert_eq!(rt; links.send(1, "there", b"sent"), Ok(()));
+    let mut buffer = [0; 1500];
+    assert_eq!(rt; links.receive(1, &mut buffer), Err(Failed));
+    assert_eq!(rt; links.receive(1, &mut buffer), Ok(None));
+    assert_eq!(rt; links.receive(1, &mut buffer), Ok(Some(3)));
+    assert_eq!(rt; links.receive(1, &mut buffer), Ok(None));
+    assert_eq!(rt; &buffer[..3], b"one".as_slice());
+    assert_eq!(rt; links.opened().len(), 1);
+    assert_eq!(rt; links.opened()[0].at.as_str(), "here");
+    assert_eq!(rt; links.sent().len(), 1);
+    assert_eq!(rt; links.sent()[0].to.as_str(), "there");
+    assert_eq!(rt; links.sent()[0].bytes.as_slice(), b"sent".as_slice());
+    Ok(())
+}
+
+#[test]
+fn a_clock_repeats_its_last_reading(rt: HostRuntime) -> Result<(), Fail> {
+    let mut clock = MemClock::new(vec![in rt.alloc(); 5, 3, 9]?);
+    for want in [5, 3, 9, 9, 9] {
+        assert_eq!(rt; clock.now(), want);
+    }
+    assert_eq!(rt; MemClock::new(Vec::new(rt.alloc())).now(), 0);
+    Ok(())
+}

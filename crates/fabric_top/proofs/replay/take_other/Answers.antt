@@ -1,5 +1,0 @@
-use Rattle.sched_text.proofs.LineLaws.{read_is_spelled}
-use Rattle.fabric_top.proofs.replay.take_other.Goals as goal
-
-pub take_event-requires-clause-fits : goal.take_event-requires-clause-fits
-take_event-requires-clause-fits c = (read_is_spelled c.args.line.now c.in-Ok.event c.in-Ok.ensures.ok).0

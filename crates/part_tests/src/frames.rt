@@ -1,0 +1,49 @@
+ghost use Rattle.std.specs.Prelude.{◌≡◌};
+ghost use Rattle.fabric_terms.specs.declared.message.Body.TheVariants.{Hello};
+
+use frame_bag::FrameBag;
+use fabric_terms::{Body, Message};
+use ring_points::Who;
+use std::test::Fail;
+
+const FIRST: Who = Who {
+    actor: 1,
+    instance: 1,
+};
+
+const SECOND: Who = Who {
+    actor: 2,
+    instance: 1,
+};
+
+fn hello(from: Who, to: Who, mine: u32) -> Message
+    ensures { result ≡ record { from = from; to = to; body = Hello mine } }
+{
+    Message {
+        from,
+        to,
+        body: Body::Hello { mine },
+    }
+}
+
+#[test]
+fn gives_each_frame_by_its_number(rt: HostRuntime) -> Result<(), Fail> {
+    let mut bag = FrameBag::new(rt.alloc());
+    bag.reserve(2)?;
+    bag.post(&hello(FIRST, SECOND, 7));
+    bag.post(&hello(SECOND, FIRST, 9));
+    assert_eq!(rt; bag.len(), 2);
+    for (number, expected) in [(0, None), (1, Some(7)), (2, Some(9)), (3, None)] {
+        let mine = match bag.get(number) {
+            Some(
+                Message {
+                    body: Body::Hello { mine },
+                    ..
+                },
+            ) => Some(mine),
+            _ => None,
+        };
+        assert_eq!(rt; mine, expected);
+    }
+    Ok(())
+}

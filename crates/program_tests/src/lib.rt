@@ -1,0 +1,22 @@
+//! Tests of the whole program over devices in memory: schedules with what is written of them and the status.
+//!
+//! What is written is proved to be the run that the rules define; here that run is compared with lines that were written
+//! down by hand, and each refusal is met once. The crate has no code of its own.
+#![tactic(auto)]
+
+#[cfg(test)]
+mod cluster;
+#[cfg(test)]
+mod devices;
+#[cfg(test)]
+mod joins;
+#[cfg(test)]
+mod lengths;
+#[cfg(test)]
+mod limits;
+#[cfg(test)]
+mod schedules;
+#[cfg(test)]
+mod small;
+#[cfg(test)]
+mod take_overs;

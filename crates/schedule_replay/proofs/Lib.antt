@@ -1,0 +1,7 @@
+pub mod Positions
+pub mod Cuts
+pub mod Judging
+pub mod Accepted
+pub mod OneOutput
+pub mod Along
+pub mod Written

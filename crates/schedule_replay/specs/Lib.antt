@@ -1,0 +1,5 @@
+pub mod Schedule
+pub mod Output
+pub mod Follows
+pub mod Laws
+pub mod Replays

@@ -1,0 +1,26 @@
+// The last lines of a report.
+ghost use Rattle.std.specs.Prelude.{◌≡◌, ◌++◌, OnOk};
+ghost use Rattle.fabric_terms.specs.declared.config.FabricConfig.{FabricConfig as Configuration};
+ghost use Rattle.world_rules.specs.Runs.{History};
+ghost use Rattle.schedule_replay.specs.Follows.{At, IsAlong};
+ghost use Rattle.schedule_replay.specs.Output.{IsReport, end_line};
+
+use fabric_status::push_two;
+use fabric_terms::OutOfMemory;
+use ring_world::World;
+
+/// How many events there were, and how many frames were sent.
+fn push_end(text: &mut Vec<u8>, counts: (u64, u32)) -> Result<(), OutOfMemory>
+    ensures { OnOk result (text.new.items ≡ text.old.items ++ end_line counts.0 counts.1) }
+{
+    push_two(text, b"end ", counts.0, u64::from(counts.1))
+}
+
+/// Where the points are that nobody holds, and the end. At want of memory a front of it may be written.
+pub fn push_ending(text: &mut Vec<u8>, world: &World) -> Result<(), OutOfMemory>
+    requires { IsAlong world.now text.old.items }
+    ensures { (c : Configuration) (h : History) → At world.now text.old.items c h → OnOk result (IsReport c h text.new.items) }
+{
+    world.place_lines(text)?;
+    push_end(text, world.counts())
+}

@@ -1,0 +1,18 @@
+//! Replaying a schedule: its lines are judged and run, and what is told of each is written.
+//!
+//! A schedule's lines are taken one after another: each is judged against the world that the lines before it have made,
+//! run, and what it tells is appended to the report. The crate stands on the world of a schedule and on the readers of
+//! configurations and lines. It promises that what is written is the report of the run that the rules define, that each
+//! refusal comes exactly where the judged bytes say so, and that what is accepted is a valid schedule.
+#![tactic(auto)]
+
+mod ending;
+mod laws;
+mod lines;
+mod replay;
+mod schedule;
+mod told;
+
+pub use laws::{accepted_is_valid, one_output};
+pub use replay::replay;
+pub use schedule::{MOST_FIRST_LINE, MOST_LINE, MOST_LINES};

@@ -1,0 +1,43 @@
+// The lines of one step.
+ghost use Rattle.std.specs.Prelude.{◌≡◌, ◌++◌, Some, OnOk};
+ghost use Rattle.ring_world.specs.Answers.{entry_of};
+ghost use Rattle.schedule_replay.specs.Output.{entry_lines, report_lines, sent_lines};
+
+use fabric_terms::{Head, OutOfMemory, Report};
+use ring_world::Acted;
+use sched_text::{print_report, print_sent};
+
+/// The lines of these reports, in their order.
+fn push_reports(text: &mut Vec<u8>, head: &Head, reports: &[Report]) -> Result<(), OutOfMemory>
+    ensures { OnOk result (text.new.items ≡ text.old.items ++ report_lines head.now reports.now) }
+{
+    for report in reports {
+        print_report(head, report, text)?;
+    }
+    Ok(())
+}
+
+/// The line of the frames that were sent, if any were. Frames are counted from 1.
+fn push_sent(text: &mut Vec<u8>, head: &Head, sent: (u32, u32)) -> Result<(), OutOfMemory>
+    ensures { OnOk result (text.new.items ≡ text.old.items ++ sent_lines head.now sent) }
+{
+    if sent.0 > 0 {
+        print_sent(head, sent, text)
+    } else {
+        Ok(())
+    }
+}
+
+/// What an actor told in a step, and last which frames it sent. At want of memory a front of it may be written.
+pub fn push_told(text: &mut Vec<u8>, acted: &Acted) -> Result<(), OutOfMemory>
+    ensures { OnOk result (text.new.items ≡ text.old.items ++ entry_lines acted.now.line acted.now.time (entry_of (Some acted.now))) }
+{
+    let head = Head {
+        line: acted.line,
+        time: Some(acted.time),
+        who: acted.who,
+        reading: acted.reading,
+    };
+    push_reports(text, &head, acted.reports.as_slice())?;
+    push_sent(text, &head, acted.sent)
+}

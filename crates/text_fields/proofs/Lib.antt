@@ -1,0 +1,13 @@
+pub mod Lists
+pub mod Numbers
+pub mod PointSteps
+pub mod FieldLaws
+pub mod RestLaws
+pub mod NumberLaws
+pub mod PointLaws
+pub mod ListLaws
+pub mod ListSteps
+pub mod IntervalLaws
+pub mod ActorLaws
+pub mod InstanceLaws
+pub mod EpochLaws

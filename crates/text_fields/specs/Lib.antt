@@ -1,0 +1,10 @@
+pub mod Fields
+pub mod Inverses
+pub mod Texts
+pub mod Numbers
+pub mod Points
+pub mod Lists
+pub mod Intervals
+pub mod Actors
+pub mod Instances
+pub mod Epochs

@@ -1,0 +1,3 @@
+/// The bytes are no field of this kind.
+#[derive(Clone, Copy, Debug, PartialEq, Eq)]
+pub struct BadField;
