@@ -1,4 +1,5 @@
 ghost use Rattle.std.specs.Prelude.{◌≡◌, ◌<◌, ◌↔◌, [], is_ok, IsErr, IfErr};
+ghost use Rattle.join_phases.specs.Phases.{bound_phase, holding_phase, left};
 ghost use Rattle.join_phases.specs.Starts.{may_found};
 
 use fabric_terms::Why;
@@ -45,6 +46,33 @@ pub enum Phase {
     Linked(Linked),
     Routing(Routing),
     Left(Left),
+}
+
+impl Phase {
+    /// A link is bound: a seeking node is linked.
+    pub fn bind(&mut self)
+        ensures { self.new ≡ bound_phase self.old }
+    {
+        if matches!(self, Phase::Seeking(_)) {
+            *self = Phase::Linked(Linked(()));
+        }
+    }
+
+    /// Ranges are owned: a linked node routes.
+    pub fn hold(&mut self)
+        ensures { self.new ≡ holding_phase self.old }
+    {
+        if matches!(self, Phase::Linked(_)) {
+            *self = Phase::Routing(Routing(()));
+        }
+    }
+
+    /// The node leaves for good.
+    pub fn leave(&mut self, why: Why)
+        ensures { self.new ≡ left why }
+    {
+        *self = Phase::Left(Left { why });
+    }
 }
 
 impl Booting {

@@ -35,8 +35,8 @@ does_firing now i old a out d e =
 
 -- what a call keeps and how much it sends, by its row
 
-pub heard_did : (now : ℕ) (a : Announce) (from : Who) (b : Body) (old : Links) (out : List (Who × Body)) (d : Did) → old.arbitrators ≤ 9 → d ≡ did_after out (frame_row now a from b old) → d.links ≡ record old { slots = d.links.slots; next_session = d.links.next_session } × (length d.sent ≤ length out + 9) × (length d.notes ≤ 2)
-heard_did now a from b old out d h e = let f = frame_few now a from b old h in (rw e f.kept, rw (e, length-append) (omega (arith, f.sent)), rw e f.notes)
+pub heard_did : (now : ℕ) (a : Announce) (from : Who) (b : Body) (old : Links) (out : List (Who × Body)) (d : Did) → old.arbitrators ≤ 9 → d ≡ did_after out (frame_row now a from b old) → d.links ≡ record old { slots = d.links.slots; next_session = d.links.next_session } × (length d.sent ≤ length out + 9) × (length d.notes ≤ 2) × (old.next_session ≤ d.links.next_session)
+heard_did now a from b old out d h e = let f = frame_few now a from b old h in (rw e f.kept, rw (e, length-append) (omega (arith, f.sent)), rw e f.notes, rw e f.sessions)
 
 pub fired_did : (now : ℕ) (a : Announce) (i : ℕ) (old : Links) (out : List (Who × Body)) (d : Did) → old.arbitrators ≤ 9 → d ≡ did_after out (slot_fired now a i old) → d.links ≡ record old { slots = d.links.slots; accused = d.links.accused } × (take (length old.accused) d.links.accused ≡ old.accused) × (length d.sent ≤ length out + 9) × (length d.notes ≤ 2)
 fired_did now a i old out d h e = let f = slot_fired_few now a i old h in (rw e f.kept, rw e f.accused, rw (e, length-append) (omega (arith, f.sent)), rw e f.notes)

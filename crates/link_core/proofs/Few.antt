@@ -38,22 +38,22 @@ record Few (t : Turn) : Type 0 where
 
 found_few : (row : ℕ → SlotRow) (none : Did) (k : Links) (place : Option ℕ) → ((i : ℕ) (slot : Option Link) → Few (row i slot)) → IsHeard k none → IsHeard k (in_found row none k place)
 found_few row none k None h n = n
-found_few row none k (Some i) h n = let f = h i (slot_at i k.slots) in record { kept = refl; sent = f.sent; notes = f.notes }
+found_few row none k (Some i) h n = let f = h i (slot_at i k.slots) in record { kept = refl; sessions = omega arith; sent = f.sent; notes = f.notes }
 
 same_few : (k : Links) → IsHeard k (same k)
-same_few k = record { kept = refl; sent = omega arith; notes = omega arith }
+same_few k = record { kept = refl; sessions = omega arith; sent = omega arith; notes = omega arith }
 
 unknown_few : (from : Who) (theirs own : ℕ) (k : Links) → IsHeard k (unknown from theirs own k)
-unknown_few from theirs own k = record { kept = refl; sent = omega arith; notes = omega arith }
+unknown_few from theirs own k = record { kept = refl; sessions = omega arith; sent = omega arith; notes = omega arith }
 
 -- Hello
 
 accept_counted_few : (k : Links) (s : Slots) (l : Link) (i : ℕ) (spent : Bool) → IsHeard k (accept_counted k (record k { slots = s }) l i spent)
-accept_counted_few k s l i true = record { kept = refl; sent = omega arith; notes = omega arith }
-accept_counted_few k s l i false = record { kept = refl; sent = omega arith; notes = omega arith }
+accept_counted_few k s l i true = record { kept = refl; sessions = omega arith; sent = omega arith; notes = omega arith }
+accept_counted_few k s l i false = record { kept = refl; sessions = omega arith; sent = omega arith; notes = omega arith }
 
 accept_free_few : (k : Links) (s : Slots) (l : Link) (place : Option ℕ) → IsHeard k (accept_free k (record k { slots = s }) l place)
-accept_free_few k s l None = record { kept = refl; sent = omega arith; notes = omega arith }
+accept_free_few k s l None = record { kept = refl; sessions = omega arith; sent = omega arith; notes = omega arith }
 accept_free_few k s l (Some i) = accept_counted_few k s l i (is_spent k)
 
 accept_few : (k : Links) (s : Slots) (l : Link) → IsHeard k (accept k (record k { slots = s }) l)
@@ -80,7 +80,7 @@ repeated_few theirs None = record { sent = omega arith; notes = omega arith }
 repeated_few theirs (Some l) = repeated_to_few theirs l l.state
 
 of_instance_few : (k : Links) (l : Link) (place : Option ℕ) → IsHeard k (hello_of_instance k l place)
-of_instance_few k l (Some i) = let f = repeated_few l.yours (slot_at i k.slots) in record { kept = refl; sent = f.sent; notes = f.notes }
+of_instance_few k l (Some i) = let f = repeated_few l.yours (slot_at i k.slots) in record { kept = refl; sessions = omega arith; sent = f.sent; notes = f.notes }
 of_instance_few k l None = of_node_few k l (slot_where (of_node is_hello l.peer.actor) k.slots)
 
 -- Offer and Take
@@ -99,7 +99,7 @@ offer_repeated_few i None = record { sent = omega arith; notes = omega arith }
 offer_repeated_few i (Some l) = take_again_few l l.state
 
 offer_seen_few : (now : ℕ) (from : Who) (theirs own len : ℕ) (k : Links) (place : Option ℕ) → IsHeard k (offer_seen now from theirs own len k place)
-offer_seen_few now from theirs own len k (Some i) = let f = taken_few now from theirs len (slot_at i k.slots) in record { kept = refl; sent = f.sent; notes = f.notes }
+offer_seen_few now from theirs own len k (Some i) = let f = taken_few now from theirs len (slot_at i k.slots) in record { kept = refl; sessions = omega arith; sent = f.sent; notes = f.notes }
 offer_seen_few now from theirs own len k None = found_few (λ i. offer_repeated) (unknown from theirs own k) k (slot_where (of_session from own theirs) k.slots) offer_repeated_few (unknown_few from theirs own k)
 
 take_in_few : (now : ℕ) (a : Announce) (l : Link) (was : LinkState) → Few (take_in now a l was)
@@ -168,8 +168,8 @@ gone_seen_few got bound i None = record { sent = omega arith; notes = omega arit
 gone_seen_few got bound i (Some l) = gone_if_few got bound i l (stands l.state)
 
 greeting_few : (from : Who) (theirs own : ℕ) (bound : Bool) (k : Links) (place : Option ℕ) → IsHeard k (gone_greeting from theirs own bound k place)
-greeting_few from theirs own bound k None = record { kept = refl; sent = omega (arith, answers_few bound from (body.Gone own theirs 0 false)); notes = omega arith }
-greeting_few from theirs own bound k (Some i) = record { kept = refl; sent = omega (arith, answers_few bound from (body.Gone own theirs 0 false)); notes = omega arith }
+greeting_few from theirs own bound k None = record { kept = refl; sessions = omega arith; sent = omega (arith, answers_few bound from (body.Gone own theirs 0 false)); notes = omega arith }
+greeting_few from theirs own bound k (Some i) = record { kept = refl; sessions = omega arith; sent = omega (arith, answers_few bound from (body.Gone own theirs 0 false)); notes = omega arith }
 
 -- Ruled
 

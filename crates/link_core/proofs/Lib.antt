@@ -3,6 +3,8 @@ pub mod Ruled
 pub mod Freed
 pub mod Silent
 pub mod Places
+pub mod Ends
+pub mod Heads
 pub mod SessionTies
 pub mod HandshakeTies
 pub mod GreetTies

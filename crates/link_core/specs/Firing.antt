@@ -36,8 +36,11 @@ asked n l = asked_first n l.peer l.tally.answers
 
 -- The peer is accused, where the list of the accused is not full.
 
+abbrev pub accused_by : Who → ℕ → ℕ → Link → Link
+accused_by me n rounds l = record l { state = state.Accused; tally = no_answers me l.peer n; rounds = no_rounds me n rounds }
+
 abbrev pub accusing : Links → Link → Link
-accusing k l = record l { state = state.Accused; tally = no_answers k.me l.peer k.arbitrators; rounds = no_rounds k.me k.arbitrators k.rounds }
+accusing k l = accused_by k.me k.arbitrators k.rounds l
 
 abbrev pub accuse_if : ℕ → Link → Links → Bool → Did
 accuse_if i l k true =

@@ -2,9 +2,10 @@
 use Rattle.std.specs.Prelude.{◌≡◌, ◌≤◌, length, take}
 use Rattle.link_core.specs.Links.{Links, Did}
 
--- a frame changes slots and the number of the next session alone, and is answered by nine frames at most
+-- a frame changes slots and the number of the next session alone, which never falls, and is answered by nine frames at most
 pub record IsHeard (old : Links) (d : Did) : Type 0 where
   pub kept : d.links ≡ record old { slots = d.links.slots; next_session = d.links.next_session }
+  pub sessions : old.next_session ≤ d.links.next_session
   pub sent : length d.sent ≤ 9
   pub notes : length d.notes ≤ 2
 

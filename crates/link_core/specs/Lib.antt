@@ -1,4 +1,5 @@
 pub mod Links
+pub mod Deadlines
 pub mod Sound
 pub mod Handshakes
 pub mod Renewals

@@ -1,7 +1,9 @@
--- What holds of every node's links: their times are bounded, and so are those that are made of them.
-use Rattle.std.specs.Prelude.{◌≡◌, ℕ, ◌≤◌, length, Option, Some, None, All}
+-- What holds of every node's links: their times are bounded, and so are those that are made of them; and their queue has
+-- the ends of the slots that guard.
+use Rattle.std.specs.Prelude.{◌≡◌, ℕ, ◌≤◌, List, length, Option, Some, None, All}
 use Rattle.ring_rules.specs.declared.link.Link.{Link}
 use Rattle.ring_rules.specs.Rings.{slot_count}
+use Rattle.link_core.specs.Deadlines.{ends_of}
 use Rattle.link_core.specs.Links.{Links}
 
 -- leases, lengths and answer times, in ticks
@@ -32,3 +34,7 @@ pub record AreSound (k : Links) : Type 0 where
   pub rounds : k.rounds ≤ 8
   pub slots : All (IsSoundSlot k.arbitrators) k.slots
   pub count : length k.slots ≡ slot_count
+
+pub record AreKept (k : Links) (times : List ℕ) : Type 0 where
+  pub sound : AreSound k
+  pub ends : times ≡ ends_of k.slots

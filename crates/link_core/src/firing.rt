@@ -1,25 +1,26 @@
-ghost use Rattle.std.specs.Prelude.{◌≡◌, ℕ, ◌+◌, ◌^◌, ◌<◌, ◌≤◌, [], ◌∷◌, ◌++◌, Some, IfSome, length, nat_le};
+ghost use Rattle.std.specs.Prelude.{◌≡◌, ℕ, ◌+◌, ◌^◌, ◌<◌, ◌≤◌, [], ◌∷◌, ◌++◌, Some, IfSome, length, nat_le, option_map};
 ghost use Rattle.arbiter_quorum.specs.Tallies.{has_answered};
 ghost use Rattle.link_core.specs.Links.{turn, turn_after};
-ghost use Rattle.link_core.specs.Firing.{asked, asked_if, discharged_end, is_over, leases, spoken, transfer_again};
+ghost use Rattle.link_core.specs.Firing.{accused_by, asked, asked_if, discharged_end, is_over, leases, spoken, transfer_again};
 
-use crate::announce::Announce;
+use crate::announce::Announced;
 use crate::notes::{LinkNote, LinkNotes};
 use crate::rounds::claim_round;
 use crate::say::{self, say_gone};
+use arbiter_quorum::Tally;
 use fabric_terms::{Body, Outbox};
+use heir_rounds::RoundTally;
 use ring_points::Who;
 use ring_rules::{Link, LinkState};
 
 /// Arbitrator a is the actor of this number plus a.
 pub(crate) const ARBITERS: u16 = 32768;
 
-/// What a firing at one slot goes by: the reading, what the node announces, the time for an answer, and how many
-/// arbitrators and rounds there are.
-#[derive(Drop)]
-pub(crate) struct Firing<'a> {
+/// What a firing at one slot goes by: the reading, the time for an answer, and how many arbitrators and rounds there
+/// are.
+#[derive(Clone, Copy)]
+pub(crate) struct Firing {
     pub reading: u64,
-    pub announce: &'a Announce,
     pub answer: u64,
     pub arbitrators: u8,
     pub rounds: u8,
@@ -62,6 +63,28 @@ pub(crate) fn ask_arbiters(link: &Link, arbitrators: u8, out: &mut Outbox)
     }
 }
 
+/// The peer of the slot is accused: the arbitrators are asked anew. It gives the peer.
+pub(crate) fn accuse(
+    slot: &mut Option<Link>,
+    me: Who,
+    arbitrators: u8,
+    rounds: u8,
+    out: &mut Outbox,
+) -> Option<Who>
+    requires few { arbitrators ≤ 9 }
+    requires room { length out.old + 9 ≤ 192 }
+    ensures slot { slot.new ≡ option_map (accused_by me arbitrators rounds) slot.old }
+    ensures peer { result ≡ option_map (λ l. l.peer) slot.old }
+    ensures sent { IfSome slot.old (λ l. out.new ≡ out.old ++ asked arbitrators (accused_by me arbitrators rounds l)) }
+{
+    let link = slot.as_mut()?;
+    link.state = LinkState::Accused;
+    link.tally = Tally::new(me, link.peer, arbitrators);
+    link.rounds = RoundTally::new(me, arbitrators, rounds);
+    ask_arbiters(link, arbitrators, out);
+    Some(link.peer)
+}
+
 /// When a discharged slot ends: each round had its time after the peer's fence.
 fn discharged_end(link: &Link, firing: &Firing) -> u64
     requires rounds { firing.now.rounds ≤ 8 }
@@ -88,6 +111,7 @@ pub(crate) fn spoken(
     i: usize,
     slot: &mut Option<Link>,
     firing: &Firing,
+    announce: &Announced,
     out: &mut Outbox,
 ) -> LinkNotes
     requires few { firing.now.arbitrators ≤ 9 }
@@ -96,7 +120,7 @@ pub(crate) fn spoken(
     requires answer { firing.now.answer ≤ 1_000_000_000 }
     requires times { IfSome slot.old (λ l. l.until ≤ 1_000_001_000_000_000) }
     requires length { IfSome slot.old (λ l. l.len ≤ 1_000_000_000) }
-    ensures { IfSome slot.old (λ l. turn slot.new out.new result ≡ turn_after out.old (spoken firing.now.reading firing.now.announce.now firing.now.answer firing.now.rounds firing.now.arbitrators i l l.state)) }
+    ensures { IfSome slot.old (λ l. turn slot.new out.new result ≡ turn_after out.old (spoken firing.now.reading announce.now firing.now.answer firing.now.rounds firing.now.arbitrators i l l.state)) }
 {
     let Some(link) = slot else {
         return LinkNotes::none();
@@ -106,7 +130,7 @@ pub(crate) fn spoken(
         LinkState::Hello => out.send(link.peer, say::hello(link)),
         LinkState::Offered => out.send(link.peer, say::offer(link)),
         LinkState::Bound => {
-            out.send(link.peer, say::renew(link, firing.reading, firing.announce));
+            out.send(link.peer, say::renew(link, firing.reading, announce));
             transfer_again(link, out);
         }
         LinkState::Parting => say_gone(link, out),

@@ -3,7 +3,7 @@ ghost use Rattle.ring_rules.specs.Links.{bound_link};
 ghost use Rattle.link_core.specs.Links.{turn, turn_after};
 ghost use Rattle.link_core.specs.Handshakes.{offer_repeated, offer_taken, hello_repeated, take_seen};
 
-use crate::announce::Announce;
+use crate::announce::Announced;
 use crate::notes::{LinkNote, LinkNotes};
 use crate::say::{self, say_gone};
 use fabric_terms::{Body, Outbox};
@@ -79,7 +79,7 @@ pub(crate) fn offer_repeated(slot: &mut Option<Link>, out: &mut Outbox)
 pub(crate) fn take_seen(
     slot: &mut Option<Link>,
     now: u64,
-    announce: &Announce,
+    announce: &Announced,
     out: &mut Outbox,
 ) -> LinkNotes
     requires { length out.old < 192 }

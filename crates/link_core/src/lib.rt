@@ -9,7 +9,7 @@
 #![tactic(auto)]
 
 mod announce;
-mod fence;
+mod deadlines;
 mod find;
 mod firing;
 mod flight;
@@ -23,10 +23,8 @@ mod renewal;
 mod rounds;
 mod ruling;
 mod say;
-#[cfg(test)]
-mod tests;
 
-pub use announce::Announce;
+pub use announce::{Announce, Announced};
 pub use laws::{
     a_firing_is_its_row, a_frame_is_its_row, a_greeting_is_its_row, parting_is_its_row,
 };

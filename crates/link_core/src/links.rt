@@ -7,15 +7,16 @@ ghost use Rattle.link_core.specs.Links.{did, did_after, with_slot};
 mod fires;
 mod greets;
 mod hears;
+mod judged;
 mod takes;
 
-use crate::fence::fence_with;
+use crate::deadlines::{Deadlines, change};
 use crate::flight;
 use arrayvec::ArrayVec;
 use drift_clock::Bound;
+use fabric_terms::Outbox;
 use ring_points::{Flight, Who};
 use ring_rules::Link;
-use fabric_terms::Outbox;
 use std::marker::Model;
 
 /// How many slots a node has.
@@ -42,6 +43,7 @@ pub struct Links16 {
     arbitrators: u8,
     rounds: u8,
     slots: [Option<Link>; SLOTS],
+    deadlines: Deadlines,
     last_session: u32,
     accused: ArrayVec<Who, MAX_ACCUSED>,
 }
@@ -49,13 +51,13 @@ pub struct Links16 {
 impl Model for Links16 {
     ghost use Rattle.std.specs.Prelude.{ℕ, ◌+◌};
     ghost use Rattle.link_core.specs.Links.{Links};
-    ghost use Rattle.link_core.specs.Sound.{AreSound};
+    ghost use Rattle.link_core.specs.Sound.{AreKept};
 
     ghost Value = { Links };
 
     ghost view = { λ k. record { me = k.me; lease = k.lease; longest = k.longest; answer = k.answer; bound = k.bound; arbitrators = k.arbitrators; rounds = k.rounds; slots = k.slots; next_session = k.last_session + 1; accused = k.accused.items } };
 
-    ghost invariant = { λ k. AreSound (record { me = k.me; lease = k.lease; longest = k.longest; answer = k.answer; bound = k.bound; arbitrators = k.arbitrators; rounds = k.rounds; slots = k.slots; next_session = k.last_session + 1; accused = k.accused.items }) };
+    ghost invariant = { λ k. AreKept (record { me = k.me; lease = k.lease; longest = k.longest; answer = k.answer; bound = k.bound; arbitrators = k.arbitrators; rounds = k.rounds; slots = k.slots; next_session = k.last_session + 1; accused = k.accused.items }) k.deadlines };
 }
 
 fn free_slots() -> [Option<Link>; SLOTS]
@@ -98,6 +100,7 @@ impl Links16 {
             arbitrators,
             rounds,
             slots: free_slots(),
+            deadlines: Deadlines::none(),
             last_session: 0,
             accused: ArrayVec::new(),
         }
@@ -144,11 +147,10 @@ impl Links16 {
     pub fn fence(&self) -> Option<u64>
         ensures { result ≡ fence_of self.now.answer self.now.slots }
     {
-        let mut fence = None;
-        for i in (0..SLOTS).rev() {
-            fence = fence_with(&self.slots[i], self.answer, fence);
+        match self.deadlines.first() {
+            Some(end) => Some(end + self.answer),
+            None => None,
         }
-        fence
     }
 
     /// A flight of this number was taken from the peer of the slot.
@@ -156,8 +158,7 @@ impl Links16 {
         requires { slot < 16 }
         ensures { did self.new [] [] ≡ call_in slot (flight_taken number) self.old }
     {
-        let place = &mut self.slots[slot];
-        flight::took(place, number);
+        change!(self, slot, place => flight::took(place, number))
     }
 
     /// A flight stands in the slot, and goes to its peer.
@@ -166,8 +167,7 @@ impl Links16 {
         requires room { length out.old < 192 }
         ensures { did self.new out.new [] ≡ did_after out.old (call_in slot (flight_sent flight.now) self.old) }
     {
-        let place = &mut self.slots[slot];
-        flight::put_flight(place, flight, out);
+        change!(self, slot, place => flight::put_flight(place, flight, out))
     }
 
     /// The slot ends, and its peer gets its answer if it wants one.
@@ -176,8 +176,7 @@ impl Links16 {
         requires room { length out.old < 192 }
         ensures { did self.new out.new [] ≡ did_after out.old (call_in slot (slot_closed bound) self.old) }
     {
-        let place = &mut self.slots[slot];
-        flight::close(place, bound, out);
+        change!(self, slot, place => flight::close(place, bound, out))
     }
 
     /// The number of the last session, 0 where there was none.
@@ -194,6 +193,7 @@ impl Links16 {
         ensures { self.new ≡ record self.old { slots = no_slots; next_session = last_session + 1; accused = take accused self.old.accused } }
     {
         self.slots = free_slots();
+        self.deadlines = Deadlines::none();
         self.last_session = last_session;
         self.accused.truncate(accused);
     }
@@ -203,6 +203,6 @@ impl Links16 {
         requires { slot < 16 }
         ensures { self.new ≡ with_slot slot None self.old }
     {
-        self.slots[slot] = None;
+        change!(self, slot, place => *place = None)
     }
 }

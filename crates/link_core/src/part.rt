@@ -3,9 +3,9 @@ ghost use Rattle.link_core.specs.Calls.{slot_parted, turn_call_after, turn_outco
 
 use crate::refusal::LinkRefusal;
 use crate::say::say_gone;
+use fabric_terms::Outbox;
 use ring_points::RangeSet;
 use ring_rules::{Link, LinkState};
-use fabric_terms::Outbox;
 
 /// The slot gives up its record and says so to the peer, unless a flight of it stands.
 pub(crate) fn part(slot: &mut Option<Link>, out: &mut Outbox) -> Result<(), LinkRefusal>

@@ -5,7 +5,7 @@ ghost use Rattle.link_core.specs.Flights.{answers};
 ghost use Rattle.link_core.specs.Handshakes.{renew_body};
 ghost use Rattle.link_core.specs.Links.{turn, turn_after, gone_said};
 
-use crate::announce::Announce;
+use crate::announce::Announced;
 use fabric_terms::{Body, Outbox};
 use ring_points::{Flight, Who};
 use ring_rules::Link;
@@ -43,7 +43,7 @@ pub(crate) fn offer(link: &Link) -> Body
 }
 
 /// The Renew of this reading.
-pub(crate) fn renew(link: &Link, now: u64, announce: &Announce) -> Body
+pub(crate) fn renew(link: &Link, now: u64, announce: &Announced) -> Body
     ensures { result ≡ renew_body now announce.now link.now }
 {
     Body::Renew {

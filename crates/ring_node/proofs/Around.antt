@@ -32,7 +32,7 @@ after s w = record s { work = w }
 
 free_patched : (l : Link) (s : Step) (place : Option ℕ) → IsPatched s (after s (greet_free l silent s.work place))
 free_patched l s None = patched_same s s refl
-free_patched l s (Some i) = record { settings = refl; me = refl; accused = take-length s.work.ring.accused; routes = refl; target = refl; flights = refl; sent = take-append_seam s.work.sent _; told = take-length s.work.told }
+free_patched l s (Some i) = record { settings = refl; me = refl; accused = take-length s.work.ring.accused; routes = refl; target = refl; flights = refl; version = omega arith; sessions = omega arith; sent = take-append_seam s.work.sent _; told = take-length s.work.told }
 
 unless_patched : (l : Link) (s : Step) (place : Option ℕ) → IsPatched s (after s (greet_unless l silent s.work place))
 unless_patched l s (Some i) = patched_same s s refl

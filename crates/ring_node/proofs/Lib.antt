@@ -10,4 +10,3 @@ pub mod Come
 pub mod Sorting
 pub mod Promised
 pub mod Found
-pub mod Alike

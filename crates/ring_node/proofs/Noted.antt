@@ -177,6 +177,8 @@ so_far_broken cause notes i n s t u h e k b =
         routes = ap (λ (x : Step). x.work.ring.routes) b.rest ∙ k.keeps.routes;
         target = ap (λ (x : Step). x.work.ring.target) b.rest ∙ k.keeps.target;
         flights = ap (λ (x : Step). x.work.ring.token.next_flight) b.rest ∙ k.keeps.flights;
+        version = omega (arith, k.keeps.version, b.version);
+        sessions = let a : u.work.ring.next_session ≡ s.work.ring.next_session = ap (λ (x : Step). x.work.ring.next_session) b.rest ∙ k.keeps.sessions in omega (arith, a);
         sent = let a : u.work.sent ≡ t.work.sent = ap (λ (x : Step). x.work.sent) b.rest in rw a k.keeps.sent;
         told = let a : u.work.told ≡ t.work.told = ap (λ (x : Step). x.work.told) b.rest in rw a k.keeps.told;
       };

@@ -56,7 +56,7 @@ part_none node i k l token routes phase target near out sent told p d h = rw (p,
 
 pub part_patched : (i : ℕ) (k l : Links) (token : Token) (routes : Routes) (phase : Phase) (target : Option ℕ) (near : ℕ) (out sent : List (Who × Body)) (told : List Report) → IsParted k l i out sent → IsPatched (step (node_of k token routes phase target near) out told) (step (node_of l token routes phase target near) sent told)
 part_patched i k l token routes phase target near out sent told d =
-    rw (d.links, d.sent_is) (record { settings = refl; me = refl; accused = take-length k.accused; routes = refl; target = refl; flights = refl; sent = take-append_seam out _; told = take-length told })
+    rw (d.links, d.sent_is) (record { settings = refl; me = refl; accused = take-length k.accused; routes = refl; target = refl; flights = refl; version = omega arith; sessions = omega arith; sent = take-append_seam out _; told = take-length told })
 
 -- what follows of a result
 pub on_ok : {E : Type 0} (r : Result (Unit {0}) E) (P Q : Type 0) → (P → Q) → OnOk r P → OnOk r Q

@@ -1,5 +1,5 @@
 -- A row of links done to a step, with its notes, or broken off.
-use Rattle.std.proofs.Common.{◌≡◌, ℕ, ◌+◌, Bool, false, true, List, [], ◌∷◌, ◌++◌, IsTrue, Option, subst, length, take, refl, sym, ap, ◌∙◌}
+use Rattle.std.proofs.Common.{◌≡◌, ℕ, ◌+◌, ◌≤◌, arith, Bool, false, true, List, [], ◌∷◌, ◌++◌, IsTrue, Option, subst, length, take, refl, sym, ap, ◌∙◌}
 use Rattle.std.proofs.Math.Seq.{take-append_seam, take-length}
 use Rattle.fabric_terms.specs.declared.message.Body.{Body}
 use Rattle.fabric_terms.specs.declared.report.Report.{Report}
@@ -26,19 +26,23 @@ patched_both s t u h k = record {
   routes = k.routes ∙ h.routes;
   target = k.target ∙ h.target;
   flights = k.flights ∙ h.flights;
+  version = omega (arith, h.version, k.version);
+  sessions = omega (arith, h.sessions, k.sessions);
   sent = take_take s.work.sent t.work.sent u.work.sent h.sent k.sent;
   told = take_take s.work.told t.work.told u.work.told h.told k.told;
 }
 
 -- links that accuse at the end of the list, and frames that are sent after the others
-pub with_links_patched : (n : Node) (k : Links) (out : List (Who × Body)) (told : List Report) (d mine : Did) → take (length n.ring.accused) k.accused ≡ n.ring.accused → d ≡ did_after out mine → IsPatched (step n out told) (step (with_links k n) d.sent told)
-with_links_patched n k out told d mine a e = record {
+pub with_links_patched : (n : Node) (k : Links) (out : List (Who × Body)) (told : List Report) (d mine : Did) → take (length n.ring.accused) k.accused ≡ n.ring.accused → n.ring.next_session ≤ k.next_session → d ≡ did_after out mine → IsPatched (step n out told) (step (with_links k n) d.sent told)
+with_links_patched n k out told d mine a b e = record {
   settings = refl;
   me = refl;
   accused = a;
   routes = refl;
   target = refl;
   flights = refl;
+  version = omega arith;
+  sessions = b;
   sent = rw e (take-append_seam out mine.sent);
   told = take-length told;
 }
@@ -92,13 +96,13 @@ links_ok row flag n K k token routes phase target near a gone notes ns out out' 
     ∙ ap (by (λ c. all_noted flag notes)) (mid_of n K k token routes phase target near out' told e kept))
     q
 
-pub links_broken : (row : Row) (flag : Cause) (n : Node) (K k : Links) (token : Token) (routes : Routes) (phase : Phase) (target : Option ℕ) (near : ℕ) (a : Announce) (gone : Cause) (notes ns : List LinkNote) (out out' : List (Who × Body)) (told : List Report) (mine : Did) (cur : Node) (out2 : List (Who × Body)) (told2 : List Report) (version sessions accused sent made : ℕ) → n ≡ node_of K token routes phase target near → Does row flag K a out (did k out' notes) → k ≡ links_of (with_links k n) → take (length n.ring.accused) k.accused ≡ n.ring.accused → did k out' notes ≡ did_after out mine → a ≡ announce_of n.ring → IsTrue (has_numbers n.ring) → gone ≡ flag → ns ≡ notes → IsBrokenOff (λ c. all_noted gone ns) (step (node_of k token routes phase target near) out' told) (step cur out2 told2) → version ≡ n.ring.token.version → sessions + 1 ≡ n.ring.next_session → accused ≡ length n.ring.accused → sent ≡ length out → made ≡ length told → step (left_at Counters version sessions accused cur) (take sent out2) (take made told2 ++ LeftRing Counters ∷ []) ≡ by (λ c w. counted w (row c w)) (step n out told)
-links_broken row flag n K k token routes phase target near a gone notes ns out out' told mine cur out2 told2 version sessions accused sent made e d kept acc D f h g m b v s q o t =
+pub links_broken : (row : Row) (flag : Cause) (n : Node) (K k : Links) (token : Token) (routes : Routes) (phase : Phase) (target : Option ℕ) (near : ℕ) (a : Announce) (gone : Cause) (notes ns : List LinkNote) (out out' : List (Who × Body)) (told : List Report) (mine : Did) (cur : Node) (out2 : List (Who × Body)) (told2 : List Report) (version sessions accused sent made : ℕ) → n ≡ node_of K token routes phase target near → Does row flag K a out (did k out' notes) → k ≡ links_of (with_links k n) → take (length n.ring.accused) k.accused ≡ n.ring.accused → n.ring.next_session ≤ k.next_session → did k out' notes ≡ did_after out mine → a ≡ announce_of n.ring → IsTrue (has_numbers n.ring) → gone ≡ flag → ns ≡ notes → IsBrokenOff (λ c. all_noted gone ns) (step (node_of k token routes phase target near) out' told) (step cur out2 told2) → version ≡ n.ring.token.version → sessions + 1 ≡ n.ring.next_session → accused ≡ length n.ring.accused → sent ≡ length out → made ≡ length told → step (left_at Counters version sessions accused cur) (take sent out2) (take made told2 ++ LeftRing Counters ∷ []) ≡ by (λ c w. counted w (row c w)) (step n out told)
+links_broken row flag n K k token routes phase target near a gone notes ns out out' told mine cur out2 told2 version sessions accused sent made e d kept acc more D f h g m b v s q o t =
     let mid = mid_of n K k token routes phase target near out' told e kept in
     let c1 : IsBrokenOff (λ c. all_noted flag ns) (step (node_of k token routes phase target near) out' told) (step cur out2 told2) = let P : Cause → Type 0 = λ x. IsBrokenOff (λ c. all_noted x ns) (step (node_of k token routes phase target near) out' told) (step cur out2 told2) in subst P g b in
     let c2 : IsBrokenOff (λ c. all_noted flag notes) (step (node_of k token routes phase target near) out' told) (step cur out2 told2) = let P : List LinkNote → Type 0 = λ x. IsBrokenOff (λ c. all_noted flag x) (step (node_of k token routes phase target near) out' told) (step cur out2 told2) in subst P m c1 in
     let c3 : IsBrokenOff (λ c. all_noted flag notes) (step (with_links k n) out' told) (step cur out2 told2) = let P : Step → Type 0 = λ x. IsBrokenOff (λ c. all_noted flag notes) x (step cur out2 told2) in subst P mid c2 in
-    let p : IsPatched (step n out told) (step cur out2 told2) = patched_both (step n out told) (step (with_links k n) out' told) (step cur out2 told2) (with_links_patched n k out told (did k out' notes) mine acc D) c3.patched in
+    let p : IsPatched (step n out told) (step cur out2 told2) = patched_both (step n out told) (step (with_links k n) out' told) (step cur out2 told2) (with_links_patched n k out told (did k out' notes) mine acc more D) c3.patched in
     row_broken row flag notes (step n out told) (step (with_links k n) out' told) (step cur out2 told2) (step (left_at Counters version sessions accused cur) (take sent out2) (take made told2 ++ LeftRing Counters ∷ []))
     (does_is row flag n k a out out' told notes (let P : Links → Type 0 = λ x. Does row flag x a out (did k out' notes) in subst P (sym (ap links_of e)) d) f h)
     c3

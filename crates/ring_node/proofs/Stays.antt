@@ -1,5 +1,5 @@
 -- What a step keeps: nothing done yet, and the links of a node whose links were changed.
-use Rattle.std.proofs.Common.{◌≡◌, ℕ, List, Option, length, take, refl, sym, ap, ◌∙◌}
+use Rattle.std.proofs.Common.{◌≡◌, ℕ, ◌≤◌, arith, List, Option, length, take, refl, sym, ap, ◌∙◌}
 use Rattle.std.proofs.Math.Seq.{take-length}
 use Rattle.fabric_terms.specs.declared.message.Body.{Body}
 use Rattle.fabric_terms.specs.declared.report.Report.{Report}
@@ -15,7 +15,7 @@ landed n m out sent told made a b c = rw (a, b, c) refl
 
 -- nothing was done yet
 pub patched_same : (s t : Step) → t ≡ s → IsPatched s t
-patched_same s t e = rw e (record { settings = refl; me = refl; accused = take-length s.work.ring.accused; routes = refl; target = refl; flights = refl; sent = take-length s.work.sent; told = take-length s.work.told })
+patched_same s t e = rw e (record { settings = refl; me = refl; accused = take-length s.work.ring.accused; routes = refl; target = refl; flights = refl; version = omega arith; sessions = omega arith; sent = take-length s.work.sent; told = take-length s.work.told })
 
 -- The links of a node whose links were changed.
 
@@ -42,3 +42,6 @@ kept_links n k l token routes phase target near e h =
 -- nobody new is accused
 pub accused_kept : (n : Node) (k l : Links) (token : Token) (routes : Routes) (phase : Phase) (target : Option ℕ) (near : ℕ) → n ≡ node_of k token routes phase target near → take (length k.accused) l.accused ≡ k.accused → take (length n.ring.accused) l.accused ≡ n.ring.accused
 accused_kept n k l token routes phase target near e h = rw e h
+
+pub risen : (n : Node) (K k : Links) (token : Token) (routes : Routes) (phase : Phase) (target : Option ℕ) (near : ℕ) → n ≡ node_of K token routes phase target near → K.next_session ≤ k.next_session → n.ring.next_session ≤ k.next_session
+risen n K k token routes phase target near e h = rw e h

@@ -94,6 +94,7 @@ patched old new = record old { phase = new.phase; slots = new.slots; token = rec
 pub record IsBroken (row : Settings → Work → Work) (old new : Step) : Type 0 where
   pub numbers : has_numbers (row old.settings old.work).ring ≡ false
   pub rest : new ≡ record old { work = record old.work { ring = patched old.work.ring new.work.ring } }
+  pub version : old.work.ring.token.version ≤ new.work.ring.token.version
 
 -- what of a step before is still there, or can be gone back to
 pub record IsPatched (old new : Step) : Type 0 where
@@ -103,6 +104,8 @@ pub record IsPatched (old new : Step) : Type 0 where
   pub routes : new.work.ring.routes ≡ old.work.ring.routes
   pub target : new.work.ring.target ≡ old.work.ring.target
   pub flights : new.work.ring.token.next_flight ≡ old.work.ring.token.next_flight
+  pub version : old.work.ring.token.version ≤ new.work.ring.token.version
+  pub sessions : old.work.ring.next_session ≤ new.work.ring.next_session
   pub sent : take (length old.work.sent) new.work.sent ≡ old.work.sent
   pub told : take (length old.work.told) new.work.told ≡ old.work.told
 

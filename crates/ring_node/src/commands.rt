@@ -5,6 +5,7 @@ ghost use Rattle.ring_rules.specs.Commands.{give_commanded, join_commanded, link
 ghost use Rattle.ring_rules.specs.Deeds.{has_numbers};
 ghost use Rattle.ring_rules.specs.Steps.{command_received, command_row};
 
+use crate::leave::whole_row;
 use crate::node::RingNode;
 use crate::refusals::{refuse, refuse_for};
 use crate::reports::Reports;
@@ -132,12 +133,6 @@ impl RingNode {
         ensures few { length told.new ≤ length told.old + 1 }
         ensures short { length out.new ≤ length out.old + 1 }
     {
-        let mark = self.mark(out, told);
-        match self.command_row(now, command, out, told) {
-            Ok(()) => {
-                let _ = self.is_left();
-            }
-            Err(_) => self.roll_back(mark, out, told),
-        }
+        whole_row!(self, out, told, self.command_row(now, command, out, told))
     }
 }

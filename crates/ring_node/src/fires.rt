@@ -7,7 +7,8 @@ ghost use Rattle.ring_rules.specs.Firing.{freeze_given, give_frozen, place_sough
 ghost use Rattle.ring_rules.specs.Slots.{is_free, slot_at};
 
 use crate::acked::all_acked;
-use crate::node::RingNode;
+use crate::leave::whole_row;
+use crate::node::{RingNode, announced};
 use crate::reports::Reports;
 use crate::tokens::Spent;
 use fabric_terms::{Body, Outbox, Report};
@@ -30,15 +31,11 @@ impl RingNode {
         ensures few { length told.new ≤ length told.old + 2 }
         ensures short { length out.new ≤ length out.old + 11 }
     {
-        let mark = self.mark(out, told);
-        let announce = self.announce();
-        let notes = self.links.due(i, now, &announce, out);
-        match self.notes(&NO_FRAME, notes.as_slice(), out, told) {
-            Ok(()) => {
-                let _ = self.is_left();
-            }
-            Err(_) => self.roll_back(mark, out, told),
-        }
+        whole_row!(self, out, told, {
+            let announce = announced(&self.token, &self.phase);
+            let notes = self.links.fire(i, now, &announce, out);
+            self.notes(&NO_FRAME, notes.as_slice(), out, told)
+        })
     }
 
     /// Whether the slot is free.
@@ -47,8 +44,6 @@ impl RingNode {
         ensures free { result ≡ is_free (slot_at i self.now.ring.slots) }
         ensures numbers { IsTrue (has_numbers self.now.ring) }
     {
-        // What the phase is does not matter here: asking for it shows that the ring's numbers are counted.
-        let _ = self.is_left();
         self.links.slots()[i].is_none()
     }
 
@@ -128,13 +123,7 @@ impl RingNode {
         ensures few { length told.new ≤ length told.old + 1 }
         ensures short { length out.new ≤ length out.old + 1 }
     {
-        let mark = self.mark(out, told);
-        match self.give_frozen(out, told) {
-            Ok(()) => {
-                let _ = self.is_left();
-            }
-            Err(_) => self.roll_back(mark, out, told),
-        }
+        whole_row!(self, out, told, self.give_frozen(out, told))
     }
 
     /// Greets the near nodes, as the command to link does; a refusal is silent.
@@ -188,13 +177,7 @@ impl RingNode {
         ensures few { length told.new ≤ length told.old + 1 }
         ensures short { length out.new ≤ length out.old + 8 }
     {
-        let mark = self.mark(out, told);
-        match self.search(now, out) {
-            Ok(()) => {
-                let _ = self.is_left();
-            }
-            Err(_) => self.roll_back(mark, out, told),
-        }
+        whole_row!(self, out, told, self.search(now, out))
     }
 
     /// A firing: each slot in its order, then a freeze that is ready, then the search for a place or for near nodes.

@@ -8,8 +8,8 @@ ghost use Rattle.ring_rules.specs.Handshakes.{greet_plainly};
 use crate::node::RingNode;
 use crate::refusals::pass_over;
 use crate::tokens::Spent;
-use link_core::LinkRefusal;
 use fabric_terms::Outbox;
+use link_core::LinkRefusal;
 
 impl RingNode {
     /// Greets a node.

@@ -5,7 +5,8 @@ ghost use Rattle.ring_node.specs.Nodes.{by, step};
 ghost use Rattle.ring_rules.specs.Deeds.{counted};
 ghost use Rattle.ring_rules.specs.Frames.{frame_row};
 
-use crate::node::RingNode;
+use crate::leave::whole_row;
+use crate::node::{RingNode, announced};
 use crate::reports::Reports;
 use fabric_terms::{Body, Message, Outbox};
 
@@ -34,14 +35,10 @@ impl RingNode {
         ensures few { length told.new ≤ length told.old + 2 }
         ensures short { length out.new ≤ length out.old + 11 }
     {
-        let mark = self.mark(out, told);
-        let announce = self.announce();
-        let notes = self.links.on_frame(now, message, &announce, out);
-        match self.notes(&message.body, notes.as_slice(), out, told) {
-            Ok(()) => {
-                let _ = self.is_left();
-            }
-            Err(_) => self.roll_back(mark, out, told),
-        }
+        whole_row!(self, out, told, {
+            let announce = announced(&self.token, &self.phase);
+            let notes = self.links.hear(now, message, &announce, out);
+            self.notes(&message.body, notes.as_slice(), out, told)
+        })
     }
 }

@@ -5,18 +5,34 @@ ghost use Rattle.ring_rules.specs.Deeds.{leave};
 ghost use Rattle.token_core.specs.Tokens.{last_number};
 
 use crate::node::{Mark, RingNode};
-use crate::phase;
 use crate::reports::Reports;
 use fabric_terms::{Outbox, Report, Why};
+
+/// A row is done whole: one that breaks off for want of a number is not done at all, and the node leaves.
+macro_rules! whole_row {
+    ($node:expr, $out:expr, $told:expr, $row:expr) => {{
+        let mark = $node.mark($out, $told);
+        match $row {
+            // What the phase is does not matter here: asking for it shows that the ring's numbers are counted.
+            Ok(()) => {
+                let _ = $node.is_left();
+            }
+            Err(_) => $node.roll_back(mark, $out, $told),
+        }
+    }};
+}
+pub(crate) use whole_row;
 
 impl RingNode {
     /// The node leaves, as it was before a row: it owns nothing and has no links any more.
     pub(crate) fn leave_at(&mut self, why: Why, mark: Mark)
+        requires version { mark.version ≤ self.old.ring.token.version }
+        requires sessions { mark.last_session < self.old.ring.next_session }
         ensures { self.new ≡ left_at why mark.version mark.last_session mark.accused self.old }
     {
         self.links.leave(mark.last_session, mark.accused);
         self.token.leave(mark.version);
-        self.phase = phase::left(why);
+        self.phase.leave(why);
     }
 
     /// The node leaves.
@@ -31,7 +47,9 @@ impl RingNode {
 
     /// A row breaks off for want of a number: nothing of it was done, and the node leaves.
     pub(crate) fn roll_back(&mut self, mark: Mark, out: &mut Outbox, told: &mut Reports)
-        requires { mark.told < 64 }
+        requires version { mark.version ≤ self.old.ring.token.version }
+        requires sessions { mark.last_session < self.old.ring.next_session }
+        requires place { mark.told < 64 }
         ensures node { self.new ≡ left_at Why.Counters mark.version mark.last_session mark.accused self.old }
         ensures sent { out.new ≡ take mark.sent out.old }
         ensures told { told.new ≡ take mark.told told.old ++ LeftRing Why.Counters ∷ [] }

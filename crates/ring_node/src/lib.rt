@@ -19,14 +19,11 @@ mod near;
 mod node;
 mod notes;
 mod owns;
-mod phase;
 mod refusals;
 mod reports;
 mod seeks;
 mod start;
 mod step;
-#[cfg(test)]
-mod tests;
 mod tokens;
 mod up;
 

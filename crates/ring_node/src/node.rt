@@ -1,20 +1,18 @@
 ghost use Rattle.std.specs.Prelude.{◌≡◌, ◌+◌, IsTrue, length, map};
-ghost use Rattle.join_phases.specs.Phases.{bound_phase, holding_phase, is_left, is_routing};
-ghost use Rattle.link_core.specs.Ties.{announce_of};
+ghost use Rattle.join_phases.specs.Phases.{bound_phase, holding_phase, is_left, is_linked, is_routing};
+ghost use Rattle.token_core.specs.Tokens.{announced};
 ghost use Rattle.ring_node.specs.Nodes.{with_phase};
 ghost use Rattle.ring_rules.specs.Deeds.{has_numbers};
 ghost use Rattle.ring_route.specs.Routes.{point_of};
 
-use crate::phase;
 use crate::reports::Reports;
 use arrayvec::ArrayVec;
+use fabric_terms::Outbox;
 use join_phases::Phase;
-use link_core::{Announce, Links16};
+use link_core::{Announced, Links16};
 use ring_points::{Point, Who};
 use ring_route::RouteTable;
-use fabric_terms::Outbox;
 use std::marker::Model;
-use std::mem;
 use token_core::Token;
 
 /// The ring at one node. Contracts see it as the record `Node`: its settings, and its ring as the rules know it.
@@ -77,6 +75,14 @@ fn point_in(points: &[(u16, Point)], node: u16) -> Point
     Point(0)
 }
 
+/// What a Renew says of a node with this token in this phase.
+pub(crate) fn announced<'a>(token: &'a Token, phase: &Phase) -> Announced<'a>
+    ensures { result ≡ record { version = token.now.version; ranges = announced token.now; want = is_linked phase.now } }
+{
+    let want = matches!(phase, Phase::Linked(_));
+    Announced::new(token.version(), token.announced(), want)
+}
+
 impl RingNode {
     /// Which instance of which node it is.
     pub fn me(&self) -> Who
@@ -122,17 +128,6 @@ impl RingNode {
         matches!(self.phase, Phase::Routing(_))
     }
 
-    /// What a Renew says of the node.
-    pub(crate) fn announce(&self) -> Announce
-        ensures { result ≡ announce_of self.now.ring }
-    {
-        Announce {
-            version: self.token.version(),
-            ranges: self.token.announced().copy(),
-            want: matches!(self.phase, Phase::Linked(_)),
-        }
-    }
-
     /// The point of a configured node, 0 for any other.
     pub(crate) fn point_of(&self, node: u16) -> Point
         ensures { result.0 ≡ point_of node self.now.ring.routes.points }
@@ -144,15 +139,13 @@ impl RingNode {
     pub(crate) fn bind(&mut self)
         ensures { self.new ≡ with_phase bound_phase self.old }
     {
-        let phase = mem::replace(&mut self.phase, phase::seeking());
-        self.phase = phase::bound(phase);
+        self.phase.bind();
     }
 
     /// Ranges are owned.
     pub(crate) fn hold(&mut self)
         ensures { self.new ≡ with_phase holding_phase self.old }
     {
-        let phase = mem::replace(&mut self.phase, phase::seeking());
-        self.phase = phase::holding(phase);
+        self.phase.hold();
     }
 }

@@ -12,11 +12,11 @@ ghost use Rattle.ring_node.specs.Nodes.{IsBroken, IsBrokenOff, Rings, RingsBroke
 ghost use Rattle.ring_points.specs.declared.who.Who.{Who};
 ghost use Rattle.ring_rules.specs.Slots.{slot_at};
 
+use crate::hears::wants_answer;
 use crate::near::nearer_part;
 use crate::node::RingNode;
 use crate::reports::Reports;
 use crate::tokens::Spent;
-use crate::hears::wants_answer;
 use fabric_terms::{Body, Outbox, Report};
 use link_core::LinkNote;
 use ring_points::{RangeSet, Who};

@@ -7,6 +7,7 @@ ghost use Rattle.ring_rules.specs.Deeds.{counted, has_numbers};
 ghost use Rattle.ring_rules.specs.Rings.{hop_limit};
 ghost use Rattle.ring_rules.specs.Seeks.{find_by, found_received, hop_from, seek_on, seeks_own};
 
+use crate::leave::whole_row;
 use crate::node::RingNode;
 use crate::reports::Reports;
 use crate::tokens::Spent;
@@ -154,12 +155,6 @@ impl RingNode {
         ensures few { length told.new ≤ length told.old + 1 }
         ensures short { length out.new ≤ length out.old + 1 }
     {
-        let mark = self.mark(out, told);
-        match self.greet_holder(now, key, holder, out, told) {
-            Ok(()) => {
-                let _ = self.is_left();
-            }
-            Err(_) => self.roll_back(mark, out, told),
-        }
+        whole_row!(self, out, told, self.greet_holder(now, key, holder, out, told))
     }
 }

@@ -2,7 +2,6 @@ ghost use Rattle.std.specs.Prelude.{◌≡◌, ◌+◌, ◌<◌, ◌≤◌, ◌+
 ghost use Rattle.ring_node.specs.Nodes.{by, step};
 ghost use Rattle.ring_node.specs.Owned.{own_since, owned_of, owns_same};
 ghost use Rattle.ring_node.specs.Steps.{acted, is_sound_input, taken};
-ghost use Rattle.ring_rules.specs.Owns.{own_of_ring};
 ghost use Rattle.ring_rules.specs.Steps.{before_fence, input_taken};
 
 use crate::node::RingNode;
@@ -32,7 +31,6 @@ impl RingNode {
     }
 
     /// Tells what the node owns, where the ranges or the fence are others than before, or the node has left since.
-    ///
     pub fn tell_own(&self, before: &Owned, told: &mut Reports)
         requires { length told.old < 64 }
         ensures own { told.new ≡ told.old ++ own_since before.now self.now }
@@ -40,31 +38,6 @@ impl RingNode {
     {
         if !self.owns_same(before) {
             told.tell(Report::Own(self.token.ranges().copy(), self.links.fence()));
-        }
-    }
-
-    /// What the node owns is told, and kept for the next time.
-    #[inline(never)]
-    fn tell_anew(&self, owned: &mut Owned, told: &mut Reports)
-        requires { length told.old < 64 }
-        ensures own { told.new ≡ told.old ++ own_of_ring self.now.settings self.now.ring ∷ [] }
-        ensures kept { owned.new ≡ owned_of self.now }
-    {
-        told.tell(Report::Own(self.token.ranges().copy(), self.links.fence()));
-        *owned = self.owned();
-    }
-
-    /// Tells what the node owns as `tell_own` does, and keeps it for the next time.
-    pub fn tell_change(&self, owned: &mut Owned, told: &mut Reports)
-        requires { length told.old < 64 }
-        ensures own { told.new ≡ told.old ++ own_since owned.old self.now }
-        ensures kept { owned.new ≡ owned_of self.now }
-        ensures few { length told.new ≤ length told.old + 1 }
-    {
-        if self.owns_same(owned) {
-            owned.left = self.is_left();
-        } else {
-            self.tell_anew(owned, told);
         }
     }
 
@@ -122,30 +95,6 @@ impl RingNode {
         let before = self.owned();
         self.advance(now, input, out, told);
         self.tell_own(&before, told);
-    }
-
-    /// The step of an input as `act` makes it, where the caller keeps what the node owns from step to step, so that no
-    /// ranges are copied where none change.
-    pub fn act_from(
-        &mut self,
-        now: u64,
-        input: &Input,
-        owned: &mut Owned,
-        out: &mut Outbox,
-        told: &mut Reports,
-    )
-        requires now { now ≤ 1_000_000_000_000_000 }
-        requires sound { IsTrue (is_sound_input input.now) }
-        requires owned { owned.old ≡ owned_of self.old }
-        requires sent { out.old ≡ [] }
-        requires told { told.old ≡ [] }
-        ensures step { step self.new out.new told.new ≡ acted now input.now self.old }
-        ensures owned { owned.new ≡ owned_of self.new }
-        ensures messages { length out.new ≤ 192 }
-        ensures reports { length told.new ≤ 64 }
-    {
-        self.advance(now, input, out, told);
-        self.tell_change(owned, told);
     }
 
     /// The step of an input. The outbox is empty before it, the reading is at most 10^15, and a frame is in the

@@ -5,15 +5,16 @@ ghost use Rattle.link_core.specs.Handshakes.{greeting_for};
 ghost use Rattle.link_core.specs.Links.{is_spent, new_link, with_session};
 ghost use Rattle.link_core.specs.Sound.{IsSoundLink};
 
+use crate::deadlines::change;
 use crate::links::{LONGEST_TIME, Links16};
 use crate::part::part;
 use crate::refusal::LinkRefusal;
 use crate::{find, say};
 use arbiter_quorum::Tally;
+use fabric_terms::Outbox;
 use heir_rounds::RoundTally;
 use ring_points::{RangeSet, Who};
 use ring_rules::{Link, LinkState};
-use fabric_terms::Outbox;
 
 /// How a link begins: its first state, its frame version and its length.
 #[derive(Clone, Copy)]
@@ -78,7 +79,7 @@ impl Links16 {
         requires sound { IsSoundLink self.old.arbitrators link }
         ensures { self.new ≡ with_session i link self.old }
     {
-        self.slots[i] = Some(link);
+        change!(self, i, slot => *slot = Some(link));
         self.last_session += 1;
     }
 
@@ -150,6 +151,6 @@ impl Links16 {
         let Some(i) = find::parting(&self.slots, node) else {
             return Err(LinkRefusal::NotLinked);
         };
-        part(&mut self.slots[i], out)
+        change!(self, i, slot => part(slot, out))
     }
 }

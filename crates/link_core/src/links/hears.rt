@@ -1,25 +1,20 @@
 ghost use Rattle.std.specs.Prelude.{◌≡◌, ◌<◌, ◌≤◌, ◌+◌, IsTrue, IfSome, None, [], ◌∷◌, ◌++◌, length, false};
 ghost use Rattle.fabric_terms.specs.declared.message.Body.TheVariants as body;
-ghost use Rattle.ring_points.specs.Whos.{arbiter_actor};
 ghost use Rattle.ring_rules.specs.Slots.{slot_where, of_session};
 ghost use Rattle.link_core.specs.Flights.{gone_elsewhere, gone_received, transfer_received};
 ghost use Rattle.link_core.specs.Handshakes.{accept, hello_received, offer_again, offer_received, take_received};
 ghost use Rattle.link_core.specs.Links.{did, did_after, new_link, with_slot};
 ghost use Rattle.link_core.specs.Renewals.{ack_received, renew_received};
-ghost use Rattle.link_core.specs.Rounds.{kept_received};
-ghost use Rattle.link_core.specs.Rulings.{ruling_received};
 
-use crate::announce::Announce;
-use crate::firing::ARBITERS;
+use crate::announce::Announced;
+use crate::deadlines::change;
 use crate::links::greets::Beginning;
 use crate::links::{LONGEST_TIME, Links16};
 use crate::notes::{LinkNote, LinkNotes};
 use crate::renewal::{self, Renewal};
-use crate::rounds::{self, Keeping};
-use crate::ruling::{self, Terms};
 use crate::{find, flight, handshake, say};
 use fabric_terms::{Outbox, Why};
-use ring_points::{Ruling, Who};
+use ring_points::Who;
 use ring_rules::LinkState;
 
 /// A session as a frame names it: its sender, the sender's number, and the own number.
@@ -99,7 +94,7 @@ impl Links16 {
         if self.is_spent() {
             return LinkNotes::one(LinkNote::Leave(Why::Counters));
         }
-        self.slots[i] = None;
+        change!(self, i, slot => *slot = None);
         self.accept(now, from, theirs, asked, out)
     }
 
@@ -120,7 +115,7 @@ impl Links16 {
         ensures { did self.new out.new result ≡ did_after out.old (hello_received now from theirs asked.wire asked.len self.old) }
     {
         if let Some(i) = find::instance(&self.slots, from) {
-            handshake::hello_repeated(&mut self.slots[i], theirs, out);
+            change!(self, i, slot => handshake::hello_repeated(slot, theirs, out));
             return LinkNotes::none();
         }
         match find::greeting(&self.slots, from.actor) {
@@ -136,7 +131,7 @@ impl Links16 {
         ensures { did self.new out.new [] ≡ did_after out.old (offer_again session.from session.theirs session.own self.old) }
     {
         match self.session(session) {
-            Some(i) => handshake::offer_repeated(&mut self.slots[i], out),
+            Some(i) => change!(self, i, slot => handshake::offer_repeated(slot, out)),
             None => session.say_unknown(out),
         }
     }
@@ -154,14 +149,8 @@ impl Links16 {
         ensures { did self.new out.new result ≡ did_after out.old (offer_received now session.from session.theirs session.own len self.old) }
     {
         if let Some(i) = find::greeting_of(&self.slots, session.from.actor, session.own) {
-            return handshake::offer_taken(
-                &mut self.slots[i],
-                now,
-                session.from,
-                session.theirs,
-                len,
-                out,
-            );
+            let (from, theirs) = (session.from, session.theirs);
+            return change!(self, i, slot => handshake::offer_taken(slot, now, from, theirs, len, out));
         }
         self.hear_offer_again(session, out);
         LinkNotes::none()
@@ -172,14 +161,14 @@ impl Links16 {
         &mut self,
         now: u64,
         session: Session,
-        announce: &Announce,
+        announce: &Announced,
         out: &mut Outbox,
     ) -> LinkNotes
         requires room { length out.old < 192 }
         ensures { did self.new out.new result ≡ did_after out.old (take_received now announce.now session.from session.theirs session.own self.old) }
     {
         match self.session(session) {
-            Some(i) => handshake::take_seen(&mut self.slots[i], now, announce, out),
+            Some(i) => change!(self, i, slot => handshake::take_seen(slot, now, announce, out)),
             None => {
                 session.say_unknown(out);
                 LinkNotes::none()
@@ -198,7 +187,7 @@ impl Links16 {
         ensures { did self.new out.new result ≡ did_after out.old (renew_received session.from session.theirs session.own renewal.now.stamp renewal.now.version renewal.now.got renewal.now.want renewal.now.ranges.now self.old) }
     {
         match self.session(session) {
-            Some(i) => renewal::renew_seen(i, &mut self.slots[i], renewal, out),
+            Some(i) => change!(self, i, slot => renewal::renew_seen(i, slot, renewal, out)),
             None => {
                 session.say_unknown(out);
                 LinkNotes::none()
@@ -212,7 +201,7 @@ impl Links16 {
         ensures { did self.new [] [] ≡ ack_received session.from session.theirs session.own stamp version self.old }
     {
         if let Some(i) = self.session(session) {
-            renewal::ack_seen(&mut self.slots[i], stamp, version);
+            change!(self, i, slot => renewal::ack_seen(slot, stamp, version))
         }
     }
 
@@ -227,7 +216,7 @@ impl Links16 {
         ensures { did self.new out.new result ≡ did_after out.old (transfer_received session.from session.theirs session.own number self.old) }
     {
         match self.session(session) {
-            Some(i) => flight::transfer_seen(i, &mut self.slots[i], number, out),
+            Some(i) => change!(self, i, slot => flight::transfer_seen(i, slot, number, out)),
             None => {
                 session.say_unknown(out);
                 LinkNotes::none()
@@ -259,77 +248,11 @@ impl Links16 {
         ensures { did self.new out.new result ≡ did_after out.old (gone_received session.from session.theirs session.own got bound self.old) }
     {
         match self.session(session) {
-            Some(i) => flight::gone_seen(i, &mut self.slots[i], got, bound, out),
+            Some(i) => change!(self, i, slot => flight::gone_seen(i, slot, got, bound, out)),
             None => {
                 self.hear_gone_elsewhere(session, bound, out);
                 LinkNotes::none()
             }
         }
-    }
-
-    /// A ruling of this arbitrator.
-    pub(crate) fn hear_ruling(
-        &mut self,
-        now: u64,
-        from: Who,
-        victim: Who,
-        ruling: Ruling,
-    ) -> LinkNotes
-        requires now { now ≤ 1_000_000_000_000_000 }
-        requires first { arbiter_actor 1 ≤ from.actor }
-        requires last { from.actor ≤ arbiter_actor self.old.arbitrators }
-        ensures { did self.new [] result ≡ ruling_received now from victim ruling self.old }
-    {
-        let Some(i) = find::instance(&self.slots, victim) else {
-            return LinkNotes::none();
-        };
-        let terms = Terms {
-            answer: self.answer,
-            bound: self.bound,
-            rounds: self.rounds,
-        };
-        let arbitrator = (from.actor - ARBITERS) as u8;
-        ruling::ruling_seen(&mut self.slots[i], now, terms, arbitrator, ruling)
-    }
-
-    /// Whom this arbitrator keeps of a round about the victim, where there are rounds after the first.
-    pub(crate) fn hear_kept(
-        &mut self,
-        now: u64,
-        from: Who,
-        victim: Who,
-        kept: (u8, Who),
-        out: &mut Outbox,
-    ) -> LinkNotes
-        requires now { now ≤ 1_000_000_000_000_000 }
-        requires first { arbiter_actor 1 ≤ from.actor }
-        requires last { from.actor ≤ arbiter_actor self.old.arbitrators }
-        requires room { length out.old + 9 ≤ 192 }
-        ensures { did self.new out.new result ≡ did_after out.old (kept_received now from victim kept.0 kept.1 self.old) }
-    {
-        if self.rounds <= 1 {
-            return LinkNotes::none();
-        }
-        let Some(i) = find::instance(&self.slots, victim) else {
-            return LinkNotes::none();
-        };
-        let terms = Terms {
-            answer: self.answer,
-            bound: self.bound,
-            rounds: self.rounds,
-        };
-        let keeping = Keeping {
-            arbitrator: (from.actor - ARBITERS) as u8,
-            round: kept.0,
-            claimer: kept.1,
-        };
-        rounds::kept_seen(
-            &mut self.slots[i],
-            now,
-            terms,
-            self.arbitrators,
-            keeping,
-            out,
-        )
     }
 }

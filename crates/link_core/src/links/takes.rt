@@ -4,7 +4,7 @@ ghost use Rattle.link_core.specs.Frames.{frame_row, may_come};
 ghost use Rattle.link_core.specs.Links.{did, did_after};
 ghost use Rattle.link_core.specs.Ties.{Does, cause_of, is_search};
 
-use crate::announce::Announce;
+use crate::announce::{Announce, Announced};
 use crate::links::Links16;
 use crate::links::greets::Beginning;
 use crate::links::hears::Session;
@@ -29,18 +29,40 @@ impl Links16 {
         ensures did { did self.new out.new result ≡ did_after out.old (frame_row now announce.now message.now.from message.now.body self.old) }
         ensures row { is_search message.now.body ≡ false → Does (λ c. rules.frame_row c now message.now.from message.now.body) (cause_of message.now.body) self.old announce.now out.old (did self.new out.new result) }
         ensures kept { self.new ≡ record self.old { slots = self.new.slots; next_session = self.new.next_session } }
+        ensures sessions { self.old.next_session ≤ self.new.next_session }
+        ensures few { length out.new ≤ length out.old + 9 }
+        ensures notes { length result ≤ 2 }
+    {
+        self.hear(now, message, &Announced::of(announce), out)
+    }
+
+    /// As `on_frame`, with the ranges where they lie.
+    pub fn hear(
+        &mut self,
+        now: u64,
+        message: &Message,
+        announce: &Announced,
+        out: &mut Outbox,
+    ) -> LinkNotes
+        requires now { now ≤ 1_000_000_000_000_000 }
+        requires frame { IsTrue (may_come self.old.arbitrators message.now.from message.now.body) }
+        requires room { length out.old + 9 ≤ 192 }
+        ensures did { did self.new out.new result ≡ did_after out.old (frame_row now announce.now message.now.from message.now.body self.old) }
+        ensures row { is_search message.now.body ≡ false → Does (λ c. rules.frame_row c now message.now.from message.now.body) (cause_of message.now.body) self.old announce.now out.old (did self.new out.new result) }
+        ensures kept { self.new ≡ record self.old { slots = self.new.slots; next_session = self.new.next_session } }
+        ensures sessions { self.old.next_session ≤ self.new.next_session }
         ensures few { length out.new ≤ length out.old + 9 }
         ensures notes { length result ≤ 2 }
     {
         let _ = &self.me;
-        self.hear(now, message, announce, out)
+        self.frame(now, message, announce, out)
     }
 
-    fn hear(
+    fn frame(
         &mut self,
         now: u64,
         message: &Message,
-        announce: &Announce,
+        announce: &Announced,
         out: &mut Outbox,
     ) -> LinkNotes
         requires now { now ≤ 1_000_000_000_000_000 }

@@ -1,23 +1,19 @@
-use Rattle.link_core.proofs.Silent.{silent_row}
+use Rattle.std.proofs.Common.{ap, sym}
+use Rattle.link_core.specs.Links.{Links}
+use Rattle.link_core.proofs.Deeds.{does_frame, few_arbiters, heard_did}
 use Rattle.link_core.proofs.links.Links16.hear.Goals as goal
 
-pub returns-in-Offer : goal.returns-in-Offer
-returns-in-Offer c = rw (c.in-Offer.is, ← c.hear_offer.view_is) (rw (c.new.ensures, ← c.hear_offer.view_is) at c.hear_offer-in-Offer.ensures)
+pub returns-clause-row : goal.returns-clause-row
+returns-clause-row c = does_frame c.args.now c.args.message.now.from c.args.message.now.body c.args.self.now c.args.announce.now c.args.out.now _ c.frame.ensures
 
-pub returns-in-OfferFor : goal.returns-in-OfferFor
-returns-in-OfferFor c = rw c.in-OfferFor.is (rw c.new-in-OfferFor.ensures at c.hear_offer-in-OfferFor.ensures)
+pub returns-clause-kept : goal.returns-clause-kept
+returns-clause-kept c = (heard_did c.args.now c.args.announce.now c.args.message.now.from c.args.message.now.body c.args.self.now c.args.out.now _ (few_arbiters c.args.self.now c.self.inside.arbitrators c.self.invariant.sound.arbitrators (ap (λ (k : Links). k.arbitrators) (sym c.self.view_is))) c.frame.ensures).0
 
-pub returns-in-Take : goal.returns-in-Take
-returns-in-Take c = rw c.in-Take.is (rw c.new-in-Take.ensures at c.hear_take.ensures)
+pub returns-clause-few : goal.returns-clause-few
+returns-clause-few c = (heard_did c.args.now c.args.announce.now c.args.message.now.from c.args.message.now.body c.args.self.now c.args.out.now _ (few_arbiters c.args.self.now c.self.inside.arbitrators c.self.invariant.sound.arbitrators (ap (λ (k : Links). k.arbitrators) (sym c.self.view_is))) c.frame.ensures).1
 
-pub returns-in-Renew : goal.returns-in-Renew
-returns-in-Renew c = rw c.in-Renew.is (rw c.new-in-Renew.ensures at c.hear_renew.ensures)
+pub returns-clause-notes : goal.returns-clause-notes
+returns-clause-notes c = (heard_did c.args.now c.args.announce.now c.args.message.now.from c.args.message.now.body c.args.self.now c.args.out.now _ (few_arbiters c.args.self.now c.self.inside.arbitrators c.self.invariant.sound.arbitrators (ap (λ (k : Links). k.arbitrators) (sym c.self.view_is))) c.frame.ensures).2
 
-pub returns-in-RenewAck : goal.returns-in-RenewAck
-returns-in-RenewAck c = rw c.in-RenewAck.is (silent_row c.hear_ack.new.self _ c.args.out.now c.none.result (rw c.new-in-RenewAck.ensures at c.hear_ack.ensures) c.none.ensures)
-
-pub returns-in-Transfer : goal.returns-in-Transfer
-returns-in-Transfer c = rw c.in-Transfer.is (rw c.new-in-Transfer.ensures at c.hear_transfer.ensures)
-
-pub returns-in-Gone : goal.returns-in-Gone
-returns-in-Gone c = rw c.in-Gone.is (rw c.new-in-Gone.ensures at c.hear_gone.ensures)
+pub returns-clause-sessions : goal.returns-clause-sessions
+returns-clause-sessions c = (heard_did c.args.now c.args.announce.now c.args.message.now.from c.args.message.now.body c.args.self.now c.args.out.now _ (few_arbiters c.args.self.now c.self.inside.arbitrators c.self.invariant.sound.arbitrators (ap (λ (k : Links). k.arbitrators) (sym c.self.view_is))) c.frame.ensures).3

@@ -1,9 +1,9 @@
 ghost use Rattle.std.specs.Prelude.{◌≡◌, ◌≤◌, IsTrue};
 ghost use Rattle.link_core.specs.Frames.{may_come};
 
-use crate::{Announce, LinkNote, LinkRefusal, Links16};
 use drift_clock::Bound;
 use fabric_terms::{Body, Message, Outbox};
+use link_core::{Announce, LinkNote, LinkNotes, LinkRefusal, Links16};
 use ring_points::{Flight, RangeSet, Who};
 
 fn instance(actor: u16) -> Who
@@ -26,7 +26,7 @@ fn wanting() -> Announce {
 }
 
 /// What the links answer to this frame of the node, and what they leave to do.
-fn hear(links: &mut Links16, now: u64, node: u16, body: Body) -> (Outbox, crate::LinkNotes)
+fn hear(links: &mut Links16, now: u64, node: u16, body: Body) -> (Outbox, LinkNotes)
     requires now { now ≤ 1_000_000_000_000_000 }
     requires frame { IsTrue (may_come links.old.arbitrators (record { actor = node; instance = 1 }) body) }
 {
@@ -108,6 +108,20 @@ fn fences(span: u64) -> (Option<u64>, Option<u64>) {
 fn the_smaller_length_counts(rt: HostRuntime) {
     assert_eq!(rt; fences(1000), (Some(2000), Some(2000)));
     assert_eq!(rt; fences(9000), (Some(4000), Some(4000)));
+}
+
+#[test]
+fn the_fence_is_the_least_of_all(rt: HostRuntime) {
+    let mut one = links(1);
+    for (node, length, fence) in [(2, 2000, 3000), (3, 900, 1900), (4, 2500, 1900), (5, 900, 1900)] {
+        let _ = hear(&mut one, 0, node, Body::HelloFor { mine: 1, length });
+        assert_eq!(rt; one.fence(), Some(fence), "with {node}");
+    }
+    // Slot i is that of node i + 2. What the peers say to a Gone ends a slot, and the next least end counts.
+    for (slot, fence) in [(1, Some(1900)), (3, Some(3000)), (0, Some(3500)), (2, None)] {
+        one.close(slot, false, &mut Outbox::new());
+        assert_eq!(rt; one.fence(), fence, "without {slot}");
+    }
 }
 
 #[test]
