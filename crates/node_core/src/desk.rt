@@ -6,7 +6,7 @@ use ring_node::Reports;
 use std::alloc::Global;
 
 /// How many reports the ring makes in a step at most.
-pub(crate) const MOST_TOLD: usize = 64;
+const MOST_TOLD: usize = 64;
 
 /// Where a node puts what a step sends and reports, and room for what the step leaves. It is clear between steps.
 #[derive(Drop)]

@@ -11,7 +11,7 @@ ghost use Rattle.node_core.specs.Nodes.{Amounts, Does, FitsInput, GoesBy, IsSmal
 
 use crate::batch::Batch;
 use crate::boots::{boot, instance_after, is_spent};
-use crate::desk::{Desk, MOST_TOLD};
+use crate::desk::Desk;
 use crate::kept::NodeKept;
 use crate::outcome::Outcome;
 use crate::room::give_away;
@@ -47,6 +47,7 @@ impl NodeCore {
     /// Starts a node from what is kept of it: its next instance, or the last again where all numbers are used up, and
     /// then it has left. What was kept is the node's from here on. It is an error where memory is short, and then
     /// `kept` is as it was.
+    #[inline(never)]
     #[tactic(auto, unfolding(crate::specs::Nodes::most_frames))]
     pub fn begin(
         alloc: Global,
@@ -71,8 +72,8 @@ impl NodeCore {
             instance,
         };
         let records = boot(alloc, instance, spent)?;
-        let mut reports = Vec::with_capacity(alloc, MOST_TOLD)?;
         let (ring, mut told) = RingNode::new(alloc, config, me, now, spent)?;
+        let mut reports = Vec::with_capacity(alloc, told.as_slice().len())?;
         told.hand_over(&mut reports);
         let core = NodeCore {
             alloc,
@@ -109,9 +110,10 @@ impl NodeCore {
         Ok((Box::into_inner(core), outcome))
     }
 
-    /// Gives back what is kept of the node, for its next start.
+    /// Gives back what is kept of the node, for its next start: nothing else of a node is needed once it has stopped.
     pub fn take_kept(&mut self) -> NodeKept
         ensures kept { result ≡ kept_in self.old.state }
+        ensures same { self.new ≡ self.old }
     {
         NodeKept {
             boots: self.ring.me().instance,
