@@ -35,7 +35,7 @@ use Rattle.ring_world.specs.Stands.{SeenStands, Stands}
 use Rattle.ring_world.specs.Steps.{IsSoundFrame}
 use Rattle.ring_world.specs.declared.world.Acted.{Acted}
 use Rattle.ring_world.specs.declared.world.World.{World}
-use Rattle.ring_world.proofs.Acts.{sound_sent}
+use Rattle.ring_world.proofs.FramesAfter.{sound_sent}
 use Rattle.ring_world.proofs.Maps.{unequal}
 use Rattle.ring_world.proofs.Growth.{kept_here, kept_there, posted-length}
 use Rattle.ring_world.proofs.KeptNodes.{kept_follows, same_run}

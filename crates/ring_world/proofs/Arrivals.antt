@@ -17,7 +17,7 @@ use Rattle.world_rules.specs.Worlds.{World as RuledWorld, arbiter_acted, quiet}
 use Rattle.ring_world.specs.Finds.{IsAt}
 use Rattle.ring_world.specs.Stands.{Stands}
 use Rattle.ring_world.specs.declared.world.World.{World}
-use Rattle.ring_world.proofs.Acts.{placed, read_at}
+use Rattle.ring_world.proofs.NodePlaces.{placed, read_at}
 use Rattle.ring_world.proofs.Seats.{seat_number}
 
 -- at a node

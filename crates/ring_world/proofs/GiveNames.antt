@@ -16,8 +16,8 @@ use Rattle.ring_world.specs.Steps.{IsSoundFrame, LeavesSound}
 use Rattle.ring_world.specs.declared.world.World.{World}
 use Rattle.ring_world.proofs.Frames.{frames_are_in_format}
 use Rattle.ring_world.proofs.Limits.{bound-give}
-use Rattle.ring_world.proofs.Nexts.{own, sound_next}
-use Rattle.ring_world.proofs.Reached.{all_at, frame_none, frame_some}
+use Rattle.ring_world.proofs.NextEvents.{own, sound_next}
+use Rattle.ring_world.proofs.Arrivals.{all_at, frame_none, frame_some}
 
 module _ (a : World) (w : RuledWorld fabric) (number : ℕ) (st : Stands a w) where
   there_is : (b : Bool) → (nat_le 1 number && nat_le number (length a.frames.frames)) ≡ b → is_there is_frame a.config w (Give number) ≡ b

@@ -13,7 +13,7 @@ use Rattle.ring_world.specs.Answers.{is_frame}
 use Rattle.ring_world.specs.Finds.{IsAt}
 use Rattle.ring_world.specs.declared.world.World.{World}
 use Rattle.ring_world.proofs.Limits.{bound-fire, bound-do}
-use Rattle.ring_world.proofs.Nexts.{Acting}
+use Rattle.ring_world.proofs.NextEvents.{Acting}
 
 module _ (a : World) (w : RuledWorld fabric) (node : ℕ) where
   pub fire_acts : Acting a w node input.Fire (Fire node)

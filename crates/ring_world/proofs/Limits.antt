@@ -9,7 +9,7 @@ use Rattle.fabric_above.specs.Fabric.{fabric}
 use Rattle.world_rules.specs.Schedules.{keeps_bound}
 use Rattle.world_rules.specs.Worlds.{World as RuledWorld}
 use Rattle.ring_world.specs.Moves.{Same}
-use Rattle.ring_world.specs.Room.{has_room, acts, time_after, most_events, most_frames, most_time}
+use Rattle.ring_world.specs.Room.{has_room, is_room, acts, time_after, most_events, most_frames, most_time}
 use Rattle.ring_world.specs.Stands.{Stands}
 use Rattle.ring_world.specs.declared.world.World.{World}
 
@@ -19,7 +19,7 @@ and_true false = refl
 
 -- what the code tests
 abbrev pub room_test : World → Bool → Bool
-room_test a acting = nat_lt a.events most_events && (not acting || nat_lt a.sent most_frames)
+room_test a acting = is_room acting a.events a.sent
 
 at_most : (m n : ℕ) → m ≤ n → nat_le m n ≡ true
 at_most m n h = grind (arith, nat_tests)

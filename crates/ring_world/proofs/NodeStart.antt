@@ -41,7 +41,7 @@ use Rattle.ring_world.specs.Starts.{Begins, place_for}
 use Rattle.ring_world.specs.declared.running.Running.{Running}
 use Rattle.ring_world.specs.declared.world.Acted.{Acted}
 use Rattle.ring_world.specs.declared.world.World.{World}
-use Rattle.ring_world.proofs.Acts.{frames_more}
+use Rattle.ring_world.proofs.FramesAfter.{frames_more}
 use Rattle.ring_world.proofs.Edits.{set_same}
 use Rattle.ring_world.proofs.Growth.{arbiters_on, from-length, kept_here, kept_there, numbers_are, posted_is}
 use Rattle.ring_world.proofs.KeptNodes.{kept_begun}

@@ -46,6 +46,8 @@ use Rattle.node_core.specs.declared.kept.NodeKept.{NodeKept}
 use Rattle.ring_world.proofs.KeptNodes.{kept_follows, put_run}
 use Rattle.ring_world.proofs.Maps.{at_place, put_place}
 use Rattle.ring_world.proofs.Nodes.{Ruled, clock_of, run_at, run_set}
+use Rattle.ring_world.proofs.FramesAfter.{frames_more, sound_sent}
+use Rattle.ring_world.proofs.NodePlaces.{Placed, placed, read_at}
 
 -- nothing above a node records anything
 pub records_none : (c : FabricConfig) (now : ℕ) (i : Input) (s : NodeState fabric) → (node_step fabric c now i s).records ≡ []
@@ -63,68 +65,6 @@ pub clocks_set : (es : List Ruled) (i : ℕ) (e f : Ruled) → slice_get es i �
 clocks_set [] i e f g same = refl
 clocks_set (q ∷ es) zero e f g same = let is : q ≡ e = cc in ap (λ k. k ∷ map clock_of es) (same ∙ ap clock_of (sym is))
 clocks_set (q ∷ es) (suc i) e f g same = ap (λ ks. clock_of q ∷ ks) (clocks_set es i e f g same)
-
--- frames and their count after an outcome
-pub frames_more : (a : Seen) (w v : RuledWorld fabric) (who : Who) (d : Did (NodeState fabric)) (o : Outcome) → FramesStand a w → o.frames ≡ from_all who d.sent → length o.frames ≤ frames_limit
-    → a.sent < most_frames → v.frames ≡ posted_all o.frames w.frames → v.count ≡ w.count + length d.sent
-    → (b : Seen) → b.frames ≡ posted_all o.frames a.frames → b.sent ≡ a.sent + length o.frames → FramesStand b v
-frames_more a w v who d o s is few room frames count b bag sent =
-    let n : length o.frames ≡ length d.sent = ap length is ∙ from-length who d.sent in
-    let posts : posted_all o.frames w.frames ≡ posted_all (from_all who d.sent) w.frames = ap (λ ms. posted_all ms w.frames) is in
-    record {
-      frames = bag ∙ (ap (λ ms. posted_all o.frames ms) s.frames ∙ sym frames);
-      counted = let k : length v.frames ≡ length w.frames + length d.sent = ap length (frames ∙ posts ∙ sym (posted_is who d.sent w.frames)) ∙ posted-length who d.sent w.frames in omega (arith, s.counted);
-      sent = omega (arith, s.sent);
-      few = omega (arith, s.sent);
-    }
-
--- the node of the code at the place of one of the rules, and its clock
-pub record Placed (a : World) (place node : ℕ) (s : RuledRunning fabric) : Type 0 where
-  pub code : Running
-  pub here : slice_get a.running.items place ≡ Some code
-  pub runs : RunsAs a.config a.time code (node, s)
-  pub within : place < length a.running.items
-  pub clock : slice_get a.clocks.items place ≡ Some (s.node.ring.me, s.reading)
-  pub clock_within : place < length a.clocks.items
-
-pub placed : (a : World) (w : RuledWorld fabric) (place node : ℕ) (s : RuledRunning fabric) → Stands a w → slice_get w.nodes place ≡ Some (node, s) → Placed a place node s
-placed a w place node s st here =
-    let at = run_at a.config a.time a.running.items w.nodes place (node, s) st.nodes.running here in
-    let clock : slice_get a.clocks.items place ≡ Some (s.node.ring.me, s.reading) =
-    ap (λ ks. slice_get ks place) st.nodes.clocks ∙ (slice_get-map clock_of w.nodes place ∙ ap (λ o. option_map clock_of o) here) in
-    record {
-      code = at.node;
-      here = at.here;
-      runs = at.runs;
-      within = slice_get_within a.running.items place at.node at.here;
-      clock = clock;
-      clock_within = slice_get_within a.clocks.items place (s.node.ring.me, s.reading) clock;
-    }
-
--- what is read at the place
-pub read_at : {X : Type 0} (xs : List X) (place : ℕ) (x y : X) → slice_get xs place ≡ Some x → y ≡ get_or xs place y → y ≡ x
-read_at xs place x y here read = read ∙ get_or_from_slice_get xs place x y here
-
--- every frame is sound, so what was sent last is
-
-pub all_tail : {X : Type 0} (P : X → Type 0) (x : X) (xs : List X) → All P (x ∷ xs) → All P xs
-all_tail P x xs h k d lt = h (suc k) d (omega arith)
-
-pub all_cons : {X : Type 0} (P : X → Type 0) (x : X) (xs : List X) → P x → All P xs → All P (x ∷ xs)
-all_cons P x xs one h zero d lt = one
-all_cons P x xs one h (suc k) d lt = h k d (omega arith)
-
-pub sound_before : (P : Message → Type 0) (who : Who) (sent : List (Who × Body)) (frames : List Message) → All P (posted who sent frames) → All P frames
-sound_before P who [] frames h = h
-sound_before P who (m ∷ ms) frames h =
-    let sent : Message = record { from = who; to = m.0; body = m.1 } in
-    all_tail P sent frames (sound_before P who ms (sent ∷ frames) h)
-
-pub sound_sent : (P : Message → Type 0) (who : Who) (sent : List (Who × Body)) (frames : List Message) → All P (posted who sent frames) → All P (from_all who sent)
-sound_sent P who [] frames h = λ k d lt. absurd (omega arith)
-sound_sent P who (m ∷ ms) frames h =
-    let sent : Message = record { from = who; to = m.0; body = m.1 } in
-    all_cons P sent (from_all who ms) (sound_before P who ms (sent ∷ frames) h 0 sent (omega arith)) (sound_sent P who ms (sent ∷ frames) h)
 
 -- what is seen after an outcome is committed
 pub seen_committed : (a m new : World) (runs : Vec Running Global) (place : ℕ) (q : Running) (o : Outcome) → Same a m → m.running ≡ a.running → runs ≡ with_item m.running place q

@@ -21,7 +21,7 @@ use Rattle.ring_world.specs.Seen.{Seen, seen_of}
 use Rattle.ring_world.specs.Stands.{Stands, SeenStands}
 use Rattle.ring_world.specs.declared.world.Acted.{Acted}
 use Rattle.ring_world.specs.declared.world.World.{World}
-use Rattle.ring_world.proofs.Acts.{placed, read_at}
+use Rattle.ring_world.proofs.NodePlaces.{placed, read_at}
 use Rattle.ring_world.proofs.Growth.{arbiters_on}
 use Rattle.ring_world.proofs.KeptNodes.{kept_ended}
 use Rattle.ring_world.proofs.Maps.{at_place, without_place}

@@ -21,11 +21,11 @@ use Rattle.ring_world.specs.Stands.{Stands}
 use Rattle.ring_world.specs.Ticks.{Shows, after_tick}
 use Rattle.ring_world.specs.declared.running.Running.{Running}
 use Rattle.ring_world.specs.declared.world.World.{World}
-use Rattle.ring_world.proofs.Acts.{read_at}
+use Rattle.ring_world.proofs.NodePlaces.{read_at}
 use Rattle.ring_world.proofs.Edits.{map-set}
 use Rattle.ring_world.proofs.Maps.{at_place}
 use Rattle.ring_world.proofs.Nodes.{Ruled, RunsAt, clock_of, run_at, run_set}
-use Rattle.ring_world.proofs.Ticked.{IsOf, is_of, of-length}
+use Rattle.ring_world.proofs.TickReadings.{IsOf, is_of, of-length}
 
 -- the running nodes, of which the first so many show their readings
 abbrev pub so_far : ℕ → List (ℕ × ℕ) → ℕ → List Ruled → List Ruled

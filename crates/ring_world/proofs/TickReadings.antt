@@ -23,7 +23,7 @@ use Rattle.ring_world.specs.Ticks.{are_of_clocks}
 use Rattle.ring_world.specs.Stands.{Stands}
 use Rattle.ring_world.specs.declared.running.Running.{Running}
 use Rattle.ring_world.specs.declared.world.World.{World}
-use Rattle.ring_world.proofs.Acts.{read_at}
+use Rattle.ring_world.proofs.NodePlaces.{read_at}
 use Rattle.ring_world.proofs.Maps.{at_place, equal, unequal}
 use Rattle.ring_world.proofs.Nodes.{Ruled, RunsAt, clock_of, run_at, run-length}
 

@@ -25,7 +25,7 @@ use Rattle.ring_world.proofs.Growth.{arbiters_on}
 use Rattle.ring_world.proofs.KeptNodes.{kept_follows, tick_run}
 use Rattle.ring_world.proofs.Limits.{room_test}
 use Rattle.ring_world.proofs.Nodes.{Ruled, run_numbered}
-use Rattle.ring_world.proofs.Ticked.{of_nodes}
+use Rattle.ring_world.proofs.TickReadings.{of_nodes}
 
 -- what a tick names, and what it needs
 module _ (a : World) (w : RuledWorld fabric) (advance : ℕ) (readings : List (ℕ × ℕ)) (st : Stands a w) where

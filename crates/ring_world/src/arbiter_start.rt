@@ -27,7 +27,7 @@ impl World {
         if self.seats[place].runs {
             return Err(EventRefusal::NoSuch);
         }
-        if !self.has_room(true) {
+        if !self.may_act() {
             return Err(EventRefusal::TooLarge);
         }
         let seat = &mut self.seats[place];

@@ -92,7 +92,7 @@ impl World {
         let Some(message) = self.frames.get(number) else {
             return Err(EventRefusal::NoSuch);
         };
-        if !self.has_room(true) {
+        if !self.may_act() {
             return Err(EventRefusal::TooLarge);
         }
         Ok(self.reach(line, message)?)

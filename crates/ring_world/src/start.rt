@@ -101,14 +101,15 @@ impl World {
         if self.place_of(node).is_some() {
             return Err(EventRefusal::NoSuch);
         }
-        if !self.has_room(true) {
+        if !self.may_act() {
             return Err(EventRefusal::TooLarge);
         }
         self.make_place()?;
         Ok(Some(self.enter(line, node, reading)?))
     }
 
-    /// An actor's process begins: a node's with the reading of its clock, an arbitrator's without one.
+    /// An actor's process begins: a node's with the reading of its clock, an arbitrator's without one. It is never inlined,
+    /// for the room in which a node is made.
     #[inline(never)]
     pub(crate) fn start(
         &mut self,

@@ -30,7 +30,7 @@ impl World {
         let Some(place) = self.place_of(node) else {
             return Err(EventRefusal::NoSuch);
         };
-        if !self.has_room(false) {
+        if !self.may_come() {
             return Err(EventRefusal::TooLarge);
         }
         let reports = stopped(self.alloc)?;
@@ -59,7 +59,7 @@ impl World {
         if !self.seats[place].runs {
             return Err(EventRefusal::NoSuch);
         }
-        if !self.has_room(false) {
+        if !self.may_come() {
             return Err(EventRefusal::TooLarge);
         }
         let reports = stopped(self.alloc)?;
@@ -76,7 +76,8 @@ impl World {
         }))
     }
 
-    /// An actor's process ends.
+    /// An actor's process ends. It is never inlined into the taking of an event, which would then pay for its room.
+    #[inline(never)]
     pub(crate) fn stop(&mut self, line: u64, actor: u16) -> Result<Option<Acted>, EventRefusal>
         requires can { (w : RuledWorld fabric) × Stands self.old w }
         requires fits { Fits (Event.Stop actor) }

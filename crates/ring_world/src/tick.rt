@@ -89,7 +89,7 @@ impl World {
         if let Some(broken) = self.first_broken(time, readings) {
             return Err(EventRefusal::DriftBroken(broken));
         }
-        if !self.has_room(false) || time > MOST_TIME {
+        if !self.may_come() || time > MOST_TIME {
             return Err(EventRefusal::TooLarge);
         }
         self.show(time, readings);

@@ -2,7 +2,7 @@ use Rattle.std.proofs.Common.{◌+◌, false, List, ap, sym, subst}
 use Rattle.arbiter_core.specs.Arbiters.{Arbiter}
 use Rattle.ring_world.specs.Seats.{AreEmpty}
 use Rattle.ring_world.specs.declared.seat.Seat.{Seat}
-use Rattle.ring_world.proofs.New.{empty_more}
+use Rattle.ring_world.proofs.NewWorld.{empty_more}
 use Rattle.ring_world.proofs.world.empty_seats.Goals as goal
 
 pub loop-i-preserved : goal.loop-i-preserved

@@ -11,7 +11,7 @@ use Rattle.ring_world.specs.Starts.{place_for}
 use Rattle.ring_world.specs.Commits.{numbers_after}
 use Rattle.ring_world.specs.Moves.{placed_by}
 use Rattle.ring_world.specs.declared.running.Running.{Running}
-use Rattle.ring_world.proofs.Begun.{begin_moves, begun_from, frames_none, place_fits_in, put_kept_back, seen_entered}
+use Rattle.ring_world.proofs.NodeStart.{begin_moves, begun_from, frames_none, place_fits_in, put_kept_back, seen_entered}
 use Rattle.ring_world.proofs.world.World.enter.Goals as goal
 
 pub index_mut-kept-requires : goal.index_mut-kept-requires

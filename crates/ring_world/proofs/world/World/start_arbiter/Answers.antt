@@ -23,12 +23,12 @@ returns-then-index c w s =
     let runs = runs_at a w c.args.actor c.in-Some.place c.index.result.now s c.in-Some.ensures.0 c.in-Some.ensures.1 c.index.ensures in
     (start_there a w s c.args.actor true true there (runs ∙ c.if-index.true), same_world a)
 
-pub returns-then-not-has_room : goal.returns-then-not-has_room
-returns-then-not-has_room c w s =
+pub returns-then-not-may_act : goal.returns-then-not-may_act
+returns-then-not-may_act c w s =
     let a = c.args.self.now in
     let there = configured a w s c.args.actor c.in-Some.place c.in-Some.ensures.0 c.in-Some.ensures.1 in
     let runs = runs_at a w c.args.actor c.in-Some.place c.index.result.now s c.in-Some.ensures.0 c.in-Some.ensures.1 c.index.ensures in
-    let full : room_test a true ≡ false = sym c.has_room.ensures ∙ c.if-not-has_room.true in
+    let full : room_test a true ≡ false = sym c.may_act.ensures ∙ c.if-not-may_act.true in
     ((start_there a w s c.args.actor true false there (runs ∙ c.if-index.false), bound-start a w c.args.actor None, room_is a w (Start c.args.actor None) true s refl refl ∙ full), same_world a)
 
 pub returns : goal.returns
@@ -39,7 +39,7 @@ returns c w s =
     let lt = c.in-Some.ensures.1 in
     let there = configured a w s c.args.actor place c.in-Some.ensures.0 lt in
     let runs = runs_at a w c.args.actor place c.index.result.now s c.in-Some.ensures.0 lt c.index.ensures in
-    let room : room_test a true ≡ true = sym c.has_room.ensures ∙ c.if-not-has_room.false in (
+    let room : room_test a true ≡ true = sym c.may_act.ensures ∙ c.if-not-may_act.false in (
       record {
         there = start_there a w s c.args.actor true false there (runs ∙ c.if-index.false);
         bound = bound-start a w c.args.actor None;

@@ -10,7 +10,8 @@ use Rattle.ring_world.specs.Seen.{Seen}
 use Rattle.ring_world.specs.Moves.{placed_by}
 use Rattle.ring_world.specs.declared.running.Running.{Running}
 use Rattle.ring_world.specs.declared.world.World.{World}
-use Rattle.ring_world.proofs.Acts.{placed, put_back, read_at, sends_sound, moves_next, seen_committed}
+use Rattle.ring_world.proofs.NodePlaces.{placed, read_at}
+use Rattle.ring_world.proofs.NodeStep.{put_back, sends_sound, moves_next, seen_committed}
 use Rattle.ring_world.proofs.world.World.step_at.Goals as goal
 
 pub index-requires : goal.index-requires

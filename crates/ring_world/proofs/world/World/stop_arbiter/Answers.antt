@@ -9,7 +9,7 @@ use Rattle.world_rules.specs.Schedules.{runs}
 use Rattle.ring_world.specs.Seats.{state_of}
 use Rattle.ring_world.proofs.Limits.{room_is, room_test, same_world, bound-stop, few_events}
 use Rattle.ring_world.proofs.Seats.{runs_here, runs_nowhere, seat_here, seat_actor, seat_number, running_at}
-use Rattle.ring_world.proofs.Stops.{stop_runs, stop_arbiter_is}
+use Rattle.ring_world.proofs.StopNames.{stop_runs, stop_arbiter_is}
 use Rattle.ring_world.proofs.ArbiterStop.{stop_arbiter_moves}
 use Rattle.ring_world.proofs.world.World.stop_arbiter.Goals as goal
 
@@ -23,12 +23,12 @@ returns-then-not-index c w s =
     runs_here a w c.args.actor c.in-Some.place c.index.result.now s c.in-Some.ensures.0 c.in-Some.ensures.1 c.index.ensures ∙ c.if-not-index.true in
     (stop_runs a w c.args.actor false runs, same_world a)
 
-pub returns-then-not-has_room : goal.returns-then-not-has_room
-returns-then-not-has_room c w s =
+pub returns-then-not-may_come : goal.returns-then-not-may_come
+returns-then-not-may_come c w s =
     let a = c.args.self.now in
     let runs : runs w c.args.actor ≡ true =
     runs_here a w c.args.actor c.in-Some.place c.index.result.now s c.in-Some.ensures.0 c.in-Some.ensures.1 c.index.ensures ∙ c.if-not-index.false in
-    let full : room_test a false ≡ false = sym c.has_room.ensures ∙ c.if-not-has_room.true in
+    let full : room_test a false ≡ false = sym c.may_come.ensures ∙ c.if-not-may_come.true in
     ((stop_runs a w c.args.actor true runs, bound-stop a w c.args.actor, room_is a w (Stop c.args.actor) false s refl refl ∙ full), same_world a)
 
 pub returns : goal.returns
@@ -38,7 +38,7 @@ returns c w s =
     let q = c.index_mut-seat.result.now in
     let lt = c.in-Some.ensures.1 in
     let runs : runs w c.args.actor ≡ true = runs_here a w c.args.actor place c.index.result.now s c.in-Some.ensures.0 lt c.index.ensures ∙ c.if-not-index.false in
-    let room : room_test a false ≡ true = sym c.has_room.ensures ∙ c.if-not-has_room.false in
+    let room : room_test a false ≡ true = sym c.may_come.ensures ∙ c.if-not-may_come.false in
     let t = running_at a w place c.index.result.now s lt c.index.ensures c.if-not-index.false in
     let step : world_step fabric a.config w (Stop c.args.actor) ≡ arbiter_stops fabric w (place + 1) (Some (state_of c.index.result.now.arbiter)) =
     stop_arbiter_is a w c.args.actor (seat_actor c.args.actor place c.in-Some.ensures.0)

@@ -8,10 +8,10 @@ use Rattle.fabric_above.specs.Fabric.{fabric}
 use Rattle.node_core.specs.Nodes.{Core, kept_in}
 use Rattle.node_core.specs.declared.kept.NodeKept.{NodeKept}
 use Rattle.world_rules.specs.Nodes.{NodeState}
-use Rattle.ring_world.proofs.Acts.{placed, read_at}
-use Rattle.ring_world.proofs.Ends.{seen_ended, stop_moves}
+use Rattle.ring_world.proofs.NodePlaces.{placed, read_at}
+use Rattle.ring_world.proofs.NodeStop.{seen_ended, stop_moves}
 use Rattle.ring_world.proofs.Limits.{room_is, room_test, same_world, bound-stop, few_events}
-use Rattle.ring_world.proofs.Stops.{stop_runs, node_runs_is, stop_node_is}
+use Rattle.ring_world.proofs.StopNames.{stop_runs, node_runs_is, stop_node_is}
 use Rattle.ring_world.proofs.world.World.stop_node.Goals as goal
 
 pub returns-in_default : goal.returns-in_default
@@ -19,11 +19,11 @@ returns-in_default c w s =
     let none = c.in_default.ensures w s in
     (stop_runs c.args.self.now w c.args.node false (node_runs_is c.args.self.now w c.args.node false c.requires.node (ap (λ o. is_some o) none)), same_world c.args.self.now)
 
-pub returns-then-not-has_room : goal.returns-then-not-has_room
-returns-then-not-has_room c w s =
+pub returns-then-not-may_come : goal.returns-then-not-may_come
+returns-then-not-may_come c w s =
     let a = c.args.self.now in
     let k = c.in-Some.ensures w s in
-    let full : room_test a false ≡ false = sym c.has_room.ensures ∙ c.if-not-has_room.true in (
+    let full : room_test a false ≡ false = sym c.may_come.ensures ∙ c.if-not-may_come.true in (
       (stop_runs a w c.args.node true (node_runs_is a w c.args.node true c.requires.node (ap (λ o. is_some o) k.found)), bound-stop a w c.args.node, room_is a w (Stop c.args.node) false s refl refl ∙ full),
       same_world a,
     )
@@ -52,7 +52,7 @@ returns c w s =
     let a = c.args.self.now in
     let place = c.in-Some.place in
     let k = c.in-Some.ensures w s in
-    let room : room_test a false ≡ true = sym c.has_room.ensures ∙ c.if-not-has_room.false in
+    let room : room_test a false ≡ true = sym c.may_come.ensures ∙ c.if-not-may_come.false in
     let step : world_step fabric a.config w (Stop c.args.node) ≡ node_stops fabric w c.args.node (Some k.value) =
     stop_node_is a w c.args.node c.requires.node ∙ ap (λ o. node_stops fabric w c.args.node o) k.found in
     let at = placed a w place c.args.node k.value s k.here in

@@ -1,6 +1,6 @@
 use Rattle.fabric_terms.specs.declared.event.Event.TheVariants.{Tick}
 use Rattle.ring_world.specs.Answers.{ruled}
-use Rattle.ring_world.proofs.Answered.{answered_tick}
+use Rattle.ring_world.proofs.HistoryAnswers.{answered_tick}
 use Rattle.ring_world.proofs.world.World.tick.Goals as goal
 
 pub returns-clause-answers : goal.returns-clause-answers
