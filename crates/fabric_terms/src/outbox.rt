@@ -5,6 +5,7 @@ use arrayvec::ArrayVec;
 use crate::message::{Body, Message};
 use ring_points::Who;
 use std::marker::Model;
+use std::mem;
 
 /// How many messages an outbox holds.
 pub const OUTBOX_LIMIT: usize = 192;
@@ -65,9 +66,12 @@ impl Outbox {
         ensures frames { frames.new.items ≡ frames.old.items ++ from_all from self.old }
         ensures emptied { self.new ≡ [] }
     {
-        for (to, body) in self.messages.drain(..) {
+        let sent = self.messages.as_mut_slice();
+        for i in 0..sent.len() {
+            let (to, body) = mem::take(&mut sent[i]);
             frames.push_reserved(Message { from, to, body });
         }
+        self.messages.clear();
     }
 
     /// Sends one more message.

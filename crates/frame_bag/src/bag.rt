@@ -58,7 +58,7 @@ impl FrameBag {
 
     /// Makes room for so many frames more. It is an error where memory is short, and then there is the room of before.
     pub fn reserve(&mut self, count: usize) -> Result<(), OutOfMemory>
-        requires { count ≤ 1000 }
+        requires { count ≤ 1_000_000 }
         ensures frames { self.new.frames ≡ self.old.frames }
         ensures room { OnOk result (count ≤ self.new.room) }
         ensures refused { OnErr result (self.new.room ≡ self.old.room) }

@@ -23,7 +23,7 @@ use Rattle.world_rules.specs.Nodes.{NodeState, above_if, boots_of, both_did, com
 use Rattle.fabric_above.specs.Fabric.{fabric}
 use Rattle.world_rules.specs.Uppers.{Did, idle}
 use Rattle.node_core.specs.declared.outcome.Outcome.{Outcome}
-use Rattle.node_core.specs.Nodes.{Does, GoesBy, state_of}
+use Rattle.node_core.specs.Nodes.{Does, GoesBy, core_of}
 
 -- the name of a node stays
 pub name_stays : (now : ℕ) (i : Input) (old new : Node) (sent : List (Who × Body)) (told : List Report) → step new sent told ≡ acted now i old → new.ring.me ≡ old.ring.me
@@ -44,7 +44,7 @@ does_by now i r s =
 both_idle : (c : FabricConfig) (r : Ring) (k : Work) → both_did fabric c r k (idle tt) ≡ record { state = record { ring = k.ring; above = tt }; records = []; sent = k.sent; told = k.told ++ own_after (settings_of c r.me.actor) r k.ring }
 both_idle c r k = rw (append-nil k.sent, append-nil k.told) refl
 
-step_is : (c : FabricConfig) (now : ℕ) (i : Input) (n : Node) → GoesBy c n → node_step fabric c now i (state_of n) ≡ does_by now i n.ring n.settings
+step_is : (c : FabricConfig) (now : ℕ) (i : Input) (n : Node) → GoesBy c (core_of n) → node_step fabric c now i (core_of n).state ≡ does_by now i n.ring n.settings
 unfolding node_step
 step_is c now i n g =
     let k = ring_step (settings_of c n.ring.me.actor) now i n.ring in
@@ -52,7 +52,7 @@ step_is c now i n g =
     ∙ both_idle c n.ring k
     ∙ ap (does_by now i n.ring) (sym g)
 
-pub does_step : (c : FabricConfig) (now : ℕ) (i : Input) (n new : Node) (sent : List (Who × Body)) (told : List Report) (me : Who) (o : Outcome) → GoesBy c n → step new sent told ≡ acted now i n → me ≡ new.ring.me → o.records ≡ [] → o.frames ≡ from_all me sent → o.reports ≡ told → Does (node_step fabric c now i (state_of n)) new o
+pub does_step : (c : FabricConfig) (now : ℕ) (i : Input) (n new : Node) (sent : List (Who × Body)) (told : List Report) (me : Who) (o : Outcome) → GoesBy c (core_of n) → step new sent told ≡ acted now i n → me ≡ new.ring.me → o.records ≡ [] → o.frames ≡ from_all me sent → o.reports ≡ told → Does (node_step fabric c now i (core_of n).state) (core_of new) o
 does_step c now i n new sent told me o g e m r f t = rw (step_is c now i n g) (record {
   state = ap (λ (s : Step). record { ring = s.work.ring; above = tt }) e;
   records = r;
@@ -74,13 +74,13 @@ named : (c : FabricConfig) (me : Who) (spent : Bool) → (node_started c me spen
 unfolding node_started
 named c me spent = if_named c me spent
 
-pub starts_by : (c : FabricConfig) (me : Who) (spent : Bool) (new : Node) (told : List Report) → step new [] told ≡ started c me spent → GoesBy c new
+pub starts_by : (c : FabricConfig) (me : Who) (spent : Bool) (new : Node) (told : List Report) → step new [] told ≡ started c me spent → GoesBy c (core_of new)
 starts_by c me spent new told e =
     ap (λ (s : Step). s.settings) e
     ∙ ap (λ (w : Who). settings_of c w.actor) (sym (ap (λ (s : Step). s.work.ring.me) e ∙ named c me spent))
 
 -- by what is kept
-pub does_start : (c : FabricConfig) (node : ℕ) (records : List Record) (boots instance : ℕ) (spent : Bool) (new : Node) (told : List Report) (o : Outcome) → boots_of records ≡ boots → spent ≡ nat_le last_number boots → instance ≡ (if nat_le last_number boots then boots else boots + 1) → step new [] told ≡ started c (node_instance node instance) spent → o.records ≡ (if spent then [] else Boot instance ∷ []) → o.frames ≡ [] → o.reports ≡ told → Does (node_begun fabric c node records) new o
+pub does_start : (c : FabricConfig) (node : ℕ) (records : List Record) (boots instance : ℕ) (spent : Bool) (new : Node) (told : List Report) (o : Outcome) → boots_of records ≡ boots → spent ≡ nat_le last_number boots → instance ≡ (if nat_le last_number boots then boots else boots + 1) → step new [] told ≡ started c (node_instance node instance) spent → o.records ≡ (if spent then [] else Boot instance ∷ []) → o.frames ≡ [] → o.reports ≡ told → Does (node_begun fabric c node records) (core_of new) o
 unfolding node_begun
 does_start c node records boots instance spent new told o b s n e r f t =
     let p : spent ≡ nat_le last_number (boots_of records) = s ∙ ap (nat_le last_number) (sym b) in

@@ -1,46 +1,74 @@
 -- A whole node as a value, and what its calls do.
-use Rattle.std.specs.Prelude.{◌≡◌, ◌≤◌, ℕ, IsTrue, length}
+use Rattle.std.specs.Prelude.{◌≡◌, ◌≤◌, ℕ, List, IsTrue, length}
 use Rattle.fabric_terms.specs.declared.config.FabricConfig.{FabricConfig}
+use Rattle.fabric_terms.specs.declared.record.Record.{Record}
 use Rattle.ring_rules.specs.declared.input.Input.{Input}
 use Rattle.ring_rules.specs.declared.input.Input.TheVariants as input
-use Rattle.ring_rules.specs.Rings.{settings_of}
+use Rattle.ring_rules.specs.Rings.{Settings, settings_of}
 use Rattle.ring_node.specs.Nodes.{Node}
 use Rattle.fabric_terms.specs.Messages.{is_sound}
 use Rattle.fabric_terms.specs.Sent.{from_all}
 use Rattle.fabric_terms.specs.Ranges.{FitsCommand}
-use Rattle.world_rules.specs.Nodes.{NodeState}
+use Rattle.world_rules.specs.Nodes.{NodeState, boots_of}
 use Rattle.fabric_above.specs.Fabric.{fabric}
 use Rattle.world_rules.specs.Uppers.{Did}
+use Rattle.node_core.specs.declared.kept.NodeKept.{NodeKept}
 use Rattle.node_core.specs.declared.outcome.Outcome.{Outcome}
 
--- the state of a node above whose ring nothing runs
-abbrev pub state_of : Node → NodeState fabric
-state_of n = record { ring = n.ring; above = tt }
+-- a whole node: what it goes by, its ring and what runs above it
+pub record Core : Type 0 where
+  pub settings : Settings
+  pub state : NodeState fabric
+
+-- the ring at the node
+abbrev pub ring_of : Core → Node
+ring_of n = record { settings = n.settings; ring = n.state.ring }
+
+-- the node of this ring, above which nothing runs
+abbrev pub core_of : Node → Core
+core_of n = record { settings = n.settings; state = record { ring = n.ring; above = tt } }
 
 -- the node goes by the configuration
-abbrev pub GoesBy : FabricConfig → Node → Type 0
-GoesBy c n = n.settings ≡ settings_of c n.ring.me.actor
+abbrev pub GoesBy : FabricConfig → Core → Type 0
+GoesBy c n = n.settings ≡ settings_of c n.state.ring.me.actor
 
 -- The node is now as the rules say, and the outcome has what they record, send and tell.
-pub record Does (d : Did (NodeState fabric)) (new : Node) (o : Outcome) : Type 0 where
-  pub state : state_of new ≡ d.state
+pub record Does (d : Did (NodeState fabric)) (new : Core) (o : Outcome) : Type 0 where
+  pub state : new.state ≡ d.state
   pub records : o.records ≡ d.records
   pub frames : o.frames ≡ from_all d.state.ring.me d.sent
   pub reports : o.reports ≡ d.told
 
+-- what the records of a node amount to
+pub record Amounts (records : List Record) (kept : NodeKept) : Type 0 where
+  pub boots : boots_of records ≡ kept.boots
+
+-- what the records of a running node amount to
+abbrev pub kept_in : NodeState fabric → NodeKept
+kept_in s = record { boots = s.ring.me.instance }
+
+abbrev pub nothing_kept : NodeKept
+nothing_kept = record { boots = 0 }
+
 -- the most that a step leaves
+
 abbrev pub most_records : ℕ
 most_records = 4
 
-abbrev pub most_frames : ℕ
-most_frames = 201
+-- by what stands at the node before the step
+unfoldable pub most_frames : NodeState fabric → ℕ
+most_frames s = 201
+
+-- whatever stands at it
+abbrev pub frames_limit : ℕ
+frames_limit = 1000000
 
 abbrev pub most_reports : ℕ
 most_reports = 72
 
-pub record IsSmall (o : Outcome) : Type 0 where
+pub record IsSmall (before : NodeState fabric) (o : Outcome) : Type 0 where
   pub records : length o.records ≤ most_records
-  pub frames : length o.frames ≤ most_frames
+  pub frames : length o.frames ≤ most_frames before
   pub reports : length o.reports ≤ most_reports
 
 -- what comes is in its ranges

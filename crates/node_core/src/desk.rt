@@ -1,16 +1,14 @@
 ghost use Rattle.std.specs.Prelude.{◌≡◌, IfOk};
 ghost use Rattle.node_core.specs.Desks.{IsClear, IsReady};
 
-use fabric_terms::{Message, OutOfMemory, Report};
+use fabric_terms::{Message, OUTBOX_LIMIT, OutOfMemory, Outbox, Report};
 use ring_node::Reports;
-use ring_wire::{OUTBOX_LIMIT, Outbox};
 use std::alloc::Global;
 
 /// How many reports the ring makes in a step at most.
-pub(crate) const MOST_TOLD: usize = 64;
+const MOST_TOLD: usize = 64;
 
 /// Where a node puts what a step sends and reports, and room for what the step leaves. It is clear between steps.
-///
 #[derive(Drop)]
 pub(crate) struct Desk {
     pub(crate) out: Outbox,
@@ -20,7 +18,7 @@ pub(crate) struct Desk {
 }
 
 impl Desk {
-    pub(crate) fn new(alloc: Global) -> Desk
+    fn new(alloc: Global) -> Desk
         ensures { IsClear result }
     {
         Desk {
@@ -29,6 +27,15 @@ impl Desk {
             frames: Vec::new(alloc),
             reports: Vec::new(alloc),
         }
+    }
+
+    /// A desk where no step was yet. It is never inlined into a step, which would then pay at each entry for the room
+    /// in which the desk is made.
+    #[inline(never)]
+    pub(crate) fn boxed(alloc: Global) -> Result<Box<Desk>, OutOfMemory>
+        ensures { IfOk result (λ d. IsClear d.value) }
+    {
+        Ok(Box::new(alloc, Desk::new(alloc))?)
     }
 
     /// Makes room for what one step leaves.

@@ -2,19 +2,20 @@
 //! reports to make.
 //!
 //! What a step leaves is taken into memory before the step is done, so that a node for which memory is short is as it
-//! was. The caller syncs the records, then sends the frames, then prints the reports. This crate stands on the ring at
-//! one node; its promise is the step of a whole node in the rules of the world, with nothing above the ring yet.
+//! was, and what was kept of a node that could not start is still there. The caller syncs the records, then sends the
+//! frames, then prints the reports. This crate stands on the ring at one node; its promise is the step of a whole node in
+//! the rules of the world, with nothing above the ring yet.
 #![tactic(auto)]
 
 mod batch;
 mod boots;
 mod desk;
+mod kept;
 mod node;
 mod outcome;
 mod room;
-#[cfg(test)]
-mod tests;
 
 pub use batch::Batch;
+pub use kept::NodeKept;
 pub use node::NodeCore;
 pub use outcome::Outcome;

@@ -1,4 +1,4 @@
-ghost use Rattle.std.specs.Prelude.{◌≡◌, ◌≤◌, ◌^◌, List, IfOk, OnErr, true};
+ghost use Rattle.std.specs.Prelude.{◌≡◌, ◌≤◌, ◌^◌, ◌++◌, List, IfOk, OnOk, OnErr, true};
 ghost use Rattle.fabric_terms.specs.Sound.{IsSound};
 ghost use Rattle.fabric_terms.specs.declared.config.FabricConfig.{FabricConfig as Configuration};
 ghost use Rattle.fabric_terms.specs.declared.record.Record.{Record};
@@ -7,11 +7,12 @@ ghost use Rattle.world_rules.specs.Nodes.{boots_of, node_begun, node_step};
 ghost use Rattle.fabric_above.specs.Fabric.{fabric};
 ghost use Rattle.world_rules.specs.Schedules.{is_configured_node};
 ghost use Rattle.node_core.specs.Desks.{IsClear, IsReady};
-ghost use Rattle.node_core.specs.Nodes.{Does, FitsInput, GoesBy, IsSmall, most_frames, state_of};
+ghost use Rattle.node_core.specs.Nodes.{Amounts, Does, FitsInput, GoesBy, IsSmall, frames_limit, kept_in, most_frames, nothing_kept, ring_of};
 
 use crate::batch::Batch;
 use crate::boots::{boot, instance_after, is_spent};
-use crate::desk::{Desk, MOST_TOLD};
+use crate::desk::Desk;
+use crate::kept::NodeKept;
 use crate::outcome::Outcome;
 use crate::room::give_away;
 use fabric_terms::{FabricConfig, OutOfMemory};
@@ -21,7 +22,7 @@ use ring_points::{RangeSet, Who};
 use std::alloc::Global;
 use std::marker::Model;
 
-/// A whole node. Contracts see it as the record `Node` of the ring at one node, since nothing runs above the ring yet.
+/// A whole node. Contracts see it as the record `Core`: what it goes by, its ring and what runs above it.
 #[derive(Drop)]
 pub struct NodeCore {
     alloc: Global,
@@ -32,19 +33,64 @@ pub struct NodeCore {
 
 impl Model for NodeCore {
     ghost use Rattle.std.specs.Prelude.{IfSome};
-    ghost use Rattle.ring_node.specs.Nodes.{Node};
     ghost use Rattle.node_core.specs.Desks.{IsClear};
+    ghost use Rattle.node_core.specs.Nodes.{Core, core_of};
 
-    ghost Value = { Node };
+    ghost Value = { Core };
 
-    ghost view = { λ n. n.ring };
+    ghost view = { λ n. core_of n.ring };
 
     ghost invariant = { λ n. IfSome n.desk (λ d. IsClear d.value) };
 }
 
 impl NodeCore {
     /// Starts a node from what is kept of it: its next instance, or the last again where all numbers are used up, and
-    /// then it has left. It is an error where memory is short, and then `kept` is dropped.
+    /// then it has left. What was kept is the node's from here on. It is an error where memory is short, and then
+    /// `kept` is as it was.
+    #[inline(never)]
+    #[tactic(auto, unfolding(crate::specs::Nodes::most_frames))]
+    pub fn begin(
+        alloc: Global,
+        config: &FabricConfig,
+        node: u16,
+        kept: &mut NodeKept,
+        now: u64,
+    ) -> Result<(Box<NodeCore>, Outcome), OutOfMemory>
+        requires sound { IsSound config.now }
+        requires node { is_configured_node config.now node ≡ true }
+        requires now { now ≤ 10 ^ 15 }
+        ensures begins { IfOk result (λ r. (records : List Record) → Amounts records kept.old → Does (node_begun fabric config.now node records) r.0.value r.1) }
+        ensures goes_by { IfOk result (λ r. GoesBy config.now r.0.value) }
+        ensures small { IfOk result (λ r. IsSmall r.0.value.state r.1) }
+        ensures taken { OnOk result (kept.new ≡ nothing_kept) }
+        ensures refused { OnErr result (kept.new ≡ kept.old) }
+    {
+        let spent = is_spent(kept.boots);
+        let instance = instance_after(kept.boots);
+        let me = Who {
+            actor: node,
+            instance,
+        };
+        let records = boot(alloc, instance, spent)?;
+        let (ring, mut told) = RingNode::new(alloc, config, me, now, spent)?;
+        let mut reports = Vec::with_capacity(alloc, told.as_slice().len())?;
+        told.hand_over(&mut reports);
+        let core = NodeCore {
+            alloc,
+            ring,
+            desk: None,
+        };
+        let core = Box::new(alloc, core)?;
+        *kept = NodeKept::new();
+        let outcome = Outcome {
+            records: Batch::new(records),
+            frames: Batch::new(Vec::new(alloc)),
+            reports: Batch::new(reports),
+        };
+        Ok((core, outcome))
+    }
+
+    /// Starts a node as `begin` does. It is an error where memory is short, and then `kept` is dropped.
     pub fn start(
         alloc: Global,
         config: &FabricConfig,
@@ -57,29 +103,21 @@ impl NodeCore {
         requires now { now ≤ 10 ^ 15 }
         ensures begins { IfOk result (λ r. (records : List Record) → boots_of records ≡ kept.boots → Does (node_begun fabric config.now node records) r.0 r.1) }
         ensures goes_by { IfOk result (λ r. GoesBy config.now r.0) }
-        ensures small { IfOk result (λ r. IsSmall r.1) }
+        ensures small { IfOk result (λ r. IsSmall r.0.state r.1) }
     {
-        let spent = is_spent(kept.boots);
-        let instance = instance_after(kept.boots);
-        let me = Who {
-            actor: node,
-            instance,
-        };
-        let records = boot(alloc, instance, spent)?;
-        let mut reports = Vec::with_capacity(alloc, MOST_TOLD)?;
-        let (ring, mut told) = RingNode::new(alloc, config, me, now, spent)?;
-        told.hand_over(&mut reports);
-        let outcome = Outcome {
-            records: Batch::new(records),
-            frames: Batch::new(Vec::new(alloc)),
-            reports: Batch::new(reports),
-        };
-        let node = NodeCore {
-            alloc,
-            ring,
-            desk: None,
-        };
-        Ok((node, outcome))
+        let mut kept = NodeKept { boots: kept.boots };
+        let (core, outcome) = NodeCore::begin(alloc, config, node, &mut kept, now)?;
+        Ok((Box::into_inner(core), outcome))
+    }
+
+    /// Gives back what is kept of the node, for its next start: nothing else of a node is needed once it has stopped.
+    pub fn take_kept(&mut self) -> NodeKept
+        ensures kept { result ≡ kept_in self.old.state }
+        ensures same { self.new ≡ self.old }
+    {
+        NodeKept {
+            boots: self.ring.me().instance,
+        }
     }
 
     /// A desk that is ready for a step.
@@ -89,21 +127,22 @@ impl NodeCore {
     {
         let mut desk = match self.desk.take() {
             Some(desk) => desk,
-            None => Box::new(self.alloc, Desk::new(self.alloc))?,
+            None => Desk::boxed(self.alloc)?,
         };
         desk.make_room()?;
         Ok(desk)
     }
 
     /// The step of the node at a desk that is ready for it.
+    #[tactic(auto, unfolding(crate::specs::Nodes::most_frames))]
     fn step_at(&mut self, now: u64, input: &Input, desk: &mut Desk) -> Outcome
         requires now { now ≤ 10 ^ 15 }
         requires input { FitsInput input.now }
         requires ready { IsReady desk.old }
-        ensures does { (c : Configuration) → GoesBy c self.old → Does (node_step fabric c now input.now (state_of self.old)) self.new result }
-        ensures small { IsSmall result }
+        ensures does { (c : Configuration) → GoesBy c self.old → Does (node_step fabric c now input.now self.old.state) self.new result }
+        ensures small { IsSmall self.old.state result }
         ensures settings { self.new.settings ≡ self.old.settings }
-        ensures me { self.new.ring.me ≡ self.old.ring.me }
+        ensures me { self.new.state.ring.me ≡ self.old.state.ring.me }
         ensures clear { IsClear desk.new }
     {
         self.ring.act(now, input, &mut desk.out, &mut desk.told);
@@ -121,10 +160,10 @@ impl NodeCore {
     pub fn step(&mut self, now: u64, input: &Input) -> Result<Outcome, OutOfMemory>
         requires now { now ≤ 10 ^ 15 }
         requires input { FitsInput input.now }
-        ensures does { IfOk result (λ o. (c : Configuration) → GoesBy c self.old → Does (node_step fabric c now input.now (state_of self.old)) self.new o) }
-        ensures small { IfOk result IsSmall }
+        ensures does { IfOk result (λ o. (c : Configuration) → GoesBy c self.old → Does (node_step fabric c now input.now self.old.state) self.new o) }
+        ensures small { IfOk result (IsSmall self.old.state) }
         ensures settings { self.new.settings ≡ self.old.settings }
-        ensures me { self.new.ring.me ≡ self.old.ring.me }
+        ensures me { self.new.state.ring.me ≡ self.old.state.ring.me }
         ensures refused { OnErr result (self.new ≡ self.old) }
     {
         let mut desk = self.take_desk()?;
@@ -134,36 +173,38 @@ impl NodeCore {
     }
 
     /// How many frames the next step sends at most.
+    #[tactic(auto, unfolding(crate::specs::Nodes::most_frames))]
     pub fn most_frames(&self) -> usize
-        ensures { result ≡ most_frames }
+        ensures frames { result ≡ most_frames self.now.state }
+        ensures limit { result ≤ frames_limit }
     {
         201
     }
 
     /// Which instance it is.
     pub fn me(&self) -> Who
-        ensures { result ≡ self.now.ring.me }
+        ensures { result ≡ self.now.state.ring.me }
     {
         self.ring.me()
     }
 
     /// What it owns.
     pub fn ranges(&self) -> &RangeSet
-        ensures { result.now ≡ self.now.ring.token.ranges }
+        ensures { result.now ≡ self.now.state.ring.token.ranges }
     {
         self.ring.ranges()
     }
 
     /// Up to which reading it holds what it owns, in ticks, where there is an end.
     pub fn fence(&self) -> Option<u64>
-        ensures { result ≡ fence_of self.now.settings.answer self.now.ring.slots }
+        ensures { result ≡ fence_of self.now.settings.answer self.now.state.ring.slots }
     {
         self.ring.fence()
     }
 
     /// The ring at the node.
     pub fn ring(&self) -> &RingNode
-        ensures { result.now ≡ self.now }
+        ensures { result.now ≡ ring_of self.now }
     {
         &self.ring
     }

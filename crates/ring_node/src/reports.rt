@@ -3,6 +3,7 @@ ghost use Rattle.std.specs.Prelude.{◌≡◌, ◌+◌, ◌<◌, ◌≤◌, ◌+
 use arrayvec::ArrayVec;
 use fabric_terms::Report;
 use std::marker::Model;
+use std::mem;
 
 /// What one step reports, in its order: at most 64 reports. Contracts see them as their list.
 #[derive(Drop)]
@@ -58,8 +59,10 @@ impl Reports {
         ensures reports { reports.new.items ≡ reports.old.items ++ self.old }
         ensures emptied { self.new ≡ [] }
     {
-        for report in self.reports.drain(..) {
-            reports.push_reserved(report);
+        let told = self.reports.as_mut_slice();
+        for i in 0..told.len() {
+            reports.push_reserved(mem::take(&mut told[i]));
         }
+        self.reports.clear();
     }
 }

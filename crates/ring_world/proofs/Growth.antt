@@ -11,6 +11,7 @@ use Rattle.fabric_terms.specs.declared.record.Record.{Record}
 use Rattle.fabric_terms.specs.Sent.{from_all}
 use Rattle.ring_points.specs.Whos.{arbiter_actor}
 use Rattle.ring_points.specs.declared.who.Who.{Who}
+use Rattle.ring_rules.specs.Arbiters.{no_table, table_after}
 use Rattle.fabric_lemmas.specs.Maps.{at, put}
 use Rattle.fabric_above.specs.Fabric.{fabric}
 use Rattle.world_rules.specs.Worlds.{World as RuledWorld, kept_of, posted, numbers_of}
@@ -18,11 +19,12 @@ use Rattle.fabric_lemmas.proofs.Maps.{at-put}
 use Rattle.ring_world.specs.Commits.{posted_all, numbers_after}
 use Rattle.ring_world.specs.Room.{most_events}
 use Rattle.ring_world.specs.Seats.{IsSeat}
-use Rattle.ring_world.specs.Seen.{Seen, SeenSeat}
+use Rattle.ring_world.specs.Seen.{Seen}
+use Rattle.ring_world.specs.declared.seat.Seat.{Seat}
 use Rattle.ring_world.specs.Stands.{SeenStands, ArbitersStand}
 
-pub seat_later : (w : RuledWorld fabric) (events k : ℕ) (s : SeenSeat) → IsSeat w events k s → IsSeat w (events + 1) k s
-seat_later w events k s h = record { running = h.running; numbered = h.numbered; records = h.records; once = h.once; few = omega (arith, h.few) }
+pub seat_later : (w : RuledWorld fabric) (events k : ℕ) (s : Seat) → IsSeat w events k s → IsSeat w (events + 1) k s
+seat_later w events k s h = record { running = h.running; number = h.number; table = h.table; few = omega (arith, h.few) }
 
 -- arbitrators of whom nothing is recorded, while other actors act
 pub arbiters_on : (a b : Seen) (w v : RuledWorld fabric) → ArbitersStand a w → v.arbiters ≡ w.arbiters → ((k : ℕ) → kept_of v (arbiter_actor k) ≡ kept_of w (arbiter_actor k))
@@ -33,9 +35,8 @@ arbiters_on a b w v s tables kept seats config events = record {
       let old = s.seats k q (ap (λ ss. slice_get ss k) (sym seats) ∙ g) in
       record {
         running = old.running ∙ ap (λ ts. at (k + 1) ts) (sym tables);
-        numbered = old.numbered;
-        records = old.records ∙ sym (kept (k + 1));
-        once = old.once;
+        number = old.number;
+        table = old.table ∙ ap (λ rs. table_after no_table rs) (sym (kept (k + 1)));
         few = omega (arith, old.few);
       };
   others = λ arbiter lt. ap (λ ts. at arbiter ts) tables ∙ s.others arbiter (subst (λ (n : ℕ). n < arbiter) (ap length seats) lt);
@@ -49,7 +50,7 @@ later a w s lt = record {
   time = s.time;
   in_time = s.in_time;
   few_events = omega arith;
-  nodes = record { rise = s.nodes.rise; running = s.nodes.running; clocks = s.nodes.clocks; few = omega (arith, s.nodes.few); table = s.nodes.table; boots = s.nodes.boots };
+  nodes = record { rise = s.nodes.rise; running = s.nodes.running; clocks = s.nodes.clocks; few = omega (arith, s.nodes.few); kept = s.nodes.kept };
   arbiters = record { count = s.arbiters.count; seats = λ k q g. seat_later w a.events (k + 1) q (s.arbiters.seats k q g); others = s.arbiters.others; from_one = s.arbiters.from_one };
   frames = record { frames = s.frames.frames; counted = s.frames.counted; sent = s.frames.sent; few = s.frames.few };
 }

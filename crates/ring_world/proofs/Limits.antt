@@ -9,7 +9,7 @@ use Rattle.fabric_above.specs.Fabric.{fabric}
 use Rattle.world_rules.specs.Schedules.{keeps_bound}
 use Rattle.world_rules.specs.Worlds.{World as RuledWorld}
 use Rattle.ring_world.specs.Moves.{Same}
-use Rattle.ring_world.specs.Room.{has_room, acts, time_after, most_events, most_frames, most_time}
+use Rattle.ring_world.specs.Room.{has_room, is_room, acts, time_after, most_events, most_frames, most_time}
 use Rattle.ring_world.specs.Stands.{Stands}
 use Rattle.ring_world.specs.declared.world.World.{World}
 
@@ -19,7 +19,7 @@ and_true false = refl
 
 -- what the code tests
 abbrev pub room_test : World → Bool → Bool
-room_test a acting = nat_lt a.events most_events && (not acting || nat_lt a.sent most_frames)
+room_test a acting = is_room acting a.events a.sent
 
 at_most : (m n : ℕ) → m ≤ n → nat_le m n ≡ true
 at_most m n h = grind (arith, nat_tests)
@@ -63,6 +63,9 @@ module _ (a : World) (w : RuledWorld fabric) where
 -- a world that has not changed
 pub same_world : (a : World) → Same a a
 same_world a = record { seen = refl; places = λ p lt. refl }
+
+pub same_on : {a m b : World} → Same a m → Same m b → Same a b
+same_on s t = record { seen = t.seen ∙ s.seen; places = λ p lt. t.places p lt ∙ s.places p lt }
 
 both : (b c : Bool) → (b && c) ≡ true → (b ≡ true) × (c ≡ true)
 both true c e = (refl, e)

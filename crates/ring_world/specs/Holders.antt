@@ -3,7 +3,7 @@ use Rattle.std.specs.Prelude.{ℕ, Bool, true, false, List, [], ◌∷◌, Optio
 use Rattle.ring_points.specs.declared.interval.Interval.{Interval}
 use Rattle.ring_points.specs.declared.who.Who.{Who}
 use Rattle.ring_points.specs.Ranges.{in_ranges}
-use Rattle.ring_node.specs.Nodes.{Node}
+use Rattle.node_core.specs.Nodes.{Core}
 use Rattle.ring_rules.specs.Slots.{fence_of}
 use Rattle.fabric_terms.specs.Runs.{Run, Owned, clocks_of, reading_of, own_of}
 use Rattle.point_places.specs.declared.unheld.Holder.{Holder}
@@ -20,11 +20,11 @@ held_ranges (Some reading) None = []
 held_ranges (Some reading) (Some o) = elim (is_below reading o.fence) [ true ↦ o.ranges | false ↦ [] ]
 
 -- what a node owns, and up to which reading it holds that
-abbrev pub owned_of : Node → Owned
-owned_of n = record { ranges = n.ring.token.ranges; fence = fence_of n.settings.answer n.ring.slots }
+abbrev pub owned_of : Core → Owned
+owned_of n = record { ranges = n.state.ring.token.ranges; fence = fence_of n.settings.answer n.state.ring.slots }
 
 -- what it holds at this reading
-abbrev pub held_now : ℕ → Node → List Interval
+abbrev pub held_now : ℕ → Core → List Interval
 held_now reading n = held_ranges (Some reading) (Some (owned_of n))
 
 -- what w holds at the end of the run

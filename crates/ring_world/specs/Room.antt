@@ -16,6 +16,10 @@ most_frames = 200000
 abbrev pub most_time : ℕ
 most_time = 10 ^ 15
 
+-- so many events and frames leave room for one more event, at which an actor acts or none does
+abbrev pub is_room : (acts : Bool) → ℕ → ℕ → Bool
+is_room acts events sent = nat_lt events most_events && (not acts || nat_lt sent most_frames)
+
 -- an actor acts, and may send frames
 abbrev pub acts : Event → Bool
 acts (Start actor reading) = true
@@ -32,4 +36,4 @@ time_after time _ = time
 -- one more event, after so many that made this world, is within the limits
 unfoldable pub has_room : {a : Upper} → World a → ℕ → Event → Bool
 has_room w events e =
-    nat_lt events most_events && (not (acts e) || nat_lt w.count most_frames) && nat_le (time_after w.time e) most_time
+    is_room (acts e) events w.count && nat_le (time_after w.time e) most_time

@@ -2,7 +2,7 @@
 use Rattle.std.specs.Prelude.{◌≡◌, ℕ, ◌≤◌, List, [], ◌∷◌}
 use Rattle.drift_clock.specs.Extremes.{Stands as DriftStands}
 use Rattle.fabric_terms.specs.declared.config.FabricConfig.{FabricConfig}
-use Rattle.node_core.specs.Nodes.{GoesBy, state_of}
+use Rattle.node_core.specs.Nodes.{GoesBy}
 use Rattle.fabric_above.specs.Fabric.{fabric}
 use Rattle.world_rules.specs.Worlds.{Running as RuledRunning}
 use Rattle.ring_world.specs.Room.{most_time}
@@ -16,7 +16,7 @@ last_node = 999
 pub record RunsAs (c : FabricConfig) (time : ℕ) (r : Running) (e : ℕ × RuledRunning fabric) : Type 0 where
   pub number : e.1.node.ring.me.actor ≡ e.0
   pub in_range : e.0 ≤ last_node
-  pub node : state_of r.node.value ≡ e.1.node
+  pub node : r.node.value.state ≡ e.1.node
   pub goes_by : GoesBy c r.node.value
   pub drift : DriftStands r.drift e.1.pairs
   pub bound : r.drift.bound ≡ c.bound

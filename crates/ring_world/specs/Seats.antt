@@ -1,29 +1,36 @@
 -- The arbitrators of the code, and those of the rules that they stand for.
-use Rattle.std.specs.Prelude.{◌≡◌, ℕ, ◌≤◌, true, [], Option, Some, None, IfSome, length}
+use Rattle.std.specs.Prelude.{◌≡◌, ℕ, ◌+◌, ◌≤◌, Bool, true, false, List, Option, Some, None, length, slice_get}
 use Rattle.arbiter_core.specs.Arbiters.{Arbiter}
-use Rattle.keep_log.specs.Places.{is_once}
+use Rattle.arbiter_tables.specs.Tables.{entries_of}
 use Rattle.ring_points.specs.Whos.{arbiter_actor}
-use Rattle.ring_rules.specs.Arbiters.{accusations_after}
+use Rattle.ring_rules.specs.Arbiters.{no_table, table_after}
 use Rattle.world_rules.specs.Arbiters.{ArbiterState}
 use Rattle.fabric_lemmas.specs.Maps.{at}
 use Rattle.fabric_above.specs.Fabric.{fabric}
 use Rattle.world_rules.specs.Worlds.{World as RuledWorld, kept_of}
-use Rattle.ring_world.specs.Seen.{SeenSeat}
+use Rattle.ring_world.specs.declared.seat.Seat.{Seat}
 
--- the state of a running arbitrator
-abbrev pub table_of : Option Arbiter → Option (ArbiterState fabric)
-table_of None = None
-table_of (Some a) = Some (record { table = a.accusations; beside = tt })
+-- the state of an arbitrator beside which nothing runs
+abbrev pub state_of : Arbiter → ArbiterState fabric
+state_of a = record { table = a.table; beside = tt }
 
--- a running arbitrator has this number, and the table of these records
-pub record IsNumbered (arbiter : ℕ) (s : SeenSeat) (a : Arbiter) : Type 0 where
-  pub number : a.number ≡ arbiter
-  pub table : a.accusations ≡ accusations_after [] s.records
+-- its state, while it runs
+abbrev pub state_where : Bool → Arbiter → Option (ArbiterState fabric)
+state_where false a = None
+state_where true a = Some (state_of a)
 
--- the seat of this arbitrator has its records, each of a victim of its own and from an event of its own, and its state
-pub record IsSeat (w : RuledWorld fabric) (events arbiter : ℕ) (s : SeenSeat) : Type 0 where
-  pub running : table_of s.running ≡ at arbiter w.arbiters
-  pub numbered : IfSome s.running (IsNumbered arbiter s)
-  pub records : s.records ≡ kept_of w (arbiter_actor arbiter)
-  pub once : is_once [] s.records ≡ true
-  pub few : length s.records ≤ events
+-- an arbitrator that has recorded nothing and does not run
+abbrev pub empty_seat : ℕ → Seat
+empty_seat arbiter = record { arbiter = record { number = arbiter; table = no_table }; runs = false }
+
+-- so many of them, from number 1
+pub record AreEmpty (count : ℕ) (seats : List Seat) : Type 0 where
+  pub many : length seats ≡ count
+  pub each : (k : ℕ) (s : Seat) → slice_get seats k ≡ Some s → s ≡ empty_seat (k + 1)
+
+-- the seat of this arbitrator has what its records amount to, each entry from an event of its own, and runs as the rules say
+pub record IsSeat (w : RuledWorld fabric) (events arbiter : ℕ) (s : Seat) : Type 0 where
+  pub running : state_where s.runs s.arbiter ≡ at arbiter w.arbiters
+  pub number : s.arbiter.number ≡ arbiter
+  pub table : s.arbiter.table ≡ table_after no_table (kept_of w (arbiter_actor arbiter))
+  pub few : entries_of s.arbiter.table ≤ events

@@ -1,21 +1,12 @@
 -- What a world of the code has, whatever room it has for more.
-use Rattle.std.specs.Prelude.{ℕ, List, [], Option, None, map}
-use Rattle.arbiter_core.specs.Arbiters.{Arbiter}
+use Rattle.std.specs.Prelude.{ℕ, List}
 use Rattle.fabric_terms.specs.declared.config.FabricConfig.{FabricConfig}
 use Rattle.fabric_terms.specs.declared.message.Message.{Message}
-use Rattle.fabric_terms.specs.declared.record.Record.{Record}
+use Rattle.node_core.specs.declared.kept.NodeKept.{NodeKept}
 use Rattle.ring_points.specs.declared.who.Who.{Who}
 use Rattle.ring_world.specs.declared.running.Running.{Running}
 use Rattle.ring_world.specs.declared.seat.Seat.{Seat}
 use Rattle.ring_world.specs.declared.world.World.{World}
-
--- the synced records of an arbitrator, and its process, while it runs
-pub record SeenSeat : Type 0 where
-  pub records : List Record
-  pub running : Option Arbiter
-
-abbrev pub seen_seat : Seat → SeenSeat
-seen_seat s = record { records = s.records.items; running = s.running }
 
 pub record Seen : Type 0 where
   pub config : FabricConfig
@@ -23,8 +14,8 @@ pub record Seen : Type 0 where
   pub events : ℕ
   pub running : List Running
   pub clocks : List (Who × ℕ)
-  pub boots : List ℕ
-  pub seats : List SeenSeat
+  pub kept : List NodeKept
+  pub seats : List Seat
   pub frames : List Message
   pub sent : ℕ
 
@@ -36,11 +27,8 @@ seen_of a =
       events = a.events;
       running = a.running.items;
       clocks = a.clocks.items;
-      boots = a.boots.items;
-      seats = map seen_seat a.seats.items;
+      kept = a.kept.items;
+      seats = a.seats.items;
       frames = a.frames.frames;
       sent = a.sent;
     }
-
-abbrev pub empty_seat : SeenSeat
-empty_seat = record { records = []; running = None }

@@ -1,29 +1,36 @@
 -- A world of the code stands for a world of the rules.
-use Rattle.std.specs.Prelude.{◌≡◌, ℕ, ◌+◌, ◌≤◌, ◌<◌, true, None, Some, length, slice_get, slice_index}
+use Rattle.std.specs.Prelude.{◌≡◌, ℕ, ◌+◌, ◌≤◌, ◌<◌, true, List, None, Some, length, slice_get}
 use Rattle.fabric_terms.specs.Sound.{IsSound}
 use Rattle.fabric_lemmas.specs.Maps.{at, rises}
-use Rattle.world_rules.specs.Nodes.{boots_of}
+use Rattle.node_core.specs.Nodes.{Amounts, frames_limit, kept_in}
+use Rattle.node_core.specs.declared.kept.NodeKept.{NodeKept}
 use Rattle.fabric_above.specs.Fabric.{fabric}
-use Rattle.world_rules.specs.Worlds.{World as RuledWorld, clocks_in, kept_of}
+use Rattle.world_rules.specs.Worlds.{World as RuledWorld, Running as RuledRunning, clocks_in, kept_of}
 use Rattle.ring_world.specs.Room.{most_events, most_frames, most_time}
 use Rattle.ring_world.specs.Running.{AllRun, last_node}
 use Rattle.ring_world.specs.Seats.{IsSeat}
-use Rattle.ring_world.specs.Seen.{Seen, SeenSeat, seen_of}
+use Rattle.ring_world.specs.Seen.{Seen, seen_of}
+use Rattle.ring_world.specs.declared.seat.Seat.{Seat}
 use Rattle.ring_world.specs.declared.world.World.{World}
 
--- the running nodes rise by number, and each is known with its clock; what is kept of a node is the number of its starts
+-- what is kept of a node is what its records amount to: of one that runs the node has it, and else its place
+pub record KeptStand (kept : List NodeKept) (w : RuledWorld fabric) : Type 0 where
+  pub table : length kept ≡ last_node + 1
+  pub running : (node : ℕ) (s : RuledRunning fabric) → node ≤ last_node → at node w.nodes ≡ Some s → Amounts (kept_of w node) (kept_in s.node)
+  pub stopped : (node : ℕ) (k : NodeKept) → at node w.nodes ≡ None → slice_get kept node ≡ Some k → Amounts (kept_of w node) k
+
+-- the running nodes rise by number, and each is known with its clock
 pub record NodesStand (a : Seen) (w : RuledWorld fabric) : Type 0 where
   pub rise : rises w.nodes ≡ true
   pub running : AllRun a.config a.time a.running w.nodes
   pub clocks : a.clocks ≡ clocks_in w
   pub few : length w.nodes ≤ a.events
-  pub table : length a.boots ≡ last_node + 1
-  pub boots : (node : ℕ) → node ≤ last_node → slice_index a.boots node ≡ boots_of (kept_of w node)
+  pub kept : KeptStand a.kept w
 
 -- each configured arbitrator has its seat, and no other runs
 pub record ArbitersStand (a : Seen) (w : RuledWorld fabric) : Type 0 where
   pub count : length a.seats ≡ length a.config.arbiters
-  pub seats : (k : ℕ) (s : SeenSeat) → slice_get a.seats k ≡ Some s → IsSeat w a.events (k + 1) s
+  pub seats : (k : ℕ) (s : Seat) → slice_get a.seats k ≡ Some s → IsSeat w a.events (k + 1) s
   pub others : (arbiter : ℕ) → length a.seats < arbiter → at arbiter w.arbiters ≡ None
   pub from_one : at 0 w.arbiters ≡ None
 
@@ -32,7 +39,7 @@ pub record FramesStand (a : Seen) (w : RuledWorld fabric) : Type 0 where
   pub frames : a.frames ≡ w.frames
   pub counted : w.count ≡ length w.frames
   pub sent : a.sent ≡ w.count
-  pub few : w.count ≤ most_frames + 201
+  pub few : w.count ≤ most_frames + frames_limit
 
 pub record SeenStands (a : Seen) (w : RuledWorld fabric) : Type 0 where
   pub sound : IsSound a.config

@@ -1,20 +1,11 @@
-ghost use Rattle.std.specs.Prelude.{◌≡◌, ◌≤◌, length};
-ghost use Rattle.fabric_terms.specs.Ranges.{FitsCommand};
+ghost use Rattle.std.specs.Prelude.{◌≡◌};
 ghost use Rattle.world_rules.specs.Schedules.{command_names};
 
-use crate::find::is_configured;
-use fabric_terms::{Command, FabricConfig, Payload};
-
-fn payload_of(text: &Payload) -> Payload
-    requires { length text.now ≤ 512 }
-    ensures { result ≡ text.now }
-{
-    Payload::from_slice(text.as_slice())
-}
+use crate::actors::is_configured;
+use fabric_terms::{Command, FabricConfig};
 
 /// The same command again.
 pub fn copy_of(command: &Command) -> Command
-    requires { FitsCommand command.now }
     ensures { result ≡ command.now }
 {
     match command {
@@ -29,8 +20,10 @@ pub fn copy_of(command: &Command) -> Command
         Command::Swap(partition, node) => Command::Swap(*partition, *node),
         Command::Heal(partition, count) => Command::Heal(*partition, *count),
         Command::Lose(partition, node) => Command::Lose(*partition, *node),
-        Command::Write(partition, text) => Command::Write(*partition, payload_of(text)),
+        Command::Write(partition, text) => Command::Write(*partition, text.copy()),
         Command::Units(part) => Command::Units(*part),
+        Command::Resolve(partition, name) => Command::Resolve(*partition, name.copy()),
+        Command::Names(partition, part) => Command::Names(*partition, *part),
     }
 }
 

@@ -7,7 +7,7 @@ ghost use Rattle.ring_world.specs.Commits.{posted_all, numbers_after};
 use crate::world::{Acted, World};
 use fabric_terms::{Message, Report};
 use frame_bag::FrameBag;
-use node_core::Outcome;
+use node_core::Batch;
 use point_places::Places;
 use ring_points::Who;
 
@@ -49,22 +49,23 @@ impl World {
         line: u64,
         who: Who,
         reading: Option<u64>,
-        outcome: Outcome,
+        frames: Batch<Message>,
+        reports: Batch<Report>,
     ) -> Acted
         requires events { self.old.events < 1000000 }
-        requires small { self.old.sent + length outcome.frames < 2 ^ 32 }
-        requires frames { length outcome.frames ≤ self.old.frames.room }
-        requires sound { All (λ m. IsTrue (is_sound m)) outcome.frames }
-        requires reports { length outcome.reports ≤ self.old.places.room }
-        ensures rest { self.new ≡ record self.old { events = self.old.events + 1; sent = self.old.sent + length outcome.frames; frames = self.new.frames; places = self.new.places } }
-        ensures frames { self.new.frames.frames ≡ posted_all outcome.frames self.old.frames.frames }
-        ensures places { (p : ℕ) → p < 2 ^ 64 → place_at self.new.places p ≡ placed_by who outcome.reports p (place_at self.old.places p) }
-        ensures acted { result ≡ record { line = line; time = self.old.time; who = who; reading = reading; sent = numbers_after self.old.sent (length outcome.frames); reports = outcome.reports } }
+        requires small { self.old.sent + length frames < 2 ^ 32 }
+        requires frames { length frames ≤ self.old.frames.room }
+        requires sound { All (λ m. IsTrue (is_sound m)) frames }
+        requires reports { length reports ≤ self.old.places.room }
+        ensures rest { self.new ≡ record self.old { events = self.old.events + 1; sent = self.old.sent + length frames; frames = self.new.frames; places = self.new.places } }
+        ensures frames { self.new.frames.frames ≡ posted_all frames self.old.frames.frames }
+        ensures places { (p : ℕ) → p < 2 ^ 64 → place_at self.new.places p ≡ placed_by who reports p (place_at self.old.places p) }
+        ensures acted { result ≡ record { line = line; time = self.old.time; who = who; reading = reading; sent = numbers_after self.old.sent (length frames); reports = reports } }
     {
-        let count = outcome.frames.as_slice().len() as u32;
+        let count = frames.as_slice().len() as u32;
         let sent = numbers_after(self.sent, count);
-        post_all(&mut self.frames, outcome.frames.as_slice());
-        move_all(&mut self.places, who, outcome.reports.as_slice());
+        post_all(&mut self.frames, frames.as_slice());
+        move_all(&mut self.places, who, reports.as_slice());
         self.events += 1;
         self.sent += count;
         Acted {
@@ -73,7 +74,7 @@ impl World {
             who,
             reading,
             sent,
-            reports: outcome.reports,
+            reports,
         }
     }
 }

@@ -40,7 +40,7 @@ impl World {
         let Some(place) = self.place_of(node) else {
             return Err(EventRefusal::NoSuch);
         };
-        if !self.has_room(true) {
+        if !self.may_act() {
             return Err(EventRefusal::TooLarge);
         }
         Ok(Some(self.step_at(line, place, &Input::Fire)?))
@@ -63,13 +63,14 @@ impl World {
         if !is_named(&self.config, node, command) {
             return Err(EventRefusal::NoSuch);
         }
-        if !self.has_room(true) {
+        if !self.may_act() {
             return Err(EventRefusal::TooLarge);
         }
         Ok(Some(self.step_at(line, place, &Input::Do(copy_of(command)))?))
     }
 
-    /// Bytes that are no frame come to an actor.
+    /// Bytes that are no frame come to an actor. It is never inlined, for the room of a frame that it tries to read.
+    #[inline(never)]
     pub(crate) fn junk(
         &mut self,
         line: u64,
@@ -85,7 +86,7 @@ impl World {
         if is_frame(bytes) {
             return Err(EventRefusal::NoSuch);
         }
-        if !self.has_room(false) {
+        if !self.may_come() {
             return Err(EventRefusal::TooLarge);
         }
         self.pass();

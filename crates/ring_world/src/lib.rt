@@ -6,19 +6,19 @@
 //! answers to the events of a schedule is the run that the rules of the world define.
 #![tactic(auto)]
 
-mod act;
+mod actors;
+mod arbiter_start;
 mod command;
 mod commit;
+mod delivery;
 mod events;
-mod find;
-mod give;
-mod restore;
 mod room;
-mod rule;
+mod ruling;
 mod running;
 mod seat;
 mod seen;
 mod start;
+mod step;
 mod stop;
 mod tick;
 mod world;

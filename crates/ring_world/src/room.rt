@@ -1,5 +1,5 @@
-ghost use Rattle.std.specs.Prelude.{◌≡◌, ◌||◌, ◌&&◌, not, nat_lt};
-ghost use Rattle.ring_world.specs.Room.{most_events, most_frames};
+ghost use Rattle.std.specs.Prelude.{◌≡◌, false, true};
+ghost use Rattle.ring_world.specs.Room.{is_room};
 
 use crate::world::World;
 
@@ -13,10 +13,17 @@ const MOST_FRAMES: u32 = 200_000;
 pub const MOST_TIME: u64 = 1_000_000_000_000_000;
 
 impl World {
-    /// Whether one more event is within the limits of events and frames.
-    pub(crate) fn has_room(&self, acts: bool) -> bool
-        ensures { result ≡ (nat_lt self.now.events most_events && (not acts || nat_lt self.now.sent most_frames)) }
+    /// Whether one more event is within the limit of events.
+    pub(crate) fn may_come(&self) -> bool
+        ensures { result ≡ is_room false self.now.events self.now.sent }
     {
-        self.events < MOST_EVENTS && (!acts || self.sent < MOST_FRAMES)
+        self.events < MOST_EVENTS
+    }
+
+    /// Whether one more event at which an actor acts is within the limits of events and frames.
+    pub(crate) fn may_act(&self) -> bool
+        ensures { result ≡ is_room true self.now.events self.now.sent }
+    {
+        self.events < MOST_EVENTS && self.sent < MOST_FRAMES
     }
 }

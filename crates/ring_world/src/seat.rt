@@ -1,9 +1,9 @@
 use arbiter_core::Arbiter;
-use fabric_terms::Record;
 
-/// A configured arbitrator: its synced records, and its process, while it runs.
+/// A configured arbitrator: what its synced records amount to, and whether it runs. Its process has no more than that,
+/// so a stop and a start leave it as it is.
 #[derive(Drop)]
 pub struct Seat {
-    pub records: Vec<Record>,
-    pub running: Option<Arbiter>,
+    pub arbiter: Arbiter,
+    pub runs: bool,
 }

@@ -1,5 +1,4 @@
-ghost use Rattle.std.specs.Prelude.{◌≡◌, ◌≤◌, ◌<◌, ◌^◌, ◌∷◌, [], Some, None, true, IfOk, OnOk, length, insert, vec_len, vec_capacity};
-ghost use Rattle.fabric_terms.specs.Sound.{IsSound};
+ghost use Rattle.std.specs.Prelude.{◌≡◌, ◌≤◌, ◌<◌, ◌^◌, ◌∷◌, [], None, true, OnOk, length, insert, vec_len, vec_capacity};
 ghost use Rattle.node_core.specs.Nodes.{most_reports};
 ghost use Rattle.fabric_terms.specs.Ranges.{Fits};
 ghost use Rattle.fabric_lemmas.specs.Maps.{at};
@@ -7,35 +6,19 @@ ghost use Rattle.world_rules.specs.Nodes.{node_begun};
 ghost use Rattle.fabric_above.specs.Fabric.{fabric};
 ghost use Rattle.world_rules.specs.Schedules.{is_configured_node};
 ghost use Rattle.world_rules.specs.Worlds.{World as RuledWorld, kept_of, node_acted};
-ghost use Rattle.ring_world.specs.Moves.{Comes, Moves, Same};
+ghost use Rattle.ring_world.specs.Moves.{Comes, Same, Steps};
 ghost use Rattle.ring_world.specs.Room.{most_events, most_frames};
 ghost use Rattle.ring_world.specs.Running.{last_node};
 ghost use Rattle.ring_world.specs.Stands.{Stands};
-ghost use Rattle.ring_world.specs.Starts.{Begins, place_for};
+ghost use Rattle.ring_world.specs.Starts.{place_for};
 
-use crate::find::is_configured;
+use crate::actors::is_configured;
 use crate::running::Running;
 use crate::world::{Acted, EventRefusal, World};
 use drift_clock::Drift;
 use fabric_terms::{Event, OutOfMemory};
-use keep_log::{Kept, KeptError, read_records};
-use node_core::{NodeCore, Outcome};
+use node_core::NodeCore;
 use ring_points::Who;
-use std::alloc::Global;
-
-/// What is kept of a node that has started so often.
-fn kept_boots(alloc: Global, boots: u32) -> Result<Kept, OutOfMemory>
-    ensures { IfOk result (λ kept. kept.boots ≡ boots) }
-{
-    match read_records(alloc, &[]) {
-        Ok(mut kept) => {
-            kept.boots = boots;
-            Ok(kept)
-        }
-        Err(KeptError::OutOfMemory) => Err(OutOfMemory),
-        Err(KeptError::BadRecord(_)) => unreachable!(),
-    }
-}
 
 /// Where the clock of this node has to stand.
 fn place_for(clocks: &[(Who, u64)], node: u16) -> usize
@@ -76,31 +59,11 @@ impl World {
         Ok(())
     }
 
-    /// The next instance of a node, and what its start leaves.
-    fn new_node(&self, node: u16, reading: u64) -> Result<(Box<NodeCore>, Outcome), OutOfMemory>
-        requires sound { IsSound self.now.config }
-        requires node { is_configured_node self.now.config node ≡ true }
-        requires reading { reading ≤ 10 ^ 15 }
-        requires boots { node < length self.now.boots.items }
-        ensures { IfOk result (λ r. Begins self.now node r.0.value r.1) }
-    {
-        let kept = kept_boots(self.alloc, self.boots[usize::from(node)])?;
-        let (core, outcome) = NodeCore::start(self.alloc, &self.config, node, kept, reading)?;
-        Ok((Box::new(self.alloc, core)?, outcome))
-    }
-
-    /// The node runs: its clock and its start count, its frames are sent and its reports move points.
-    fn enter(
-        &mut self,
-        line: u64,
-        node: u16,
-        reading: u64,
-        core: Box<NodeCore>,
-        outcome: Outcome,
-    ) -> Acted
-        requires can { (w : RuledWorld fabric) × Stands self.old w }
+    /// The next instance of the node runs: its clock counts, and its reports move points.
+    fn enter(&mut self, line: u64, node: u16, reading: u64) -> Result<Acted, OutOfMemory>
+        requires can { (w : RuledWorld fabric) × Stands self.old w × (at node w.nodes ≡ None) }
         requires node { node ≤ last_node }
-        requires begins { Begins self.old node core.value outcome }
+        requires configured { is_configured_node self.old.config node ≡ true }
         requires reading { reading ≤ 10 ^ 15 }
         requires events { self.old.events < most_events }
         requires sent { self.old.sent < most_frames }
@@ -108,15 +71,16 @@ impl World {
         requires running { vec_len self.old.running < vec_capacity self.old.running }
         requires reports { most_reports ≤ self.old.places.room }
         ensures { (w : RuledWorld fabric) → Stands self.old w → at node w.nodes ≡ None →
-            Moves self.old self.new (node_acted fabric w node reading ((w.time, reading) ∷ []) (node_begun fabric self.old.config node (kept_of w node))) line (Some result) }
+            Steps self.old self.new (node_acted fabric w node reading ((w.time, reading) ∷ []) (node_begun fabric self.old.config node (kept_of w node))) line result }
     {
+        let kept = &mut self.kept[usize::from(node)];
+        let (core, outcome) = NodeCore::begin(self.alloc, &self.config, node, kept, reading)?;
         let who = core.me();
         let drift = Drift::new(self.config.bound, self.time, reading);
         let place = place_for(&self.clocks, node);
         put_in(&mut self.clocks, place, (who, reading));
         put_in(&mut self.running, place, Running { drift, node: core });
-        self.boots[usize::from(node)] = who.instance;
-        self.commit(line, who, Some(reading), outcome)
+        Ok(self.commit(line, who, Some(reading), outcome.frames, outcome.reports))
     }
 
     /// Starts a configured node that does not run.
@@ -137,15 +101,15 @@ impl World {
         if self.place_of(node).is_some() {
             return Err(EventRefusal::NoSuch);
         }
-        if !self.has_room(true) {
+        if !self.may_act() {
             return Err(EventRefusal::TooLarge);
         }
         self.make_place()?;
-        let (core, outcome) = self.new_node(node, reading)?;
-        Ok(Some(self.enter(line, node, reading, core, outcome)))
+        Ok(Some(self.enter(line, node, reading)?))
     }
 
-    /// An actor's process begins: a node's with the reading of its clock, an arbitrator's without one.
+    /// An actor's process begins: a node's with the reading of its clock, an arbitrator's without one. It is never inlined,
+    /// for the room in which a node is made.
     #[inline(never)]
     pub(crate) fn start(
         &mut self,

@@ -5,7 +5,7 @@ ghost use Rattle.world_rules.specs.Worlds.{World as RuledWorld};
 ghost use Rattle.ring_world.specs.Moves.{Comes};
 ghost use Rattle.ring_world.specs.Stands.{Stands};
 
-use crate::find::ARBITRATORS;
+use crate::actors::ARBITRATORS;
 use crate::world::{Acted, EventRefusal, World};
 use fabric_terms::{Event, OutOfMemory, Report};
 use node_core::Batch;
@@ -30,12 +30,13 @@ impl World {
         let Some(place) = self.place_of(node) else {
             return Err(EventRefusal::NoSuch);
         };
-        if !self.has_room(false) {
+        if !self.may_come() {
             return Err(EventRefusal::TooLarge);
         }
         let reports = stopped(self.alloc)?;
         let (who, reading) = self.clocks.remove(place);
-        let _ended = self.running.remove(place);
+        let mut ended = self.running.remove(place);
+        self.kept[usize::from(node)] = ended.node.take_kept();
         self.events += 1;
         Ok(Some(Acted {
             line,
@@ -55,15 +56,15 @@ impl World {
         let Some(place) = self.seat_of(actor) else {
             return Err(EventRefusal::NoSuch);
         };
-        if self.seats[place].running.is_none() {
+        if !self.seats[place].runs {
             return Err(EventRefusal::NoSuch);
         }
-        if !self.has_room(false) {
+        if !self.may_come() {
             return Err(EventRefusal::TooLarge);
         }
         let reports = stopped(self.alloc)?;
         let seat = &mut self.seats[place];
-        seat.running = None;
+        seat.runs = false;
         self.events += 1;
         Ok(Some(Acted {
             line,
@@ -75,7 +76,8 @@ impl World {
         }))
     }
 
-    /// An actor's process ends.
+    /// An actor's process ends. It is never inlined into the taking of an event, which would then pay for its room.
+    #[inline(never)]
     pub(crate) fn stop(&mut self, line: u64, actor: u16) -> Result<Option<Acted>, EventRefusal>
         requires can { (w : RuledWorld fabric) × Stands self.old w }
         requires fits { Fits (Event.Stop actor) }

@@ -1,4 +1,4 @@
-ghost use Rattle.std.specs.Prelude.{◌≡◌, ◌≤◌, ◌*◌, ◌^◌, ℕ, All, is_some, not, true};
+ghost use Rattle.std.specs.Prelude.{◌≡◌, ◌≢◌, ◌≤◌, ◌*◌, ◌^◌, ℕ, All, Err, is_some, not, true};
 ghost use Rattle.fabric_terms.specs.Ranges.{Fits};
 ghost use Rattle.fabric_above.specs.Fabric.{fabric};
 ghost use Rattle.world_rules.specs.Schedules.{are_of, readings_fit};
@@ -79,7 +79,8 @@ impl World {
     ) -> Result<(), EventRefusal>
         requires can { (w : RuledWorld fabric) × Stands self.old w }
         requires fits { Fits (Event.Tick advance readings.now) }
-        ensures { (w : RuledWorld fabric) (line : ℕ) → Stands self.old w → ComesTick self.old self.new w line (Event.Tick advance readings.now) result }
+        ensures comes { (w : RuledWorld fabric) (line : ℕ) → Stands self.old w → ComesTick self.old self.new w line (Event.Tick advance readings.now) result }
+        ensures memory { result ≢ Err EventRefusal.OutOfMemory }
     {
         if !are_of(readings, &self.clocks) {
             return Err(EventRefusal::NoSuch);
@@ -88,7 +89,7 @@ impl World {
         if let Some(broken) = self.first_broken(time, readings) {
             return Err(EventRefusal::DriftBroken(broken));
         }
-        if !self.has_room(false) || time > MOST_TIME {
+        if !self.may_come() || time > MOST_TIME {
             return Err(EventRefusal::TooLarge);
         }
         self.show(time, readings);

@@ -1,4 +1,5 @@
-ghost use Rattle.std.specs.Prelude.{◌≡◌, [], IfOk, OnOk, OnErr, length, map, replicate};
+ghost use Rattle.std.specs.Prelude.{◌≡◌, ◌≢◌, ◌≤◌, [], Err, IfOk, OnOk, OnErr, length, replicate};
+ghost use Rattle.node_core.specs.Nodes.{nothing_kept};
 ghost use Rattle.fabric_terms.specs.Places.{place_of};
 ghost use Rattle.fabric_terms.specs.Reports.{told};
 ghost use Rattle.fabric_terms.specs.Runs.{clocks_of};
@@ -8,17 +9,18 @@ ghost use Rattle.point_places.specs.Lines.{IsAppended};
 ghost use Rattle.ring_points.specs.Whos.{node_instance};
 ghost use Rattle.ring_world.specs.Answers.{Answers, AnswersTick, IsWorld, StandsFor, ruled};
 ghost use Rattle.ring_world.specs.Holders.{holders_in, holds_in};
-ghost use Rattle.ring_world.specs.Seen.{empty_seat, seen_seat};
+ghost use Rattle.ring_world.specs.Seats.{AreEmpty};
 ghost use Rattle.fabric_terms.specs.Ranges.{Fits};
 ghost use Rattle.fabric_above.specs.Fabric.{fabric};
 ghost use Rattle.world_rules.specs.Runs.{History, run_of};
 
 use crate::running::Running;
 use crate::seat::Seat;
+use arbiter_core::Arbiter;
 use drift_clock::DriftBroken;
 use fabric_terms::{Event, FabricConfig, OutOfMemory, Report};
 use frame_bag::FrameBag;
-use node_core::Batch;
+use node_core::{Batch, NodeKept};
 use point_places::Places;
 use ring_points::Who;
 use std::alloc::Global;
@@ -62,15 +64,27 @@ pub struct Acted {
 /// Nodes have the numbers below this.
 const NODE_NUMBERS: usize = 1000;
 
+/// Nothing is kept of so many nodes.
+fn nothing_kept(alloc: Global, count: usize) -> Result<Vec<NodeKept>, OutOfMemory>
+    ensures { IfOk result (λ kept. kept.items ≡ replicate count nothing_kept) }
+{
+    let mut kept = Vec::new(alloc);
+    for _ in 0..count {
+        kept.push(NodeKept::new())?;
+    }
+    Ok(kept)
+}
+
 /// So many arbitrators that have recorded nothing and do not run.
-fn empty_seats(alloc: Global, count: usize) -> Result<Vec<Seat>, OutOfMemory>
-    ensures { IfOk result (λ seats. map seen_seat seats.items ≡ replicate count empty_seat) }
+fn empty_seats(alloc: Global, count: u16) -> Result<Vec<Seat>, OutOfMemory>
+    requires { count ≤ 9 }
+    ensures { IfOk result (λ seats. AreEmpty count seats.items) }
 {
     let mut seats = Vec::new(alloc);
-    for _ in 0..count {
+    for i in 0..count {
         seats.push(Seat {
-            records: Vec::new(alloc),
-            running: None,
+            arbiter: Arbiter::new(alloc, i + 1),
+            runs: false,
         })?;
     }
     Ok(seats)
@@ -88,8 +102,8 @@ pub struct World {
     /// The running nodes rise by number; the clock of each stands at its place in `clocks`.
     pub(crate) running: Vec<Running>,
     pub(crate) clocks: Vec<(Who, u64)>,
-    /// How many starts are recorded for each node, by its number.
-    pub(crate) boots: Vec<u32>,
+    /// What is kept of each node that does not run, by its number.
+    pub(crate) kept: Vec<NodeKept>,
     /// The arbitrators, from number 1.
     pub(crate) seats: Vec<Seat>,
     pub(crate) frames: FrameBag,
@@ -109,8 +123,8 @@ impl World {
             actor: config.first,
             instance: 1,
         };
-        let boots = vec![in alloc; 0; NODE_NUMBERS]?;
-        let seats = empty_seats(alloc, config.arbiters.as_slice().len())?;
+        let kept = nothing_kept(alloc, NODE_NUMBERS)?;
+        let seats = empty_seats(alloc, config.arbiters.as_slice().len() as u16)?;
         let places = Places::new(alloc, first)?;
         Ok(World {
             alloc,
@@ -119,7 +133,7 @@ impl World {
             events: 0,
             running: Vec::new(alloc),
             clocks: Vec::new(alloc),
-            boots,
+            kept,
             seats,
             frames: FrameBag::new(alloc),
             sent: 0,
@@ -148,7 +162,8 @@ impl World {
         }
     }
 
-    /// Takes a tick: what `apply` does of it, with the readings where they lie.
+    /// Takes a tick: what `apply` does of it, with the readings where they lie. It takes no memory, and is refused for
+    /// one of the other three reasons alone.
     pub fn tick(
         &mut self,
         line: u64,
@@ -157,7 +172,8 @@ impl World {
     ) -> Result<(), EventRefusal>
         requires world { IsWorld self.old }
         requires fits { Fits (Event.Tick advance readings.now) }
-        ensures { (c : Configuration) (h : History) → StandsFor self.old c h → AnswersTick self.new c h line (Event.Tick advance readings.now) result }
+        ensures answers { (c : Configuration) (h : History) → StandsFor self.old c h → AnswersTick self.new c h line (Event.Tick advance readings.now) result }
+        ensures memory { result ≢ Err EventRefusal.OutOfMemory }
     {
         let _ = line;
         self.take_tick(advance, readings)
@@ -191,12 +207,5 @@ impl World {
         ensures { (c : Configuration) (h : History) → StandsFor self.now c h → result ≡ holders_in (run_of fabric c h) }
     {
         self.count_holders()
-    }
-
-    /// The configuration.
-    pub fn config(&self) -> &FabricConfig
-        ensures { result.now ≡ self.now.config }
-    {
-        &self.config
     }
 }

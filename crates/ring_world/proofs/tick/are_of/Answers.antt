@@ -1,6 +1,6 @@
 use Rattle.std.proofs.Common.{◌<◌, ◌≤◌, ℕ, arith, length, sym, ◌∙◌}
 use Rattle.ring_points.specs.declared.who.Who.{Who}
-use Rattle.ring_world.proofs.Ticked.{of_differ, of_end, of_go, of_stop}
+use Rattle.ring_world.proofs.TickReadings.{of_differ, of_end, of_go, of_stop}
 use Rattle.ring_world.proofs.tick.are_of.Goals as goal
 
 abbrev nobody : Who × ℕ

@@ -1,12 +1,10 @@
-use Rattle.std.proofs.Common.{◌≡◌, ◌+◌, ◌≤◌, ◌++◌, length, vec_capacity, vec_len}
-use Rattle.arrayvec.specs.Iter.{drain_items, DrainKeeps}
+use Rattle.std.proofs.Common.{◌≡◌, ◌+◌, ◌≤◌, ◌++◌, drop, length, vec_capacity, vec_len}
 use Rattle.fabric_terms.specs.Sent.{from_all}
 use Rattle.fabric_terms.proofs.outbox.Outbox.hand_over.Given as goal
 
-abbrev pub invariant-loop-to : goal.invariant-loop-to
-invariant-loop-to l =
-    (goal.iterator-loop-to).can_next l.to-iterator
-    × (goal.iterator-loop-to).is_finite l.to-iterator
-    × DrainKeeps l.initial.to-iterator l.to-iterator
-    × (l.frames.items ++ from_all l.from (drain_items l.to-iterator) ≡ l.initial.frames.items ++ from_all l.from (drain_items l.initial.to-iterator))
-    × (vec_len l.frames + length (drain_items l.to-iterator) ≤ vec_capacity l.frames)
+-- what was moved, and what is still to be moved
+abbrev pub invariant-loop-i : goal.invariant-loop-i
+invariant-loop-i l =
+    (length l.sent ≡ length l.initial.sent)
+    × (l.frames.items ++ from_all l.from (drop l.i l.sent) ≡ l.initial.frames.items ++ from_all l.from l.initial.sent)
+    × (vec_len l.frames + length l.sent ≤ vec_capacity l.frames + l.i)

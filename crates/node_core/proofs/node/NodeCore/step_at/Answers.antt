@@ -1,17 +1,23 @@
-use Rattle.std.proofs.Common.{◌∙◌, ◌++◌, List, ap}
+use Rattle.std.proofs.Common.{◌∙◌, ◌++◌, List, ap, sym, subst}
+use Rattle.fabric_above.specs.Fabric.{fabric}
 use Rattle.fabric_terms.specs.declared.message.Message.{Message}
 use Rattle.fabric_terms.specs.declared.report.Report.{Report}
-use Rattle.ring_node.specs.Steps.{acted}
 use Rattle.fabric_terms.specs.Sent.{from_all}
+use Rattle.world_rules.specs.Nodes.{node_step}
+use Rattle.node_core.specs.Nodes.{Core, Does, GoesBy, core_of}
 use Rattle.node_core.proofs.Steps.{does_step, name_stays}
 use Rattle.node_core.proofs.node.NodeCore.step_at.Goals as goal
 
 pub returns-clause-does : goal.returns-clause-does
 returns-clause-does c = λ config by.
-    does_step config c.args.now c.args.input.now c.args.self.now c.act.new.self c.act.new.out c.act.new.told c.me.result (record { records = c.new-2.result; frames = c.new-3.result; reports = c.new-4.result }) by (c.act.ensures.step ∙ ap (acted c.args.now c.args.input.now) c.self.view_is) c.me.ensures
+    subst (λ (n : Core). Does (node_step fabric config c.args.now c.args.input.now n.state) (core_of c.act.new.self) (record { records = c.new-2.result; frames = c.new-3.result; reports = c.new-4.result })) c.self.view_is
+    (does_step config c.args.now c.args.input.now c.self.inside.ring c.act.new.self c.act.new.out c.act.new.told c.me.result (record { records = c.new-2.result; frames = c.new-3.result; reports = c.new-4.result })
+    (subst (λ (n : Core). GoesBy config n) (sym c.self.view_is) by) c.act.ensures.step c.me.ensures
     (c.new-2.ensures ∙ c.new.ensures.items)
     (c.new-3.ensures ∙ c.give_away.ensures.given ∙ c.hand_over.ensures.frames ∙ ap (λ (xs : List Message). xs ++ from_all c.me.result c.act.new.out) (c.requires.ready.clear.frames))
-    (c.new-4.ensures ∙ c.give_away-2.ensures.given ∙ c.hand_over-2.ensures.reports ∙ ap (λ (xs : List Report). xs ++ c.act.new.told) (c.requires.ready.clear.reports))
+    (c.new-4.ensures ∙ c.give_away-2.ensures.given ∙ c.hand_over-2.ensures.reports ∙ ap (λ (xs : List Report). xs ++ c.act.new.told) (c.requires.ready.clear.reports)))
 
 pub returns-clause-me : goal.returns-clause-me
-returns-clause-me c = name_stays c.args.now c.args.input.now c.args.self.now c.act.new.self c.act.new.out c.act.new.told (c.act.ensures.step ∙ ap (acted c.args.now c.args.input.now) c.self.view_is)
+returns-clause-me c =
+    name_stays c.args.now c.args.input.now c.self.inside.ring c.act.new.self c.act.new.out c.act.new.told c.act.ensures.step
+    ∙ ap (λ (n : Core). n.state.ring.me) c.self.view_is

@@ -4,7 +4,7 @@ use Rattle.std.proofs.lemmas.Result.{err_from_is_err_and}
 use Rattle.fabric_terms.specs.declared.event.Event.TheVariants.{Start, Stop, Tick, Fire, Give, Do, Junk}
 use Rattle.fabric_terms.specs.Ranges.{Fits}
 use Rattle.ring_world.specs.Answers.{ruled}
-use Rattle.ring_world.proofs.Answered.{answered_as, answered_tick_as, ruled_by_some}
+use Rattle.ring_world.proofs.HistoryAnswers.{answered_as, answered_tick_as, ruled_by_some}
 use Rattle.ring_world.proofs.world.World.apply.Goals as goal
 
 -- an actor starts
@@ -48,14 +48,14 @@ returns-in_err-take_tick-in-Tick c k h s =
     rw (p.1, p.2) (
     answered_tick_as c.args.self.now c.take_tick.new.self k h c.args.line (Tick c.in-Tick.advance c.as_slice.result.now) c.args.event.now
     (Err c.in_err-take_tick-in-Tick.field-0.0) (c.in-Tick.is ∙ ap (λ rs. Tick c.in-Tick.advance rs) (sym c.as_slice.ensures)) s c.requires.fits
-    (c.in_err-take_tick-in-Tick.ensures (ruled k h) c.args.line s.keeps.state)
+    (c.in_err-take_tick-in-Tick.ensures.comes (ruled k h) c.args.line s.keeps.state)
     )
 
 pub returns-in_ok-take_tick-in-Tick : goal.returns-in_ok-take_tick-in-Tick
 returns-in_ok-take_tick-in-Tick c k h s =
     answered_tick_as c.args.self.now c.take_tick.new.self k h c.args.line (Tick c.in-Tick.advance c.as_slice.result.now) c.args.event.now (Ok tt)
     (c.in-Tick.is ∙ ap (λ rs. Tick c.in-Tick.advance rs) (sym c.as_slice.ensures)) s c.requires.fits
-    (c.in_ok-take_tick-in-Tick.ensures (ruled k h) c.args.line s.keeps.state)
+    (c.in_ok-take_tick-in-Tick.ensures.comes (ruled k h) c.args.line s.keeps.state)
 
 -- a node's timer fires
 

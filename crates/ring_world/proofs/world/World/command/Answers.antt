@@ -2,9 +2,9 @@ use Rattle.std.proofs.Common.{◌≡◌, true, false, sym, ◌∙◌}
 use Rattle.ring_rules.specs.declared.input.Input.TheVariants as input
 use Rattle.fabric_terms.specs.declared.event.Event.TheVariants.{Do}
 use Rattle.world_rules.specs.Schedules.{command_names}
-use Rattle.ring_world.proofs.Fires.{do_acts, do_there, do_absent, do_unnamed}
+use Rattle.ring_world.proofs.InputNames.{do_acts, do_there, do_absent, do_unnamed}
 use Rattle.ring_world.proofs.Limits.{room_is, room_test, same_world}
-use Rattle.ring_world.proofs.Nexts.{can_act, act_done}
+use Rattle.ring_world.proofs.NextEvents.{can_act, act_done}
 use Rattle.ring_world.proofs.world.World.command.Goals as goal
 
 pub returns-in_default : goal.returns-in_default
@@ -15,13 +15,13 @@ returns-then-not-is_named c w s =
     let named : command_names c.args.self.now.config c.args.node c.args.command.now ≡ false = sym c.is_named.ensures ∙ c.if-not-is_named.true in
     (do_unnamed c.args.self.now w c.args.node c.in-Some.place c.args.command.now (c.in-Some.ensures w s) named, same_world c.args.self.now)
 
-pub returns-then-not-has_room : goal.returns-then-not-has_room
-returns-then-not-has_room c w s =
+pub returns-then-not-may_act : goal.returns-then-not-may_act
+returns-then-not-may_act c w s =
     let a = c.args.self.now in
     let d = c.args.command.now in
     let acts = do_acts a w c.args.node d in
     let named : command_names a.config c.args.node d ≡ true = sym c.is_named.ensures ∙ c.if-not-is_named.false in
-    let full : room_test a true ≡ false = sym c.has_room.ensures ∙ c.if-not-has_room.true in (
+    let full : room_test a true ≡ false = sym c.may_act.ensures ∙ c.if-not-may_act.true in (
       (do_there a w c.args.node c.in-Some.place d (c.in-Some.ensures w s) named, acts.bound, room_is a w (Do c.args.node d) true s acts.acts acts.still ∙ full),
       same_world a,
     )
@@ -40,6 +40,6 @@ returns c w s =
     let d = c.args.command.now in
     let k = c.in-Some.ensures w s in
     let named : command_names a.config c.args.node d ≡ true = sym c.is_named.ensures ∙ c.if-not-is_named.false in
-    let room : room_test a true ≡ true = sym c.has_room.ensures ∙ c.if-not-has_room.false in
+    let room : room_test a true ≡ true = sym c.may_act.ensures ∙ c.if-not-may_act.false in
     act_done a c.step_at.new.self w c.args.node (input.Do d) (Do c.args.node d) k.value c.args.line c.in_ok-step_at.field-0 (do_acts a w c.args.node d) s
     (do_there a w c.args.node c.in-Some.place d k named) room k.found (rw c.copy_of.ensures at (c.in_ok-step_at.ensures w c.args.node k.value s k.here k.found))

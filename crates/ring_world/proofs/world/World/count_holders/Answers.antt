@@ -7,7 +7,7 @@ use Rattle.std.proofs.lemmas.Slice.Zip.{zip_end, zip_turn}
 use Rattle.fabric_above.specs.Fabric.{fabric}
 use Rattle.world_rules.specs.Runs.{run_of}
 use Rattle.ring_world.proofs.Holders.{few_clocks, holders_are, holders_counted, holders_here}
-use Rattle.ring_world.proofs.Zipped.{all_seen, counted, is_next, no_more}
+use Rattle.ring_world.proofs.HolderLoop.{all_seen, counted, is_next, no_more}
 use Rattle.ring_world.proofs.world.World.count_holders.Goals as goal
 use Rattle.ring_world.proofs.world.World.count_holders.Goals.{After-holds}
 

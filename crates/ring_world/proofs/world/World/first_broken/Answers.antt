@@ -1,6 +1,6 @@
 use Rattle.std.proofs.Common.{refl, sym, ◌∙◌, arith}
 use Rattle.std.proofs.lemmas.Bool.{false≢true}
-use Rattle.ring_world.proofs.Ticked.{clock_at, clock_breaks, clock_fits, clock_unfit, clock_within}
+use Rattle.ring_world.proofs.TickReadings.{clock_at, clock_breaks, clock_fits, clock_unfit, clock_within}
 use Rattle.ring_world.proofs.world.World.first_broken.Goals as goal
 
 pub index-requires : goal.index-requires

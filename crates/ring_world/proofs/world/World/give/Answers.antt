@@ -4,7 +4,7 @@ use Rattle.frame_bag.specs.Bags.{frame_of}
 use Rattle.fabric_above.specs.Fabric.{fabric}
 use Rattle.world_rules.specs.Worlds.{Stepped}
 use Rattle.ring_world.specs.Moves.{Moves}
-use Rattle.ring_world.proofs.Given.{can_arrive, give_absent, give_is, give_there, sound_frame}
+use Rattle.ring_world.proofs.GiveNames.{can_arrive, give_absent, give_is, give_there, sound_frame}
 use Rattle.ring_world.proofs.Limits.{room_is, room_test, same_world, bound-give}
 use Rattle.ring_world.proofs.world.World.give.Goals as goal
 
@@ -13,11 +13,11 @@ returns-in_default c w s =
     let none : frame_of c.args.number c.args.self.now.frames.frames ≡ None = sym c.get.ensures ∙ c.in_default.is in
     (give_absent c.args.self.now w c.args.number s none, same_world c.args.self.now)
 
-pub returns-then-not-has_room : goal.returns-then-not-has_room
-returns-then-not-has_room c w s =
+pub returns-then-not-may_act : goal.returns-then-not-may_act
+returns-then-not-may_act c w s =
     let a = c.args.self.now in
     let got : frame_of c.args.number a.frames.frames ≡ Some c.in-Some.message = sym c.get.ensures ∙ c.in-Some.is in
-    let full : room_test a true ≡ false = sym c.has_room.ensures ∙ c.if-not-has_room.true in
+    let full : room_test a true ≡ false = sym c.may_act.ensures ∙ c.if-not-may_act.true in
     ((give_there a w c.args.number s c.in-Some.message got, bound-give a w c.args.number, room_is a w (Give c.args.number) true s refl refl ∙ full), same_world a)
 
 pub reach-requires-clause-can : goal.reach-requires-clause-can
@@ -37,7 +37,7 @@ returns c w s =
     let a = c.args.self.now in
     let m = c.in-Some.message in
     let got : frame_of c.args.number a.frames.frames ≡ Some m = sym c.get.ensures ∙ c.in-Some.is in
-    let room : room_test a true ≡ true = sym c.has_room.ensures ∙ c.if-not-has_room.false in (
+    let room : room_test a true ≡ true = sym c.may_act.ensures ∙ c.if-not-may_act.false in (
       record {
         there = give_there a w c.args.number s m got;
         bound = bound-give a w c.args.number;

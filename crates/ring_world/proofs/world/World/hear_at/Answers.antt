@@ -1,19 +1,11 @@
 use Rattle.std.proofs.Common.{arith}
 use Rattle.std.proofs.lemmas.Result.{on_err_weaker, IfOk-weaker}
-use Rattle.ring_world.specs.Seen.{seen_seat}
-use Rattle.ring_world.proofs.Heard.{is_running, unheard, heard}
+use Rattle.ring_world.proofs.SeatHearing.{unheard, heard}
 use Rattle.ring_world.proofs.Seats.{seat_at}
 use Rattle.ring_world.proofs.world.World.hear_at.Goals as goal
 
-pub hear-requires-clause-runs : goal.hear-requires-clause-runs
-hear-requires-clause-runs c =
-    let can = c.requires.can in
-    let q = c.index_mut-seat.result.now in
-    let seat = seat_at c.args.self.now can.0 c.args.place q can.1 c.requires.place c.index_mut-seat.ensures.value in
-    is_running can.0 c.args.self.now.events _ (seen_seat q) can.2.state seat can.2.runs
-
-pub hear-requires-clause-few : goal.hear-requires-clause-few
-hear-requires-clause-few c =
+pub hear-requires : goal.hear-requires
+hear-requires c =
     let can = c.requires.can in
     let seat = seat_at c.args.self.now can.0 c.args.place c.index_mut-seat.result.now can.1 c.requires.place c.index_mut-seat.ensures.value in
     omega (arith, seat.few, c.requires.events)
@@ -27,6 +19,6 @@ returns-clause-refused c =
 pub returns-clause-heard : goal.returns-clause-heard
 returns-clause-heard c =
     IfOk-weaker c.hear.result _ _
-    (λ reply h. heard c.args.self.now c.args.place c.index_mut-seat.result.now c.hear.new.self c.reserve.new.self c.args.message.now reply c.requires.place c.index_mut-seat.ensures.value
-    c.in_ok-reserve.ensures.frames c.in_ok-reserve.ensures.room h)
+    (λ reply h. heard c.args.self.now c.args.place c.index_mut-seat.result.now c.hear.new.self c.reserve.new.self c.requires.place c.index_mut-seat.ensures.value c.in_ok-reserve.ensures.frames
+    c.args.message.now reply c.in_ok-reserve.ensures.room h)
     c.hear.ensures.hears

@@ -4,7 +4,7 @@ use Rattle.std.specs.Slice.Iter.{iter_rest}
 use Rattle.std.proofs.lemmas.List.{length_push}
 use Rattle.std.proofs.lemmas.Slice.Zip.{zip_end, zip_turn}
 use Rattle.ring_world.proofs.Holders.{holders_are, holders_here}
-use Rattle.ring_world.proofs.Zipped.{all_seen, gathered, is_next}
+use Rattle.ring_world.proofs.HolderLoop.{all_seen, gathered, is_next}
 use Rattle.ring_world.proofs.world.World.holders.Goals as goal
 
 pub loop-clock-preserved : goal.loop-clock-preserved

@@ -7,7 +7,7 @@ use Rattle.world_rules.proofs.Rows.{world_step-junk}
 use Rattle.ring_world.specs.Answers.{is_frame}
 use Rattle.ring_world.specs.Moves.{Moves}
 use Rattle.ring_world.proofs.Limits.{room_is, room_test, same_world, bound-junk}
-use Rattle.ring_world.proofs.Stops.{junk_runs}
+use Rattle.ring_world.proofs.StopNames.{junk_runs}
 use Rattle.ring_world.proofs.world.World.junk.Goals as goal
 
 pub returns-then-not-runs : goal.returns-then-not-runs
@@ -21,12 +21,12 @@ returns-then-is_frame c w s =
     let frame : is_frame c.args.bytes.now ≡ true = sym c.is_frame.ensures ∙ c.if-is_frame.true in
     (junk_runs c.args.self.now w c.args.actor c.args.bytes.now true true there frame, same_world c.args.self.now)
 
-pub returns-then-not-has_room : goal.returns-then-not-has_room
-returns-then-not-has_room c w s =
+pub returns-then-not-may_come : goal.returns-then-not-may_come
+returns-then-not-may_come c w s =
     let a = c.args.self.now in
     let there : runs w c.args.actor ≡ true = sym (c.runs.ensures w s) ∙ c.if-not-runs.false in
     let frame : is_frame c.args.bytes.now ≡ false = sym c.is_frame.ensures ∙ c.if-is_frame.false in
-    let full : room_test a false ≡ false = sym c.has_room.ensures ∙ c.if-not-has_room.true in (
+    let full : room_test a false ≡ false = sym c.may_come.ensures ∙ c.if-not-may_come.true in (
       (junk_runs a w c.args.actor c.args.bytes.now true false there frame, bound-junk a w c.args.actor c.args.bytes.now, room_is a w (Junk c.args.actor c.args.bytes.now) false s refl refl ∙ full),
       same_world a,
     )
@@ -37,7 +37,7 @@ returns c w s =
     let e = Junk c.args.actor c.args.bytes.now in
     let there : runs w c.args.actor ≡ true = sym (c.runs.ensures w s) ∙ c.if-not-runs.false in
     let frame : is_frame c.args.bytes.now ≡ false = sym c.is_frame.ensures ∙ c.if-is_frame.false in
-    let room : room_test a false ≡ true = sym c.has_room.ensures ∙ c.if-not-has_room.false in (
+    let room : room_test a false ≡ true = sym c.may_come.ensures ∙ c.if-not-may_come.false in (
       record {
         there = junk_runs a w c.args.actor c.args.bytes.now true false there frame;
         bound = bound-junk a w c.args.actor c.args.bytes.now;

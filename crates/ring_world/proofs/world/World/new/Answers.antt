@@ -1,22 +1,23 @@
-use Rattle.std.proofs.Common.{◌≡◌, refl, ap, replicate, length, List, ℕ, map, ◌∙◌}
-use Rattle.ring_world.specs.Seen.{empty_seat, seen_seat}
-use Rattle.ring_world.proofs.New.{new_world, no_boots}
+use Rattle.std.proofs.Common.{ℕ, List, length, refl, subst}
+use Rattle.ring_world.specs.Seats.{AreEmpty}
+use Rattle.ring_world.proofs.NewWorld.{new_world}
 use Rattle.ring_world.proofs.world.World.new.Goals as goal
 
 pub returns : goal.returns
 returns c =
-    let boots = c.in_ok-boots.boots.items in
-    let seats : map seen_seat c.in_ok-seats.seats.items ≡ replicate (length c.args.config.arbiters) empty_seat =
-    c.in_ok-seats.ensures ∙ ap (λ (xs : List (ℕ × List ℕ)). replicate (length xs) empty_seat) c.as_slice.ensures in
-    new_world _ boots c.requires (no_boots 1000 boots refl (c.in_ok-boots.ensures.items_if_clones_equal (λ y same. same)))
+    let kept = c.in_ok-kept.kept.items in
+    let seats = c.in_ok-seats.seats.items in
+    let count : AreEmpty (length c.args.config.arbiters) seats =
+    subst (λ (xs : List (ℕ × List ℕ)). AreEmpty (length xs) seats) c.as_slice.ensures c.in_ok-seats.ensures in
+    new_world _ 1000 kept seats c.requires refl c.in_ok-kept.ensures count
     (λ i. record {
       config = c.args.config;
       time = 0;
       events = 0;
       running = c.new-2.ensures.items i;
       clocks = c.new-3.ensures.items i;
-      boots = boots;
-      seats = seats i;
+      kept = kept;
+      seats = seats;
       frames = c.new-4.ensures i;
       sent = 0;
     })

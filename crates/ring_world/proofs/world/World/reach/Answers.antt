@@ -3,7 +3,7 @@ use Rattle.ring_points.specs.Whos.{arbiter_actor}
 use Rattle.fabric_above.specs.Fabric.{fabric}
 use Rattle.world_rules.specs.Worlds.{Stepped}
 use Rattle.ring_world.specs.Steps.{LeavesSound}
-use Rattle.ring_world.proofs.Reached.{to_node}
+use Rattle.ring_world.proofs.Arrivals.{to_node}
 use Rattle.ring_world.proofs.world.World.reach.Goals as goal
 
 pub reach_node-requires-clause-can : goal.reach_node-requires-clause-can

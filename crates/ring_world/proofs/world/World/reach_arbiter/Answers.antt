@@ -1,13 +1,13 @@
-use Rattle.std.proofs.Common.{◌≡◌, false, None, Some, sym, subst}
-use Rattle.std.specs.Prelude.{is_some}
+use Rattle.std.proofs.Common.{None, Some, sym, subst}
 use Rattle.std.proofs.lemmas.Result.{err_from_is_err_and}
 use Rattle.world_rules.specs.Arbiters.{ArbiterState}
 use Rattle.fabric_above.specs.Fabric.{fabric}
 use Rattle.world_rules.specs.Worlds.{Stepped}
 use Rattle.ring_world.specs.Moves.{Moves}
 use Rattle.ring_world.specs.Steps.{LeavesSound}
-use Rattle.ring_world.proofs.Reached.{lost_at_arbiter, reaches_arbiter}
-use Rattle.ring_world.proofs.Seats.{none_at, none_there, not_false, not_true, running_at, some_of}
+use Rattle.ring_world.proofs.Arrivals.{lost_at_arbiter, reaches_arbiter}
+use Rattle.ring_world.specs.Seats.{state_of}
+use Rattle.ring_world.proofs.Seats.{none_at, none_there, running_at}
 use Rattle.ring_world.proofs.world.World.reach_arbiter.Goals as goal
 
 pub returns-in_default : goal.returns-in_default
@@ -17,14 +17,13 @@ returns-in_default c w s =
     let none = none_there a w m.to.actor s c.requires.arbiter c.in_default.ensures in
     subst (λ (x : Stepped fabric). Moves a c.pass.new.self x c.args.line None) (sym (lost_at_arbiter a w m c.requires.arbiter none)) (c.pass.ensures w c.args.line s)
 
-pub returns-then-is_none : goal.returns-then-is_none
-returns-then-is_none c w s =
+pub returns-then-not-index : goal.returns-then-not-index
+returns-then-not-index c w s =
     let a = c.args.self.now in
     let m = c.args.message.now in
     let q = c.index.result.now in
-    let stopped : is_some q.running ≡ false = not_false c.is_none.result (is_some q.running) c.is_none.ensures c.if-is_none.true in
-    let none = none_at a w m.to.actor c.in-Some.place q s c.in-Some.ensures.0 c.in-Some.ensures.1 c.index.ensures stopped in
-    subst (λ (x : Stepped fabric). Moves a c.pass-then-is_none.new.self x c.args.line None) (sym (lost_at_arbiter a w m c.requires.arbiter none)) (c.pass-then-is_none.ensures w c.args.line s)
+    let none = none_at a w m.to.actor c.in-Some.place q s c.in-Some.ensures.0 c.in-Some.ensures.1 c.index.ensures c.if-not-index.true in
+    subst (λ (x : Stepped fabric). Moves a c.pass-then-not-index.new.self x c.args.line None) (sym (lost_at_arbiter a w m c.requires.arbiter none)) (c.pass-then-not-index.ensures w c.args.line s)
 
 pub rule_at-requires-clause-can : goal.rule_at-requires-clause-can
 rule_at-requires-clause-can c =
@@ -32,9 +31,8 @@ rule_at-requires-clause-can c =
     let m = c.args.message.now in
     let can = c.requires.can in
     let q = c.index.result.now in
-    let x = some_of q.running (not_true c.is_none.result (is_some q.running) c.is_none.ensures c.if-is_none.false) in
-    let there = running_at a can.0 c.in-Some.place q x.0 can.1 c.in-Some.ensures.1 c.index.ensures x.1 in
-    let state : ArbiterState fabric = record { table = x.0.accusations; beside = tt } in
+    let there = running_at a can.0 c.in-Some.place q can.1 c.in-Some.ensures.1 c.index.ensures c.if-not-index.false in
+    let state : ArbiterState fabric = state_of q.arbiter in
     let step = reaches_arbiter a can.0 m c.requires.arbiter c.in-Some.place state c.in-Some.ensures.0 there in
     (can.0, can.1, record { state = state; runs = there; sound = subst (λ (y : Stepped fabric). LeavesSound y) step can.2 })
 
@@ -42,9 +40,8 @@ pub returns-in_err-rule_at : goal.returns-in_err-rule_at
 returns-in_err-rule_at c w s =
     let a = c.args.self.now in
     let q = c.index.result.now in
-    let x = some_of q.running (not_true c.is_none.result (is_some q.running) c.is_none.ensures c.if-is_none.false) in
-    let there = running_at a w c.in-Some.place q x.0 s c.in-Some.ensures.1 c.index.ensures x.1 in
-    let state : ArbiterState fabric = record { table = x.0.accusations; beside = tt } in
+    let there = running_at a w c.in-Some.place q s c.in-Some.ensures.1 c.index.ensures c.if-not-index.false in
+    let state : ArbiterState fabric = state_of q.arbiter in
     let p = err_from_is_err_and c.from_residual.result c.from_residual.ensures.1 in
     rw p.1 (c.in_err-rule_at.ensures w state s there)
 
@@ -53,8 +50,7 @@ returns c w s =
     let a = c.args.self.now in
     let m = c.args.message.now in
     let q = c.index.result.now in
-    let x = some_of q.running (not_true c.is_none.result (is_some q.running) c.is_none.ensures c.if-is_none.false) in
-    let there = running_at a w c.in-Some.place q x.0 s c.in-Some.ensures.1 c.index.ensures x.1 in
-    let state : ArbiterState fabric = record { table = x.0.accusations; beside = tt } in
+    let there = running_at a w c.in-Some.place q s c.in-Some.ensures.1 c.index.ensures c.if-not-index.false in
+    let state : ArbiterState fabric = state_of q.arbiter in
     let step = reaches_arbiter a w m c.requires.arbiter c.in-Some.place state c.in-Some.ensures.0 there in
     subst (λ (y : Stepped fabric). Moves a c.rule_at.new.self y c.args.line (Some c.in_ok-rule_at.field-0)) (sym step) (c.in_ok-rule_at.ensures w state s there)

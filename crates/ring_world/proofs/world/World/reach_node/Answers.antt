@@ -3,8 +3,8 @@ use Rattle.fabric_above.specs.Fabric.{fabric}
 use Rattle.world_rules.specs.Worlds.{Stepped}
 use Rattle.ring_world.specs.Moves.{Moves}
 use Rattle.ring_world.specs.Steps.{LeavesSound}
-use Rattle.ring_world.proofs.Acts.{placed}
-use Rattle.ring_world.proofs.Reached.{is_meant_for, lost_at_node, lost_to_instance, reaches_instance}
+use Rattle.ring_world.proofs.NodePlaces.{placed}
+use Rattle.ring_world.proofs.Arrivals.{is_meant_for, lost_at_node, lost_to_instance, reaches_instance}
 use Rattle.ring_world.proofs.world.World.reach_node.Goals as goal
 
 pub returns-in_default : goal.returns-in_default

@@ -9,7 +9,8 @@ use Rattle.world_rules.specs.Worlds.{arbiter_who, posted}
 use Rattle.ring_world.specs.Seen.{seen_of}
 use Rattle.ring_world.specs.Steps.{IsSoundFrame}
 use Rattle.ring_world.specs.declared.world.World.{World}
-use Rattle.ring_world.proofs.Ruled.{acted_answered, reply_sound, rule_moves, seen_answered, sent_is}
+use Rattle.ring_world.proofs.ArbiterAnswer.{acted_answered, seen_answered}
+use Rattle.ring_world.proofs.ArbiterStep.{reply_sound, rule_moves, sent_is}
 use Rattle.ring_world.proofs.world.World.rule_at.Goals as goal
 
 pub answer-sent-requires-clause-sound : goal.answer-sent-requires-clause-sound

@@ -1,6 +1,6 @@
 use Rattle.std.proofs.Common.{refl, arith}
 use Rattle.std.proofs.lemmas.Bool.{false≢true}
-use Rattle.ring_world.proofs.Shown.{all_shown, clock_fits, clock_within, node_within, none_shown, rest_stays, runs, shows_more}
+use Rattle.ring_world.proofs.TickClocks.{all_shown, clock_fits, clock_within, node_within, none_shown, rest_stays, runs, shows_more}
 use Rattle.ring_world.proofs.world.World.show.Goals as goal
 
 pub loop-i-init : goal.loop-i-init

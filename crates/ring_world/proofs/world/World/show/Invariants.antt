@@ -3,7 +3,7 @@ use Rattle.fabric_above.specs.Fabric.{fabric}
 use Rattle.world_rules.specs.Schedules.{are_of}
 use Rattle.world_rules.specs.Worlds.{World as RuledWorld}
 use Rattle.ring_world.specs.Stands.{Stands}
-use Rattle.ring_world.proofs.Shown.{ShowsSoFar}
+use Rattle.ring_world.proofs.TickClocks.{ShowsSoFar}
 use Rattle.ring_world.proofs.world.World.show.Given as goal
 
 -- the clocks so far show their readings, and nothing else has changed

@@ -1,4 +1,6 @@
-use Rattle.std.proofs.Common.{◌≡◌, ℕ, arith, ap, refl, ◌∙◌, length, get_or, Some}
+use Rattle.std.proofs.Common.{◌≡◌, ℕ, arith, ap, refl, sym, ◌∙◌, length, get_or, Some}
+use Rattle.node_core.specs.Nodes.{Core, most_frames}
+use Rattle.node_core.proofs.Rooms.{frames_limited}
 use Rattle.ring_points.specs.declared.who.Who.{Who}
 use Rattle.std.specs.Box.{with_value}
 use Rattle.std.specs.Vec.{with_item}
@@ -8,7 +10,8 @@ use Rattle.ring_world.specs.Seen.{Seen}
 use Rattle.ring_world.specs.Moves.{placed_by}
 use Rattle.ring_world.specs.declared.running.Running.{Running}
 use Rattle.ring_world.specs.declared.world.World.{World}
-use Rattle.ring_world.proofs.Acts.{placed, put_back, read_at, sends_sound, moves_next, seen_committed}
+use Rattle.ring_world.proofs.NodePlaces.{placed, read_at}
+use Rattle.ring_world.proofs.NodeStep.{put_back, sends_sound, moves_next, seen_committed}
 use Rattle.ring_world.proofs.world.World.step_at.Goals as goal
 
 pub index-requires : goal.index-requires
@@ -38,6 +41,23 @@ step-requires-clause-now c =
     let read : k ≡ get_or c.args.self.now.clocks.items c.args.place k = rw c.make_room.ensures.rest at c.index-2.ensures in
     let is : k.1 ≡ s.reading = ap (λ (q : Who × ℕ). q.1) (read_at c.args.self.now.clocks.items c.args.place (s.node.ring.me, s.reading) k here.clock read) in
     omega (arith, here.runs.reading)
+
+pub commit-requires-clause-small : goal.commit-requires-clause-small
+commit-requires-clause-small c =
+    let limit = frames_limited c.deref_mut.result.now.state in
+    rw c.make_room.ensures.rest (omega (arith, limit, c.in_ok-outcome.ensures.small.frames, c.requires.frames))
+
+pub commit-requires-clause-frames : goal.commit-requires-clause-frames
+commit-requires-clause-frames c =
+    let can = c.requires.can in
+    let a = c.args.self.now in
+    let here = placed a can.0 c.args.place can.2.node can.2.state can.1 can.2.here in
+    let r = c.index_mut-running.result.now in
+    let read : r ≡ get_or a.running.items c.args.place r = rw c.make_room.ensures.rest at c.index_mut-running.ensures.value in
+    let same : c.index.result.now ≡ r = read_at a.running.items c.args.place here.code c.index.result.now here.here c.index.ensures ∙ sym (read_at a.running.items c.args.place here.code r here.here read) in
+    let node : c.deref.result.now ≡ c.deref_mut.result.now = c.deref.ensures ∙ (ap (λ (q : Running). q.node.value) same ∙ sym c.deref_mut.ensures.value) in
+    let most : c.most_frames-most.result ≡ most_frames c.deref_mut.result.now.state = c.most_frames-most.ensures.frames ∙ ap (λ (q : Core). most_frames q.state) node in
+    omega (arith, most, c.in_ok-outcome.ensures.small.frames, c.in_ok-make_room.ensures.frames)
 
 pub commit-requires-clause-sound : goal.commit-requires-clause-sound
 commit-requires-clause-sound c =

@@ -1,12 +1,12 @@
 use Rattle.std.proofs.Common.{◌≡◌, ◌+◌, true, false, sym, ap, ◌∙◌}
 use Rattle.ring_world.specs.declared.world.World.{World}
 use Rattle.ring_world.proofs.Limits.{few_events, room_test, same_world}
-use Rattle.ring_world.proofs.Ticking.{seen_ticked, tick_bound, tick_broken, tick_full, tick_in_time, tick_late, tick_moves, tick_of, tick_there}
+use Rattle.ring_world.proofs.TickStep.{seen_ticked, tick_bound, tick_broken, tick_full, tick_in_time, tick_late, tick_moves, tick_of, tick_there}
 use Rattle.ring_world.proofs.world.World.take_tick.Goals as goal
-use Rattle.ring_world.proofs.world.World.take_tick.Goals.{then-not-has_room-via-then-not-has_room, then-not-has_room-via-else-not-has_room+then-time-gt-MOST_TIME}
+use Rattle.ring_world.proofs.world.World.take_tick.Goals.{then-not-may_come-via-then-not-may_come, then-not-may_come-via-else-not-may_come+then-time-gt-MOST_TIME}
 
-pub returns-then-not-are_of : goal.returns-then-not-are_of
-returns-then-not-are_of c w line s =
+pub returns-then-not-are_of-clause-comes : goal.returns-then-not-are_of-clause-comes
+returns-then-not-are_of-clause-comes c w line s =
     let a = c.args.self.now in
     let rs = c.args.readings.now in
     let other = tick_of a w c.args.advance rs s c.deref.result.now false c.deref.ensures.value (sym c.are_of.ensures ∙ c.if-not-are_of.true) in
@@ -17,8 +17,8 @@ first_broken-requires-clause-can c =
     let can = c.requires.can in
     (can.0, can.1, tick_of c.args.self.now can.0 c.args.advance c.args.readings.now can.1 c.deref.result.now true c.deref.ensures.value (sym c.are_of.ensures ∙ c.if-not-are_of.false))
 
-pub returns-in-Some : goal.returns-in-Some
-returns-in-Some c w line s =
+pub returns-in-Some-clause-comes : goal.returns-in-Some-clause-comes
+returns-in-Some-clause-comes c w line s =
     let a = c.args.self.now in
     let rs = c.args.readings.now in
     let of = tick_of a w c.args.advance rs s c.deref.result.now true c.deref.ensures.value (sym c.are_of.ensures ∙ c.if-not-are_of.false) in
@@ -26,18 +26,18 @@ returns-in-Some c w line s =
     let broken = tick_broken a w c.args.advance rs s _ (sym (c.in-Some.ensures.broken w s of)) in
     ((tick_there a w c.args.advance rs s true of, bound, broken), same_world a)
 
-pub returns-then-not-has_room : goal.returns-then-not-has_room
-returns-then-not-has_room c w line s =
+pub returns-then-not-may_come-clause-comes : goal.returns-then-not-may_come-clause-comes
+returns-then-not-may_come-clause-comes c w line s =
     let a = c.args.self.now in
     let rs = c.args.readings.now in
     let of = tick_of a w c.args.advance rs s c.deref.result.now true c.deref.ensures.value (sym c.are_of.ensures ∙ c.if-not-are_of.false) in
     let there = tick_there a w c.args.advance rs s true of in
     let bound = tick_bound a w c.args.advance rs s true (sym (c.in_default.ensures.fits w s of)) in
-    elim c.then-not-has_room.branch [
-      | then-not-has_room-via-then-not-has_room b ↦
-          let full : room_test a false ≡ false = sym c.has_room.ensures ∙ b.if-not-has_room.true in
+    elim c.then-not-may_come.branch [
+      | then-not-may_come-via-then-not-may_come b ↦
+          let full : room_test a false ≡ false = sym c.may_come.ensures ∙ b.if-not-may_come.true in
           ((there, bound, tick_full a w c.args.advance rs s full), same_world a)
-      | then-not-has_room-via-else-not-has_room+then-time-gt-MOST_TIME b ↦
+      | then-not-may_come-via-else-not-may_come+then-time-gt-MOST_TIME b ↦
           ((there, bound, tick_late a w c.args.advance rs s b.if-time-gt-MOST_TIME.true), same_world a)
     ]
 
@@ -50,12 +50,12 @@ pub show-requires-clause-fit : goal.show-requires-clause-fit
 show-requires-clause-fit c w s =
     sym (c.in_default.ensures.fits w s (tick_of c.args.self.now w c.args.advance c.args.readings.now s c.deref.result.now true c.deref.ensures.value (sym c.are_of.ensures ∙ c.if-not-are_of.false)))
 
-pub returns : goal.returns
-returns c w line s =
+pub returns-clause-comes : goal.returns-clause-comes
+returns-clause-comes c w line s =
     let a = c.args.self.now in
     let rs = c.args.readings.now in
     let of = tick_of a w c.args.advance rs s c.deref.result.now true c.deref.ensures.value (sym c.are_of.ensures ∙ c.if-not-are_of.false) in
-    let room : room_test a false ≡ true = sym c.has_room.ensures ∙ c.if-not-has_room.false in (
+    let room : room_test a false ≡ true = sym c.may_come.ensures ∙ c.if-not-may_come.false in (
       record {
         there = tick_there a w c.args.advance rs s true of;
         bound = tick_bound a w c.args.advance rs s true (sym (c.in_default.ensures.fits w s of));

@@ -1,8 +1,8 @@
 use Rattle.fabric_terms.specs.declared.event.Event.TheVariants.{Tick}
 use Rattle.ring_world.specs.Answers.{ruled}
-use Rattle.ring_world.proofs.Answered.{answered_tick}
+use Rattle.ring_world.proofs.HistoryAnswers.{answered_tick}
 use Rattle.ring_world.proofs.world.World.tick.Goals as goal
 
-pub returns : goal.returns
-returns c k h s =
-    answered_tick c.args.self.now c.take_tick.new.self k h c.args.line (Tick c.args.advance c.args.readings.now) c.take_tick.result s c.requires.fits (c.take_tick.ensures (ruled k h) c.args.line s.keeps.state)
+pub returns-clause-answers : goal.returns-clause-answers
+returns-clause-answers c k h s =
+    answered_tick c.args.self.now c.take_tick.new.self k h c.args.line (Tick c.args.advance c.args.readings.now) c.take_tick.result s c.requires.fits (c.take_tick.ensures.comes (ruled k h) c.args.line s.keeps.state)

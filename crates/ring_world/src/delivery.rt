@@ -1,0 +1,100 @@
+ghost use Rattle.std.specs.Prelude.{◌≡◌, ◌<◌, ◌==◌, ◌||◌, Some};
+ghost use Rattle.world_rules.specs.Events.{arrives, arrives_at_node};
+ghost use Rattle.fabric_lemmas.specs.Maps.{at};
+ghost use Rattle.fabric_above.specs.Fabric.{fabric};
+ghost use Rattle.world_rules.specs.Worlds.{World as RuledWorld};
+ghost use Rattle.ring_points.specs.Whos.{arbiter_actor};
+ghost use Rattle.fabric_terms.specs.Ranges.{Fits};
+ghost use Rattle.ring_world.specs.Answers.{IsWorld};
+ghost use Rattle.ring_world.specs.Moves.{Comes, Delivers};
+ghost use Rattle.ring_world.specs.Room.{most_events, most_frames};
+ghost use Rattle.ring_world.specs.Stands.{Stands};
+ghost use Rattle.ring_world.specs.Steps.{IsSoundFrame, LeavesSound};
+
+use crate::actors::ARBITRATORS;
+use crate::world::{Acted, EventRefusal, World};
+use fabric_terms::{Event, Message, OutOfMemory};
+use ring_node::Input;
+use ring_points::Who;
+
+/// Whether a message to this instance, or to whichever runs, is meant for the one that runs.
+fn is_meant(to: Who, me: Who) -> bool
+    ensures { result ≡ (to.instance == 0 || to.instance == me.instance) }
+{
+    to.instance == 0 || to.instance == me.instance
+}
+
+impl World {
+    /// A message comes to a node. It is lost where the node does not run, or another instance than it names.
+    fn reach_node(&mut self, line: u64, message: Message) -> Result<Option<Acted>, OutOfMemory>
+        requires can { (w : RuledWorld fabric) × Stands self.old w × LeavesSound (arrives_at_node fabric self.old.config w message (at message.to.actor w.nodes)) }
+        requires sound { IsSoundFrame message }
+        requires events { self.old.events < most_events }
+        requires frames { self.old.sent < most_frames }
+        ensures { (w : RuledWorld fabric) → Stands self.old w →
+            Delivers self.old self.new (arrives_at_node fabric self.old.config w message (at message.to.actor w.nodes)) line result }
+    {
+        let to = message.to;
+        let Some(place) = self.place_of(to.actor) else {
+            self.pass();
+            return Ok(None);
+        };
+        let (me, _) = self.clocks[place];
+        if !is_meant(to, me) {
+            self.pass();
+            return Ok(None);
+        }
+        Ok(Some(self.step_at(line, place, &Input::Frame(message))?))
+    }
+
+    /// A message comes to an arbitrator. It is lost where the arbitrator does not run.
+    fn reach_arbiter(&mut self, line: u64, message: &Message) -> Result<Option<Acted>, OutOfMemory>
+        requires arbiter { arbiter_actor 0 < message.now.to.actor }
+        requires can { (w : RuledWorld fabric) × Stands self.old w × LeavesSound (arrives fabric self.old.config w (Some message.now)) }
+        requires events { self.old.events < most_events }
+        requires frames { self.old.sent < most_frames }
+        ensures { (w : RuledWorld fabric) → Stands self.old w →
+            Delivers self.old self.new (arrives fabric self.old.config w (Some message.now)) line result }
+    {
+        let Some(place) = self.seat_of(message.to.actor) else {
+            self.pass();
+            return Ok(None);
+        };
+        if !self.seats[place].runs {
+            self.pass();
+            return Ok(None);
+        }
+        Ok(Some(self.rule_at(line, place, message)?))
+    }
+
+    /// A message comes to its addressee.
+    fn reach(&mut self, line: u64, message: Message) -> Result<Option<Acted>, OutOfMemory>
+        requires can { (w : RuledWorld fabric) × Stands self.old w × LeavesSound (arrives fabric self.old.config w (Some message)) }
+        requires sound { IsSoundFrame message }
+        requires events { self.old.events < most_events }
+        requires frames { self.old.sent < most_frames }
+        ensures { (w : RuledWorld fabric) → Stands self.old w →
+            Delivers self.old self.new (arrives fabric self.old.config w (Some message)) line result }
+    {
+        if message.to.actor <= ARBITRATORS {
+            self.reach_node(line, message)
+        } else {
+            self.reach_arbiter(line, &message)
+        }
+    }
+
+    /// The frame of this number comes to its addressee.
+    pub(crate) fn give(&mut self, line: u64, number: u64) -> Result<Option<Acted>, EventRefusal>
+        requires world { IsWorld self.old }
+        requires fits { Fits (Event.Give number) }
+        ensures { (w : RuledWorld fabric) → Stands self.old w → Comes self.old self.new w line (Event.Give number) result }
+    {
+        let Some(message) = self.frames.get(number) else {
+            return Err(EventRefusal::NoSuch);
+        };
+        if !self.may_act() {
+            return Err(EventRefusal::TooLarge);
+        }
+        Ok(self.reach(line, message)?)
+    }
+}
