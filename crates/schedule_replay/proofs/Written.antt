@@ -1,5 +1,5 @@
 -- What is written at each status.
-use Rattle.std.proofs.Common.{◌≢◌, ℕ, List, Option, Some, None, refl, ap, sym, subst, ◌∙◌, ⊎_elim}
+use Rattle.std.proofs.Common.{◌≢◌, ℕ, List, Option, Some, None, ap, sym, subst, ◌∙◌, ⊎_elim}
 use Rattle.std.proofs.lemmas.List.{append-nil}
 use Rattle.edge_io.specs.Edge.{Grew}
 use Rattle.fabric_status.specs.declared.status.Refusal.{Refusal}
@@ -22,7 +22,7 @@ wrote_fault j failed ended old new before now cause wrote =
     (λ whole. subst (λ s. Writes s j failed old new) (sym whole.0) whole.1)
     (λ short. ⊎_elim
     (λ memory. subst (λ s. Writes s j failed old new) (sym memory.0) (fault cause memory.1))
-    (λ sink. subst (λ s. Writes s j failed old new) (sym sink.0) (fault cause sink.1.0))
+    (λ sink. subst (λ s. Writes s j failed old new) (sym sink.0) (fault cause sink.1))
     short)
     wrote
 
@@ -41,7 +41,7 @@ wrote_answer j failed refused text ended old new before now answer wrote =
     (λ whole. subst (λ s. Writes s j failed old new) (sym whole.0) (whole_answer j failed refused text old new answer whole.1))
     (λ short. ⊎_elim
     (λ memory. subst (λ s. Writes s j failed old new) (sym memory.0) (report text answer.written memory.1))
-    (λ sink. subst (λ s. Writes s j failed old new) (sym sink.0) (report text answer.written sink.1.0))
+    (λ sink. subst (λ s. Writes s j failed old new) (sym sink.0) (report text answer.written sink.1))
     short)
     wrote
 

@@ -1,6 +1,5 @@
 -- What is written of a schedule.
 use Rattle.std.specs.Prelude.{◌≡◌, ℕ, List, [], ◌∷◌, ◌++◌, length, Option, Some, None, codes, decimal, nat_lt, if◌then◌else◌}
-use Rattle.fabric_config.specs.Words.{words_of}
 use Rattle.fabric_terms.specs.Places.{place_of}
 use Rattle.fabric_terms.specs.Reports.{told}
 use Rattle.fabric_terms.specs.Runs.{Entry, Run}
@@ -16,9 +15,8 @@ use Rattle.text_fields.specs.Texts.{spaced}
 use Rattle.fabric_above.specs.Fabric.{fabric}
 use Rattle.world_rules.specs.Runs.{History, run_of}
 use Rattle.fabric_status.specs.Codes.{status_of}
+use Rattle.fabric_status.specs.Faults.{fault_line}
 use Rattle.fabric_status.specs.declared.status.Refusal.{Refusal}
-use Rattle.fabric_status.specs.declared.status.Status.{Status}
-use Rattle.fabric_status.specs.declared.status.Status.TheVariants as status
 use Rattle.schedule_replay.specs.Schedule.{Judged}
 
 -- the head of the lines of an entry
