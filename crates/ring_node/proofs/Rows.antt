@@ -1,5 +1,5 @@
 -- A row of links done to a step, with its notes, or broken off.
-use Rattle.std.proofs.Common.{◌≡◌, ℕ, ◌+◌, ◌≤◌, arith, Bool, false, true, List, [], ◌∷◌, ◌++◌, IsTrue, Option, subst, length, take, refl, sym, ap, ◌∙◌}
+use Rattle.std.proofs.Common.{◌≡◌, ℕ, ◌+◌, ◌≤◌, arith, false, true, List, [], ◌∷◌, ◌++◌, IsTrue, Option, subst, length, take, refl, sym, ap, ◌∙◌}
 use Rattle.std.proofs.Math.Seq.{take-append_seam, take-length}
 use Rattle.fabric_terms.specs.declared.message.Body.{Body}
 use Rattle.fabric_terms.specs.declared.report.Report.{Report}
