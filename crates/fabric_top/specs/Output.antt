@@ -12,7 +12,7 @@ use Rattle.ring_points.specs.Whos.{node_instance}
 use Rattle.ring_world.specs.Answers.{ruled}
 use Rattle.ring_world.specs.Holders.{holds_in}
 use Rattle.sched_text.specs.Reports.{report_line, sent_line}
-use Rattle.sched_text.specs.Texts.{spaced}
+use Rattle.text_fields.specs.Texts.{spaced}
 use Rattle.fabric_above.specs.Fabric.{fabric}
 use Rattle.world_rules.specs.Runs.{History, run_of}
 use Rattle.fabric_top.specs.Codes.{status_of}

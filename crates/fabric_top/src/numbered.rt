@@ -2,7 +2,7 @@
 ghost use Rattle.std.specs.Prelude.{◌≡◌, ◌++◌, decimal, codes, OnOk};
 
 use fabric_terms::OutOfMemory;
-use sched_text::{push_bytes, push_number};
+use text_fields::{push_bytes, push_number};
 
 /// The words, a number and a line feed.
 pub fn push_numbered(text: &mut Vec<u8>, words: &[u8], number: u64) -> Result<(), OutOfMemory>
