@@ -6,8 +6,8 @@ use crate::numbered::{push_numbered, push_two};
 use crate::status::Status;
 use fabric_config::ConfigError;
 use fabric_terms::OutOfMemory;
-use text_fields::push_bytes;
 use std::alloc::Global;
+use text_fields::push_bytes;
 
 fn push_named(text: &mut Vec<u8>, front: &[u8], words: &[u8]) -> Result<(), OutOfMemory>
     ensures { OnOk result (text.new.items ≡ text.old.items ++ (front.now ++ (words.now ++ codes "\n"))) }

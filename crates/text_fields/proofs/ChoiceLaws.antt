@@ -2,7 +2,7 @@
 use Rattle.std.proofs.Common.{◌≡◌, ℕ, ◌+◌, ◌<◌, ⊎_elim, List, [], ◌∷◌, ◌++◌, length, drop, get_or, All, Option, Some, None, arith, ap, sym, subst, ◌∙◌}
 use Rattle.std.proofs.lemmas.List.{at_drop_more}
 use Rattle.std.proofs.lemmas.List.Elements.{All-head, All-tail}
-use Rattle.text_fields.specs.Fields.{Field, after_word, given, behind, first_of}
+use Rattle.text_fields.specs.Fields.{Field, after_word, given, first_of}
 use Rattle.text_fields.specs.Inverses.{IsField, EndsAnyhow}
 use Rattle.text_fields.proofs.FieldLaws.{behind_found, behind_other}
 use Rattle.text_fields.proofs.Numbers.{some_same, none_found}

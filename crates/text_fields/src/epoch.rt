@@ -14,8 +14,8 @@ use ring_points::Epoch;
 /// The greatest number of data losses, and of configurations.
 const LAST_COUNT: u64 = 4_294_967_295;
 
-/// An epoch, and what follows it.
-pub fn epoch_at(bytes: &[u8]) -> Result<(Epoch, &[u8]), BadField>
+// An epoch, and what follows it.
+fn epoch_at(bytes: &[u8]) -> Result<(Epoch, &[u8]), BadField>
     ensures { Gives (λ x. (x.0, x.1.now)) result (epoch_at bytes.now) }
 {
     let (data_loss, rest) = number_in(0, LAST_COUNT, bytes)?;
@@ -27,7 +27,7 @@ pub fn epoch_at(bytes: &[u8]) -> Result<(Epoch, &[u8]), BadField>
     Ok((epoch, rest))
 }
 
-/// The same, and the blank behind it.
+/// An epoch and the blank behind it, and what follows.
 pub fn epoch_word(bytes: &[u8]) -> Result<(Epoch, &[u8]), BadField>
     ensures { Gives (λ x. (x.0, x.1.now)) result (word_of epoch_at bytes.now) }
 {

@@ -25,8 +25,8 @@ fn instance_at(bytes: &[u8]) -> Result<(Who, &[u8]), BadField>
     Ok((Who { actor, instance }, rest))
 }
 
-/// An instance of a node, or an arbitrator, and what follows it.
-pub fn who_at(bytes: &[u8]) -> Result<(Who, &[u8]), BadField>
+// An instance of a node, or an arbitrator, and what follows it.
+fn who_at(bytes: &[u8]) -> Result<(Who, &[u8]), BadField>
     ensures { Gives (λ x. (x.0, x.1.now)) result (who_at bytes.now) }
 {
     let Ok(rest) = after_word(b"a", bytes) else {
@@ -36,7 +36,7 @@ pub fn who_at(bytes: &[u8]) -> Result<(Who, &[u8]), BadField>
     Ok((Who { actor, instance: 0 }, rest))
 }
 
-/// The same, and the blank behind it.
+/// An instance of a node, or an arbitrator, and the blank behind it, and what follows.
 pub fn who_word(bytes: &[u8]) -> Result<(Who, &[u8]), BadField>
     ensures { Gives (λ x. (x.0, x.1.now)) result (word_of who_at bytes.now) }
 {

@@ -54,9 +54,9 @@ fn intervals_at(bytes: &[u8]) -> Result<(ArrayVec<Interval, MAX_INTERVALS>, &[u8
     Ok((intervals, rest))
 }
 
-/// Ranges, and what follows them. What is no list of a range set is refused.
+// Ranges, and what follows them. What is no list of a range set is refused.
 #[tactic(auto, unfolding(crate::specs::Intervals::ranges_at))]
-pub fn ranges_at(bytes: &[u8]) -> Result<(RangeSet, &[u8]), BadField>
+fn ranges_at(bytes: &[u8]) -> Result<(RangeSet, &[u8]), BadField>
     ensures { Gives (λ x. (x.0, x.1.now)) result (ranges_at bytes.now) }
 {
     let (intervals, rest) = intervals_at(bytes)?;
@@ -66,7 +66,7 @@ pub fn ranges_at(bytes: &[u8]) -> Result<(RangeSet, &[u8]), BadField>
     }
 }
 
-/// The same, and the blank behind them.
+/// Ranges and the blank behind them, and what follows. What is no list of a range set is refused.
 pub fn ranges_word(bytes: &[u8]) -> Result<(RangeSet, &[u8]), BadField>
     ensures { Gives (λ x. (x.0, x.1.now)) result (word_of ranges_at bytes.now) }
 {

@@ -73,8 +73,8 @@ pub fn last_number(lo: u64, hi: u64, bytes: &[u8]) -> Result<u64, BadField>
     }
 }
 
-/// A number below 2^64, or a dash in its place, and what follows it.
-pub fn optional_at(bytes: &[u8]) -> Result<(Option<u64>, &[u8]), BadField>
+// A number below 2^64, or a dash in its place, and what follows it.
+fn optional_at(bytes: &[u8]) -> Result<(Option<u64>, &[u8]), BadField>
     ensures { Gives (λ x. (x.0, x.1.now)) result (optional_at bytes.now) }
 {
     if let Ok(rest) = after_word(b"-", bytes) {
@@ -84,7 +84,7 @@ pub fn optional_at(bytes: &[u8]) -> Result<(Option<u64>, &[u8]), BadField>
     Ok((Some(n), rest))
 }
 
-/// The same, and the blank behind it.
+/// A number below 2^64, or a dash in its place, and the blank behind it, and what follows.
 pub fn optional_word(bytes: &[u8]) -> Result<(Option<u64>, &[u8]), BadField>
     ensures { Gives (λ x. (x.0, x.1.now)) result (word_of optional_at bytes.now) }
 {
