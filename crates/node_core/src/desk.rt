@@ -41,7 +41,8 @@ impl Desk {
     /// Makes room for what one step leaves.
     pub(crate) fn make_room(&mut self) -> Result<(), OutOfMemory>
         requires { IsClear self.old }
-        ensures { IfOk result (λ _. IsReady self.new) }
+        ensures clear { IsClear self.new }
+        ensures ready { IfOk result (λ _. IsReady self.new) }
     {
         self.frames.reserve(OUTBOX_LIMIT)?;
         self.reports.reserve(MOST_TOLD)?;

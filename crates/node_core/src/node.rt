@@ -7,7 +7,7 @@ ghost use Rattle.world_rules.specs.Nodes.{boots_of, node_begun, node_step};
 ghost use Rattle.fabric_above.specs.Fabric.{fabric};
 ghost use Rattle.world_rules.specs.Schedules.{is_configured_node};
 ghost use Rattle.node_core.specs.Desks.{IsClear, IsReady};
-ghost use Rattle.node_core.specs.Nodes.{Amounts, Does, FitsInput, GoesBy, IsSmall, frames_limit, kept_in, most_frames, nothing_kept, ring_of};
+ghost use Rattle.node_core.specs.Nodes.{Amounts, Does, FitsInput, GoesBy, IsSmall, core_of, frames_limit, kept_in, most_frames, nothing_kept, ring_of};
 
 use crate::batch::Batch;
 use crate::boots::{boot, instance_after, is_spent};
@@ -41,6 +41,34 @@ impl Model for NodeCore {
     ghost view = { λ n. core_of n.ring };
 
     ghost invariant = { λ n. IfSome n.desk (λ d. IsClear d.value) };
+}
+
+/// The step of a node's ring at a desk that is ready for it.
+#[tactic(auto, unfolding(crate::specs::Nodes::most_frames))]
+fn step_at(
+    alloc: Global,
+    ring: &mut RingNode,
+    now: u64,
+    input: &Input,
+    desk: &mut Desk,
+) -> Outcome
+    requires now { now ≤ 10 ^ 15 }
+    requires input { FitsInput input.now }
+    requires ready { IsReady desk.old }
+    ensures does { (c : Configuration) → GoesBy c (core_of ring.old) → Does (node_step fabric c now input.now (core_of ring.old).state) (core_of ring.new) result }
+    ensures small { IsSmall (core_of ring.old).state result }
+    ensures settings { ring.new.settings ≡ ring.old.settings }
+    ensures me { ring.new.ring.me ≡ ring.old.ring.me }
+    ensures clear { IsClear desk.new }
+{
+    ring.act(now, input, &mut desk.out, &mut desk.told);
+    desk.out.hand_over(ring.me(), &mut desk.frames);
+    desk.told.hand_over(&mut desk.reports);
+    Outcome {
+        records: Batch::new(Vec::new(alloc)),
+        frames: Batch::new(give_away(alloc, &mut desk.frames)),
+        reports: Batch::new(give_away(alloc, &mut desk.reports)),
+    }
 }
 
 impl NodeCore {
@@ -120,39 +148,14 @@ impl NodeCore {
         }
     }
 
-    /// A desk that is ready for a step.
-    fn take_desk(&mut self) -> Result<Box<Desk>, OutOfMemory>
-        ensures same { self.new ≡ self.old }
-        ensures ready { IfOk result (λ d. IsReady d.value) }
+    /// Makes the desk at which the node's steps are done. It is never inlined into a step, which would then pay for the
+    /// room in which a desk is dropped.
+    #[inline(never)]
+    fn make_desk(&mut self) -> Result<(), OutOfMemory>
+        ensures { self.new ≡ self.old }
     {
-        let mut desk = match self.desk.take() {
-            Some(desk) => desk,
-            None => Desk::boxed(self.alloc)?,
-        };
-        desk.make_room()?;
-        Ok(desk)
-    }
-
-    /// The step of the node at a desk that is ready for it.
-    #[tactic(auto, unfolding(crate::specs::Nodes::most_frames))]
-    fn step_at(&mut self, now: u64, input: &Input, desk: &mut Desk) -> Outcome
-        requires now { now ≤ 10 ^ 15 }
-        requires input { FitsInput input.now }
-        requires ready { IsReady desk.old }
-        ensures does { (c : Configuration) → GoesBy c self.old → Does (node_step fabric c now input.now self.old.state) self.new result }
-        ensures small { IsSmall self.old.state result }
-        ensures settings { self.new.settings ≡ self.old.settings }
-        ensures me { self.new.state.ring.me ≡ self.old.state.ring.me }
-        ensures clear { IsClear desk.new }
-    {
-        self.ring.act(now, input, &mut desk.out, &mut desk.told);
-        desk.out.hand_over(self.ring.me(), &mut desk.frames);
-        desk.told.hand_over(&mut desk.reports);
-        Outcome {
-            records: Batch::new(Vec::new(self.alloc)),
-            frames: Batch::new(give_away(self.alloc, &mut desk.frames)),
-            reports: Batch::new(give_away(self.alloc, &mut desk.reports)),
-        }
+        self.desk = Some(Desk::boxed(self.alloc)?);
+        Ok(())
     }
 
     /// The step of the node when this comes, at this reading of its clock, in ticks. It is an error where memory is
@@ -166,10 +169,14 @@ impl NodeCore {
         ensures me { self.new.state.ring.me ≡ self.old.state.ring.me }
         ensures refused { OnErr result (self.new ≡ self.old) }
     {
-        let mut desk = self.take_desk()?;
-        let outcome = self.step_at(now, input, &mut desk);
-        self.desk = Some(desk);
-        Ok(outcome)
+        if self.desk.is_none() {
+            self.make_desk()?;
+        }
+        let Some(desk) = &mut self.desk else {
+            return Err(OutOfMemory);
+        };
+        desk.make_room()?;
+        Ok(step_at(self.alloc, &mut self.ring, now, input, desk))
     }
 
     /// How many frames the next step sends at most.

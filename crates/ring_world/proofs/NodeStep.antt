@@ -1,20 +1,17 @@
 -- A node's step: the world stands for the world after it.
 use Rattle.std.proofs.Common.{◌≡◌, ℕ, zero, suc, ◌+◌, ◌≤◌, ◌<◌, ◌^◌, Bool, true, false, List, [], ◌∷◌, ◌++◌, Option, Some, refl, sym, ap, subst, ◌∙◌, arith, length, get_or}
-use Rattle.std.specs.Prelude.{◌&&◌, not, unwrap_or, slice_get, slice_set, map, option_map, All, Vec, Box}
+use Rattle.std.specs.Prelude.{◌&&◌, not, unwrap_or, slice_get, slice_set, map, All, Vec, Box}
 use Rattle.std.proofs.lemmas.List.{length-set, set-get_or}
-use Rattle.std.proofs.lemmas.Option.{slice_get-map, slice_get_within, get_or_from_slice_get}
 use Rattle.drift_clock.specs.Extremes.{Kept, Stands as DriftStands}
 use Rattle.std.specs.Box.{with_value}
 use Rattle.std.specs.Vec.{with_item}
 use Rattle.std.specs.declared.alloc.Global.{Global}
 use Rattle.fabric_terms.specs.Runs.{Entry}
 use Rattle.fabric_terms.specs.declared.config.FabricConfig.{FabricConfig}
-use Rattle.fabric_terms.specs.declared.message.Body.{Body}
 use Rattle.fabric_terms.specs.declared.message.Message.{Message}
 use Rattle.fabric_terms.specs.declared.report.Report.{Report}
 use Rattle.node_core.specs.Nodes.{Core, Does, GoesBy, IsSmall, frames_limit}
 use Rattle.node_core.proofs.Rooms.{frames_limited}
-use Rattle.fabric_terms.specs.Sent.{from_all}
 use Rattle.node_core.specs.declared.outcome.Outcome.{Outcome}
 use Rattle.point_places.specs.Spots.{place_at}
 use Rattle.ring_points.specs.Whos.{arbiter_actor}
@@ -28,7 +25,7 @@ use Rattle.fabric_lemmas.specs.Maps.{at, put}
 use Rattle.world_rules.specs.Nodes.{NodeState, node_step, above_if, comes_above}
 use Rattle.fabric_above.specs.Fabric.{fabric}
 use Rattle.world_rules.specs.Uppers.{Did}
-use Rattle.world_rules.specs.Worlds.{World as RuledWorld, Running as RuledRunning, kept_of, posted, numbers_of}
+use Rattle.world_rules.specs.Worlds.{World as RuledWorld, Running as RuledRunning, kept_of, numbers_of}
 use Rattle.fabric_lemmas.proofs.Maps.{rises-put}
 use Rattle.ring_world.specs.Answers.{entry_of}
 use Rattle.ring_world.specs.Commits.{posted_all, numbers_after}
@@ -36,16 +33,16 @@ use Rattle.ring_world.specs.Moves.{Moves, Same, placed_by}
 use Rattle.ring_world.specs.Room.{most_events, most_frames}
 use Rattle.ring_world.specs.Running.{AllRun, RunsAs}
 use Rattle.ring_world.specs.Seen.{Seen, seen_of}
-use Rattle.ring_world.specs.Stands.{Stands, SeenStands, KeptStand, NodesStand, FramesStand}
+use Rattle.ring_world.specs.Stands.{Stands, SeenStands, KeptStand, NodesStand}
 use Rattle.ring_world.specs.Steps.{IsSoundFrame, LeavesSound}
 use Rattle.ring_world.specs.declared.running.Running.{Running}
 use Rattle.ring_world.specs.declared.world.Acted.{Acted}
 use Rattle.ring_world.specs.declared.world.World.{World}
-use Rattle.ring_world.proofs.Growth.{kept_same, posted_is, posted-length, from-length, numbers_are, arbiters_on}
+use Rattle.ring_world.proofs.Growth.{kept_same, posted_is, from-length, numbers_are, arbiters_on}
 use Rattle.node_core.specs.declared.kept.NodeKept.{NodeKept}
 use Rattle.ring_world.proofs.KeptNodes.{kept_follows, put_run}
 use Rattle.ring_world.proofs.Maps.{at_place, put_place}
-use Rattle.ring_world.proofs.Nodes.{Ruled, clock_of, run_at, run_set}
+use Rattle.ring_world.proofs.Nodes.{Ruled, clock_of, run_set}
 use Rattle.ring_world.proofs.FramesAfter.{frames_more, sound_sent}
 use Rattle.ring_world.proofs.NodePlaces.{Placed, placed, read_at}
 
