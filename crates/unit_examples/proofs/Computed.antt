@@ -73,7 +73,7 @@ a_manager_remembers = record { commanded = refl; superseded = refl; refused = re
 
 pub nodes_are_up : Ups
 unfolding all_rules
-nodes_are_up = record { two_leases = refl; past = refl; early = refl; itself = refl; accused = refl; loaded = refl; heard = refl }
+nodes_are_up = record { two_leases = refl; past = refl; early = refl; itself = refl; accused = refl; loaded = refl; heard = refl; none_accused = refl }
 
 pub epochs_are_prepared : Preparations
 unfolding all_rules

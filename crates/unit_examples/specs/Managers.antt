@@ -139,6 +139,9 @@ pub record Ups : Type 0 where
   pub heard :
       loads site 30 (ring_of (heard_at 10) []) []
       ≡ record { node = 1; domain = 1; up = true; load = 0 } ∷ record { node = 2; domain = 4; up = true; load = 0 } ∷ []
+  pub none_accused :
+      loads site 30 (ring_of (heard_at 30) (node_instance 2 1 ∷ [])) []
+      ≡ record { node = 1; domain = 1; up = true; load = 0 } ∷ record { node = 2; domain = 4; up = false; load = 0 } ∷ []
 
 -- the manager is the node that holds ring point 0
 pub record Managers : Type 0 where

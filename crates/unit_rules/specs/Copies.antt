@@ -43,16 +43,20 @@ abbrev pub own_adopted : Taking → Seat → Outcome Done → Acted Seat
 own_adopted t s (Err refusal, r) = still s
 own_adopted t s (Ok done, r) = acted (seated s r) (adoption r.partition t true)
 
-abbrev pub copy_begun : ℕ → Taking → Seat → Acted Seat
-copy_begun me t s =
+abbrev pub log_taken : ℕ → Taking → Seat → Acted Seat
+log_taken me t s =
     if t.last == 0 || t.origin == me then own_adopted t s (adopt_own_call t.epoch t.last s.replica)
     else acted s (fetch_next t s.replica ∷ [])
+
+-- the replica is idle until it has its role
+abbrev pub copy_begun : ℕ → Taking → Seat → Acted Seat
+copy_begun me t s = log_taken me t (record s { replica = (idle_call t.epoch s.replica).1; taking = Some t })
 
 -- where the log is of the epoch already, that is answered, and the role stays
 abbrev pub sync_taken : ℕ → Taking → Seat → Acted Seat
 sync_taken me t s =
     if same_epoch s.replica.at t.epoch then acted s (Send t.asker (body.Adopted s.replica.partition t.epoch (last_of s.replica)) ∷ [])
-    else copy_begun me t (record s { replica = (idle_call t.epoch s.replica).1; taking = Some t })
+    else copy_begun me t s
 
 abbrev pub sync_answered : ℕ → Taking → Seat → Outcome Done → Acted Seat
 sync_answered me t s (Err refusal, r) = acted s (say_older t.asker r.partition t.epoch refusal)
