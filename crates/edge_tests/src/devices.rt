@@ -2,8 +2,8 @@ ghost use Rattle.std.specs.Prelude.{◌≡◌};
 ghost use Rattle.edge_io.specs.Arrivals.{IsListening};
 
 use crate::fakes::{Break, Disk, Keyboard, Machine, Terminal};
-use fabric_edge::{FolderKeeper, MonoClock, StdinSource, StdoutSink, UdpLinks};
 use edge_io::{Clock, EdgeRefusal, Failed, Keeper, Links, Sink, Source};
+use fabric_edge::{FolderKeeper, MonoClock, StdinSource, StdoutSink, UdpLinks};
 use std::alloc::Global;
 use std::cell::Cell;
 use std::fs::OpenOptions;

@@ -1,8 +1,8 @@
 ghost use Rattle.std.specs.Prelude.{◌≡◌, ◌+◌, ◌≤◌, ◌<◌, ◌∷◌, ◌++◌, [], length, take, vec_capacity, vec_len};
 ghost use Rattle.fabric_terms.specs.Sent.{from_all};
 
-use arrayvec::ArrayVec;
 use crate::message::{Body, Message};
+use arrayvec::ArrayVec;
 use ring_points::Who;
 use std::marker::Model;
 use std::mem;

@@ -264,6 +264,9 @@ fn refuses_a_65th_node_and_bytes_that_are_no_text(rt: HostRuntime) -> Result<(),
 #[test]
 fn an_error_is_a_sentence(rt: HostRuntime) -> Result<(), Fail> {
     let error = ConfigError::Repeated(999);
-    assert_eq!(rt; error.to_string(rt.alloc())?.as_str(), "node 999 repeats an earlier node");
+    assert_eq!(rt;
+        error.to_string(rt.alloc())?.as_str(),
+        "node 999 repeats an earlier node"
+    );
     Ok(())
 }

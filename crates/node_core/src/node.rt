@@ -45,13 +45,7 @@ impl Model for NodeCore {
 
 /// The step of a node's ring at a desk that is ready for it.
 #[tactic(auto, unfolding(crate::specs::Nodes::most_frames))]
-fn step_at(
-    alloc: Global,
-    ring: &mut RingNode,
-    now: u64,
-    input: &Input,
-    desk: &mut Desk,
-) -> Outcome
+fn step_at(alloc: Global, ring: &mut RingNode, now: u64, input: &Input, desk: &mut Desk) -> Outcome
     requires now { now ≤ 10 ^ 15 }
     requires input { FitsInput input.now }
     requires ready { IsReady desk.old }

@@ -1,4 +1,6 @@
-use drift_clock::{Bound, Drift, DriftBroken, MAX_DRIFT, MAX_GRAIN, MAX_READING, MAX_TRUE_TIME, wait_of};
+use drift_clock::{
+    Bound, Drift, DriftBroken, MAX_DRIFT, MAX_GRAIN, MAX_READING, MAX_TRUE_TIME, wait_of,
+};
 use std::process::Abort;
 
 /// What the drift answers at the last of these true times and readings.

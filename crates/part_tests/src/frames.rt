@@ -1,8 +1,8 @@
 ghost use Rattle.std.specs.Prelude.{◌≡◌};
 ghost use Rattle.fabric_terms.specs.declared.message.Body.TheVariants.{Hello};
 
-use frame_bag::FrameBag;
 use fabric_terms::{Body, Message};
+use frame_bag::FrameBag;
 use ring_points::Who;
 use std::test::Fail;
 

@@ -1,8 +1,8 @@
 ghost use Rattle.std.specs.Prelude.{◌≡◌};
 ghost use Rattle.ring_points.specs.Whos.{node_instance};
 
-use ring_route::{Hop, RouteTable, chains_end};
 use ring_points::{Point, Who};
+use ring_route::{Hop, RouteTable, chains_end};
 
 const HIGH: u64 = 1 << 63;
 

@@ -1,8 +1,8 @@
-use token_core::{Token, TokenRefusal};
 use join_phases::{Booting, Routing};
 use ring_points::{Interval, RangeSet};
 use std::process::Abort;
 use std::test::Fail;
+use token_core::{Token, TokenRefusal};
 
 fn set(rt: &impl Abort, pairs: &[(u64, u64)]) -> RangeSet {
     let mut set = RangeSet::new();

@@ -1,6 +1,6 @@
-use fabric_top::Status;
 use crate::schedules::{ONE, called, text_of};
 use edge_io::{EdgeRefusal, MemSink, MemSource, Sink};
+use fabric_top::Status;
 use std::test::Fail;
 
 #[test]

@@ -25,8 +25,20 @@ fn first_line_of(alloc: Global, length: usize) -> Result<Vec<u8>, Fail> {
 #[test]
 fn a_first_line_has_65536_bytes_at_most(rt: HostRuntime) -> Result<(), Fail> {
     let alloc = rt.alloc();
-    expect_text(&rt, alloc, first_line_of(alloc, 65_536)?, 0, &[&[NEVER_STARTED]])?;
-    expect_text(&rt, alloc, first_line_of(alloc, 65_537)?, 9, &[&["fault large 1"]])
+    expect_text(
+        &rt,
+        alloc,
+        first_line_of(alloc, 65_536)?,
+        0,
+        &[&[NEVER_STARTED]],
+    )?;
+    expect_text(
+        &rt,
+        alloc,
+        first_line_of(alloc, 65_537)?,
+        9,
+        &[&["fault large 1"]],
+    )
 }
 
 #[test]

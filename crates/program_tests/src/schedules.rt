@@ -1,8 +1,8 @@
 // Schedules over devices in memory: the status, and what is written. A test hands in the lines of its schedule, the
 // first of them the configuration.
 
-use fabric_top::fabric_main;
 use edge_io::{MemSink, MemSource, Sink, Source};
+use fabric_top::fabric_main;
 use std::alloc::Global;
 use std::process::Abort;
 use std::test::Fail;

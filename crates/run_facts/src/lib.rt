@@ -9,5 +9,6 @@
 mod laws;
 
 pub use laws::{
-    clocks_are_of_running, instances_are_counted, last_own_is_held, leave_is_told, records_grow, table_is_kept,
+    clocks_are_of_running, instances_are_counted, last_own_is_held, leave_is_told, records_grow,
+    table_is_kept,
 };
