@@ -1,5 +1,5 @@
 -- When a deed may happen. Whatever was sent may arrive at any time, any number of times, or never.
-use Rattle.std.specs.Prelude.{◌≡◌, ℕ, ◌<◌, ◌≤◌, List, [], length, Some, ◌⊎◌}
+use Rattle.std.specs.Prelude.{◌≡◌, ℕ, ◌<◌, ◌≤◌, [], length, Some, ◌⊎◌}
 use Rattle.fabric_lemmas.specs.Members.{IsMember}
 use Rattle.epoch_machine.specs.Majorities.{MajorityOf}
 use Rattle.epoch_machine.specs.Epochs.{number_of}
