@@ -26,7 +26,7 @@ use Rattle.unit_rules.specs.Phases.{prepare_ends, swap_ends, promise_ends, vote_
 use Rattle.unit_rules.specs.Transitions.{answer_received}
 use Rattle.unit_rules.specs.Manager.{reconfig_commanded, manager_answered}
 use Rattle.unit_rules.specs.Steps.{failover_step}
-use Rattle.unit_examples.specs.Arbiters.{AnswersInOrder, PreparesTheFirst, Votes, Dones}
+use Rattle.unit_examples.specs.Arbiters.{AnswersInOrder, Prepares, Votes, Dones}
 use Rattle.unit_examples.specs.Managers.{Managers, Refusals as ManagerRefusals, Epochs, Memory, Ups, FiringInOrder, Starts}
 use Rattle.unit_examples.specs.Moves.{MovesThePrimary}
 use Rattle.unit_examples.specs.Phases.{Preparations, AfterPrepare, Moves, Choices, Decisions, Copies, Supersessions}
@@ -43,9 +43,9 @@ pub an_arbitrator_answers_in_order : AnswersInOrder
 unfolding all_rules
 an_arbitrator_answers_in_order = refl
 
-pub an_arbitrator_answers_first : PreparesTheFirst
+pub an_arbitrator_prepares : Prepares
 unfolding all_rules
-an_arbitrator_answers_first = refl
+an_arbitrator_prepares = record { first = refl; lower = refl; restarted = refl }
 
 pub an_arbitrator_votes : Votes
 unfolding all_rules
@@ -53,7 +53,7 @@ an_arbitrator_votes = record { first = refl; second = refl; of_another = refl; b
 
 pub an_arbitrator_keeps_what_is_done : Dones
 unfolding all_rules
-an_arbitrator_keeps_what_is_done = record { again = refl; greater = refl; below = refl }
+an_arbitrator_keeps_what_is_done = record { again = refl; lower = refl; greater = refl; below = refl }
 
 pub the_holder_of_point_0_manages : Managers
 unfolding all_rules
@@ -109,7 +109,7 @@ a_replica_promises = record { raised = refl; again = refl; older = refl }
 
 pub a_replica_takes_a_log : Syncs
 unfolding all_rules
-a_replica_takes_a_log = record { again = refl; nothing = refl; own = refl; gap = refl; other = refl }
+a_replica_takes_a_log = record { again = refl; older = refl; nothing = refl; own = refl; gap = refl; other = refl }
 
 pub a_replica_gives_entries : Fetches
 unfolding all_rules
@@ -117,15 +117,15 @@ a_replica_gives_entries = record { given = refl; silent = refl; past_end = refl;
 
 pub a_replica_collects_entries : Pieces
 unfolding all_rules
-a_replica_collects_entries = record { collected = refl; last = refl; past_end = refl; of_another = refl; unasked = refl; gap = refl }
+a_replica_collects_entries = record { collected = refl; last = refl; first_again = refl; promised_away = refl; past_end = refl; of_another = refl; unasked = refl; gap = refl }
 
 pub a_replica_takes_its_role : Activations
 unfolding all_rules
-a_replica_takes_its_role = record { primary = refl; secondary = refl; again = refl; older = refl; no_member = refl; gap = refl }
+a_replica_takes_its_role = record { primary = refl; secondary = refl; again = refl; restarted = refl; older = refl; no_member = refl; gap = refl }
 
 pub a_replica_appends : Appends
 unfolding all_rules
-a_replica_appends = record { taken = refl; held = refl; gap = refl; elsewhere = refl; older = refl }
+a_replica_appends = record { taken = refl; without_role = refl; held = refl; gap = refl; elsewhere = refl; older = refl }
 
 pub a_replica_refuses : ReplicaRefusals
 unfolding all_rules
@@ -137,7 +137,7 @@ a_primary_writes = record { sent = refl; moves_nothing = refl; alone = refl; ref
 
 pub a_primary_commits : Confirmations
 unfolding all_rules
-a_primary_commits = record { commits = refl; waits = refl; again = refl; late = refl; past_end = refl; elsewhere = refl }
+a_primary_commits = record { commits = refl; waits = refl; again = refl; late = refl; past_end = refl; of_another = refl; of_stranger = refl; elsewhere = refl }
 
 pub a_firing_sends_again_primary : FiringOfAPrimary
 unfolding all_rules

@@ -59,6 +59,8 @@ pub record Votes : Type 0 where
 pub record Dones : Type 0 where
   -- a configuration is kept once
   pub again : done_received (config e2 1 (1 ∷ [])) (record prepared { done = Some (config e2 1 (1 ∷ [])) }) ≡ reply (body.DoneKept 1 e2)
+  -- and a lower one does not replace it
+  pub lower : done_received (config e2 2 (2 ∷ [])) (record prepared { done = Some (config e3 1 (1 ∷ [])) }) ≡ reply (body.DoneKept 1 e2)
   -- a greater one replaces it
   pub greater :
       done_received (config e3 2 (2 ∷ [])) (record prepared { done = Some (config e2 1 (1 ∷ [])) })
@@ -66,7 +68,11 @@ pub record Dones : Type 0 where
   -- nothing below the prepared epoch is kept
   pub below : done_received (config e1 1 (1 ∷ [])) prepared ≡ reply (body.NoDone 1 e1 e2)
 
--- where nothing is prepared, the epoch before all others can be
-abbrev pub PreparesTheFirst : Type 0
-PreparesTheFirst =
-    prepare_received 1 (epoch 0 0) n1 empty_register ≡ reply_keeping (kept.PreparedBy 1 (epoch 0 0) n1) (body.Prepared 1 (epoch 0 0) None)
+pub record Prepares : Type 0 where
+  -- where nothing is prepared, the epoch before all others can be
+  pub first :
+      prepare_received 1 (epoch 0 0) n1 empty_register ≡ reply_keeping (kept.PreparedBy 1 (epoch 0 0) n1) (body.Prepared 1 (epoch 0 0) None)
+  -- its preparer has no lower epoch prepared either
+  pub lower : prepare_received 1 e1 n1 prepared ≡ reply (body.NoPrepare 1 e1 e2)
+  -- a restarted node is another preparer
+  pub restarted : prepare_received 1 e2 (node_instance 1 2) prepared ≡ reply (body.NoPrepare 1 e2 e2)

@@ -97,11 +97,11 @@ FiringInOrder =
 
 -- Who is up, and how loaded.
 
--- leases of 10, at node 1
+-- leases of 10, at node 1, which agrees to longer ones
 abbrev pub site : Site
 site =
     record {
-      ring = record { lease = 10; longest = 10; answer = 1; bound = record { d = 0; grain = 0 }; near = 0; arbitrators = 1; rounds = 1 };
+      ring = record { lease = 10; longest = 25; answer = 1; bound = record { d = 0; grain = 0 }; near = 0; arbitrators = 1; rounds = 1 };
       domains = (1, 1) ∷ (2, 4) ∷ [];
     }
 

@@ -25,6 +25,8 @@ pub record Promises : Type 0 where
 pub record Syncs : Type 0 where
   -- a Sync of the epoch of the log is answered with the own last entry and told to nobody, and the role stays
   pub again : sync_received 1 (taking e1 5 9) (seat e1 e1 Primary) ≡ acted (seat e1 e1 Primary) (Send asker (body.Adopted 1 e1 2) ∷ [])
+  -- a greater promised epoch is named
+  pub older : sync_received 1 (taking e1 5 2) (seat e2 e1 NoRole) ≡ acted (seat e2 e1 NoRole) (Send asker (body.Older 1 e1 e2) ∷ [])
   -- a Sync of nothing empties the log; its record is not of an own log, and nothing is told of it
   pub nothing :
       (sync_received 1 (taking e2 5 0) (seat e1 e1 Primary)).deeds
@@ -64,6 +66,14 @@ pub record Pieces : Type 0 where
       ≡ acted (record (collecting []) { replica = replica e2 e2 IdleSecondary [] })
       (Keep (kept.Incoming 1 e2 2 e1 (2 ∷ []))
       ∷ Keep (kept.AdoptedAt 1 e2 2 false) ∷ Tell (report.Adopted 1 e2 2) ∷ Send asker (body.Adopted 1 e2 2) ∷ [])
+  -- a first one that is collected already is recorded again, and the next one asked for again
+  pub first_again :
+      piece_received e2 (entry 1) (collecting (entry 1 ∷ []))
+      ≡ acted (collecting (entry 1 ∷ [])) (Keep (kept.Incoming 1 e2 1 e1 (1 ∷ [])) ∷ Send (node_instance 5 0) (body.Fetch 1 e2 2) ∷ [])
+  -- none is taken once a greater epoch is promised
+  pub promised_away :
+      piece_received e2 (entry 1) (record (collecting []) { replica = replica e3 e1 IdleSecondary [] })
+      ≡ still (record (collecting []) { replica = replica e3 e1 IdleSecondary [] })
   -- none is taken past the end of the Sync, none of another epoch, and none without a Sync
   pub past_end : piece_received e2 (entry 3) (collecting (entry 1 ∷ entry 2 ∷ [])) ≡ still (collecting (entry 1 ∷ entry 2 ∷ []))
   pub of_another : piece_received e3 (entry 1) (collecting []) ≡ still (collecting [])
@@ -84,6 +94,10 @@ pub record Activations : Type 0 where
   pub again :
       activate_received 1 asker (config e1 1 (1 ∷ 2 ∷ [])) (leading (peer 2 2 3 ∷ []) 2)
       ≡ acted (leading (peer 2 2 3 ∷ []) 2) (Send asker (body.Activated 1 e1) ∷ [])
+  -- after a restart it has no role, so it says again that it is primary
+  pub restarted :
+      activate_received 1 asker (config e1 1 (1 ∷ 2 ∷ [])) (seat e1 e1 NoRole)
+      ≡ acted (leading (peer 2 0 3 ∷ []) 2) (Tell (report.IsPrimary 1 e1) ∷ Send asker (body.Activated 1 e1) ∷ [])
   -- a greater promised epoch is named; that it is no member, or has no log of the epoch, is not answered
   pub older :
       activate_received 1 asker (config e1 1 (1 ∷ [])) (seat e2 e1 Primary)

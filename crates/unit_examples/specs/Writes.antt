@@ -8,7 +8,7 @@ use Rattle.fabric_terms.specs.declared.report.Reason.TheVariants as reason
 use Rattle.fabric_terms.specs.declared.report.Verb.TheVariants as verb
 use Rattle.replica_core.specs.declared.refusal.Done.TheVariants.{New}
 use Rattle.replica_core.specs.declared.refusal.ReplicaRefusal.TheVariants.{Older, Gap}
-use Rattle.replica_core.specs.declared.role.Role.TheVariants.{IdleSecondary, ActiveSecondary, Primary}
+use Rattle.replica_core.specs.declared.role.Role.TheVariants.{None as NoRole, IdleSecondary, ActiveSecondary, Primary}
 use Rattle.replica_core.specs.Calls.{promise_call, append_call, adopt_own_call, adopt_call}
 use Rattle.replica_core.specs.Replicas.{first_replica}
 use Rattle.unit_rules.specs.Deeds.{Keep, Send, Tell, acted, still, refuse}
@@ -43,6 +43,12 @@ pub record Appends : Type 0 where
       ≡ acted (seated (seat e1 e1 IdleSecondary)
       (record (replica e1 e1 IdleSecondary []) { log = entry 1 ∷ entry 2 ∷ record { epoch = e1; lsn = 3; bytes = 7 ∷ [] } ∷ [] }))
       (Keep (kept.Wrote 1 e1 3 (7 ∷ [])) ∷ Tell (report.Accepted 1 e1 3) ∷ Send asker (body.Appended 1 e1 3) ∷ [])
+  -- and so does a replica without a role
+  pub without_role :
+      append_received asker e1 3 (7 ∷ []) (seat e1 e1 NoRole)
+      ≡ acted (seated (seat e1 e1 NoRole)
+      (record (replica e1 e1 NoRole []) { log = entry 1 ∷ entry 2 ∷ record { epoch = e1; lsn = 3; bytes = 7 ∷ [] } ∷ [] }))
+      (Keep (kept.Wrote 1 e1 3 (7 ∷ [])) ∷ Tell (report.Accepted 1 e1 3) ∷ Send asker (body.Appended 1 e1 3) ∷ [])
   -- an entry that it has, and one that is too far, are answered with the last one
   pub held :
       append_received asker e1 1 (7 ∷ []) (seat e1 e1 IdleSecondary) ≡ acted (seat e1 e1 IdleSecondary) (Send asker (body.Appended 1 e1 2) ∷ [])
@@ -69,6 +75,9 @@ pub record Confirmations : Type 0 where
   pub late : appended_received 2 e1 1 (leading (peer 2 2 3 ∷ []) 2) ≡ still (leading (peer 2 2 2 ∷ []) 2)
   -- an entry that the primary has not is not confirmed
   pub past_end : appended_received 2 e1 5 (leading (peer 2 0 3 ∷ []) 0) ≡ still (leading (peer 2 0 6 ∷ []) 0)
+  -- of another epoch, or of no member, nothing is noted
+  pub of_another : appended_received 2 e2 2 (leading (peer 2 0 1 ∷ []) 0) ≡ still (leading (peer 2 0 1 ∷ []) 0)
+  pub of_stranger : appended_received 4 e1 2 (leading (peer 2 0 1 ∷ []) 0) ≡ still (leading (peer 2 0 1 ∷ []) 0)
   -- an active secondary notes nothing
   pub elsewhere :
       appended_received 2 e1 2 (record (leading (peer 2 0 3 ∷ []) 0) { replica = replica e1 e1 ActiveSecondary [] })

@@ -5,7 +5,7 @@
 //! it. They stand in a crate of their own, so that the checks of the rules stay short.
 #![tactic(auto)]
 
-ghost use Rattle.unit_examples.specs.Arbiters.{AnswersInOrder, Dones, PreparesTheFirst, Votes};
+ghost use Rattle.unit_examples.specs.Arbiters.{AnswersInOrder, Dones, Prepares, Votes};
 ghost use Rattle.unit_examples.specs.Managers.{Epochs, FiringInOrder, Managers, Memory, Refusals as ManagerRefusals, Starts, Ups};
 ghost use Rattle.unit_examples.specs.Moves.{MovesThePrimary};
 ghost use Rattle.unit_examples.specs.Phases.{AfterPrepare, Choices, Copies, Decisions, Moves, Preparations, Supersessions};
@@ -16,7 +16,7 @@ ghost use Rattle.unit_examples.specs.Writes.{Appends, Confirmations, FiringOfAPr
 /// A fresh arbitrator answers one question after the other.
 pub fn an_arbitrator_answers()
     ensures in_order { AnswersInOrder }
-    ensures first { PreparesTheFirst }
+    ensures prepares { Prepares }
 {}
 
 /// Which configuration an arbitrator votes for.
