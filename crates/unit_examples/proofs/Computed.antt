@@ -93,7 +93,7 @@ the_furthest_is_chosen = record { once = refl; by_epoch = refl; by_last = refl; 
 
 pub votes_decide : Decisions
 unfolding all_rules
-votes_decide = record { split = refl; decided = refl; still_open = refl; of_no_arbitrator = refl }
+votes_decide = record { split = refl; decided = refl; fired_again = refl; still_open = refl; of_no_arbitrator = refl }
 
 pub logs_are_copied : Copies
 unfolding all_rules

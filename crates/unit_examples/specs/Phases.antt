@@ -146,6 +146,10 @@ pub record Decisions : Type 0 where
   pub decided :
       (answer_received [] 32770 e2 (body.Voted 1 e2 (config e2 2 (2 ∷ []))) (deciding ((1, config e2 2 (2 ∷ [])) ∷ []))).deeds
       ≡ Send (node_instance 2 0) (body.Sync 1 e2 2 0) ∷ []
+  -- a firing asks the arbitrators that have not voted
+  pub fired_again :
+      reconfig_fired (deciding ((1, config e2 1 (1 ∷ [])) ∷ []))
+      ≡ send_all (node_instance 32770 0 ∷ node_instance 32771 0 ∷ []) (body.Vote (config e2 1 (1 ∷ [])))
   -- while somebody can still get a majority, it goes on
   pub still_open :
       answer_received [] 32770 e2 (body.Voted 1 e2 (config e2 2 (2 ∷ []))) (deciding ((1, config e2 1 (1 ∷ [])) ∷ []))
