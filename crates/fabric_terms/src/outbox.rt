@@ -10,10 +10,10 @@ use std::mem;
 /// How many messages an outbox holds.
 pub const OUTBOX_LIMIT: usize = 192;
 
-/// What one step sends, in its order, each with its addressee: at most 192 messages. Contracts see them as their list.
+/// What one step sends, in its order, each with its addressee: at most `OUTBOX_LIMIT` messages. Contracts see them as their list.
 #[derive(Drop)]
 pub struct Outbox {
-    messages: ArrayVec<(Who, Body), 192>,
+    messages: ArrayVec<(Who, Body), OUTBOX_LIMIT>,
 }
 
 impl Model for Outbox {
@@ -76,7 +76,7 @@ impl Outbox {
 
     /// Sends one more message.
     pub fn send(&mut self, to: Who, body: Body)
-        requires { length self.old < 192 }
+        requires { length self.old < OUTBOX_LIMIT }
         ensures { self.new ≡ self.old ++ (to, body) ∷ [] }
     {
         self.messages.push((to, body));

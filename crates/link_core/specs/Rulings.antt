@@ -8,7 +8,7 @@ use Rattle.arbiter_quorum.specs.declared.verdict.Verdict.{Verdict}
 use Rattle.arbiter_quorum.specs.declared.verdict.Verdict.TheVariants as verdict
 use Rattle.arbiter_quorum.specs.Tallies.{noted, verdict_of, may_be_heir}
 use Rattle.drift_clock.specs.declared.bound.Bound.{Bound}
-use Rattle.drift_clock.specs.Wait.{wait}
+use Rattle.drift_clock.specs.Wait.{heir_wait}
 use Rattle.ring_rules.specs.declared.link.Link.{Link}
 use Rattle.ring_rules.specs.declared.link.LinkState.{LinkState}
 use Rattle.ring_rules.specs.declared.link.LinkState.TheVariants as state
@@ -20,7 +20,7 @@ use Rattle.link_core.specs.Links.{Links, Turn, Did, SlotRow, turn, stays, same, 
 
 -- when an heir may take over: the peer's lease and its answers must be over by every clock
 abbrev pub ripe_at : ℕ → Bound → ℕ → Link → ℕ
-ripe_at now bound answer l = now + wait bound (l.len + answer)
+ripe_at now bound answer l = now + heir_wait bound l.len answer
 
 abbrev pub becomes_heir : Link → ℕ → Turn
 becomes_heir l ripe = turn (Some (record l { state = state.Heir; ripe = ripe })) [] (HeirNow l.peer ripe ∷ [])

@@ -8,13 +8,10 @@ use crate::notes::{LinkNote, LinkNotes};
 use crate::rounds::claim_round;
 use crate::say::{self, say_gone};
 use arbiter_quorum::Tally;
-use fabric_terms::{Body, Outbox};
+use fabric_terms::{Body, OUTBOX_LIMIT, Outbox};
 use heir_rounds::RoundTally;
-use ring_points::Who;
+use ring_points::{ARBITRATORS, Who};
 use ring_rules::{Link, LinkState};
-
-/// Arbitrator a is the actor of this number plus a.
-pub(crate) const ARBITERS: u16 = 32768;
 
 /// What a firing at one slot goes by: the reading, the time for an answer, and how many arbitrators and rounds there
 /// are.
@@ -39,13 +36,13 @@ pub(crate) fn is_over(link: &Link, now: u64) -> bool
 /// An arbitrator that has not answered is asked about the peer.
 fn ask(link: &Link, arbitrator: u8, out: &mut Outbox)
     requires few { arbitrator ≤ 9 }
-    requires room { length out.old < 192 }
+    requires room { length out.old < OUTBOX_LIMIT }
     ensures asked { out.new ≡ out.old ++ asked_if arbitrator link.now.peer (has_answered arbitrator link.now.tally.answers) }
     ensures room { length out.new ≤ length out.old + 1 }
 {
     if !link.tally.answered(arbitrator) {
         let to = Who {
-            actor: ARBITERS + u16::from(arbitrator),
+            actor: ARBITRATORS + u16::from(arbitrator),
             instance: 0,
         };
         out.send(to, Body::Accuse { victim: link.peer });
@@ -55,7 +52,7 @@ fn ask(link: &Link, arbitrator: u8, out: &mut Outbox)
 /// Each arbitrator that has not answered is asked about the peer.
 pub(crate) fn ask_arbiters(link: &Link, arbitrators: u8, out: &mut Outbox)
     requires few { arbitrators ≤ 9 }
-    requires room { length out.old + 9 ≤ 192 }
+    requires room { length out.old + 9 ≤ OUTBOX_LIMIT }
     ensures { out.new ≡ out.old ++ asked arbitrators link.now }
 {
     for k in 0..arbitrators {
@@ -72,7 +69,7 @@ pub(crate) fn accuse(
     out: &mut Outbox,
 ) -> Option<Who>
     requires few { arbitrators ≤ 9 }
-    requires room { length out.old + 9 ≤ 192 }
+    requires room { length out.old + 9 ≤ OUTBOX_LIMIT }
     ensures slot { slot.new ≡ option_map (accused_by me arbitrators rounds) slot.old }
     ensures peer { result ≡ option_map (λ l. l.peer) slot.old }
     ensures sent { IfSome slot.old (λ l. out.new ≡ out.old ++ asked arbitrators (accused_by me arbitrators rounds l)) }
@@ -98,7 +95,7 @@ fn discharged_end(link: &Link, firing: &Firing) -> u64
 }
 
 fn transfer_again(link: &Link, out: &mut Outbox)
-    requires { length out.old < 192 }
+    requires { length out.old < OUTBOX_LIMIT }
     ensures { out.new ≡ out.old ++ transfer_again link.now link.now.flight }
 {
     if let Some(flight) = &link.flight {
@@ -115,7 +112,7 @@ pub(crate) fn spoken(
     out: &mut Outbox,
 ) -> LinkNotes
     requires few { firing.now.arbitrators ≤ 9 }
-    requires room { length out.old + 9 ≤ 192 }
+    requires room { length out.old + 9 ≤ OUTBOX_LIMIT }
     requires rounds { firing.now.rounds ≤ 8 }
     requires answer { firing.now.answer ≤ 1_000_000_000 }
     requires times { IfSome slot.old (λ l. l.until ≤ 1_000_001_000_000_000) }

@@ -5,7 +5,7 @@ ghost use Rattle.link_core.specs.Links.{turn, turn_after};
 
 use crate::notes::{LinkNote, LinkNotes};
 use crate::say::{self, say_gone};
-use fabric_terms::{Body, Outbox};
+use fabric_terms::{Body, OUTBOX_LIMIT, Outbox};
 use ring_points::Flight;
 use ring_rules::{Link, LinkState};
 
@@ -16,7 +16,7 @@ pub(crate) fn transfer_seen(
     number: u32,
     out: &mut Outbox,
 ) -> LinkNotes
-    requires { length out.old < 192 }
+    requires { length out.old < OUTBOX_LIMIT }
     ensures { turn slot.new out.new result ≡ turn_after out.old (transfer_seen number i slot.old) }
 {
     let Some(link) = slot else {
@@ -34,7 +34,7 @@ pub(crate) fn transfer_seen(
 
 /// What is said to the peer at the end of the slot.
 fn last_words(link: &Link, bound: bool, out: &mut Outbox)
-    requires { length out.old < 192 }
+    requires { length out.old < OUTBOX_LIMIT }
     ensures { out.new ≡ out.old ++ last_words link.now bound }
 {
     let gone = Body::Gone {
@@ -74,7 +74,7 @@ pub(crate) fn gone_seen(
     bound: bool,
     out: &mut Outbox,
 ) -> LinkNotes
-    requires { length out.old < 192 }
+    requires { length out.old < OUTBOX_LIMIT }
     ensures { turn slot.new out.new result ≡ turn_after out.old (gone_seen got bound i slot.old) }
 {
     let Some(link) = slot else {
@@ -102,7 +102,7 @@ pub(crate) fn took(slot: &mut Option<Link>, number: u32)
 
 /// A flight goes to the peer.
 pub(crate) fn put_flight(slot: &mut Option<Link>, flight: &Flight, out: &mut Outbox)
-    requires { length out.old < 192 }
+    requires { length out.old < OUTBOX_LIMIT }
     ensures { turn slot.new out.new [] ≡ turn_after out.old (flight_sent flight.now slot.old) }
 {
     if let Some(link) = slot {
@@ -113,7 +113,7 @@ pub(crate) fn put_flight(slot: &mut Option<Link>, flight: &Flight, out: &mut Out
 
 /// The slot ends, and the peer gets its answer if it wants one.
 pub(crate) fn close(slot: &mut Option<Link>, bound: bool, out: &mut Outbox)
-    requires { length out.old < 192 }
+    requires { length out.old < OUTBOX_LIMIT }
     ensures { turn slot.new out.new [] ≡ turn_after out.old (slot_closed bound slot.old) }
 {
     if let Some(link) = slot {

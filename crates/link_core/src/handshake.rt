@@ -6,13 +6,13 @@ ghost use Rattle.link_core.specs.Handshakes.{offer_repeated, offer_taken, hello_
 use crate::announce::Announced;
 use crate::notes::{LinkNote, LinkNotes};
 use crate::say::{self, say_gone};
-use fabric_terms::{Body, Outbox};
+use fabric_terms::{Body, OUTBOX_LIMIT, Outbox};
 use ring_points::Who;
 use ring_rules::{Link, LinkState};
 
 /// A Hello of an instance that has a link: one that was accepted before gets its Offer again.
 pub(crate) fn hello_repeated(slot: &mut Option<Link>, theirs: u32, out: &mut Outbox)
-    requires { length out.old < 192 }
+    requires { length out.old < OUTBOX_LIMIT }
     ensures { turn slot.new out.new [] ≡ turn_after out.old (hello_repeated theirs slot.old) }
 {
     if let Some(link) = slot
@@ -32,7 +32,7 @@ pub(crate) fn offer_taken(
     len: u64,
     out: &mut Outbox,
 ) -> LinkNotes
-    requires room { length out.old < 192 }
+    requires room { length out.old < OUTBOX_LIMIT }
     requires times { IfSome slot.old (λ l. now + l.len < 2 ^ 64) }
     ensures { turn slot.new out.new result ≡ turn_after out.old (offer_taken now from theirs len slot.old) }
 {
@@ -56,7 +56,7 @@ pub(crate) fn offer_taken(
 
 /// An Offer in this session: one that was taken before gets its Take again.
 pub(crate) fn offer_repeated(slot: &mut Option<Link>, out: &mut Outbox)
-    requires { length out.old < 192 }
+    requires { length out.old < OUTBOX_LIMIT }
     ensures { turn slot.new out.new [] ≡ turn_after out.old (offer_repeated slot.old) }
 {
     let Some(link) = slot else {
@@ -82,7 +82,7 @@ pub(crate) fn take_seen(
     announce: &Announced,
     out: &mut Outbox,
 ) -> LinkNotes
-    requires { length out.old < 192 }
+    requires { length out.old < OUTBOX_LIMIT }
     ensures { turn slot.new out.new result ≡ turn_after out.old (take_seen now announce.now slot.old) }
 {
     let Some(link) = slot else {

@@ -14,7 +14,7 @@ use crate::deadlines::{Deadlines, change};
 use crate::flight;
 use arrayvec::ArrayVec;
 use drift_clock::Bound;
-use fabric_terms::Outbox;
+use fabric_terms::{OUTBOX_LIMIT, Outbox};
 use ring_points::{Flight, Who};
 use ring_rules::Link;
 use std::marker::Model;
@@ -164,7 +164,7 @@ impl Links16 {
     /// A flight stands in the slot, and goes to its peer.
     pub fn put_flight(&mut self, slot: usize, flight: &Flight, out: &mut Outbox)
         requires slot { slot < 16 }
-        requires room { length out.old < 192 }
+        requires room { length out.old < OUTBOX_LIMIT }
         ensures { did self.new out.new [] ≡ did_after out.old (call_in slot (flight_sent flight.now) self.old) }
     {
         change!(self, slot, place => flight::put_flight(place, flight, out))
@@ -173,7 +173,7 @@ impl Links16 {
     /// The slot ends, and its peer gets its answer if it wants one.
     pub fn close(&mut self, slot: usize, bound: bool, out: &mut Outbox)
         requires slot { slot < 16 }
-        requires room { length out.old < 192 }
+        requires room { length out.old < OUTBOX_LIMIT }
         ensures { did self.new out.new [] ≡ did_after out.old (call_in slot (slot_closed bound) self.old) }
     {
         change!(self, slot, place => flight::close(place, bound, out))

@@ -3,13 +3,13 @@ ghost use Rattle.link_core.specs.Calls.{slot_parted, turn_call_after, turn_outco
 
 use crate::refusal::LinkRefusal;
 use crate::say::say_gone;
-use fabric_terms::Outbox;
+use fabric_terms::{OUTBOX_LIMIT, Outbox};
 use ring_points::RangeSet;
 use ring_rules::{Link, LinkState};
 
 /// The slot gives up its record and says so to the peer, unless a flight of it stands.
 pub(crate) fn part(slot: &mut Option<Link>, out: &mut Outbox) -> Result<(), LinkRefusal>
-    requires { length out.old < 192 }
+    requires { length out.old < OUTBOX_LIMIT }
     ensures outcome { turn_outcome result slot.new out.new ≡ turn_call_after out.old (slot_parted slot.old) }
     ensures err { OnErr result (slot.new ≡ slot.old) }
     ensures silent { OnErr result (out.new ≡ out.old) }

@@ -6,7 +6,7 @@ ghost use Rattle.link_core.specs.Renewals.{ack_seen, renew_seen, wanted_if};
 
 use crate::notes::{LinkNote, LinkNotes};
 use crate::say::say_gone;
-use fabric_terms::{Body, Outbox};
+use fabric_terms::{Body, OUTBOX_LIMIT, Outbox};
 use ring_points::RangeSet;
 use ring_rules::{Link, LinkState};
 
@@ -35,7 +35,7 @@ fn renew(link: &mut Link, version: u32, got: u32, ranges: &RangeSet)
 }
 
 fn acknowledge(link: &Link, renewal: &Renewal, out: &mut Outbox)
-    requires { length out.old < 192 }
+    requires { length out.old < OUTBOX_LIMIT }
     ensures { out.new ≡ out.old ++ (link.now.peer, body.RenewAck link.now.mine link.now.yours renewal.now.stamp renewal.now.version) ∷ [] }
 {
     out.send(
@@ -76,7 +76,7 @@ pub(crate) fn renew_seen(
     renewal: &Renewal,
     out: &mut Outbox,
 ) -> LinkNotes
-    requires { length out.old < 192 }
+    requires { length out.old < OUTBOX_LIMIT }
     ensures { turn slot.new out.new result ≡ turn_after out.old (renew_seen renewal.now.stamp renewal.now.version renewal.now.got renewal.now.want renewal.now.ranges.now i slot.old) }
 {
     let Some(link) = slot else {

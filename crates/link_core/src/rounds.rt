@@ -4,12 +4,12 @@ ghost use Rattle.ring_rules.specs.Claims.{owes_round};
 ghost use Rattle.link_core.specs.Links.{turn, turn_after};
 ghost use Rattle.link_core.specs.Rounds.{claimed_first, claimed_if, claims, is_discharged, kept_seen, round_judged};
 
-use crate::firing::ARBITERS;
 use crate::notes::LinkNotes;
 use crate::ruling::{Terms, becomes_heir, ripe_at};
-use fabric_terms::{Body, Outbox};
+use drift_clock::MAX_READING;
+use fabric_terms::{Body, OUTBOX_LIMIT, Outbox};
 use heir_rounds::RoundVerdict;
-use ring_points::Who;
+use ring_points::{ARBITRATORS, Who};
 use ring_rules::{Link, LinkState};
 
 /// Whether the arbitrator has ruled, and has not answered in this round.
@@ -22,11 +22,11 @@ fn owes_round(link: &Link, arbitrator: u8) -> bool
 /// The present round is claimed at this arbitrator.
 fn claim(link: &Link, arbitrator: u8, out: &mut Outbox)
     requires few { arbitrator ≤ 9 }
-    requires room { length out.old < 192 }
+    requires room { length out.old < OUTBOX_LIMIT }
     ensures { out.new ≡ out.old ++ claimed_if arbitrator link.now true }
 {
     let to = Who {
-        actor: ARBITERS + u16::from(arbitrator),
+        actor: ARBITRATORS + u16::from(arbitrator),
         instance: 0,
     };
     let round = link.rounds.round();
@@ -42,7 +42,7 @@ fn claim(link: &Link, arbitrator: u8, out: &mut Outbox)
 /// The present round is claimed at this arbitrator, if it owes an answer.
 fn claim_owed(link: &Link, arbitrator: u8, out: &mut Outbox)
     requires few { arbitrator ≤ 9 }
-    requires room { length out.old + length (claimed_if arbitrator link.now (owes_round arbitrator link.now)) ≤ 192 }
+    requires room { length out.old + length (claimed_if arbitrator link.now (owes_round arbitrator link.now)) ≤ OUTBOX_LIMIT }
     ensures { out.new ≡ out.old ++ claimed_if arbitrator link.now (owes_round arbitrator link.now) }
 {
     if owes_round(link, arbitrator) {
@@ -53,7 +53,7 @@ fn claim_owed(link: &Link, arbitrator: u8, out: &mut Outbox)
 /// The present round is claimed at each of these arbitrators that owes an answer.
 fn claim_at_all(link: &Link, arbitrators: u8, out: &mut Outbox)
     requires few { arbitrators ≤ 9 }
-    requires room { length out.old + length (claimed_first arbitrators link.now) ≤ 192 }
+    requires room { length out.old + length (claimed_first arbitrators link.now) ≤ OUTBOX_LIMIT }
     ensures { out.new ≡ out.old ++ claimed_first arbitrators link.now }
 {
     for k in 0..arbitrators {
@@ -64,7 +64,7 @@ fn claim_at_all(link: &Link, arbitrators: u8, out: &mut Outbox)
 /// The present round is claimed, where there are rounds after the first.
 pub(crate) fn claim_round(link: &Link, arbitrators: u8, rounds: u8, out: &mut Outbox)
     requires few { arbitrators ≤ 9 }
-    requires room { length out.old + length (claimed_first arbitrators link.now) ≤ 192 }
+    requires room { length out.old + length (claimed_first arbitrators link.now) ≤ OUTBOX_LIMIT }
     ensures { out.new ≡ out.old ++ claims rounds arbitrators link.now }
 {
     if rounds > 1 {
@@ -91,7 +91,7 @@ fn round_judged(
     out: &mut Outbox,
 ) -> LinkNotes
     requires few { arbitrators ≤ 9 }
-    requires room { length out.old + 9 ≤ 192 }
+    requires room { length out.old + 9 ≤ OUTBOX_LIMIT }
     ensures { IfSome slot.old (λ l. turn slot.new out.new result ≡ turn_after out.old (round_judged rounds arbitrators l ripe verdict)) }
 {
     let Some(link) = slot else {
@@ -123,12 +123,12 @@ pub(crate) fn kept_seen(
     keeping: Keeping,
     out: &mut Outbox,
 ) -> LinkNotes
-    requires now { now ≤ 1_000_000_000_000_000 }
+    requires now { now ≤ MAX_READING }
     requires drift { terms.bound.d ≤ 100 }
     requires grain { terms.bound.grain ≤ 1_000_000 }
     requires length { IfSome slot.old (λ l. l.len + terms.answer ≤ 2_000_000_000) }
     requires few { arbitrators ≤ 9 }
-    requires room { length out.old + 9 ≤ 192 }
+    requires room { length out.old + 9 ≤ OUTBOX_LIMIT }
     requires first { 1 ≤ keeping.arbitrator }
     requires last { IfSome slot.old (λ l. keeping.arbitrator ≤ l.rounds.arbitrators) }
     ensures { turn slot.new out.new result ≡ turn_after out.old (kept_seen now terms.bound terms.answer terms.rounds arbitrators keeping.arbitrator keeping.round keeping.claimer slot.old) }

@@ -6,7 +6,7 @@ ghost use Rattle.link_core.specs.Rulings.{awaits, becomes_heir, discharge_told, 
 
 use crate::notes::{LinkNote, LinkNotes};
 use arbiter_quorum::Verdict;
-use drift_clock::{Bound, wait_of};
+use drift_clock::{Bound, MAX_READING, wait_of};
 use fabric_terms::Why;
 use ring_points::Ruling;
 use ring_rules::{Link, LinkState};
@@ -92,7 +92,7 @@ fn judged(slot: &mut Option<Link>, ripe: u64, rounds: u8, verdict: Verdict) -> L
 
 /// When an heir may take over: the peer's lease and its answers must be over by every clock.
 pub(crate) fn ripe_at(now: u64, bound: Bound, answer: u64, link: &Link) -> u64
-    requires now { now ≤ 1_000_000_000_000_000 }
+    requires now { now ≤ MAX_READING }
     requires drift { bound.d ≤ 100 }
     requires grain { bound.grain ≤ 1_000_000 }
     requires length { link.now.len + answer ≤ 2_000_000_000 }
@@ -134,7 +134,7 @@ pub(crate) fn ruling_seen(
     arbitrator: u8,
     ruling: Ruling,
 ) -> LinkNotes
-    requires now { now ≤ 1_000_000_000_000_000 }
+    requires now { now ≤ MAX_READING }
     requires drift { terms.bound.d ≤ 100 }
     requires grain { terms.bound.grain ≤ 1_000_000 }
     requires length { IfSome slot.old (λ l. l.len + terms.answer ≤ 2_000_000_000) }

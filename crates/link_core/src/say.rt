@@ -6,7 +6,7 @@ ghost use Rattle.link_core.specs.Handshakes.{renew_body};
 ghost use Rattle.link_core.specs.Links.{turn, turn_after, gone_said};
 
 use crate::announce::Announced;
-use fabric_terms::{Body, Outbox};
+use fabric_terms::{Body, OUTBOX_LIMIT, Outbox};
 use ring_points::{Flight, Who};
 use ring_rules::Link;
 
@@ -71,7 +71,7 @@ pub(crate) fn transfer(link: &Link, flight: &Flight) -> Body
 
 /// What a slot that parts says: it has no record, it took so much, and it is still bound.
 pub(crate) fn say_gone(link: &Link, out: &mut Outbox)
-    requires { length out.old < 192 }
+    requires { length out.old < OUTBOX_LIMIT }
     ensures { turn (Some link.now) out.new [] ≡ turn_after out.old (gone_said link.now) }
 {
     out.send(
@@ -87,7 +87,7 @@ pub(crate) fn say_gone(link: &Link, out: &mut Outbox)
 
 /// The sender of a Gone gets its answer if it wants one.
 pub(crate) fn answer(bound: bool, to: Who, gone: Body, out: &mut Outbox)
-    requires { length out.old < 192 }
+    requires { length out.old < OUTBOX_LIMIT }
     ensures { out.new ≡ out.old ++ answers bound to gone }
 {
     if bound {

@@ -15,6 +15,7 @@ use crate::desk::Desk;
 use crate::kept::NodeKept;
 use crate::outcome::Outcome;
 use crate::room::give_away;
+use drift_clock::MAX_READING;
 use fabric_terms::{FabricConfig, OutOfMemory};
 use keep_log::Kept;
 use ring_node::{Input, RingNode};
@@ -46,7 +47,7 @@ impl Model for NodeCore {
 /// The step of a node's ring at a desk that is ready for it.
 #[tactic(auto, unfolding(crate::specs::Nodes::most_frames))]
 fn step_at(alloc: Global, ring: &mut RingNode, now: u64, input: &Input, desk: &mut Desk) -> Outcome
-    requires now { now ≤ 10 ^ 15 }
+    requires now { now ≤ MAX_READING }
     requires input { FitsInput input.now }
     requires ready { IsReady desk.old }
     ensures does { (c : Configuration) → GoesBy c (core_of ring.old) → Does (node_step fabric c now input.now (core_of ring.old).state) (core_of ring.new) result }
@@ -80,7 +81,7 @@ impl NodeCore {
     ) -> Result<(Box<NodeCore>, Outcome), OutOfMemory>
         requires sound { IsSound config.now }
         requires node { is_configured_node config.now node ≡ true }
-        requires now { now ≤ 10 ^ 15 }
+        requires now { now ≤ MAX_READING }
         ensures begins { IfOk result (λ r. (records : List Record) → Amounts records kept.old → Does (node_begun fabric config.now node records) r.0.value r.1) }
         ensures goes_by { IfOk result (λ r. GoesBy config.now r.0.value) }
         ensures small { IfOk result (λ r. IsSmall r.0.value.state r.1) }
@@ -122,7 +123,7 @@ impl NodeCore {
     ) -> Result<(NodeCore, Outcome), OutOfMemory>
         requires sound { IsSound config.now }
         requires node { is_configured_node config.now node ≡ true }
-        requires now { now ≤ 10 ^ 15 }
+        requires now { now ≤ MAX_READING }
         ensures begins { IfOk result (λ r. (records : List Record) → boots_of records ≡ kept.boots → Does (node_begun fabric config.now node records) r.0 r.1) }
         ensures goes_by { IfOk result (λ r. GoesBy config.now r.0) }
         ensures small { IfOk result (λ r. IsSmall r.0.state r.1) }
@@ -155,7 +156,7 @@ impl NodeCore {
     /// The step of the node when this comes, at this reading of its clock, in ticks. It is an error where memory is
     /// short, and then nothing is changed.
     pub fn step(&mut self, now: u64, input: &Input) -> Result<Outcome, OutOfMemory>
-        requires now { now ≤ 10 ^ 15 }
+        requires now { now ≤ MAX_READING }
         requires input { FitsInput input.now }
         ensures does { IfOk result (λ o. (c : Configuration) → GoesBy c self.old → Does (node_step fabric c now input.now self.old.state) self.new o) }
         ensures small { IfOk result (IsSmall self.old.state) }

@@ -6,7 +6,7 @@ use Rattle.ring_machine.specs.Ends.{End, end_of, any_of, updated, replaced}
 use Rattle.ring_machine.specs.Slots.{Slot, Flight, Asking, Offered, Bound, Parting, Accused, Discharged, Heir, Abandoned, Parted, Ended, fresh_slot}
 use Rattle.ring_machine.specs.Tokens.{Token, Freeze, announced, undone}
 use Rattle.ring_machine.specs.Frames.{Frame, Hello, Offer, Take, Renew, RenewAck, Transfer, Gone, Accuse, RoundClaim, answer_if}
-use Rattle.drift_clock.specs.Wait.{wait}
+use Rattle.drift_clock.specs.Wait.{heir_wait}
 use Rattle.ring_machine.specs.World.{Settings, Instance, World, Place, At, InFlight, slot}
 use Rattle.ring_machine.specs.Deeds.{SlotDeed, HelloAgain, HelloDropped, HelloDenied, OfferAgain, OfferTaken, TakeAgain, TakeHeard, RenewSent, RenewHeard, AckHeard, PartFrozen, PartGiven, FlightAgain, FlightTaken, FlightReturned, PartingBegun, GoneAgain, GoneHeard, UnknownDenied, PeerAccused, AccuseAgain, MajorityAnswered, MajorityKept, RoundClaimed, SessionDropped, TakenOver, Deed, HelloBegun, OfferBegun, InSlot}
 
@@ -101,7 +101,7 @@ effect c e now s token place PeerAccused =
 effect c e now s token place AccuseAgain = outcome s token (Accuse e.who s.far.who ∷ []) place
 effect c e now s token place MajorityAnswered = outcome (record s { state = Discharged }) token [] place
 effect c e now s token place MajorityKept =
-    outcome (record s { state = Heir; ripe = now + wait c.bound (s.len + c.answer) }) token [] place
+    outcome (record s { state = Heir; ripe = now + heir_wait c.bound s.len c.answer }) token [] place
 effect c e now s token place (RoundClaimed round) = outcome s token (RoundClaim e.who s.far.who round ∷ []) place
 effect c e now s token place SessionDropped = outcome (ended s) token [] place
 effect c e now s token place (TakenOver part) = outcome (ended s) (enlarged token part) [] (moved part (At e.who) place)

@@ -4,7 +4,7 @@ use Rattle.fabric_lemmas.specs.Members.{IsMember}
 use Rattle.ring_machine.specs.Ends.{End}
 use Rattle.ring_machine.specs.Slots.{guards}
 use Rattle.ring_machine.specs.Frames.{RenewAck}
-use Rattle.drift_clock.specs.Wait.{wait}
+use Rattle.drift_clock.specs.Wait.{heir_wait}
 use Rattle.ring_machine.specs.World.{Settings, World, slot}
 use Rattle.ring_machine.specs.Arbitration.{AnsweredBy, HeirBy}
 
@@ -28,6 +28,6 @@ pub record SoundHeir (c : Settings) (w : World) (e f : End) (len ripe : ℕ) : T
   pub since : ℕ
   pub begun : ℕ
   pub reading : IsMember (since, begun) (w.instance e.who).pairs
-  pub waits : ripe ≡ begun + wait c.bound (len + c.answer)
+  pub waits : ripe ≡ begun + heir_wait c.bound len c.answer
   pub lease : guards (slot w f).state ≡ true → Leased (w.instance f.who).pairs since (slot w f).until (slot w f).len
   pub acks : (stamp version : ℕ) → IsMember (RenewAck e f stamp version) w.sent → Rests (w.instance f.who).pairs since stamp

@@ -10,7 +10,8 @@ use crate::node::RingNode;
 use crate::refusals::{refuse, refuse_for};
 use crate::reports::Reports;
 use crate::tokens::Spent;
-use fabric_terms::{Command, Outbox, Reason, Verb};
+use drift_clock::MAX_READING;
+use fabric_terms::{Command, OUTBOX_LIMIT, Outbox, Reason, Verb};
 
 impl RingNode {
     /// The command to link with a node.
@@ -23,8 +24,8 @@ impl RingNode {
         out: &mut Outbox,
         told: &mut Reports,
     ) -> Result<(), Spent>
-        requires now { now ≤ 1_000_000_000_000_000 }
-        requires room { length out.old < 192 }
+        requires now { now ≤ MAX_READING }
+        requires room { length out.old < OUTBOX_LIMIT }
         requires place { length told.old < 64 }
         ensures ok { OnOk result (step self.new out.new told.new ≡ by (λ c. link_commanded c now node (wire_for span) (length_for c span)) (step self.old out.old told.old)) }
         ensures err { OnErr result (has_numbers (link_commanded self.old.settings now node (wire_for span) (length_for self.old.settings span) (step self.old out.old told.old).work).ring ≡ false) }
@@ -41,7 +42,7 @@ impl RingNode {
     /// The command to join the ring through a member.
     #[tactic(auto, unfolding(ring_rules::specs::Commands::join_commanded))]
     pub(crate) fn join(&mut self, member: u16, out: &mut Outbox, told: &mut Reports)
-        requires room { length out.old < 192 }
+        requires room { length out.old < OUTBOX_LIMIT }
         requires place { length told.old < 64 }
         ensures row { step self.new out.new told.new ≡ by (λ c. join_commanded member) (step self.old out.old told.old) }
         ensures few { length told.new ≤ length told.old + 1 }
@@ -63,7 +64,7 @@ impl RingNode {
         out: &mut Outbox,
         told: &mut Reports,
     ) -> Result<(), Spent>
-        requires room { length out.old < 192 }
+        requires room { length out.old < OUTBOX_LIMIT }
         requires place { length told.old < 64 }
         ensures ok { OnOk result (step self.new out.new told.new ≡ by (λ c. part_commanded node) (step self.old out.old told.old)) }
         ensures err { OnErr result (has_numbers (part_commanded node (step self.old out.old told.old).work).ring ≡ false) }
@@ -90,8 +91,8 @@ impl RingNode {
         out: &mut Outbox,
         told: &mut Reports,
     ) -> Result<(), Spent>
-        requires now { now ≤ 1_000_000_000_000_000 }
-        requires room { length out.old < 192 }
+        requires now { now ≤ MAX_READING }
+        requires room { length out.old < OUTBOX_LIMIT }
         requires place { length told.old < 64 }
         ensures ok { OnOk result (step self.new out.new told.new ≡ by (λ c. command_row c now command.now) (step self.old out.old told.old)) }
         ensures err { OnErr result (has_numbers (command_row self.old.settings now command.now (step self.old out.old told.old).work).ring ≡ false) }
@@ -126,8 +127,8 @@ impl RingNode {
         out: &mut Outbox,
         told: &mut Reports,
     )
-        requires now { now ≤ 1_000_000_000_000_000 }
-        requires room { length out.old < 192 }
+        requires now { now ≤ MAX_READING }
+        requires room { length out.old < OUTBOX_LIMIT }
         requires place { length told.old < 63 }
         ensures row { step self.new out.new told.new ≡ by (λ c. command_received c now command.now) (step self.old out.old told.old) }
         ensures few { length told.new ≤ length told.old + 1 }

@@ -11,7 +11,8 @@ use crate::leave::whole_row;
 use crate::node::{RingNode, announced};
 use crate::reports::Reports;
 use crate::tokens::Spent;
-use fabric_terms::{Body, Outbox, Report};
+use drift_clock::MAX_READING;
+use fabric_terms::{Body, OUTBOX_LIMIT, Outbox, Report};
 use join_phases::Phase;
 use link_core::SLOTS;
 use token_core::TokenRefusal;
@@ -24,8 +25,8 @@ impl RingNode {
     #[tactic(auto, unfolding(ring_rules::specs::Firing::slot_fired))]
     fn fire_link(&mut self, i: usize, now: u64, out: &mut Outbox, told: &mut Reports)
         requires slot { i < 16 }
-        requires now { now ≤ 1_000_000_000_000_000 }
-        requires room { length out.old + 11 ≤ 192 }
+        requires now { now ≤ MAX_READING }
+        requires room { length out.old + 11 ≤ OUTBOX_LIMIT }
         requires place { length told.old + 2 ≤ 64 }
         ensures row { step self.new out.new told.new ≡ by (λ c. slot_fired c now i) (step self.old out.old told.old) }
         ensures few { length told.new ≤ length told.old + 2 }
@@ -56,8 +57,8 @@ impl RingNode {
     #[tactic(auto, unfolding(ring_rules::specs::Firing::slot_fired))]
     pub(crate) fn fire_slot(&mut self, i: usize, now: u64, out: &mut Outbox, told: &mut Reports)
         requires slot { i < 16 }
-        requires now { now ≤ 1_000_000_000_000_000 }
-        requires room { length out.old + 11 ≤ 192 }
+        requires now { now ≤ MAX_READING }
+        requires room { length out.old + 11 ≤ OUTBOX_LIMIT }
         requires place { length told.old + 2 ≤ 64 }
         ensures row { step self.new out.new told.new ≡ by (λ c. slot_fired c now i) (step self.old out.old told.old) }
         ensures few { length told.new ≤ length told.old + 2 }
@@ -72,7 +73,7 @@ impl RingNode {
     /// Each slot in its order, until the node leaves.
     #[tactic(auto, unfolding(ring_rules::specs::Firing::slots_fired))]
     fn fire_slots(&mut self, now: u64, out: &mut Outbox, told: &mut Reports)
-        requires now { now ≤ 1_000_000_000_000_000 }
+        requires now { now ≤ MAX_READING }
         requires room { length out.old ≡ 0 }
         requires place { length told.old ≡ 0 }
         ensures row { step self.new out.new told.new ≡ by (λ c. slots_fired c now 16) (step self.old out.old told.old) }
@@ -88,7 +89,7 @@ impl RingNode {
 
     /// What is frozen is given away, where every slot that guards has acknowledged it.
     fn give_frozen(&mut self, out: &mut Outbox, told: &mut Reports) -> Result<(), Spent>
-        requires room { length out.old < 192 }
+        requires room { length out.old < OUTBOX_LIMIT }
         requires place { length told.old < 64 }
         ensures ok { OnOk result (step self.new out.new told.new ≡ by (λ c w. give_frozen w.ring.token.freeze w) (step self.old out.old told.old)) }
         ensures err { OnErr result (has_numbers (give_frozen self.old.ring.token.freeze (step self.old out.old told.old).work).ring ≡ false) }
@@ -122,7 +123,7 @@ impl RingNode {
     /// The row of a freeze that is ready.
     #[tactic(auto, unfolding(ring_rules::specs::Firing::freeze_given))]
     fn fire_freeze(&mut self, out: &mut Outbox, told: &mut Reports)
-        requires room { length out.old < 192 }
+        requires room { length out.old < OUTBOX_LIMIT }
         requires place { length told.old < 63 }
         ensures row { step self.new out.new told.new ≡ by (λ c. freeze_given) (step self.old out.old told.old) }
         ensures few { length told.new ≤ length told.old + 1 }
@@ -133,8 +134,8 @@ impl RingNode {
 
     /// Greets the near nodes, as the command to link does; a refusal is silent.
     fn greet_near(&mut self, now: u64, out: &mut Outbox) -> Result<(), Spent>
-        requires now { now ≤ 1_000_000_000_000_000 }
-        requires room { length out.old + 8 ≤ 192 }
+        requires now { now ≤ MAX_READING }
+        requires room { length out.old + 8 ≤ OUTBOX_LIMIT }
         ensures ok { OnOk result ((told : List Report) → step self.new out.new told ≡ by (λ c w. search_by c now w true) (step self.old out.old told)) }
         ensures err { OnErr result ((told : List Report) → has_numbers (search_by self.old.settings now (step self.old out.old told).work true).ring ≡ false) }
         ensures kept { OnErr result ((told : List Report) → IsPatched (step self.old out.old told) (step self.new out.new told)) }
@@ -152,8 +153,8 @@ impl RingNode {
 
     /// The search for a place, or for near nodes.
     fn search(&mut self, now: u64, out: &mut Outbox) -> Result<(), Spent>
-        requires now { now ≤ 1_000_000_000_000_000 }
-        requires room { length out.old + 8 ≤ 192 }
+        requires now { now ≤ MAX_READING }
+        requires room { length out.old + 8 ≤ OUTBOX_LIMIT }
         ensures ok { OnOk result ((told : List Report) → step self.new out.new told ≡ by (λ c w. search_by c now w (is_routing w.ring.phase)) (step self.old out.old told)) }
         ensures err { OnErr result ((told : List Report) → has_numbers (search_by self.old.settings now (step self.old out.old told).work (is_routing self.old.ring.phase)).ring ≡ false) }
         ensures kept { OnErr result ((told : List Report) → IsPatched (step self.old out.old told) (step self.new out.new told)) }
@@ -175,8 +176,8 @@ impl RingNode {
     /// The row of the search.
     #[tactic(auto, unfolding(ring_rules::specs::Firing::place_sought))]
     fn fire_search(&mut self, now: u64, out: &mut Outbox, told: &mut Reports)
-        requires now { now ≤ 1_000_000_000_000_000 }
-        requires room { length out.old + 8 ≤ 192 }
+        requires now { now ≤ MAX_READING }
+        requires room { length out.old + 8 ≤ OUTBOX_LIMIT }
         requires place { length told.old < 64 }
         ensures row { step self.new out.new told.new ≡ by (λ c. place_sought c now) (step self.old out.old told.old) }
         ensures few { length told.new ≤ length told.old + 1 }
@@ -188,7 +189,7 @@ impl RingNode {
     /// A firing: each slot in its order, then a freeze that is ready, then the search for a place or for near nodes.
     #[tactic(auto, unfolding(ring_rules::specs::Firing::timer_fired))]
     pub(crate) fn fire(&mut self, now: u64, out: &mut Outbox, told: &mut Reports)
-        requires now { now ≤ 1_000_000_000_000_000 }
+        requires now { now ≤ MAX_READING }
         requires room { length out.old ≡ 0 }
         requires place { length told.old ≡ 0 }
         ensures row { step self.new out.new told.new ≡ by (λ c. timer_fired c now) (step self.old out.old told.old) }

@@ -9,11 +9,9 @@ ghost use Rattle.fabric_terms.specs.Messages.{is_sound};
 use crate::node::RingNode;
 use crate::reports::Reports;
 use crate::up::is_among;
+use drift_clock::MAX_READING;
 use fabric_terms::{Body, Message, Outbox};
-use ring_points::{Point, Who};
-
-/// The actor of arbitrator a is a above this.
-const ARBITERS: u16 = 32768;
+use ring_points::{ARBITRATORS, Point, Who};
 
 fn is_for(me: Who, to: Who) -> bool
     ensures { result ≡ rules.is_for me to }
@@ -78,7 +76,7 @@ impl RingNode {
     fn is_arbiter(&self, actor: u16) -> bool
         ensures { result ≡ rules.is_arbiter self.now.settings actor }
     {
-        ARBITERS < actor && actor <= ARBITERS + u16::from(self.links.arbitrators())
+        ARBITRATORS < actor && actor <= ARBITRATORS + u16::from(self.links.arbitrators())
     }
 
     fn may_send(&self, actor: u16, body: &Body) -> bool
@@ -113,7 +111,7 @@ impl RingNode {
     /// The row of a frame that passes.
     #[tactic(auto, unfolding(ring_rules::specs::Seeks::seek_received, ring_rules::specs::Frames::frame_received))]
     fn hear_frame(&mut self, now: u64, message: &Message, out: &mut Outbox, told: &mut Reports)
-        requires now { now ≤ 1_000_000_000_000_000 }
+        requires now { now ≤ MAX_READING }
         requires frame { IsTrue (may_come self.old.settings.arbitrators message.now.from message.now.body) }
         requires room { length out.old ≡ 0 }
         requires place { length told.old ≡ 0 }
@@ -130,7 +128,7 @@ impl RingNode {
 
     /// A frame.
     pub(crate) fn hear(&mut self, now: u64, message: &Message, out: &mut Outbox, told: &mut Reports)
-        requires now { now ≤ 1_000_000_000_000_000 }
+        requires now { now ≤ MAX_READING }
         requires frame { IsTrue (is_sound message.now) }
         requires room { length out.old ≡ 0 }
         requires place { length told.old ≡ 0 }

@@ -8,7 +8,8 @@ ghost use Rattle.ring_rules.specs.Handshakes.{greet_plainly};
 use crate::node::RingNode;
 use crate::refusals::pass_over;
 use crate::tokens::Spent;
-use fabric_terms::Outbox;
+use drift_clock::MAX_READING;
+use fabric_terms::{OUTBOX_LIMIT, Outbox};
 use link_core::LinkRefusal;
 
 impl RingNode {
@@ -20,8 +21,8 @@ impl RingNode {
         span: Option<u64>,
         out: &mut Outbox,
     ) -> Result<(), LinkRefusal>
-        requires now { now ≤ 1_000_000_000_000_000 }
-        requires room { length out.old < 192 }
+        requires now { now ≤ MAX_READING }
+        requires room { length out.old < OUTBOX_LIMIT }
         ensures outcome { outcome result (links_of self.new) out.new ≡ call_after out.old (hello_call now node span (links_of self.old)) }
         ensures kept { self.new ≡ with_links (links_of self.new) self.old }
         ensures err { OnErr result (self.new ≡ self.old) }
@@ -38,8 +39,8 @@ impl RingNode {
         now: u64,
         out: &mut Outbox,
     ) -> Result<(), Spent>
-        requires now { now ≤ 1_000_000_000_000_000 }
-        requires room { length out.old < 192 }
+        requires now { now ≤ MAX_READING }
+        requires room { length out.old < OUTBOX_LIMIT }
         ensures ok { OnOk result ((told : List Report) → step self.new out.new told ≡ by (λ c. greet_plainly c now node) (step self.old out.old told)) }
         ensures err { OnErr result ((told : List Report) → has_numbers (greet_plainly self.old.settings now node (step self.old out.old told).work).ring ≡ false) }
         ensures kept { OnErr result (self.new ≡ self.old) }

@@ -8,7 +8,8 @@ ghost use Rattle.ring_rules.specs.Frames.{frame_row};
 use crate::leave::whole_row;
 use crate::node::{RingNode, announced};
 use crate::reports::Reports;
-use fabric_terms::{Body, Message, Outbox};
+use drift_clock::MAX_READING;
+use fabric_terms::{Body, Message, OUTBOX_LIMIT, Outbox};
 
 /// Whether a frame says that its sender is gone and wants an answer.
 pub(crate) fn wants_answer(body: &Body) -> bool
@@ -26,10 +27,10 @@ impl RingNode {
         out: &mut Outbox,
         told: &mut Reports,
     )
-        requires now { now ≤ 1_000_000_000_000_000 }
+        requires now { now ≤ MAX_READING }
         requires frame { IsTrue (may_come self.old.settings.arbitrators message.now.from message.now.body) }
         requires link { is_search message.now.body ≡ false }
-        requires room { length out.old + 9 ≤ 192 }
+        requires room { length out.old + 9 ≤ OUTBOX_LIMIT }
         requires place { length told.old + 2 ≤ 64 }
         ensures row { step self.new out.new told.new ≡ by (λ c w. counted w (frame_row c now message.now.from message.now.body w)) (step self.old out.old told.old) }
         ensures few { length told.new ≤ length told.old + 2 }

@@ -17,7 +17,7 @@ use crate::near::nearer_part;
 use crate::node::RingNode;
 use crate::reports::Reports;
 use crate::tokens::Spent;
-use fabric_terms::{Body, Outbox, Report};
+use fabric_terms::{Body, OUTBOX_LIMIT, Outbox, Report};
 use link_core::LinkNote;
 use ring_points::{RangeSet, Who};
 use token_core::TokenRefusal;
@@ -106,7 +106,7 @@ impl RingNode {
     /// A freeze for the slot is undone, and the slot ends.
     fn end(&mut self, i: usize, gone: bool, out: &mut Outbox) -> Result<(), Spent>
         requires inside { i < 16 }
-        requires room { length out.old < 192 }
+        requires room { length out.old < OUTBOX_LIMIT }
         ensures links { OnOk result (did (links_of self.new) out.new [] ≡ did_after out.old (call_in i (slot_closed gone) (links_of self.old))) }
         ensures token { OnOk result (self.new ≡ with_links (links_of self.new) (with_token (undone i self.old.ring.token) self.old)) }
         ensures kept { OnErr result (self.new ≡ self.old) }
@@ -144,7 +144,7 @@ impl RingNode {
         out: &mut Outbox,
         told: &mut Reports,
     ) -> Result<(), Spent>
-        requires room { length out.old < 192 }
+        requires room { length out.old < OUTBOX_LIMIT }
         requires place { length told.old < 64 }
         ensures ok { OnOk result (step self.new out.new told.new ≡ by (λ c w. returned_in i gone (slot_at i w.ring.slots) w) (step self.old out.old told.old)) }
         ensures err { OnErr result (IsBroken (λ c w. returned_in i gone (slot_at i w.ring.slots) w) (step self.old out.old told.old) (step self.new out.new told.new)) }
@@ -204,7 +204,7 @@ impl RingNode {
         out: &mut Outbox,
         told: &mut Reports,
     ) -> Result<(), Spent>
-        requires room { length out.old < 192 }
+        requires room { length out.old < OUTBOX_LIMIT }
         requires place { length told.old < 64 }
         ensures ok { OnOk result (step self.new out.new told.new ≡ by (λ c. noted (cause_of body.now) note.now) (step self.old out.old told.old)) }
         ensures err { OnErr result (IsBroken (λ c. noted (cause_of body.now) note.now) (step self.old out.old told.old) (step self.new out.new told.new)) }
@@ -234,7 +234,7 @@ impl RingNode {
         out: &mut Outbox,
         told: &mut Reports,
     ) -> Result<(), Spent>
-        requires room { length out.old + length notes.now ≤ 192 }
+        requires room { length out.old + length notes.now ≤ OUTBOX_LIMIT }
         requires place { length told.old + length notes.now ≤ 64 }
         ensures ok { OnOk result (step self.new out.new told.new ≡ by (λ c. all_noted (cause_of body.now) notes.now) (step self.old out.old told.old)) }
         ensures err { OnErr result (IsBrokenOff (λ c. all_noted (cause_of body.now) notes.now) (step self.old out.old told.old) (step self.new out.new told.new)) }

@@ -11,7 +11,8 @@ use crate::leave::whole_row;
 use crate::node::RingNode;
 use crate::reports::Reports;
 use crate::tokens::Spent;
-use fabric_terms::{Body, Outbox, Report};
+use drift_clock::MAX_READING;
+use fabric_terms::{Body, OUTBOX_LIMIT, Outbox, Report};
 use ring_points::{Point, Who};
 use ring_route::Hop;
 
@@ -44,7 +45,7 @@ impl RingNode {
         out: &mut Outbox,
         told: &mut Reports,
     )
-        requires room { length out.old < 192 }
+        requires room { length out.old < OUTBOX_LIMIT }
         requires place { length told.old < 64 }
         ensures row { step self.now out.new told.new ≡ by (λ c w. counted w (seek_on origin key hops (hop_from w.ring key (Some origin.actor)) (nat_lt hops hop_limit) w)) (step self.now out.old told.old) }
         ensures few { length told.new ≤ length told.old + 1 }
@@ -66,7 +67,7 @@ impl RingNode {
 
     /// The holder of a point is reported, or asked for.
     pub(crate) fn find(&self, key: Point, out: &mut Outbox, told: &mut Reports)
-        requires room { length out.old < 192 }
+        requires room { length out.old < OUTBOX_LIMIT }
         requires place { length told.old < 64 }
         ensures row { step self.now out.new told.new ≡ by (λ c w. find_by key (hop_from w.ring key None) w) (step self.now out.old told.old) }
         ensures few { length told.new ≤ length told.old + 1 }
@@ -86,7 +87,7 @@ impl RingNode {
 
     /// Asks a member for the holder of the own point.
     pub(crate) fn seek_place(&self, member: u16, out: &mut Outbox)
-        requires { length out.old < 192 }
+        requires { length out.old < OUTBOX_LIMIT }
         ensures row { (told : List Report) → step self.now out.new told ≡ by (λ c. seek_place member) (step self.now out.old told) }
         ensures short { length out.new ≤ length out.old + 1 }
     {
@@ -117,8 +118,8 @@ impl RingNode {
         out: &mut Outbox,
         told: &mut Reports,
     ) -> Result<(), Spent>
-        requires now { now ≤ 1_000_000_000_000_000 }
-        requires room { length out.old < 192 }
+        requires now { now ≤ MAX_READING }
+        requires room { length out.old < OUTBOX_LIMIT }
         requires place { length told.old < 64 }
         ensures ok { OnOk result (step self.new out.new told.new ≡ by (λ c. found_received c now key holder) (step self.old out.old told.old)) }
         ensures err { OnErr result (has_numbers (found_received self.old.settings now key holder (step self.old out.old told.old).work).ring ≡ false) }
@@ -148,8 +149,8 @@ impl RingNode {
         out: &mut Outbox,
         told: &mut Reports,
     )
-        requires now { now ≤ 1_000_000_000_000_000 }
-        requires room { length out.old < 192 }
+        requires now { now ≤ MAX_READING }
+        requires room { length out.old < OUTBOX_LIMIT }
         requires place { length told.old < 63 }
         ensures row { step self.new out.new told.new ≡ by (λ c w. counted w (found_received c now key holder w)) (step self.old out.old told.old) }
         ensures few { length told.new ≤ length told.old + 1 }

@@ -7,7 +7,8 @@ ghost use Rattle.ring_rules.specs.Steps.{before_fence, input_taken};
 use crate::node::RingNode;
 use crate::owns::{Owned, same_fence, same_ranges};
 use crate::reports::Reports;
-use fabric_terms::{Outbox, Report, Why};
+use drift_clock::MAX_READING;
+use fabric_terms::{OUTBOX_LIMIT, Outbox, Report, Why};
 use ring_rules::Input;
 
 impl RingNode {
@@ -43,7 +44,7 @@ impl RingNode {
 
     /// The row of the input.
     fn input(&mut self, now: u64, input: &Input, out: &mut Outbox, told: &mut Reports)
-        requires now { now ≤ 1_000_000_000_000_000 }
+        requires now { now ≤ MAX_READING }
         requires sound { IsTrue (is_sound_input input.now) }
         requires sent { length out.old ≡ 0 }
         requires told { length told.old ≡ 0 }
@@ -62,7 +63,7 @@ impl RingNode {
     /// before it, the reading is at most 10^15, and a frame is in the grammar.
     #[tactic(auto, unfolding(ring_rules::specs::Steps::ring_step))]
     pub fn advance(&mut self, now: u64, input: &Input, out: &mut Outbox, told: &mut Reports)
-        requires now { now ≤ 1_000_000_000_000_000 }
+        requires now { now ≤ MAX_READING }
         requires sound { IsTrue (is_sound_input input.now) }
         requires sent { out.old ≡ [] }
         requires told { told.old ≡ [] }
@@ -82,14 +83,14 @@ impl RingNode {
 
     /// The step of an input, in these reports: the row of the rules, and at last what is owned, where that has changed
     /// or the node has left. The outbox and the reports are empty before it, the reading is at most 10^15, and a frame
-    /// is in the grammar. It sends at most 192 messages and makes at most 64 reports.
+    /// is in the grammar. It sends at most `OUTBOX_LIMIT` messages and makes at most 64 reports.
     pub fn act(&mut self, now: u64, input: &Input, out: &mut Outbox, told: &mut Reports)
-        requires now { now ≤ 1_000_000_000_000_000 }
+        requires now { now ≤ MAX_READING }
         requires sound { IsTrue (is_sound_input input.now) }
         requires sent { out.old ≡ [] }
         requires told { told.old ≡ [] }
         ensures step { step self.new out.new told.new ≡ acted now input.now self.old }
-        ensures messages { length out.new ≤ 192 }
+        ensures messages { length out.new ≤ OUTBOX_LIMIT }
         ensures reports { length told.new ≤ 64 }
     {
         let before = self.owned();
@@ -98,13 +99,13 @@ impl RingNode {
     }
 
     /// The step of an input. The outbox is empty before it, the reading is at most 10^15, and a frame is in the
-    /// grammar. It sends at most 192 messages and makes at most 64 reports.
+    /// grammar. It sends at most `OUTBOX_LIMIT` messages and makes at most 64 reports.
     pub fn step(&mut self, now: u64, input: &Input, out: &mut Outbox) -> Reports
-        requires now { now ≤ 1_000_000_000_000_000 }
+        requires now { now ≤ MAX_READING }
         requires sound { IsTrue (is_sound_input input.now) }
         requires sent { out.old ≡ [] }
         ensures step { step self.new out.new result ≡ acted now input.now self.old }
-        ensures messages { length out.new ≤ 192 }
+        ensures messages { length out.new ≤ OUTBOX_LIMIT }
         ensures reports { length result ≤ 64 }
     {
         let mut told = Reports::new();

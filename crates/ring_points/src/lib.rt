@@ -22,4 +22,4 @@ pub use laws::{
 pub use point::{Point, distance, nearer};
 pub use ranges::{MAX_INTERVALS, RangeSet, TooMany};
 pub use unit::{Config, Epoch, Members};
-pub use who::{Flight, Ruling, Who};
+pub use who::{ARBITRATORS, Flight, LAST_NODE, Ruling, Who};

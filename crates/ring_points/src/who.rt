@@ -2,9 +2,15 @@ ghost use Rattle.std.specs.Prelude.{◌≡◌};
 
 use crate::ranges::RangeSet;
 
+/// The greatest number of a node.
+pub const LAST_NODE: u16 = 999;
+
+/// Arbitrator a is actor a above this, and every actor up to it is a node.
+pub const ARBITRATORS: u16 = 32768;
+
 /// A process: the actor, and which of its starts this is.
 ///
-/// Node n is actor n (1 to 999), arbitrator a is actor 32768 + a (1 to 9). Each start of a node has an
+/// Node n is actor n (1 to `LAST_NODE`), arbitrator a is actor `ARBITRATORS` + a (1 to 9). Each start of a node has an
 /// instance number one greater than the former, from 1. An arbitrator's instance is 0, and so is that
 /// of "whichever instance of this node runs".
 #[derive(Clone, Copy, Debug, PartialEq, Eq, PartialOrd, Ord, Default)]

@@ -8,7 +8,7 @@ use Rattle.fabric_terms.specs.declared.report.Why.TheVariants.{Lost}
 use Rattle.arbiter_quorum.specs.declared.verdict.Verdict.{Verdict}
 use Rattle.arbiter_quorum.specs.declared.verdict.Verdict.TheVariants as verdict
 use Rattle.arbiter_quorum.specs.Tallies.{noted, verdict_of, may_be_heir}
-use Rattle.drift_clock.specs.Wait.{wait}
+use Rattle.drift_clock.specs.Wait.{heir_wait}
 use Rattle.ring_rules.specs.declared.link.Link.{Link}
 use Rattle.ring_rules.specs.declared.link.LinkState.{LinkState}
 use Rattle.ring_rules.specs.declared.link.LinkState.TheVariants as state
@@ -19,7 +19,7 @@ use Rattle.ring_rules.specs.Deeds.{put_slot, drop_slot, tell, leave, in_found}
 
 -- when an heir may take over: the peer's lease and its answers must be over by every clock
 abbrev pub ripe_at : Settings → ℕ → Link → ℕ
-ripe_at c now l = now + wait c.bound (l.len + c.answer)
+ripe_at c now l = now + heir_wait c.bound l.len c.answer
 
 abbrev pub becomes_heir : Settings → ℕ → ℕ → Link → Work → Work
 becomes_heir c now i l w =

@@ -8,10 +8,7 @@ ghost use Rattle.ring_world.specs.Stands.{Stands};
 
 use crate::world::World;
 use fabric_terms::FabricConfig;
-use ring_points::Who;
-
-/// The actor of arbitrator a is a above this.
-pub const ARBITRATORS: u16 = 32768;
+use ring_points::{ARBITRATORS, Who};
 
 fn position_of(clocks: &[(Who, u64)], node: u16) -> Option<usize>
     ensures { result ≡ position (λ k. k.0.actor == node) clocks.now }

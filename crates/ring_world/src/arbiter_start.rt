@@ -4,11 +4,10 @@ ghost use Rattle.world_rules.specs.Worlds.{World as RuledWorld};
 ghost use Rattle.ring_world.specs.Moves.{Comes};
 ghost use Rattle.ring_world.specs.Stands.{Stands};
 
-use crate::actors::ARBITRATORS;
 use crate::world::{Acted, EventRefusal, World};
 use fabric_terms::Event;
 use node_core::Batch;
-use ring_points::Who;
+use ring_points::{ARBITRATORS, Who};
 
 impl World {
     /// Starts a configured arbitrator that does not run.

@@ -11,11 +11,10 @@ ghost use Rattle.ring_world.specs.Room.{most_events, most_frames};
 ghost use Rattle.ring_world.specs.Stands.{Stands};
 ghost use Rattle.ring_world.specs.Steps.{IsSoundFrame, LeavesSound};
 
-use crate::actors::ARBITRATORS;
 use crate::world::{Acted, EventRefusal, World};
 use fabric_terms::{Event, Message, OutOfMemory};
 use ring_node::Input;
-use ring_points::Who;
+use ring_points::{ARBITRATORS, Who};
 
 /// Whether a message to this instance, or to whichever runs, is meant for the one that runs.
 fn is_meant(to: Who, me: Who) -> bool

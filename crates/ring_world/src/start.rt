@@ -15,7 +15,7 @@ ghost use Rattle.ring_world.specs.Starts.{place_for};
 use crate::actors::is_configured;
 use crate::running::Running;
 use crate::world::{Acted, EventRefusal, World};
-use drift_clock::Drift;
+use drift_clock::{Drift, MAX_READING};
 use fabric_terms::{Event, OutOfMemory};
 use node_core::NodeCore;
 use ring_points::Who;
@@ -64,7 +64,7 @@ impl World {
         requires can { (w : RuledWorld fabric) × Stands self.old w × (at node w.nodes ≡ None) }
         requires node { node ≤ last_node }
         requires configured { is_configured_node self.old.config node ≡ true }
-        requires reading { reading ≤ 10 ^ 15 }
+        requires reading { reading ≤ MAX_READING }
         requires events { self.old.events < most_events }
         requires sent { self.old.sent < most_frames }
         requires clocks { vec_len self.old.clocks < vec_capacity self.old.clocks }
@@ -92,7 +92,7 @@ impl World {
     ) -> Result<Option<Acted>, EventRefusal>
         requires can { (w : RuledWorld fabric) × Stands self.old w }
         requires node { node ≤ last_node }
-        requires reading { reading ≤ 10 ^ 15 }
+        requires reading { reading ≤ MAX_READING }
         ensures { (w : RuledWorld fabric) → Stands self.old w → Comes self.old self.new w line (Event.Start node (Some reading)) result }
     {
         if !is_configured(&self.config, node) {

@@ -6,15 +6,13 @@ ghost use Rattle.fabric_terms.specs.Ranges.{IsActor};
 use crate::bad_field::BadField;
 use crate::number::{last_number, number_in, number_word};
 use crate::word::after_word;
+use ring_points::ARBITRATORS;
 
 /// The greatest number of a node.
 const LAST_NODE: u64 = 999;
 
 /// The greatest number of an arbitrator.
 const LAST_ARBITER: u64 = 9;
-
-/// An arbitrator's number as an actor is this plus its own.
-pub const ARBITERS: u16 = 32768;
 
 /// A node, and what follows it.
 pub fn node_at(bytes: &[u8]) -> Result<(u16, &[u8]), BadField>
@@ -44,7 +42,7 @@ pub fn arbiter_at(bytes: &[u8]) -> Result<(u16, &[u8]), BadField>
     ensures { Gives (λ x. (x.0, x.1.now)) result (arbiter_at bytes.now) }
 {
     let (arbiter, rest) = number_in(1, LAST_ARBITER, bytes)?;
-    Ok((ARBITERS + arbiter as u16, rest))
+    Ok((ARBITRATORS + arbiter as u16, rest))
 }
 
 /// The same, with nothing behind it.

@@ -5,12 +5,12 @@ ghost use Rattle.text_fields.specs.Instances.{instance_at, who_at, who_text};
 ghost use Rattle.text_fields.specs.Texts.{Keeps};
 ghost use Rattle.fabric_terms.specs.Ranges.{IsWho};
 
-use crate::actor::{ARBITERS, arbiter_at, node_at};
+use crate::actor::{arbiter_at, node_at};
 use crate::bad_field::BadField;
 use crate::number::{number_in, push_number};
 use crate::word::{after_word, push_bytes};
 use fabric_terms::OutOfMemory;
-use ring_points::Who;
+use ring_points::{ARBITRATORS, Who};
 
 /// The greatest number of a node's start.
 const LAST_INSTANCE: u64 = 4_294_967_295;
@@ -59,9 +59,9 @@ pub fn push_who(into: &mut Vec<u8>, who: Who) -> Result<(), OutOfMemory>
     ensures ok { OnOk result (into.new.items ≡ into.old.items ++ who_text who) }
     ensures kept { Keeps into.old.items into.new.items }
 {
-    if who.actor > ARBITERS {
+    if who.actor > ARBITRATORS {
         push_bytes(into, b"a")?;
-        return push_number(into, u64::from(who.actor - ARBITERS));
+        return push_number(into, u64::from(who.actor - ARBITRATORS));
     }
     push_number(into, u64::from(who.actor))?;
     push_bytes(into, b".")?;

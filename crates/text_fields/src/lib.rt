@@ -19,8 +19,7 @@ mod point;
 mod word;
 
 pub use actor::{
-    ARBITERS, actor_word, actors_have_one_text, last_actor, last_arbiter, last_node, node_at,
-    node_word,
+    actor_word, actors_have_one_text, last_actor, last_arbiter, last_node, node_at, node_word,
 };
 pub use bad_field::BadField;
 pub use digit::hex_value;

@@ -11,7 +11,8 @@ use crate::deadlines::change;
 use crate::firing::{Firing, accuse, is_over, spoken};
 use crate::links::Links16;
 use crate::notes::{LinkNote, LinkNotes};
-use fabric_terms::{Outbox, Why};
+use drift_clock::MAX_READING;
+use fabric_terms::{OUTBOX_LIMIT, Outbox, Why};
 
 impl Links16 {
     /// The lease of some slot that guards has ended. Where none has, no slot is due to accuse.
@@ -27,7 +28,7 @@ impl Links16 {
     /// The peer of the slot is accused, where the list of the accused is not full.
     fn accuse(&mut self, i: usize, out: &mut Outbox) -> LinkNotes
         requires inside { i < 16 }
-        requires room { length out.old + 9 ≤ 192 }
+        requires room { length out.old + 9 ≤ OUTBOX_LIMIT }
         ensures { IfSome (slot_at i self.old.slots) (λ l. did self.new out.new result ≡ did_after out.old (peer_accused i l self.old)) }
     {
         if self.accused.is_full() {
@@ -45,8 +46,8 @@ impl Links16 {
     /// nothing.
     pub fn due(&mut self, slot: usize, now: u64, announce: &Announce, out: &mut Outbox) -> LinkNotes
         requires slot { slot < 16 }
-        requires now { now ≤ 1_000_000_000_000_000 }
-        requires room { length out.old + 9 ≤ 192 }
+        requires now { now ≤ MAX_READING }
+        requires room { length out.old + 9 ≤ OUTBOX_LIMIT }
         ensures did { did self.new out.new result ≡ did_after out.old (slot_fired now announce.now slot self.old) }
         ensures row { Does (λ c w. rules.fired_at c now slot (slot_at slot w.ring.slots) w) quiet self.old announce.now out.old (did self.new out.new result) }
         ensures kept { self.new ≡ record self.old { slots = self.new.slots; accused = self.new.accused } }
@@ -66,8 +67,8 @@ impl Links16 {
         out: &mut Outbox,
     ) -> LinkNotes
         requires slot { slot < 16 }
-        requires now { now ≤ 1_000_000_000_000_000 }
-        requires room { length out.old + 9 ≤ 192 }
+        requires now { now ≤ MAX_READING }
+        requires room { length out.old + 9 ≤ OUTBOX_LIMIT }
         ensures did { did self.new out.new result ≡ did_after out.old (slot_fired now announce.now slot self.old) }
         ensures row { Does (λ c w. rules.fired_at c now slot (slot_at slot w.ring.slots) w) quiet self.old announce.now out.old (did self.new out.new result) }
         ensures kept { self.new ≡ record self.old { slots = self.new.slots; accused = self.new.accused } }
@@ -80,8 +81,8 @@ impl Links16 {
 
     fn fired(&mut self, slot: usize, now: u64, announce: &Announced, out: &mut Outbox) -> LinkNotes
         requires slot { slot < 16 }
-        requires now { now ≤ 1_000_000_000_000_000 }
-        requires room { length out.old + 9 ≤ 192 }
+        requires now { now ≤ MAX_READING }
+        requires room { length out.old + 9 ≤ OUTBOX_LIMIT }
         ensures did { did self.new out.new result ≡ did_after out.old (slot_fired now announce.now slot self.old) }
         ensures few { self.old.arbitrators ≤ 9 }
     {

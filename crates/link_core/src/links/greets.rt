@@ -11,7 +11,8 @@ use crate::part::part;
 use crate::refusal::LinkRefusal;
 use crate::{find, say};
 use arbiter_quorum::Tally;
-use fabric_terms::Outbox;
+use drift_clock::MAX_READING;
+use fabric_terms::{OUTBOX_LIMIT, Outbox};
 use heir_rounds::RoundTally;
 use ring_points::{RangeSet, Who};
 use ring_rules::{Link, LinkState};
@@ -47,7 +48,7 @@ impl Links16 {
 
     /// A link that begins now.
     pub(crate) fn new_link(&self, now: u64, peer: Who, theirs: u32, beginning: Beginning) -> Link
-        requires now { now ≤ 1_000_000_000_000_000 }
+        requires now { now ≤ MAX_READING }
         requires len { beginning.len ≤ LONGEST_TIME }
         requires left { is_spent self.now ≡ false }
         ensures value { result ≡ new_link self.now now peer theirs beginning.state beginning.wire beginning.len }
@@ -84,7 +85,7 @@ impl Links16 {
     }
 
     fn greeting_for(&self, now: u64, node: u16, span: Option<u64>) -> Link
-        requires now { now ≤ 1_000_000_000_000_000 }
+        requires now { now ≤ MAX_READING }
         requires left { is_spent self.now ≡ false }
         ensures value { result ≡ greeting_for self.now now node span }
         ensures sound { IsSoundLink self.now.arbitrators result }
@@ -111,8 +112,8 @@ impl Links16 {
         span: Option<u64>,
         out: &mut Outbox,
     ) -> Result<(), LinkRefusal>
-        requires now { now ≤ 1_000_000_000_000_000 }
-        requires room { length out.old < 192 }
+        requires now { now ≤ MAX_READING }
+        requires room { length out.old < OUTBOX_LIMIT }
         ensures outcome { outcome result self.new out.new ≡ call_after out.old (hello_call now node span self.old) }
         ensures err { OnErr result (self.new ≡ self.old) }
         ensures silent { OnErr result (out.new ≡ out.old) }
@@ -143,7 +144,7 @@ impl Links16 {
     /// Ends the first link with a node that is Offered or Bound: its record is given up, it is Parting, and the peer
     /// gets a Gone. It is `NotLinked` where there is none; else `Busy` where a flight of it stands.
     pub fn part(&mut self, node: u16, out: &mut Outbox) -> Result<(), LinkRefusal>
-        requires { length out.old < 192 }
+        requires { length out.old < OUTBOX_LIMIT }
         ensures outcome { outcome result self.new out.new ≡ call_after out.old (part_call node self.old) }
         ensures err { OnErr result (self.new ≡ self.old) }
         ensures silent { OnErr result (out.new ≡ out.old) }

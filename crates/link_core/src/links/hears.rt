@@ -13,7 +13,8 @@ use crate::links::{LONGEST_TIME, Links16};
 use crate::notes::{LinkNote, LinkNotes};
 use crate::renewal::{self, Renewal};
 use crate::{find, flight, handshake, say};
-use fabric_terms::{Outbox, Why};
+use drift_clock::MAX_READING;
+use fabric_terms::{OUTBOX_LIMIT, Outbox, Why};
 use ring_points::Who;
 use ring_rules::LinkState;
 
@@ -34,7 +35,7 @@ impl Session {
 
     /// The answer where no slot has this session.
     fn say_unknown(self, out: &mut Outbox)
-        requires { length out.old < 192 }
+        requires { length out.old < OUTBOX_LIMIT }
         ensures { out.new ≡ out.old ++ (self.from, body.Gone self.own self.theirs 0 false) ∷ [] }
     {
         out.send(self.from, say::unknown(self.theirs, self.own));
@@ -58,9 +59,9 @@ impl Links16 {
         asked: Beginning,
         out: &mut Outbox,
     ) -> LinkNotes
-        requires now { now ≤ 1_000_000_000_000_000 }
+        requires now { now ≤ MAX_READING }
         requires len { asked.len ≤ LONGEST_TIME }
-        requires room { length out.old < 192 }
+        requires room { length out.old < OUTBOX_LIMIT }
         ensures { did self.new out.new result ≡ did_after out.old (accept self.old self.old (new_link self.old now from theirs asked.state asked.wire asked.len)) }
     {
         let Some(i) = find::free_place(&self.slots) else {
@@ -86,9 +87,9 @@ impl Links16 {
         out: &mut Outbox,
     ) -> LinkNotes
         requires inside { i < length self.old.slots }
-        requires now { now ≤ 1_000_000_000_000_000 }
+        requires now { now ≤ MAX_READING }
         requires len { asked.len ≤ LONGEST_TIME }
-        requires room { length out.old < 192 }
+        requires room { length out.old < OUTBOX_LIMIT }
         ensures { did self.new out.new result ≡ did_after out.old (accept self.old (with_slot i None self.old) (new_link self.old now from theirs asked.state asked.wire asked.len)) }
     {
         if self.is_spent() {
@@ -108,10 +109,10 @@ impl Links16 {
         asked: Beginning,
         out: &mut Outbox,
     ) -> LinkNotes
-        requires now { now ≤ 1_000_000_000_000_000 }
+        requires now { now ≤ MAX_READING }
         requires len { asked.len ≤ LONGEST_TIME }
         requires state { asked.state ≡ LinkState.Offered }
-        requires room { length out.old < 192 }
+        requires room { length out.old < OUTBOX_LIMIT }
         ensures { did self.new out.new result ≡ did_after out.old (hello_received now from theirs asked.wire asked.len self.old) }
     {
         if let Some(i) = find::instance(&self.slots, from) {
@@ -127,7 +128,7 @@ impl Links16 {
 
     /// An Offer that no greeting waits for.
     pub(crate) fn hear_offer_again(&mut self, session: Session, out: &mut Outbox)
-        requires { length out.old < 192 }
+        requires { length out.old < OUTBOX_LIMIT }
         ensures { did self.new out.new [] ≡ did_after out.old (offer_again session.from session.theirs session.own self.old) }
     {
         match self.session(session) {
@@ -144,8 +145,8 @@ impl Links16 {
         len: u64,
         out: &mut Outbox,
     ) -> LinkNotes
-        requires now { now ≤ 1_000_000_000_000_000 }
-        requires room { length out.old < 192 }
+        requires now { now ≤ MAX_READING }
+        requires room { length out.old < OUTBOX_LIMIT }
         ensures { did self.new out.new result ≡ did_after out.old (offer_received now session.from session.theirs session.own len self.old) }
     {
         if let Some(i) = find::greeting_of(&self.slots, session.from.actor, session.own) {
@@ -164,7 +165,7 @@ impl Links16 {
         announce: &Announced,
         out: &mut Outbox,
     ) -> LinkNotes
-        requires room { length out.old < 192 }
+        requires room { length out.old < OUTBOX_LIMIT }
         ensures { did self.new out.new result ≡ did_after out.old (take_received now announce.now session.from session.theirs session.own self.old) }
     {
         match self.session(session) {
@@ -183,7 +184,7 @@ impl Links16 {
         renewal: &Renewal,
         out: &mut Outbox,
     ) -> LinkNotes
-        requires room { length out.old < 192 }
+        requires room { length out.old < OUTBOX_LIMIT }
         ensures { did self.new out.new result ≡ did_after out.old (renew_received session.from session.theirs session.own renewal.now.stamp renewal.now.version renewal.now.got renewal.now.want renewal.now.ranges.now self.old) }
     {
         match self.session(session) {
@@ -197,7 +198,7 @@ impl Links16 {
 
     /// A RenewAck.
     pub(crate) fn hear_ack(&mut self, session: Session, stamp: u64, version: u32)
-        requires { stamp ≤ 1_000_000_000_000_000 }
+        requires { stamp ≤ MAX_READING }
         ensures { did self.new [] [] ≡ ack_received session.from session.theirs session.own stamp version self.old }
     {
         if let Some(i) = self.session(session) {
@@ -212,7 +213,7 @@ impl Links16 {
         number: u32,
         out: &mut Outbox,
     ) -> LinkNotes
-        requires { length out.old < 192 }
+        requires { length out.old < OUTBOX_LIMIT }
         ensures { did self.new out.new result ≡ did_after out.old (transfer_received session.from session.theirs session.own number self.old) }
     {
         match self.session(session) {
@@ -226,7 +227,7 @@ impl Links16 {
 
     /// A Gone in no session: a slot that greets by this number ends, and the sender gets its answer if it wants one.
     pub(crate) fn hear_gone_elsewhere(&mut self, session: Session, bound: bool, out: &mut Outbox)
-        requires { length out.old < 192 }
+        requires { length out.old < OUTBOX_LIMIT }
         ensures { did self.new out.new [] ≡ did_after out.old (gone_elsewhere session.from session.theirs session.own bound self.old) }
     {
         if let Some(i) = find::greeting_by(&self.slots, session.own) {
@@ -244,7 +245,7 @@ impl Links16 {
         bound: bool,
         out: &mut Outbox,
     ) -> LinkNotes
-        requires { length out.old < 192 }
+        requires { length out.old < OUTBOX_LIMIT }
         ensures { did self.new out.new result ≡ did_after out.old (gone_received session.from session.theirs session.own got bound self.old) }
     {
         match self.session(session) {

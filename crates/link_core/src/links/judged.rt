@@ -6,13 +6,13 @@ ghost use Rattle.link_core.specs.Rulings.{ruling_received};
 
 use crate::deadlines::change;
 use crate::find;
-use crate::firing::ARBITERS;
 use crate::links::Links16;
 use crate::notes::LinkNotes;
 use crate::rounds::{self, Keeping};
 use crate::ruling::{self, Terms};
-use fabric_terms::Outbox;
-use ring_points::{Ruling, Who};
+use drift_clock::MAX_READING;
+use fabric_terms::{OUTBOX_LIMIT, Outbox};
+use ring_points::{ARBITRATORS, Ruling, Who};
 
 impl Links16 {
     /// A ruling of this arbitrator.
@@ -23,7 +23,7 @@ impl Links16 {
         victim: Who,
         ruling: Ruling,
     ) -> LinkNotes
-        requires now { now ≤ 1_000_000_000_000_000 }
+        requires now { now ≤ MAX_READING }
         requires first { arbiter_actor 1 ≤ from.actor }
         requires last { from.actor ≤ arbiter_actor self.old.arbitrators }
         ensures { did self.new [] result ≡ ruling_received now from victim ruling self.old }
@@ -36,7 +36,7 @@ impl Links16 {
             bound: self.bound,
             rounds: self.rounds,
         };
-        let arbitrator = (from.actor - ARBITERS) as u8;
+        let arbitrator = (from.actor - ARBITRATORS) as u8;
         change!(self, i, slot => ruling::ruling_seen(slot, now, terms, arbitrator, ruling))
     }
 
@@ -49,10 +49,10 @@ impl Links16 {
         kept: (u8, Who),
         out: &mut Outbox,
     ) -> LinkNotes
-        requires now { now ≤ 1_000_000_000_000_000 }
+        requires now { now ≤ MAX_READING }
         requires first { arbiter_actor 1 ≤ from.actor }
         requires last { from.actor ≤ arbiter_actor self.old.arbitrators }
-        requires room { length out.old + 9 ≤ 192 }
+        requires room { length out.old + 9 ≤ OUTBOX_LIMIT }
         ensures { did self.new out.new result ≡ did_after out.old (kept_received now from victim kept.0 kept.1 self.old) }
     {
         if self.rounds <= 1 {
@@ -67,7 +67,7 @@ impl Links16 {
             rounds: self.rounds,
         };
         let keeping = Keeping {
-            arbitrator: (from.actor - ARBITERS) as u8,
+            arbitrator: (from.actor - ARBITRATORS) as u8,
             round: kept.0,
             claimer: kept.1,
         };

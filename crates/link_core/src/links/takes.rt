@@ -10,7 +10,8 @@ use crate::links::greets::Beginning;
 use crate::links::hears::Session;
 use crate::notes::LinkNotes;
 use crate::renewal::Renewal;
-use fabric_terms::{Body, Message, Outbox};
+use drift_clock::MAX_READING;
+use fabric_terms::{Body, Message, OUTBOX_LIMIT, Outbox};
 use ring_rules::LinkState;
 
 impl Links16 {
@@ -23,9 +24,9 @@ impl Links16 {
         announce: &Announce,
         out: &mut Outbox,
     ) -> LinkNotes
-        requires now { now ≤ 1_000_000_000_000_000 }
+        requires now { now ≤ MAX_READING }
         requires frame { IsTrue (may_come self.old.arbitrators message.now.from message.now.body) }
-        requires room { length out.old + 9 ≤ 192 }
+        requires room { length out.old + 9 ≤ OUTBOX_LIMIT }
         ensures did { did self.new out.new result ≡ did_after out.old (frame_row now announce.now message.now.from message.now.body self.old) }
         ensures row { is_search message.now.body ≡ false → Does (λ c. rules.frame_row c now message.now.from message.now.body) (cause_of message.now.body) self.old announce.now out.old (did self.new out.new result) }
         ensures kept { self.new ≡ record self.old { slots = self.new.slots; next_session = self.new.next_session } }
@@ -44,9 +45,9 @@ impl Links16 {
         announce: &Announced,
         out: &mut Outbox,
     ) -> LinkNotes
-        requires now { now ≤ 1_000_000_000_000_000 }
+        requires now { now ≤ MAX_READING }
         requires frame { IsTrue (may_come self.old.arbitrators message.now.from message.now.body) }
-        requires room { length out.old + 9 ≤ 192 }
+        requires room { length out.old + 9 ≤ OUTBOX_LIMIT }
         ensures did { did self.new out.new result ≡ did_after out.old (frame_row now announce.now message.now.from message.now.body self.old) }
         ensures row { is_search message.now.body ≡ false → Does (λ c. rules.frame_row c now message.now.from message.now.body) (cause_of message.now.body) self.old announce.now out.old (did self.new out.new result) }
         ensures kept { self.new ≡ record self.old { slots = self.new.slots; next_session = self.new.next_session } }
@@ -65,9 +66,9 @@ impl Links16 {
         announce: &Announced,
         out: &mut Outbox,
     ) -> LinkNotes
-        requires now { now ≤ 1_000_000_000_000_000 }
+        requires now { now ≤ MAX_READING }
         requires frame { IsTrue (may_come self.old.arbitrators message.now.from message.now.body) }
-        requires room { length out.old + 9 ≤ 192 }
+        requires room { length out.old + 9 ≤ OUTBOX_LIMIT }
         ensures { did self.new out.new result ≡ did_after out.old (frame_row now announce.now message.now.from message.now.body self.old) }
     {
         let from = message.from;

@@ -5,13 +5,13 @@ ghost use Rattle.fabric_terms.specs.Fields.{is_node, is_arbiter};
 ghost use Rattle.ring_wire.specs.Readers.{Gives, actor_at, who_at, sender_at, addressee_at, ruling_at, is_numbered};
 
 use crate::not_frame::NotFrame;
-use crate::read::number::{LAST_NODE, u8_at, u16_at, u32_at};
-use ring_points::{Ruling, Who};
+use crate::read::number::{u8_at, u16_at, u32_at};
+use ring_points::{ARBITRATORS, LAST_NODE, Ruling, Who};
 
 /// The actors that are arbitrators.
-const FIRST_ARBITER: u16 = 32_769;
+const FIRST_ARBITER: u16 = ARBITRATORS + 1;
 
-const LAST_ARBITER: u16 = 32_777;
+const LAST_ARBITER: u16 = ARBITRATORS + 9;
 
 // Any actor and instance.
 #[tactic(auto, unfolding(crate::specs::Readers::actor_at))]

@@ -5,6 +5,7 @@ ghost use Rattle.ring_wire.specs.Readers.{Gives, number_at, byte_at, counted_at,
 
 use crate::not_frame::NotFrame;
 use byteorder::{BigEndian, ByteOrder};
+use ring_points::LAST_NODE;
 
 /// A reading is at most this.
 const LAST_STAMP: u64 = 1_000_000_000_000_000;
@@ -13,9 +14,6 @@ const LAST_STAMP: u64 = 1_000_000_000_000_000;
 const SHORTEST_LEASE: u64 = 10;
 
 const LONGEST_LEASE: u64 = 1_000_000_000;
-
-/// The greatest number of a node.
-pub const LAST_NODE: u16 = 999;
 
 /// No log has an entry above this.
 const LAST_ENTRY: u32 = 100_000;

@@ -6,9 +6,9 @@ ghost use Rattle.fabric_terms.specs.Fields.{rises_above, has_members};
 ghost use Rattle.ring_wire.specs.Readers.{Gives, number_at, times, list_at, epoch_at, unit_at, config_at, done_at, payload_at};
 
 use crate::not_frame::NotFrame;
-use crate::read::number::{LAST_NODE, flag_at, u8_at, u16_at, u32_at};
+use crate::read::number::{flag_at, u8_at, u16_at, u32_at};
 use fabric_terms::Payload;
-use ring_points::{Config, Epoch, Members};
+use ring_points::{Config, Epoch, LAST_NODE, Members};
 
 /// A configuration has at most so many members.
 const MOST_MEMBERS: u8 = 7;

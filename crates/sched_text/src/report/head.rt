@@ -6,10 +6,9 @@ ghost use Rattle.sched_text.specs.Heads.{is_arbiter, has_its_reading, head_at, h
 
 use crate::bad_line::BadLine;
 use fabric_terms::{Head, OutOfMemory};
-use ring_points::Who;
+use ring_points::{ARBITRATORS, Who};
 use text_fields::{
-    ARBITERS, number_word, optional_word, push_bytes, push_number, push_optional, push_who,
-    who_word,
+    number_word, optional_word, push_bytes, push_number, push_optional, push_who, who_word,
 };
 
 // An arbitrator has no reading, and a node has one.
@@ -17,8 +16,8 @@ fn has_its_reading(who: Who, reading: Option<u64>) -> bool
     ensures { result ≡ has_its_reading who reading }
 {
     match reading {
-        None => who.actor > ARBITERS,
-        Some(_) => who.actor <= ARBITERS,
+        None => who.actor > ARBITRATORS,
+        Some(_) => who.actor <= ARBITRATORS,
     }
 }
 
