@@ -18,7 +18,7 @@ use crate::room::give_away;
 use drift_clock::MAX_READING;
 use fabric_terms::{FabricConfig, OutOfMemory};
 use keep_log::Kept;
-use ring_node::{Input, RingNode};
+use ring_node::{Input, Owned, RingNode};
 use ring_points::{RangeSet, Who};
 use std::alloc::Global;
 use std::marker::Model;
@@ -28,12 +28,15 @@ use std::marker::Model;
 pub struct NodeCore {
     alloc: Global,
     ring: RingNode,
+    /// What it owns now, to tell after the next step what has changed.
+    owned: Owned,
     /// From the first step on, where its steps put what they leave.
     desk: Option<Box<Desk>>,
 }
 
 impl Model for NodeCore {
-    ghost use Rattle.std.specs.Prelude.{IfSome};
+    ghost use Rattle.std.specs.Prelude.{◌≡◌, IfSome};
+    ghost use Rattle.ring_node.specs.Owned.{owned_of};
     ghost use Rattle.node_core.specs.Desks.{IsClear};
     ghost use Rattle.node_core.specs.Nodes.{Core, core_of};
 
@@ -41,12 +44,12 @@ impl Model for NodeCore {
 
     ghost view = { λ n. core_of n.ring };
 
-    ghost invariant = { λ n. IfSome n.desk (λ d. IsClear d.value) };
+    ghost invariant = { λ n. (n.owned ≡ owned_of n.ring) × IfSome n.desk (λ d. IsClear d.value) };
 }
 
 /// The step of a node's ring at a desk that is ready for it.
 #[tactic(auto, unfolding(crate::specs::Nodes::most_frames))]
-fn step_at(alloc: Global, ring: &mut RingNode, now: u64, input: &Input, desk: &mut Desk) -> Outcome
+fn step_at(alloc: Global, ring: &mut RingNode, owned: &mut Owned, now: u64, input: &Input, desk: &mut Desk) -> Outcome
     requires now { now ≤ MAX_READING }
     requires input { FitsInput input.now }
     requires ready { IsReady desk.old }

@@ -1,11 +1,11 @@
-ghost use Rattle.std.specs.Prelude.{◌≡◌};
+ghost use Rattle.std.specs.Prelude.{◌≡◌, true};
 ghost use Rattle.ring_rules.specs.Owns.{holds_point, same_fence, same_ranges};
 ghost use Rattle.ring_rules.specs.Slots.{fence_of, is_past};
 
 use crate::node::RingNode;
 use ring_points::{Interval, Point, RangeSet};
 
-/// What a node owned at a moment.
+/// What a node owned at a moment, kept beside it from step to step, so that a step copies no ranges but those that change.
 #[derive(Drop)]
 pub struct Owned {
     pub ranges: RangeSet,
@@ -16,7 +16,8 @@ pub struct Owned {
 }
 
 pub(crate) fn same_ranges(one: &[Interval], other: &[Interval]) -> bool
-    ensures { result ≡ same_ranges one.now other.now }
+    ensures value { result ≡ same_ranges one.now other.now }
+    ensures alike { result ≡ true → one.now ≡ other.now }
 {
     one == other
 }

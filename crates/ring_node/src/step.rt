@@ -31,15 +31,28 @@ impl RingNode {
             && (before.left || !self.is_left())
     }
 
-    /// Tells what the node owns, where the ranges or the fence are others than before, or the node has left since.
-    pub fn tell_own(&self, before: &Owned, told: &mut Reports)
+    fn keep_owned(&self, owned: &mut Owned)
+        ensures { owned.new ≡ owned_of self.now }
+    {
+        if !same_ranges(owned.ranges.intervals(), self.token.ranges().intervals()) {
+            owned.ranges = self.token.ranges().copy();
+        }
+        owned.fence = self.links.fence();
+        owned.left = self.is_left();
+    }
+
+    /// Tells what the node owns, where the ranges or the fence are others than before, or the node has left since. From
+    /// here on that is what it owned before.
+    pub fn tell_own(&self, owned: &mut Owned, told: &mut Reports)
         requires { length told.old < 64 }
-        ensures own { told.new ≡ told.old ++ own_since before.now self.now }
+        ensures own { told.new ≡ told.old ++ own_since owned.old self.now }
+        ensures kept { owned.new ≡ owned_of self.now }
         ensures few { length told.new ≤ length told.old + 1 }
     {
-        if !self.owns_same(before) {
+        if !self.owns_same(owned) {
             told.tell(Report::Own(self.token.ranges().copy(), self.links.fence()));
         }
+        self.keep_owned(owned);
     }
 
     /// The row of the input.
@@ -83,19 +96,28 @@ impl RingNode {
 
     /// The step of an input, in these reports: the row of the rules, and at last what is owned, where that has changed
     /// or the node has left. The outbox and the reports are empty before it, the reading is at most 10^15, and a frame
-    /// is in the grammar. It sends at most `OUTBOX_LIMIT` messages and makes at most 64 reports.
-    pub fn act(&mut self, now: u64, input: &Input, out: &mut Outbox, told: &mut Reports)
+    /// is in the grammar. It sends at most `OUTBOX_LIMIT` messages and makes at most 64 reports. What the node owns is
+    /// kept beside it, from `owned` on.
+    pub fn act(
+        &mut self,
+        now: u64,
+        input: &Input,
+        owned: &mut Owned,
+        out: &mut Outbox,
+        told: &mut Reports,
+    )
         requires now { now ≤ MAX_READING }
         requires sound { IsTrue (is_sound_input input.now) }
+        requires owned { owned.old ≡ owned_of self.old }
         requires sent { out.old ≡ [] }
         requires told { told.old ≡ [] }
         ensures step { step self.new out.new told.new ≡ acted now input.now self.old }
+        ensures owned { owned.new ≡ owned_of self.new }
         ensures messages { length out.new ≤ OUTBOX_LIMIT }
         ensures reports { length told.new ≤ 64 }
     {
-        let before = self.owned();
         self.advance(now, input, out, told);
-        self.tell_own(&before, told);
+        self.tell_own(owned, told);
     }
 
     /// The step of an input. The outbox is empty before it, the reading is at most 10^15, and a frame is in the
@@ -108,8 +130,9 @@ impl RingNode {
         ensures messages { length out.new ≤ OUTBOX_LIMIT }
         ensures reports { length result ≤ 64 }
     {
+        let mut owned = self.owned();
         let mut told = Reports::new();
-        self.act(now, input, out, &mut told);
+        self.act(now, input, &mut owned, out, &mut told);
         told
     }
 }

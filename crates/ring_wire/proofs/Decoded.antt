@@ -4,11 +4,11 @@ use Rattle.std.specs.Prelude.{IsTrue, MatchResult}
 use Rattle.fabric_terms.specs.declared.message.Message.{Message}
 use Rattle.fabric_terms.specs.Messages.{is_sound}
 use Rattle.ring_wire.specs.Frames.{spelling}
-use Rattle.ring_wire.specs.Readers.{Gives}
+use Rattle.ring_wire.specs.Readers.{Fills}
 use Rattle.ring_wire.specs.Kinds.{message_of}
 use Rattle.ring_wire.proofs.Numbers.{AreBytes}
 use Rattle.ring_wire.proofs.FrameLaws.{message_found, message_again}
 
-pub decoded : {E : Type 0} (frame : List ℕ) (read : Result Message E) → AreBytes frame → Gives (λ m. m) read (message_of frame) → MatchResult read (λ m. IsTrue (is_sound m) × (spelling m ≡ frame)) (λ _. (m : Message) → IsTrue (is_sound m) → spelling m ≢ frame)
-decoded frame (Ok m) h e = message_found frame m h e
-decoded {E} frame (Err x) h e = λ m sound same. let g = message_again m sound in let f = ap message_of same in cc
+pub decoded : {X E : Type 0} (frame : List ℕ) (read : Result X E) (message : Message) → AreBytes frame → Fills read message (message_of frame) → MatchResult read (λ _. IsTrue (is_sound message) × (spelling message ≡ frame)) (λ _. (m : Message) → IsTrue (is_sound m) → spelling m ≢ frame)
+decoded frame (Ok x) message h e = message_found frame message h e
+decoded {X} {E} frame (Err x) message h e = λ m sound same. let g = message_again m sound in let f = ap message_of same in cc

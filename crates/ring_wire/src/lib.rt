@@ -16,5 +16,5 @@ pub use fabric_terms::{Body, Message, OUTBOX_LIMIT, Outbox};
 pub use fields::{read_config_field, read_epoch, read_ranges, read_who};
 pub use laws::{one_spelling, short_spelling};
 pub use not_frame::NotFrame;
-pub use read::decode;
-pub use write::{FRAME_LIMIT, encode};
+pub use read::{decode, decode_into};
+pub use write::{FRAME_LIMIT, encode, encode_sent};

@@ -71,18 +71,24 @@ fn read_body(head: Head, bytes: &[u8], body: &mut Body) -> Result<(), NotFrame>
     }
 }
 
+// The message, to the end of the bytes, into a place. A refusal may leave any message.
 #[tactic(auto, unfolding(crate::specs::Kinds::message_of))]
-fn read_message(frame: &[u8]) -> Result<Message, NotFrame>
-    ensures { Gives (λ x. x) result (message_of frame.now) }
+fn read_message(frame: &[u8], message: &mut Message) -> Result<(), NotFrame>
+    ensures { Fills result message.new (message_of frame.now) }
 {
     let (head, rest) = head_at(frame)?;
-    let mut body = Body::Hello { mine: 0 };
-    read_body(head, rest, &mut body)?;
-    Ok(Message {
-        from: head.from,
-        to: head.to,
-        body,
-    })
+    message.from = head.from;
+    message.to = head.to;
+    read_body(head, rest, &mut message.body)
+}
+
+/// Reads the message that these bytes spell into a place, which can serve one frame after the other. NotFrame comes
+/// exactly where they spell none, and then any message may stand there.
+pub fn decode_into(frame: &[u8], message: &mut Message) -> Result<(), NotFrame>
+    ensures { MatchResult result (λ _. IsTrue (is_sound message.new) × (spelling message.new ≡ frame.now))
+        (λ _. (m : Message) → IsTrue (is_sound m) → spelling m ≢ frame.now) }
+{
+    read_message(frame, message)
 }
 
 /// The message that these bytes spell. NotFrame comes exactly where they spell none.
@@ -90,5 +96,15 @@ pub fn decode(frame: &[u8]) -> Result<Message, NotFrame>
     ensures { MatchResult result (λ m. IsTrue (is_sound m) × (spelling m ≡ frame.now))
         (λ _. (m : Message) → IsTrue (is_sound m) → spelling m ≢ frame.now) }
 {
-    read_message(frame)
+    let nobody = Who {
+        actor: 0,
+        instance: 0,
+    };
+    let mut message = Message {
+        from: nobody,
+        to: nobody,
+        body: Body::Hello { mine: 0 },
+    };
+    decode_into(frame, &mut message)?;
+    Ok(message)
 }
