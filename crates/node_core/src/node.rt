@@ -6,6 +6,7 @@ ghost use Rattle.ring_rules.specs.Slots.{fence_of};
 ghost use Rattle.world_rules.specs.Nodes.{boots_of, node_begun, node_step};
 ghost use Rattle.fabric_above.specs.Fabric.{fabric};
 ghost use Rattle.world_rules.specs.Schedules.{is_configured_node};
+ghost use Rattle.ring_node.specs.Owned.{owned_of};
 ghost use Rattle.node_core.specs.Desks.{IsClear, IsReady};
 ghost use Rattle.node_core.specs.Nodes.{Amounts, Does, FitsInput, GoesBy, IsSmall, core_of, frames_limit, kept_in, most_frames, nothing_kept, ring_of};
 
@@ -49,17 +50,26 @@ impl Model for NodeCore {
 
 /// The step of a node's ring at a desk that is ready for it.
 #[tactic(auto, unfolding(crate::specs::Nodes::most_frames))]
-fn step_at(alloc: Global, ring: &mut RingNode, owned: &mut Owned, now: u64, input: &Input, desk: &mut Desk) -> Outcome
+fn step_at(
+    alloc: Global,
+    ring: &mut RingNode,
+    owned: &mut Owned,
+    now: u64,
+    input: &Input,
+    desk: &mut Desk,
+) -> Outcome
     requires now { now ≤ MAX_READING }
     requires input { FitsInput input.now }
+    requires owned { owned.old ≡ owned_of ring.old }
     requires ready { IsReady desk.old }
     ensures does { (c : Configuration) → GoesBy c (core_of ring.old) → Does (node_step fabric c now input.now (core_of ring.old).state) (core_of ring.new) result }
     ensures small { IsSmall (core_of ring.old).state result }
     ensures settings { ring.new.settings ≡ ring.old.settings }
     ensures me { ring.new.ring.me ≡ ring.old.ring.me }
+    ensures owned { owned.new ≡ owned_of ring.new }
     ensures clear { IsClear desk.new }
 {
-    ring.act(now, input, &mut desk.out, &mut desk.told);
+    ring.act(now, input, owned, &mut desk.out, &mut desk.told);
     desk.out.hand_over(ring.me(), &mut desk.frames);
     desk.told.hand_over(&mut desk.reports);
     Outcome {
@@ -101,9 +111,11 @@ impl NodeCore {
         let (ring, mut told) = RingNode::new(alloc, config, me, now, spent)?;
         let mut reports = Vec::with_capacity(alloc, told.as_slice().len())?;
         told.hand_over(&mut reports);
+        let owned = ring.owned();
         let core = NodeCore {
             alloc,
             ring,
+            owned,
             desk: None,
         };
         let core = Box::new(alloc, core)?;
@@ -174,7 +186,15 @@ impl NodeCore {
             return Err(OutOfMemory);
         };
         desk.make_room()?;
-        Ok(step_at(self.alloc, &mut self.ring, now, input, desk))
+        let outcome = step_at(
+            self.alloc,
+            &mut self.ring,
+            &mut self.owned,
+            now,
+            input,
+            desk,
+        );
+        Ok(outcome)
     }
 
     /// How many frames the next step sends at most.

@@ -1,4 +1,4 @@
-ghost use Rattle.std.specs.Prelude.{◌≡◌, true};
+ghost use Rattle.std.specs.Prelude.{◌≡◌};
 ghost use Rattle.ring_rules.specs.Owns.{holds_point, same_fence, same_ranges};
 ghost use Rattle.ring_rules.specs.Slots.{fence_of, is_past};
 
@@ -16,10 +16,19 @@ pub struct Owned {
 }
 
 pub(crate) fn same_ranges(one: &[Interval], other: &[Interval]) -> bool
-    ensures value { result ≡ same_ranges one.now other.now }
-    ensures alike { result ≡ true → one.now ≡ other.now }
+    ensures { result ≡ same_ranges one.now other.now }
 {
     one == other
+}
+
+/// Makes the kept ranges those of now. Most often they are, and then nothing is copied.
+pub(crate) fn keep_ranges(kept: &mut RangeSet, now: &RangeSet)
+    ensures { kept.new ≡ now.now }
+{
+    if same_ranges(kept.intervals(), now.intervals()) {
+        return;
+    }
+    *kept = now.copy();
 }
 
 pub(crate) fn same_fence(one: Option<u64>, other: Option<u64>) -> bool

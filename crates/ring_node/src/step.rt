@@ -5,7 +5,7 @@ ghost use Rattle.ring_node.specs.Steps.{acted, is_sound_input, taken};
 ghost use Rattle.ring_rules.specs.Steps.{before_fence, input_taken};
 
 use crate::node::RingNode;
-use crate::owns::{Owned, same_fence, same_ranges};
+use crate::owns::{Owned, keep_ranges, same_fence, same_ranges};
 use crate::reports::Reports;
 use drift_clock::MAX_READING;
 use fabric_terms::{OUTBOX_LIMIT, Outbox, Report, Why};
@@ -34,9 +34,7 @@ impl RingNode {
     fn keep_owned(&self, owned: &mut Owned)
         ensures { owned.new ≡ owned_of self.now }
     {
-        if !same_ranges(owned.ranges.intervals(), self.token.ranges().intervals()) {
-            owned.ranges = self.token.ranges().copy();
-        }
+        keep_ranges(&mut owned.ranges, self.token.ranges());
         owned.fence = self.links.fence();
         owned.left = self.is_left();
     }
