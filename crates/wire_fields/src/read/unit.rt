@@ -1,6 +1,6 @@
 // Epochs, configurations and texts of partitions at the front of some bytes, and what follows them.
 
-ghost use Rattle.std.specs.Prelude.{◌≡◌, ◌≤◌, ◌==◌};
+ghost use Rattle.std.specs.Prelude.{◌≡◌, ◌≤◌, ◌==◌, length, IfOk};
 ghost use Rattle.std.specs.List.{list_any};
 ghost use Rattle.fabric_terms.specs.Fields.{rises_above, has_members};
 ghost use Rattle.wire_fields.specs.Readers.{Gives, number_at, times, list_at, epoch_at, unit_at, config_at, done_at, payload_at};
@@ -131,10 +131,11 @@ pub fn done_at(bytes: &[u8]) -> Result<(Option<Config>, &[u8]), NotField>
     }
 }
 
-/// A length of at most 512, and as many bytes.
+/// A length of at most 512, and as many bytes, which are lent.
 #[tactic(auto, unfolding(crate::specs::Readers::payload_at, crate::specs::Readers::bytes_at))]
-pub fn payload_at(bytes: &[u8]) -> Result<(Payload, &[u8]), NotField>
-    ensures { Gives (λ x. (x.0, x.1.now)) result (payload_at bytes.now) }
+pub fn text_at(bytes: &[u8]) -> Result<(&[u8], &[u8]), NotField>
+    ensures text { Gives (λ x. (x.0.now, x.1.now)) result (payload_at bytes.now) }
+    ensures short { IfOk result (λ x. length x.0.now ≤ 512) }
 {
     let (length, rest) = u16_at(bytes)?;
     if length > LONGEST_TEXT {
@@ -144,5 +145,13 @@ pub fn payload_at(bytes: &[u8]) -> Result<(Payload, &[u8]), NotField>
     if rest.len() < length {
         return Err(NotField);
     }
-    Ok((Payload::from_slice(&rest[..length]), &rest[length..]))
+    Ok((&rest[..length], &rest[length..]))
+}
+
+/// A length of at most 512, and as many bytes, which are copied.
+pub fn payload_at(bytes: &[u8]) -> Result<(Payload, &[u8]), NotField>
+    ensures { Gives (λ x. (x.0, x.1.now)) result (payload_at bytes.now) }
+{
+    let (text, rest) = text_at(bytes)?;
+    Ok((Payload::from_slice(text), rest))
 }

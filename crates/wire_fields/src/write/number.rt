@@ -1,6 +1,6 @@
 // Numbers, written from a place on. Each call gives the place after what it wrote.
 
-ghost use Rattle.std.specs.Prelude.{◌≡◌, ◌≤◌, ◌+◌};
+ghost use Rattle.std.specs.Prelude.{◌≡◌, ◌≤◌, ◌+◌, length};
 ghost use Rattle.wire_fields.specs.Texts.{number_bytes, one_byte, session_bytes, flag_bytes};
 ghost use Rattle.wire_fields.specs.Writers.{Puts};
 
