@@ -7,7 +7,9 @@ use crate::not_frame::NotFrame;
 use crate::read::searches::read_search;
 use fabric_terms::Body;
 use ring_points::{Interval, MAX_INTERVALS, RangeSet};
-use wire_fields::read::{counted_at, end, flag_at, intervals_at, lease_at, session_at, stamp_at, u32_at};
+use wire_fields::read::{
+    counted_at, end, flag_at, intervals_at, lease_at, session_at, stamp_at, u32_at,
+};
 
 #[tactic(auto, unfolding(crate::specs::Links::hello_of))]
 fn hello(bytes: &[u8], body: &mut Body) -> Result<(), NotFrame>

@@ -7,7 +7,7 @@ ghost use Rattle.wire_fields.specs.Writers.{Puts};
 
 use crate::write::FRAME_LIMIT;
 use fabric_terms::Body;
-use wire_fields::write::{put_u64, put_u8, put_who};
+use wire_fields::write::{put_u8, put_u64, put_who};
 
 /// A body of a kind from 8 to 9. Gives the place after it.
 pub fn put_search(into: &mut [u8; FRAME_LIMIT], at: usize, body: &Body) -> usize
