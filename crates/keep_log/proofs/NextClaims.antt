@@ -9,9 +9,9 @@ use Rattle.fabric_terms.specs.declared.record.Record.{Record}
 use Rattle.fabric_terms.specs.declared.record.Record.TheVariants.{Boot, AccusedBy, ClaimedBy}
 use Rattle.fabric_terms.specs.Fields.{is_who}
 use Rattle.ring_rules.specs.Arbiters.{no_table, table_after}
-use Rattle.ring_wire.specs.Stands.{StandsAt}
-use Rattle.ring_wire.specs.Texts.{one_byte, who_bytes}
-use Rattle.ring_wire.proofs.Standing.{who_length}
+use Rattle.wire_fields.specs.Stands.{StandsAt}
+use Rattle.wire_fields.specs.Texts.{one_byte, who_bytes}
+use Rattle.wire_fields.proofs.Standing.{who_length}
 use Rattle.keep_log.specs.declared.kept.Kept.{Kept}
 use Rattle.keep_log.specs.Places.{Stands, is_new}
 use Rattle.keep_log.specs.Spellings.{is_later_round}

@@ -9,10 +9,10 @@ use Rattle.fabric_terms.specs.declared.record.Record.{Record}
 use Rattle.fabric_terms.specs.declared.record.Record.TheVariants.{Boot, AccusedBy, ClaimedBy}
 use Rattle.ring_rules.specs.Arbiters.{first_accuser, no_table, table_after}
 use Rattle.fabric_terms.specs.Fields.{is_who}
-use Rattle.ring_wire.specs.Stands.{StandsAt}
-use Rattle.ring_wire.specs.Texts.{who_bytes}
-use Rattle.ring_wire.proofs.FieldLaws.{who_is}
-use Rattle.ring_wire.proofs.Standing.{who_length}
+use Rattle.wire_fields.specs.Stands.{StandsAt}
+use Rattle.wire_fields.specs.Texts.{who_bytes}
+use Rattle.wire_fields.proofs.FieldLaws.{who_is}
+use Rattle.wire_fields.proofs.Standing.{who_length}
 use Rattle.keep_log.specs.declared.kept.Kept.{Kept}
 use Rattle.keep_log.specs.Places.{Stands}
 use Rattle.keep_log.proofs.Spelled.{same_field, tail_same}

@@ -6,10 +6,10 @@ use Rattle.std.proofs.lemmas.List.{append-nil}
 use Rattle.ring_points.specs.declared.who.Who.{Who}
 use Rattle.fabric_terms.specs.declared.record.Record.TheVariants.{Boot, AccusedBy, ClaimedBy}
 use Rattle.fabric_terms.specs.Fields.{is_counted, is_round, is_who}
-use Rattle.ring_wire.specs.Readers.{Field}
-use Rattle.ring_wire.specs.Texts.{number_bytes, one_byte, who_bytes}
-use Rattle.ring_wire.proofs.Forms.{IsField}
-use Rattle.ring_wire.proofs.FieldLaws.{counted_is, round_is, who_is}
+use Rattle.wire_fields.specs.Readers.{Field}
+use Rattle.wire_fields.specs.Texts.{number_bytes, one_byte, who_bytes}
+use Rattle.wire_fields.proofs.Forms.{IsField}
+use Rattle.wire_fields.proofs.FieldLaws.{counted_is, round_is, who_is}
 use Rattle.keep_log.specs.Laws.{OneSpelling}
 use Rattle.keep_log.specs.Spellings.{is_later_round}
 

@@ -3,7 +3,7 @@ use Rattle.std.specs.Prelude.{ℕ, Bool, false, ◌&&◌, nat_lt, List, [], ◌�
 use Rattle.fabric_terms.specs.declared.record.Record.{Record}
 use Rattle.fabric_terms.specs.declared.record.Record.TheVariants.{Boot, AccusedBy, ClaimedBy}
 use Rattle.fabric_terms.specs.Fields.{is_counted, is_round, is_who}
-use Rattle.ring_wire.specs.Texts.{number_bytes, one_byte, who_bytes}
+use Rattle.wire_fields.specs.Texts.{number_bytes, one_byte, who_bytes}
 
 -- a round after the first
 abbrev pub is_later_round : ℕ → Bool

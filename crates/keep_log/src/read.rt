@@ -2,7 +2,7 @@
 
 ghost use Rattle.std.specs.Prelude.{◌≡◌, ◌&&◌, ◌∷◌, [], true, map, length, IfOk};
 ghost use Rattle.ring_rules.specs.Arbiters.{no_table, table_after};
-ghost use Rattle.ring_wire.specs.Texts.{number_bytes};
+ghost use Rattle.wire_fields.specs.Texts.{number_bytes};
 ghost use Rattle.keep_log.specs.Outcomes.{Reads};
 ghost use Rattle.keep_log.specs.Places.{Next, is_free_round, is_once};
 ghost use Rattle.keep_log.specs.Spellings.{is_later_round};
@@ -14,8 +14,8 @@ use arbiter_tables::Table;
 use byteorder::{BigEndian, ByteOrder};
 use fabric_terms::Record;
 use ring_points::Who;
-use ring_wire::read_who;
 use std::alloc::Global;
+use wire_fields::read_who;
 
 // The greatest number of a round of heirs.
 const LAST_ROUND: u8 = 8;

@@ -1,14 +1,13 @@
 -- A body and its spelling: the law of a kind, and the law of a choice between kinds.
-use Rattle.std.proofs.Common.{◌≡◌, ℕ, Bool, true, false, cond, List, [], ◌∷◌, ◌++◌, Option, Some, None, refl, ap, sym, subst, ◌∙◌}
+use Rattle.std.proofs.Common.{◌≡◌, ℕ, Bool, true, false, cond, List, Option, Some, None, refl, sym, subst, ◌∙◌}
 use Rattle.std.specs.Prelude.{IsTrue, ◌==◌, ◌&&◌}
-use Rattle.std.proofs.lemmas.List.{append-nil}
 use Rattle.std.proofs.lemmas.Bool.{eqb-true}
 use Rattle.fabric_terms.specs.declared.message.Body.{Body}
 use Rattle.fabric_terms.specs.Messages.{is_sound_body}
 use Rattle.ring_wire.specs.Frames.{version_of, kind_of, body_bytes}
-use Rattle.ring_wire.specs.Readers.{◌>>=◌, Field, is_nil, body_from}
-use Rattle.ring_wire.proofs.Numbers.{AreBytes}
-use Rattle.ring_wire.proofs.Forms.{IsField, bind_some, tested}
+use Rattle.wire_fields.specs.Readers.{Field, whole}
+use Rattle.wire_fields.proofs.Numbers.{AreBytes}
+use Rattle.wire_fields.proofs.Forms.{IsField, whole_found, whole_again}
 
 -- the body is of this version and kind, in the grammar, and spelled by these bytes
 pub record IsSpelled (version kind : ℕ) (bytes : List ℕ) (b : Body) : Type 0 where
@@ -28,31 +27,21 @@ pub record Makes {A : Type 0} (version kind : ℕ) (s : A → Bool) (spell : A �
   pub sound : (x : A) → IsTrue (s x) → IsTrue (is_sound_body (make x))
   pub spelled : (x : A) → body_bytes (make x) ≡ spell x
 
-nil_is : (bytes : List ℕ) → is_nil bytes ≡ true → bytes ≡ []
-nil_is [] h = refl
-nil_is (b ∷ bs) h = cc
-
-pub kind_found : {A : Type 0} {field : List ℕ → Field A} {s : A → Bool} {spell : A → List ℕ} {make : A → Body} {version kind : ℕ} → IsField field s spell → Makes version kind s spell make → Finds version kind (body_from make field)
+pub kind_found : {A : Type 0} {field : List ℕ → Field A} {s : A → Bool} {spell : A → List ℕ} {make : A → Body} {version kind : ℕ} → IsField field s spell → Makes version kind s spell make → Finds version kind (whole make field)
 kind_found {A} {field} {s} {spell} {make} {version} {kind} law makes = record {
   found = λ bytes b h e.
-      let a = bind_some (field bytes) (λ (z : A × List ℕ). cond (is_nil z.1) (Some (make z.0)) None) b e in
-      let t = tested (is_nil a.0.1) (make a.0.0) b a.2 in
-      let f = law.found bytes a.0 h a.1 in
+      let f = whole_found law make bytes b h e in
       let P : Body → Type 0 = λ d. IsSpelled version kind bytes d in
-      subst P t.1 (record {
-        version_is = makes.version_is a.0.0;
-        kind_is = makes.kind_is a.0.0;
-        sound = makes.sound a.0.0 f.0;
-        spelled =
-            f.1
-            ∙ (ap (λ r. spell a.0.0 ++ r) (nil_is a.0.1 t.0) ∙ (append-nil (spell a.0.0) ∙ sym (makes.spelled a.0.0)));
+      subst P f.3 (record {
+        version_is = makes.version_is f.0;
+        kind_is = makes.kind_is f.0;
+        sound = makes.sound f.0 f.1;
+        spelled = f.2 ∙ sym (makes.spelled f.0);
       });
 }
 
-pub kind_again : {A : Type 0} {field : List ℕ → Field A} {s : A → Bool} {spell : A → List ℕ} → IsField field s spell → (make : A → Body) (x : A) → IsTrue (s x) → body_from make field (spell x) ≡ Some (make x)
-kind_again {A} {field} {s} {spell} law make x h =
-    ap (body_from make field) (sym (append-nil (spell x)))
-    ∙ ap (λ (o : Field A). o >>= λ z. cond (is_nil z.1) (Some (make z.0)) None) (law.again x [] h)
+pub kind_again : {A : Type 0} {field : List ℕ → Field A} {s : A → Bool} {spell : A → List ℕ} → IsField field s spell → (make : A → Body) (x : A) → IsTrue (s x) → whole make field (spell x) ≡ Some (make x)
+kind_again law make x h = whole_again law make x h
 
 -- the first reader at the kind n, and the others at every other kind
 pub case_found : {first others : List ℕ → Option Body} (version kind n : ℕ) → Finds version n first → Finds version kind others → Finds version kind (λ bytes. cond (kind == n) (first bytes) (others bytes))

@@ -4,9 +4,9 @@ use Rattle.std.specs.Prelude.{IsTrue, MatchResult}
 use Rattle.fabric_terms.specs.declared.message.Message.{Message}
 use Rattle.fabric_terms.specs.Messages.{is_sound}
 use Rattle.ring_wire.specs.Frames.{spelling}
-use Rattle.ring_wire.specs.Readers.{Fills}
+use Rattle.wire_fields.specs.Readers.{Fills}
 use Rattle.ring_wire.specs.Kinds.{message_of}
-use Rattle.ring_wire.proofs.Numbers.{AreBytes}
+use Rattle.wire_fields.proofs.Numbers.{AreBytes}
 use Rattle.ring_wire.proofs.FrameLaws.{message_found, message_again}
 
 pub decoded : {X E : Type 0} (frame : List ℕ) (read : Result X E) (message : Message) → AreBytes frame → Fills read message (message_of frame) → MatchResult read (λ _. IsTrue (is_sound message) × (spelling message ≡ frame)) (λ _. (m : Message) → IsTrue (is_sound m) → spelling m ≢ frame)

@@ -8,19 +8,19 @@ use Rattle.fabric_terms.specs.declared.message.Body.TheVariants.{Hello, HelloFor
 use Rattle.ring_points.specs.declared.who.Who.{Who}
 use Rattle.ring_wire.specs.declared.read.Head.{Head}
 use Rattle.fabric_terms.specs.Fields.{is_sender, is_addressee}
-use Rattle.ring_wire.specs.Texts.{one_byte, who_bytes}
+use Rattle.wire_fields.specs.Texts.{one_byte, who_bytes}
 use Rattle.fabric_terms.specs.Messages.{is_sound_body, is_sound}
 use Rattle.ring_wire.specs.Frames.{version_of, kind_of, body_bytes, spelling}
-use Rattle.ring_wire.specs.Readers.{◌>>=◌, Field, such, byte_at}
+use Rattle.wire_fields.specs.Readers.{◌>>=◌, Field, such, byte_at}
 use Rattle.ring_wire.specs.Kinds.{body_of, head_at, message_of}
 use Rattle.ring_wire.specs.Links.{links_of, leases_of}
 use Rattle.ring_wire.specs.Searches.{searches_of}
 use Rattle.ring_wire.specs.Rulings.{rulings_of}
 use Rattle.ring_wire.specs.Partitions.{partitions_of}
 use Rattle.ring_wire.specs.Replicas.{replicas_of}
-use Rattle.ring_wire.proofs.Numbers.{AreBytes, bytes_behind}
-use Rattle.ring_wire.proofs.Forms.{IsField, bind_some, some_same, such_is, pair_is, made_is, byte_is}
-use Rattle.ring_wire.proofs.FieldLaws.{sender_is, addressee_is}
+use Rattle.wire_fields.proofs.Numbers.{AreBytes, bytes_behind}
+use Rattle.wire_fields.proofs.Forms.{IsField, bind_some, some_same, such_is, pair_is, made_is, byte_is}
+use Rattle.wire_fields.proofs.FieldLaws.{sender_is, addressee_is}
 use Rattle.ring_wire.proofs.BodyForms.{IsSpelled, Finds}
 use Rattle.ring_wire.proofs.LinksLaws.{hello_again, hello_for_again, offer_again, offer_for_again, take_again, renew_again, renew_ack_again, transfer_again, gone_again, links_found, leases_found}
 use Rattle.ring_wire.proofs.SearchesLaws.{seek_again, found_again}

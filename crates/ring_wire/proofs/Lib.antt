@@ -1,9 +1,3 @@
-pub mod Puts
-pub mod Times
-pub mod Numbers
-pub mod Forms
-pub mod FieldLaws
-pub mod Standing
 pub mod BodyForms
 pub mod ReplicasLaws
 pub mod PartitionsLaws

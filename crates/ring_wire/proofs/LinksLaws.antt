@@ -9,8 +9,8 @@ use Rattle.fabric_terms.specs.Fields.{is_session, is_stamp, is_word}
 use Rattle.fabric_terms.specs.Messages.{is_sound_body}
 use Rattle.ring_wire.specs.Frames.{body_bytes}
 use Rattle.ring_wire.specs.Links.{hello_of, hello_for_of, offer_of, offer_for_of, take_of, renew_of, renew_ack_of, transfer_of, gone_of, links_of, leases_of}
-use Rattle.ring_wire.proofs.Forms.{pair_is}
-use Rattle.ring_wire.proofs.FieldLaws.{counted_is, flag_is, lease_is, part_is, ranges_is, session_is, stamp_is, word_is}
+use Rattle.wire_fields.proofs.Forms.{pair_is}
+use Rattle.wire_fields.proofs.FieldLaws.{counted_is, flag_is, lease_is, part_is, ranges_is, session_is, stamp_is, word_is}
 use Rattle.ring_wire.proofs.BodyForms.{Finds, kind_found, kind_again, case_found, none_finds, any_true}
 use Rattle.ring_wire.proofs.SearchesLaws.{searches_found}
 

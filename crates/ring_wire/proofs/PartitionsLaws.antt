@@ -8,11 +8,11 @@ use Rattle.ring_points.specs.declared.unit.Config.{Config}
 use Rattle.fabric_terms.specs.Fields.{is_unit, is_config, same_unit}
 use Rattle.fabric_terms.specs.Messages.{is_sound_body}
 use Rattle.ring_wire.specs.Frames.{body_bytes}
-use Rattle.ring_wire.specs.Texts.{unit_bytes, config_bytes}
-use Rattle.ring_wire.specs.Readers.{such, pair, unit_at, config_at}
+use Rattle.wire_fields.specs.Texts.{unit_bytes, config_bytes}
+use Rattle.wire_fields.specs.Readers.{such, pair, unit_at, config_at}
 use Rattle.ring_wire.specs.Partitions.{prepare_of, prepared_of, no_prepare_of, vote_of, voted_of, no_vote_of, done_ask_of, done_kept_of, no_done_of, partitions_of}
-use Rattle.ring_wire.proofs.Forms.{IsField, pair_is, such_is}
-use Rattle.ring_wire.proofs.FieldLaws.{config_is, done_is, epoch_is, unit_is}
+use Rattle.wire_fields.proofs.Forms.{IsField, pair_is, such_is}
+use Rattle.wire_fields.proofs.FieldLaws.{config_is, done_is, epoch_is, unit_is}
 use Rattle.ring_wire.proofs.BodyForms.{Finds, kind_found, kind_again, case_found}
 use Rattle.ring_wire.proofs.ReplicasLaws.{replicas_found}
 

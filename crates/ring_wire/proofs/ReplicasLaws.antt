@@ -7,8 +7,8 @@ use Rattle.ring_points.specs.declared.unit.Config.{Config}
 use Rattle.fabric_terms.specs.Messages.{is_sound_body}
 use Rattle.ring_wire.specs.Frames.{body_bytes}
 use Rattle.ring_wire.specs.Replicas.{promise_of, promised_of, sync_of, fetch_of, piece_of, adopted_of, activate_of, activated_of, append_of, appended_of, older_of, replicas_of}
-use Rattle.ring_wire.proofs.Forms.{pair_is}
-use Rattle.ring_wire.proofs.FieldLaws.{config_is, epoch_is, last_is, node_is, payload_is, unit_is, word_is}
+use Rattle.wire_fields.proofs.Forms.{pair_is}
+use Rattle.wire_fields.proofs.FieldLaws.{config_is, epoch_is, last_is, node_is, payload_is, unit_is, word_is}
 use Rattle.ring_wire.proofs.BodyForms.{Finds, kind_found, kind_again, case_found, none_finds}
 
 promise_found : Finds 1 48 promise_of

@@ -9,8 +9,8 @@ use Rattle.fabric_terms.specs.Fields.{is_who}
 use Rattle.fabric_terms.specs.Messages.{is_sound_body}
 use Rattle.ring_wire.specs.Frames.{body_bytes}
 use Rattle.ring_wire.specs.Rulings.{accuse_of, ruled_of, claim_of, kept_of, rulings_of}
-use Rattle.ring_wire.proofs.Forms.{pair_is}
-use Rattle.ring_wire.proofs.FieldLaws.{round_is, ruling_is, who_is}
+use Rattle.wire_fields.proofs.Forms.{pair_is}
+use Rattle.wire_fields.proofs.FieldLaws.{round_is, ruling_is, who_is}
 use Rattle.ring_wire.proofs.BodyForms.{Finds, kind_found, kind_again, case_found}
 use Rattle.ring_wire.proofs.PartitionsLaws.{partitions_found}
 

@@ -7,8 +7,8 @@ use Rattle.ring_points.specs.declared.point.Point.{Point}
 use Rattle.fabric_terms.specs.Messages.{is_sound_body}
 use Rattle.ring_wire.specs.Frames.{body_bytes}
 use Rattle.ring_wire.specs.Searches.{seek_of, found_of, searches_of}
-use Rattle.ring_wire.proofs.Forms.{pair_is}
-use Rattle.ring_wire.proofs.FieldLaws.{hops_is, point_is, who_is}
+use Rattle.wire_fields.proofs.Forms.{pair_is}
+use Rattle.wire_fields.proofs.FieldLaws.{hops_is, point_is, who_is}
 use Rattle.ring_wire.proofs.BodyForms.{Finds, kind_found, kind_again, case_found}
 use Rattle.ring_wire.proofs.RulingsLaws.{rulings_found}
 

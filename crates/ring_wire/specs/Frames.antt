@@ -3,7 +3,7 @@ use Rattle.std.specs.Prelude.{ℕ, List, [], ◌∷◌, ◌++◌}
 use Rattle.fabric_terms.specs.declared.message.Message.{Message}
 use Rattle.fabric_terms.specs.declared.message.Body.{Body}
 use Rattle.fabric_terms.specs.declared.message.Body.TheVariants.{Hello, HelloFor, Offer, OfferFor, Take, Renew, RenewAck, Transfer, Gone, Seek, Found, Accuse, Ruled, Claim, Kept, Prepare, Prepared, NoPrepare, Vote, Voted, NoVote, DoneAsk, DoneKept, NoDone, Promise, Promised, Sync, Fetch, Piece, Adopted, Activate, Activated, Append, Appended, Older}
-use Rattle.ring_wire.specs.Texts.{number_bytes, one_byte, who_bytes, epoch_bytes, ranges_bytes, unit_bytes, config_bytes, payload_bytes, flag_bytes, ruling_bytes, done_bytes, session_bytes}
+use Rattle.wire_fields.specs.Texts.{number_bytes, one_byte, who_bytes, epoch_bytes, ranges_bytes, unit_bytes, config_bytes, payload_bytes, flag_bytes, ruling_bytes, done_bytes, session_bytes}
 
 -- leases of their own length have the version 2
 abbrev pub version_of : Body → ℕ

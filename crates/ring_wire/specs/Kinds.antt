@@ -3,7 +3,7 @@ use Rattle.std.specs.Prelude.{ℕ, List, Option, Some, None, ◌==◌, if◌then
 use Rattle.fabric_terms.specs.declared.message.Message.{Message}
 use Rattle.fabric_terms.specs.declared.message.Body.{Body}
 use Rattle.ring_wire.specs.declared.read.Head.{Head}
-use Rattle.ring_wire.specs.Readers.{◌>>=◌, Field, such, pair, made, byte_at, sender_at, addressee_at}
+use Rattle.wire_fields.specs.Readers.{◌>>=◌, Field, such, pair, made, byte_at, sender_at, addressee_at}
 use Rattle.ring_wire.specs.Links.{links_of, leases_of}
 
 -- a body, by its version and its kind

@@ -1,12 +1,8 @@
-pub mod Texts
 pub mod Frames
-pub mod Stands
-pub mod Readers
 pub mod Links
 pub mod Searches
 pub mod Rulings
 pub mod Partitions
 pub mod Replicas
 pub mod Kinds
-pub mod Writers
 pub mod Laws

@@ -2,35 +2,35 @@
 use Rattle.std.specs.Prelude.{ℕ, List, Option, None, ◌==◌, if◌then◌else◌}
 use Rattle.fabric_terms.specs.declared.message.Body.{Body}
 use Rattle.fabric_terms.specs.declared.message.Body.TheVariants.{Hello, HelloFor, Offer, OfferFor, Take, Renew, RenewAck, Transfer, Gone}
-use Rattle.ring_wire.specs.Readers.{body_from, pair, counted_at, flag_at, lease_at, part_at, ranges_at, session_at, stamp_at, word_at}
+use Rattle.wire_fields.specs.Readers.{whole, pair, counted_at, flag_at, lease_at, part_at, ranges_at, session_at, stamp_at, word_at}
 use Rattle.ring_wire.specs.Searches.{searches_of}
 
 unfoldable pub hello_of : List ℕ → Option Body
-hello_of = body_from (λ x. Hello x) counted_at
+hello_of = whole (λ x. Hello x) counted_at
 
 unfoldable pub hello_for_of : List ℕ → Option Body
-hello_for_of = body_from (λ x. HelloFor x.0 x.1) (pair counted_at lease_at)
+hello_for_of = whole (λ x. HelloFor x.0 x.1) (pair counted_at lease_at)
 
 unfoldable pub offer_of : List ℕ → Option Body
-offer_of = body_from (λ x. Offer x.0 x.1) session_at
+offer_of = whole (λ x. Offer x.0 x.1) session_at
 
 unfoldable pub offer_for_of : List ℕ → Option Body
-offer_for_of = body_from (λ x. OfferFor x.0.0 x.0.1 x.1) (pair session_at lease_at)
+offer_for_of = whole (λ x. OfferFor x.0.0 x.0.1 x.1) (pair session_at lease_at)
 
 unfoldable pub take_of : List ℕ → Option Body
-take_of = body_from (λ x. Take x.0 x.1) session_at
+take_of = whole (λ x. Take x.0 x.1) session_at
 
 unfoldable pub renew_of : List ℕ → Option Body
-renew_of = body_from (λ x. Renew x.0.0.0.0.0.0 x.0.0.0.0.0.1 x.0.0.0.0.1 x.0.0.0.1 x.0.0.1 x.0.1 x.1) (pair (pair (pair (pair (pair session_at stamp_at) word_at) word_at) flag_at) ranges_at)
+renew_of = whole (λ x. Renew x.0.0.0.0.0.0 x.0.0.0.0.0.1 x.0.0.0.0.1 x.0.0.0.1 x.0.0.1 x.0.1 x.1) (pair (pair (pair (pair (pair session_at stamp_at) word_at) word_at) flag_at) ranges_at)
 
 unfoldable pub renew_ack_of : List ℕ → Option Body
-renew_ack_of = body_from (λ x. RenewAck x.0.0.0 x.0.0.1 x.0.1 x.1) (pair (pair session_at stamp_at) word_at)
+renew_ack_of = whole (λ x. RenewAck x.0.0.0 x.0.0.1 x.0.1 x.1) (pair (pair session_at stamp_at) word_at)
 
 unfoldable pub transfer_of : List ℕ → Option Body
-transfer_of = body_from (λ x. Transfer x.0.0.0 x.0.0.1 x.0.1 x.1) (pair (pair session_at counted_at) part_at)
+transfer_of = whole (λ x. Transfer x.0.0.0 x.0.0.1 x.0.1 x.1) (pair (pair session_at counted_at) part_at)
 
 unfoldable pub gone_of : List ℕ → Option Body
-gone_of = body_from (λ x. Gone x.0.0.0 x.0.0.1 x.0.1 x.1) (pair (pair session_at word_at) flag_at)
+gone_of = whole (λ x. Gone x.0.0.0 x.0.0.1 x.0.1 x.1) (pair (pair session_at word_at) flag_at)
 
 -- a body of version 1, by its kind
 unfoldable pub links_of : ℕ → List ℕ → Option Body

@@ -2,36 +2,36 @@
 use Rattle.std.specs.Prelude.{ℕ, List, Option, ◌==◌, if◌then◌else◌}
 use Rattle.fabric_terms.specs.declared.message.Body.{Body}
 use Rattle.fabric_terms.specs.declared.message.Body.TheVariants.{Prepare, Prepared, NoPrepare, Vote, Voted, NoVote, DoneAsk, DoneKept, NoDone}
-use Rattle.ring_wire.specs.Readers.{body_from, pair, such, config_at, done_at, epoch_at, unit_at}
+use Rattle.wire_fields.specs.Readers.{whole, pair, such, config_at, done_at, epoch_at, unit_at}
 use Rattle.fabric_terms.specs.Fields.{same_unit}
 use Rattle.ring_wire.specs.Replicas.{replicas_of}
 
 unfoldable pub prepare_of : List ℕ → Option Body
-prepare_of = body_from (λ x. Prepare x.0 x.1) unit_at
+prepare_of = whole (λ x. Prepare x.0 x.1) unit_at
 
 unfoldable pub prepared_of : List ℕ → Option Body
-prepared_of = body_from (λ x. Prepared x.0.0 x.0.1 x.1) (pair unit_at done_at)
+prepared_of = whole (λ x. Prepared x.0.0 x.0.1 x.1) (pair unit_at done_at)
 
 unfoldable pub no_prepare_of : List ℕ → Option Body
-no_prepare_of = body_from (λ x. NoPrepare x.0.0 x.0.1 x.1) (pair unit_at epoch_at)
+no_prepare_of = whole (λ x. NoPrepare x.0.0 x.0.1 x.1) (pair unit_at epoch_at)
 
 unfoldable pub vote_of : List ℕ → Option Body
-vote_of = body_from (λ x. Vote x) config_at
+vote_of = whole (λ x. Vote x) config_at
 
 unfoldable pub voted_of : List ℕ → Option Body
-voted_of = body_from (λ x. Voted x.0.0 x.0.1 x.1) (such (λ x. same_unit x.0.0 x.0.1 x.1) (pair unit_at config_at))
+voted_of = whole (λ x. Voted x.0.0 x.0.1 x.1) (such (λ x. same_unit x.0.0 x.0.1 x.1) (pair unit_at config_at))
 
 unfoldable pub no_vote_of : List ℕ → Option Body
-no_vote_of = body_from (λ x. NoVote x.0.0 x.0.1 x.1) (pair unit_at epoch_at)
+no_vote_of = whole (λ x. NoVote x.0.0 x.0.1 x.1) (pair unit_at epoch_at)
 
 unfoldable pub done_ask_of : List ℕ → Option Body
-done_ask_of = body_from (λ x. DoneAsk x) config_at
+done_ask_of = whole (λ x. DoneAsk x) config_at
 
 unfoldable pub done_kept_of : List ℕ → Option Body
-done_kept_of = body_from (λ x. DoneKept x.0 x.1) unit_at
+done_kept_of = whole (λ x. DoneKept x.0 x.1) unit_at
 
 unfoldable pub no_done_of : List ℕ → Option Body
-no_done_of = body_from (λ x. NoDone x.0.0 x.0.1 x.1) (pair unit_at epoch_at)
+no_done_of = whole (λ x. NoDone x.0.0 x.0.1 x.1) (pair unit_at epoch_at)
 
 -- one that is no ruling either, by its kind
 unfoldable pub partitions_of : ℕ → List ℕ → Option Body

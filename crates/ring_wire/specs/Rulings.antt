@@ -2,20 +2,20 @@
 use Rattle.std.specs.Prelude.{ℕ, List, Option, ◌==◌, if◌then◌else◌}
 use Rattle.fabric_terms.specs.declared.message.Body.{Body}
 use Rattle.fabric_terms.specs.declared.message.Body.TheVariants.{Accuse, Ruled, Claim, Kept}
-use Rattle.ring_wire.specs.Readers.{body_from, pair, round_at, ruling_at, who_at}
+use Rattle.wire_fields.specs.Readers.{whole, pair, round_at, ruling_at, who_at}
 use Rattle.ring_wire.specs.Partitions.{partitions_of}
 
 unfoldable pub accuse_of : List ℕ → Option Body
-accuse_of = body_from (λ x. Accuse x) who_at
+accuse_of = whole (λ x. Accuse x) who_at
 
 unfoldable pub ruled_of : List ℕ → Option Body
-ruled_of = body_from (λ x. Ruled x.0 x.1) (pair who_at ruling_at)
+ruled_of = whole (λ x. Ruled x.0 x.1) (pair who_at ruling_at)
 
 unfoldable pub claim_of : List ℕ → Option Body
-claim_of = body_from (λ x. Claim x.0 x.1) (pair who_at round_at)
+claim_of = whole (λ x. Claim x.0 x.1) (pair who_at round_at)
 
 unfoldable pub kept_of : List ℕ → Option Body
-kept_of = body_from (λ x. Kept x.0.0 x.0.1 x.1) (pair (pair who_at round_at) who_at)
+kept_of = whole (λ x. Kept x.0.0 x.0.1 x.1) (pair (pair who_at round_at) who_at)
 
 -- one that is no search either, by its kind
 unfoldable pub rulings_of : ℕ → List ℕ → Option Body

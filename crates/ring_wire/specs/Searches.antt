@@ -2,14 +2,14 @@
 use Rattle.std.specs.Prelude.{ℕ, List, Option, ◌==◌, if◌then◌else◌}
 use Rattle.fabric_terms.specs.declared.message.Body.{Body}
 use Rattle.fabric_terms.specs.declared.message.Body.TheVariants.{Seek, Found}
-use Rattle.ring_wire.specs.Readers.{body_from, pair, hops_at, point_at, who_at}
+use Rattle.wire_fields.specs.Readers.{whole, pair, hops_at, point_at, who_at}
 use Rattle.ring_wire.specs.Rulings.{rulings_of}
 
 unfoldable pub seek_of : List ℕ → Option Body
-seek_of = body_from (λ x. Seek x.0.0 x.0.1 x.1) (pair (pair who_at point_at) hops_at)
+seek_of = whole (λ x. Seek x.0.0 x.0.1 x.1) (pair (pair who_at point_at) hops_at)
 
 unfoldable pub found_of : List ℕ → Option Body
-found_of = body_from (λ x. Found x.0 x.1) (pair point_at who_at)
+found_of = whole (λ x. Found x.0 x.1) (pair point_at who_at)
 
 -- a body of version 1 that is of no session, by its kind
 unfoldable pub searches_of : ℕ → List ℕ → Option Body

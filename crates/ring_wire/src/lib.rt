@@ -1,20 +1,19 @@
 //! Frames: what actors send each other, as bytes.
 //!
 //! A frame is one message in one spelling. This crate says which bytes are frames, reads them and writes them, and
-//! has the outbox in which a step gathers what it sends. It stands on the terms of messages and on range sets. What is
+//! has the outbox in which a step gathers what it sends. It stands on the terms of messages and on their fields. What is
 //! read is in the grammar, what is written is in it, no frame has two messages and no message two frames; so the layers
 //! above speak of messages alone.
 #![tactic(auto)]
 
-mod fields;
 mod laws;
 mod not_frame;
 mod read;
 mod write;
 
 pub use fabric_terms::{Body, Message, OUTBOX_LIMIT, Outbox};
-pub use fields::{read_config_field, read_epoch, read_ranges, read_who};
 pub use laws::{one_spelling, short_spelling};
 pub use not_frame::NotFrame;
 pub use read::{decode, decode_into};
+pub use wire_fields::{read_config_field, read_epoch, read_ranges, read_who};
 pub use write::{FRAME_LIMIT, encode, encode_sent};

@@ -4,25 +4,20 @@ ghost use Rattle.std.specs.Prelude.{◌≡◌, ◌≢◌, IsTrue, MatchResult};
 ghost use Rattle.fabric_terms.specs.declared.message.Message.{Message};
 ghost use Rattle.fabric_terms.specs.Messages.{is_sound};
 ghost use Rattle.ring_wire.specs.Frames.{spelling};
-ghost use Rattle.ring_wire.specs.Readers.{Gives, Fills};
+ghost use Rattle.wire_fields.specs.Readers.{Gives, Fills};
 ghost use Rattle.ring_wire.specs.Kinds.{head_at, body_of, message_of};
 
-pub mod actor;
 mod links;
-pub mod number;
 mod partitions;
-pub mod ranges;
 mod replicas;
 mod rulings;
 mod searches;
-pub mod unit;
 
 use crate::not_frame::NotFrame;
-use actor::{addressee_at, sender_at};
 use fabric_terms::{Body, Message};
 use links::{read_lease, read_link};
-use number::u8_at;
 use ring_points::Who;
+use wire_fields::read::{addressee_at, sender_at, u8_at};
 
 /// The first byte of every frame.
 const FIRST_BYTE: u8 = 0x53;

@@ -3,13 +3,11 @@
 ghost use Rattle.std.specs.Prelude.{◌≡◌, ◌≤◌, ◌+◌, ◌++◌, [], ◌∷◌, length, drop, IsTrue};
 ghost use Rattle.fabric_terms.specs.Messages.{is_sound, is_sound_body};
 ghost use Rattle.ring_wire.specs.Frames.{version_of, kind_of, body_bytes, spelling};
-ghost use Rattle.ring_wire.specs.Texts.{who_bytes};
-ghost use Rattle.ring_wire.specs.Writers.{Puts};
+ghost use Rattle.wire_fields.specs.Texts.{who_bytes};
+ghost use Rattle.wire_fields.specs.Writers.{Puts};
 
-mod field;
 mod greetings;
 mod links;
-mod number;
 mod partitions;
 mod replicas;
 mod roles;
@@ -17,16 +15,15 @@ mod rulings;
 mod searches;
 
 use fabric_terms::{Body, Message};
-use field::put_who;
 use greetings::put_greeting;
 use links::put_link;
-use number::put_u8;
 use partitions::put_partition;
 use replicas::put_replica;
 use ring_points::Who;
 use roles::put_role;
 use rulings::put_ruling_body;
 use searches::put_search;
+use wire_fields::write::{put_u8, put_who};
 
 /// No frame has more bytes.
 pub const FRAME_LIMIT: usize = 1200;

@@ -6,7 +6,7 @@ use Rattle.fabric_terms.specs.Messages.{is_sound}
 use Rattle.ring_wire.specs.Frames.{spelling}
 use Rattle.ring_wire.specs.Kinds.{message_of}
 use Rattle.ring_wire.proofs.FrameLaws.{message_again, message_found}
-use Rattle.ring_wire.proofs.Numbers.{AreBytes}
+use Rattle.wire_fields.proofs.Numbers.{AreBytes}
 use Rattle.ring_world.specs.Answers.{is_frame}
 
 pub frame_is : (bytes : List ℕ) (m : Message) → IsTrue (is_sound m) → spelling m ≡ bytes → is_frame bytes ≡ true

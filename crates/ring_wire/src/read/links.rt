@@ -1,14 +1,15 @@
 // The sessions of links: the bodies of each kind, read to the end of the bytes. A refusal may leave any body.
 
-ghost use Rattle.ring_wire.specs.Readers.{Fills};
+ghost use Rattle.wire_fields.specs.Readers.{Fills};
 ghost use Rattle.ring_wire.specs.Links.{hello_of, hello_for_of, offer_of, offer_for_of, take_of, renew_of, renew_ack_of, transfer_of, gone_of, links_of, leases_of};
 
 use crate::not_frame::NotFrame;
-use crate::read::number::{counted_at, end, flag_at, lease_at, session_at, stamp_at, u32_at};
-use crate::read::ranges::intervals_at;
 use crate::read::searches::read_search;
 use fabric_terms::Body;
 use ring_points::{Interval, MAX_INTERVALS, RangeSet};
+use wire_fields::read::{
+    counted_at, end, flag_at, intervals_at, lease_at, session_at, stamp_at, u32_at,
+};
 
 #[tactic(auto, unfolding(crate::specs::Links::hello_of))]
 fn hello(bytes: &[u8], body: &mut Body) -> Result<(), NotFrame>

@@ -1,13 +1,12 @@
 // Epochs and configurations of partitions, which nodes and arbitrators send each other: the bodies of each kind, read to the end of the bytes. A refusal may leave any body.
 
-ghost use Rattle.ring_wire.specs.Readers.{Fills};
+ghost use Rattle.wire_fields.specs.Readers.{Fills};
 ghost use Rattle.ring_wire.specs.Partitions.{prepare_of, prepared_of, no_prepare_of, vote_of, voted_of, no_vote_of, done_ask_of, done_kept_of, no_done_of, partitions_of};
 
 use crate::not_frame::NotFrame;
-use crate::read::number::end;
 use crate::read::replicas::read_replica;
-use crate::read::unit::{config_at, done_at, epoch_at, unit_at};
 use fabric_terms::Body;
+use wire_fields::read::{config_at, done_at, end, epoch_at, unit_at};
 
 #[tactic(auto, unfolding(crate::specs::Partitions::prepare_of))]
 fn prepare(bytes: &[u8], body: &mut Body) -> Result<(), NotFrame>

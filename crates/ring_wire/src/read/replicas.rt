@@ -1,12 +1,11 @@
 // Replicas: the bodies of each kind, read to the end of the bytes. A refusal may leave any body.
 
-ghost use Rattle.ring_wire.specs.Readers.{Fills};
+ghost use Rattle.wire_fields.specs.Readers.{Fills};
 ghost use Rattle.ring_wire.specs.Replicas.{promise_of, promised_of, sync_of, fetch_of, piece_of, adopted_of, activate_of, activated_of, append_of, appended_of, older_of, replicas_of};
 
 use crate::not_frame::NotFrame;
-use crate::read::number::{end, last_at, node_at, u32_at};
-use crate::read::unit::{config_at, epoch_at, payload_at, unit_at};
 use fabric_terms::Body;
+use wire_fields::read::{config_at, end, epoch_at, last_at, node_at, payload_at, u32_at, unit_at};
 
 #[tactic(auto, unfolding(crate::specs::Replicas::promise_of))]
 fn promise(bytes: &[u8], body: &mut Body) -> Result<(), NotFrame>

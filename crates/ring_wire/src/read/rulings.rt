@@ -1,13 +1,12 @@
 // Accusations, rulings and claims: the bodies of each kind, read to the end of the bytes. A refusal may leave any body.
 
-ghost use Rattle.ring_wire.specs.Readers.{Fills};
+ghost use Rattle.wire_fields.specs.Readers.{Fills};
 ghost use Rattle.ring_wire.specs.Rulings.{accuse_of, ruled_of, claim_of, kept_of, rulings_of};
 
 use crate::not_frame::NotFrame;
-use crate::read::actor::{ruling_at, who_at};
-use crate::read::number::{end, round_at};
 use crate::read::partitions::read_partition;
 use fabric_terms::Body;
+use wire_fields::read::{end, round_at, ruling_at, who_at};
 
 #[tactic(auto, unfolding(crate::specs::Rulings::accuse_of))]
 fn accuse(bytes: &[u8], body: &mut Body) -> Result<(), NotFrame>

@@ -1,16 +1,15 @@
 // Searches: the bodies of each kind, read to the end of the bytes. A refusal may leave any body.
 
-ghost use Rattle.ring_wire.specs.Readers.{Fills};
+ghost use Rattle.wire_fields.specs.Readers.{Fills};
 ghost use Rattle.ring_wire.specs.Searches.{seek_of, found_of, searches_of};
 
 use crate::not_frame::NotFrame;
-use crate::read::actor::who_at;
-use crate::read::number::{end, hops_at, u64_at};
 use crate::read::rulings::read_ruling;
 use fabric_terms::Body;
 use ring_points::Point;
+use wire_fields::read::{end, hops_at, u64_at, who_at};
 
-#[tactic(auto, unfolding(crate::specs::Searches::seek_of, crate::specs::Readers::point_at))]
+#[tactic(auto, unfolding(crate::specs::Searches::seek_of, wire_fields::specs::Readers::point_at))]
 fn seek(bytes: &[u8], body: &mut Body) -> Result<(), NotFrame>
     ensures { Fills result body.new (seek_of bytes.now) }
 {
@@ -26,7 +25,7 @@ fn seek(bytes: &[u8], body: &mut Body) -> Result<(), NotFrame>
     Ok(())
 }
 
-#[tactic(auto, unfolding(crate::specs::Searches::found_of, crate::specs::Readers::point_at))]
+#[tactic(auto, unfolding(crate::specs::Searches::found_of, wire_fields::specs::Readers::point_at))]
 fn found(bytes: &[u8], body: &mut Body) -> Result<(), NotFrame>
     ensures { Fills result body.new (found_of bytes.now) }
 {

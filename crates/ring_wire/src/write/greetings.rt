@@ -3,11 +3,11 @@
 ghost use Rattle.std.specs.Prelude.{◌≡◌, ◌≤◌, ◌+◌, IsTrue};
 ghost use Rattle.fabric_terms.specs.Messages.{is_sound_body};
 ghost use Rattle.ring_wire.specs.Frames.{kind_of, body_bytes};
-ghost use Rattle.ring_wire.specs.Writers.{Puts};
+ghost use Rattle.wire_fields.specs.Writers.{Puts};
 
 use crate::write::FRAME_LIMIT;
-use crate::write::number::{put_session, put_u32, put_u64};
 use fabric_terms::Body;
+use wire_fields::write::{put_session, put_u32, put_u64};
 
 /// A body of a kind up to 3. Gives the place after it.
 pub fn put_greeting(into: &mut [u8; FRAME_LIMIT], at: usize, body: &Body) -> usize

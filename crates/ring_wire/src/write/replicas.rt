@@ -3,12 +3,11 @@
 ghost use Rattle.std.specs.Prelude.{◌≡◌, ◌≤◌, ◌+◌, IsTrue};
 ghost use Rattle.fabric_terms.specs.Messages.{is_sound_body};
 ghost use Rattle.ring_wire.specs.Frames.{kind_of, body_bytes};
-ghost use Rattle.ring_wire.specs.Writers.{Puts};
+ghost use Rattle.wire_fields.specs.Writers.{Puts};
 
 use crate::write::FRAME_LIMIT;
-use crate::write::field::{put_epoch, put_payload, put_unit};
-use crate::write::number::{put_u16, put_u32};
 use fabric_terms::Body;
+use wire_fields::write::{put_epoch, put_payload, put_u16, put_u32, put_unit};
 
 /// A body of a kind from 48 to 53. Gives the place after it.
 pub fn put_replica(into: &mut [u8; FRAME_LIMIT], at: usize, body: &Body) -> usize

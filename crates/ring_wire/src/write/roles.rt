@@ -3,12 +3,11 @@
 ghost use Rattle.std.specs.Prelude.{◌≡◌, ◌≤◌, ◌+◌, IsTrue};
 ghost use Rattle.fabric_terms.specs.Messages.{is_sound_body};
 ghost use Rattle.ring_wire.specs.Frames.{kind_of, body_bytes};
-ghost use Rattle.ring_wire.specs.Writers.{Puts};
+ghost use Rattle.wire_fields.specs.Writers.{Puts};
 
 use crate::write::FRAME_LIMIT;
-use crate::write::field::{put_config, put_epoch, put_payload, put_unit};
-use crate::write::number::put_u32;
 use fabric_terms::Body;
+use wire_fields::write::{put_config, put_epoch, put_payload, put_u32, put_unit};
 
 /// A body of a kind from 54 on. Gives the place after it.
 pub fn put_role(into: &mut [u8; FRAME_LIMIT], at: usize, body: &Body) -> usize

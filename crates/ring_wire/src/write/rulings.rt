@@ -3,12 +3,11 @@
 ghost use Rattle.std.specs.Prelude.{◌≡◌, ◌≤◌, ◌+◌, IsTrue};
 ghost use Rattle.fabric_terms.specs.Messages.{is_sound_body};
 ghost use Rattle.ring_wire.specs.Frames.{kind_of, body_bytes};
-ghost use Rattle.ring_wire.specs.Writers.{Puts};
+ghost use Rattle.wire_fields.specs.Writers.{Puts};
 
 use crate::write::FRAME_LIMIT;
-use crate::write::field::{put_ruling, put_who};
-use crate::write::number::put_u8;
 use fabric_terms::Body;
+use wire_fields::write::{put_ruling, put_u8, put_who};
 
 /// A body of a kind from 16 to 19. Gives the place after it.
 pub fn put_ruling_body(into: &mut [u8; FRAME_LIMIT], at: usize, body: &Body) -> usize

@@ -1,5 +1,5 @@
-use Rattle.ring_wire.specs.Texts.{one_byte}
-use Rattle.ring_wire.proofs.Puts.{puts_more, puts_front}
+use Rattle.wire_fields.specs.Texts.{one_byte}
+use Rattle.wire_fields.proofs.Puts.{puts_more, puts_front}
 use Rattle.keep_log.proofs.encode.encode_record.Goals as goal
 
 pub returns-in-Boot-clause-written : goal.returns-in-Boot-clause-written

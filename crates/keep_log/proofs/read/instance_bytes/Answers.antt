@@ -1,4 +1,4 @@
-use Rattle.ring_wire.specs.Texts.{number_bytes}
+use Rattle.wire_fields.specs.Texts.{number_bytes}
 use Rattle.keep_log.proofs.read.instance_bytes.Goals as goal
 
 pub returns : goal.returns

@@ -1,6 +1,6 @@
 use Rattle.std.proofs.Common.{ap, sym, ◌∙◌}
 use Rattle.ring_wire.specs.Kinds.{message_of}
-use Rattle.ring_wire.proofs.Forms.{some_same}
+use Rattle.wire_fields.proofs.Forms.{some_same}
 use Rattle.ring_wire.proofs.FrameLaws.{message_again}
 use Rattle.ring_wire.proofs.laws.one_spelling.Goals as goal
 

@@ -1,4 +1,4 @@
-use Rattle.ring_wire.proofs.Puts.{puts_more, puts_front}
+use Rattle.wire_fields.proofs.Puts.{puts_more, puts_front}
 use Rattle.ring_wire.proofs.write.encode_sent.Goals as goal
 
 pub returns-clause-written : goal.returns-clause-written

@@ -1,5 +1,5 @@
-use Rattle.ring_wire.specs.Texts.{one_byte}
-use Rattle.ring_wire.proofs.Puts.{puts_more}
+use Rattle.wire_fields.specs.Texts.{one_byte}
+use Rattle.wire_fields.proofs.Puts.{puts_more}
 use Rattle.ring_wire.proofs.write.put_start.Goals as goal
 
 pub returns-clause-wrote : goal.returns-clause-wrote

@@ -1,5 +1,5 @@
 use Rattle.std.proofs.Common.{rules, ⊎_elim}
-use Rattle.ring_wire.proofs.Puts.{puts_more}
+use Rattle.wire_fields.proofs.Puts.{puts_more}
 use Rattle.ring_wire.proofs.write.partitions.put_partition.Goals as goal
 
 pub returns-in-Prepared : goal.returns-in-Prepared

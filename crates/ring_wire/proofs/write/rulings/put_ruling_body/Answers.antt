@@ -1,5 +1,5 @@
 use Rattle.std.proofs.Common.{rules}
-use Rattle.ring_wire.proofs.Puts.{puts_more}
+use Rattle.wire_fields.proofs.Puts.{puts_more}
 use Rattle.ring_wire.proofs.write.rulings.put_ruling_body.Goals as goal
 
 pub returns-in-Kept : goal.returns-in-Kept

@@ -1,8 +1,0 @@
-use Rattle.std.proofs.Common.{◌≡◌, ◌-◌, length, take}
-use Rattle.ring_wire.specs.Readers.{times, interval_at}
-use Rattle.ring_wire.proofs.Times.{with_front}
-use Rattle.ring_wire.proofs.read.ranges.fill.Given as goal
-
-abbrev pub invariant-loop-place : goal.invariant-loop-place
-invariant-loop-place l =
-    with_front (take l.place-index l.places) (times (length l.fn.places - l.place-index) interval_at l.rest) ≡ times (length l.fn.places) interval_at l.bytes

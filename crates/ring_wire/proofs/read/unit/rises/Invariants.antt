@@ -1,6 +1,0 @@
-use Rattle.std.proofs.Common.{◌≡◌, drop}
-use Rattle.fabric_terms.specs.Fields.{rises_above}
-use Rattle.ring_wire.proofs.read.unit.rises.Given as goal
-
-abbrev pub invariant-loop-node : goal.invariant-loop-node
-invariant-loop-node l = rises_above 0 l.members ≡ rises_above l.below (drop l.node-index l.members)

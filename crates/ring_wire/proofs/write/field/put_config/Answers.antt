@@ -1,8 +1,0 @@
-use Rattle.ring_wire.specs.Texts.{config_bytes}
-use Rattle.ring_wire.proofs.Puts.{puts_more}
-use Rattle.ring_wire.proofs.write.field.put_config.Goals as goal
-
-pub returns : goal.returns
-unfolding config_bytes
-returns c =
-    rw (← c.as_slice.ensures) (puts_more (puts_more c.put_unit-at.ensures.wrote c.put_u16-at.ensures.wrote) c.put_members.ensures)

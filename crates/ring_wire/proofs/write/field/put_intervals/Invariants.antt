@@ -1,9 +1,0 @@
-use Rattle.std.proofs.Common.{◌≡◌, ◌+◌, ◌*◌, take}
-use Rattle.std.specs.List.{flat_map}
-use Rattle.ring_wire.specs.Texts.{interval_bytes}
-use Rattle.ring_wire.specs.Writers.{Puts}
-use Rattle.ring_wire.proofs.write.field.put_intervals.Given as goal
-
-abbrev pub invariant-loop-interval : goal.invariant-loop-interval
-invariant-loop-interval l =
-    (l.end ≡ l.fn.at + 16 * l.interval-index) × Puts (flat_map interval_bytes (take l.interval-index l.intervals)) l.fn.into l.fn.at l.into l.end

@@ -1,7 +1,0 @@
-use Rattle.ring_wire.specs.Texts.{payload_bytes}
-use Rattle.ring_wire.proofs.Puts.{puts_more}
-use Rattle.ring_wire.proofs.write.field.put_payload.Goals as goal
-
-pub returns : goal.returns
-unfolding payload_bytes
-returns c = rw (← c.as_slice-bytes.ensures.bytes) (puts_more c.put_u16-at.ensures.wrote c.put_bytes.ensures)

@@ -1,7 +1,0 @@
-use Rattle.ring_wire.specs.Texts.{unit_bytes}
-use Rattle.ring_wire.proofs.Puts.{puts_more}
-use Rattle.ring_wire.proofs.write.field.put_unit.Goals as goal
-
-pub returns-clause-wrote : goal.returns-clause-wrote
-unfolding unit_bytes
-returns-clause-wrote c = puts_more c.put_u16-at.ensures.wrote c.put_epoch.ensures.wrote

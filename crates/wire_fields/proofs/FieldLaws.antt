@@ -1,0 +1,319 @@
+-- The law of each field.
+use Rattle.std.proofs.Common.{◌≡◌, ℕ, ◌+◌, ◌^◌, ◌<◌, ◌≤◌, Bool, true, false, cond, ◌&&◌, ◌||◌, nat_le, nat_lt, ⊎_elim, List, [], ◌∷◌, ◌++◌, length, take, drop, Option, Some, None, refl, ap, sym, subst, ◌∙◌, arith, length-append}
+use Rattle.std.specs.Prelude.{IsTrue, ◌==◌}
+use Rattle.std.specs.List.{list_all, list_any}
+use Rattle.std.proofs.lemmas.List.{append_assoc, take-append-drop, drop_at, take_at, length-take-le}
+use Rattle.std.proofs.lemmas.Bool.{leb-true, le-leb, lt-ltb, ltb-true, eqb-true, eqb-false, and_parts, and_from, or_cases}
+use Rattle.ring_points.specs.declared.who.Who.{Who}
+use Rattle.ring_points.specs.declared.who.Ruling.{Ruling}
+use Rattle.ring_points.specs.declared.who.Ruling.TheVariants.{Granted, Taken, Refused}
+use Rattle.ring_points.specs.declared.unit.Config.{Config}
+use Rattle.ring_points.specs.declared.interval.Interval.{Interval}
+use Rattle.ring_points.specs.Ranges.{is_proper, rises_from, fits}
+use Rattle.fabric_terms.specs.Fields.{is_short, is_word, is_long, is_counted, is_session, is_stamp, is_lease, is_last, is_hops, is_round, is_node, is_who, is_arbiter, is_sender, is_addressee, is_some, is_part, is_epoch, is_unit, rises_above, has_members, is_config, is_done, is_payload}
+use Rattle.wire_fields.specs.Readers.{◌>>=◌, Field, such, pair, made, number_at, byte_at, bytes_at, list_at, word_at, counted_at, last_at, stamp_at, lease_at, node_at, hops_at, round_at, flag_at, ruling_of, ruling_at, point_at, session_at, actor_at, is_numbered, who_at, sender_at, addressee_at, epoch_at, unit_at, interval_at, intervals_at, ranges_at, part_at, config_from, config_at, done_at, payload_at}
+use Rattle.wire_fields.specs.Texts.{number_bytes, one_byte, session_bytes, who_bytes, epoch_bytes, unit_bytes, interval_bytes, list_bytes, ranges_bytes, config_bytes, payload_bytes, flag_code, flag_bytes, ruling_code, ruling_bytes, done_bytes}
+use Rattle.wire_fields.proofs.Numbers.{AreBytes, bytes_behind}
+use Rattle.wire_fields.proofs.Forms.{IsField, any, some_same, bind_some, tested, resound, such_is, pair_is, made_is, byte_is, number_is, list_is}
+
+-- what is at most a bound is below a greater one
+below : (n most limit : ℕ) → nat_le n most ≡ true → most < limit → nat_lt n limit ≡ true
+below n most limit h b = lt-ltb n limit (let l = leb-true n most h in omega arith)
+
+pub word_is : IsField word_at is_word (number_bytes 4)
+word_is = number_is 4
+
+pub counted_is : IsField counted_at is_counted (number_bytes 4)
+unfolding counted_at
+counted_is =
+    such_is (number_is 4) (λ n. nat_le 1 n) is_counted (λ n a b. and_from (nat_le 1 n) (is_word n) b a) (λ n h. let p = and_parts (nat_le 1 n) (is_word n) h in (p.1, p.0))
+
+pub last_is : IsField last_at is_last (number_bytes 4)
+unfolding last_at
+last_is = such_is (number_is 4) is_last is_last (λ n a b. b) (λ n h. (below n 100000 4294967296 h (omega arith), h))
+
+pub stamp_is : IsField stamp_at is_stamp (number_bytes 8)
+unfolding stamp_at
+stamp_is = such_is (number_is 8) is_stamp is_stamp (λ n a b. b) (λ n h. (below n 1000000000000000 18446744073709551616 h (omega arith), h))
+
+pub lease_is : IsField lease_at is_lease (number_bytes 8)
+unfolding lease_at
+lease_is =
+    such_is (number_is 8) is_lease is_lease (λ n a b. b) (λ n h. (below n 1000000000 18446744073709551616 (and_parts (nat_le 10 n) (nat_le n 1000000000) h).1 (omega arith), h))
+
+node_short : (n : ℕ) → IsTrue (is_node n) → IsTrue (is_short n)
+node_short n h = below n 999 65536 (and_parts (nat_le 1 n) (nat_le n 999) h).1 (omega arith)
+
+pub node_is : IsField node_at is_node (number_bytes 2)
+unfolding node_at
+node_is = such_is (number_is 2) is_node is_node (λ n a b. b) (λ n h. (node_short n h, h))
+
+pub hops_is : IsField hops_at is_hops one_byte
+unfolding hops_at
+hops_is = such_is byte_is is_hops is_hops (λ n a b. b) (λ n h. (refl, h))
+
+pub round_is : IsField round_at is_round one_byte
+unfolding round_at
+round_is = such_is byte_is is_round is_round (λ n a b. b) (λ n h. (refl, h))
+
+pub flag_is : IsField flag_at any flag_bytes
+unfolding flag_at flag_bytes
+flag_is =
+    resound (made_is (such_is byte_is (λ n. nat_le n 1) (λ n. nat_le n 1) (λ n a b. b) (λ n h. (refl, h))) (λ n. n == 1) flag_code there back) any (λ x h. refl) small
+  where
+    there : (n : ℕ) → IsTrue (nat_le n 1) → flag_code (n == 1) ≡ n
+    there n h = cases (n == 1) refl (leb-true n 1 h)
+      where
+        cases : (b : Bool) → (n == 1) ≡ b → n ≤ 1 → flag_code b ≡ n
+        cases true e h = sym (eqb-true n 1 e)
+        cases false e h = let ne = eqb-false n 1 e in omega arith
+
+    back : (y : Bool) → (flag_code y == 1) ≡ y
+    back true = refl
+    back false = refl
+
+    small : (y : Bool) → IsTrue (any y) → IsTrue (nat_le (flag_code y) 1)
+    small true h = refl
+    small false h = refl
+
+abbrev before : List ℕ → Option Ruling → Field Ruling
+before rest o = o >>= λ ruling. Some (ruling, rest)
+
+pub ruling_is : IsField ruling_at any ruling_bytes
+unfolding ruling_at ruling_bytes
+ruling_is = record {
+  found = λ bytes x h e.
+      let a = bind_some (byte_at bytes) (λ (z : ℕ × List ℕ). before z.1 (ruling_of z.0)) x e in
+      let b = bind_some (ruling_of a.0.0) (λ r. Some (r, a.0.1)) x a.2 in
+      let f = byte_is.found bytes a.0 h a.1 in
+      let P : Ruling × List ℕ → Type 0 = λ z. IsTrue true × (bytes ≡ one_byte (ruling_code z.0) ++ z.1) in
+      subst P (some_same (b.0, a.0.1) x b.2) (refl, f.1 ∙ ap (λ n. one_byte n ++ a.0.1) (sym (code a.0.0 b.0 b.1)));
+  again = again;
+}
+  where
+    code : (n : ℕ) (r : Ruling) → ruling_of n ≡ Some r → ruling_code r ≡ n
+    code n r e = first (n == 1) refl e
+      where
+        third : (b : Bool) → (n == 3) ≡ b → cond b (Some Refused) None ≡ Some r → ruling_code r ≡ n
+        third true t e = ap ruling_code (sym (some_same Refused r e)) ∙ sym (eqb-true n 3 t)
+        third false t e = cc
+
+        second : (b : Bool) → (n == 2) ≡ b → cond b (Some Taken) (cond (n == 3) (Some Refused) None) ≡ Some r → ruling_code r ≡ n
+        second true t e = ap ruling_code (sym (some_same Taken r e)) ∙ sym (eqb-true n 2 t)
+        second false t e = third (n == 3) refl e
+
+        first : (b : Bool) → (n == 1) ≡ b → cond b (Some Granted) (cond (n == 2) (Some Taken) (cond (n == 3) (Some Refused) None)) ≡ Some r → ruling_code r ≡ n
+        first true t e = ap ruling_code (sym (some_same Granted r e)) ∙ sym (eqb-true n 1 t)
+        first false t e = second (n == 2) refl e
+
+    again : (r : Ruling) (rest : List ℕ) → IsTrue (any r) → ruling_at (ruling_bytes r ++ rest) ≡ Some (r, rest)
+    again r rest h = ap (λ (o : Field ℕ). o >>= λ z. before z.1 (ruling_of z.0)) (byte_is.again (ruling_code r) rest refl) ∙ same r
+      where
+        same : (r : Ruling) → before rest (ruling_of (ruling_code r)) ≡ Some (r, rest)
+        same Granted = refl
+        same Taken = refl
+        same Refused = refl
+
+pub point_is : IsField point_at (λ p. is_long p.0) (λ p. number_bytes 8 p.0)
+unfolding point_at
+point_is = made_is (number_is 8) (λ n. record { 0 = n }) (λ p. p.0) (λ n h. refl) (λ p. refl)
+
+pub session_is : IsField session_at (λ x. is_session x.0 x.1) (λ x. session_bytes x.0 x.1)
+unfolding session_at session_bytes
+session_is = pair_is counted_is counted_is
+
+actor_is : IsField actor_at (λ w. is_short w.actor && is_word w.instance) who_bytes
+unfolding actor_at who_bytes
+actor_is =
+    made_is (pair_is (number_is 2) (number_is 4)) (λ x. record { actor = x.0; instance = x.1 }) (λ w. (w.actor, w.instance)) (λ x h. refl) (λ w. refl)
+
+-- what each kind of actor has in common
+who_parts : (w : Who) → IsTrue (is_who w) → IsTrue (is_short w.actor && is_word w.instance) × IsTrue (is_numbered w)
+who_parts w h =
+    let p = and_parts (is_node w.actor) (is_counted w.instance) h in
+    let q = and_parts (nat_le 1 w.instance) (is_word w.instance) p.1 in (
+      and_from (is_short w.actor) (is_word w.instance) (node_short w.actor p.0) q.1,
+      and_from (is_node w.actor) (nat_le 1 w.instance) p.0 q.0,
+    )
+
+who_from : (w : Who) → IsTrue (is_word w.instance) → IsTrue (is_numbered w) → IsTrue (is_who w)
+who_from w a h =
+    let p = and_parts (is_node w.actor) (nat_le 1 w.instance) h in
+    and_from (is_node w.actor) (is_counted w.instance) p.0 (and_from (nat_le 1 w.instance) (is_word w.instance) p.1 a)
+
+arbiter_parts : (w : Who) → IsTrue (is_arbiter w) → IsTrue (is_short w.actor && is_word w.instance)
+arbiter_parts w h =
+    let p = and_parts (nat_le 32769 w.actor && nat_le w.actor 32777) (w.instance == 0) h in
+    let q = and_parts (nat_le 32769 w.actor) (nat_le w.actor 32777) p.0 in
+    let zero = eqb-true w.instance 0 p.1 in
+    and_from (is_short w.actor) (is_word w.instance) (below w.actor 32777 65536 q.1 (omega arith)) (lt-ltb w.instance 4294967296 (omega arith))
+
+or_left : (a b : Bool) → a ≡ true → (a || b) ≡ true
+or_left true b h = refl
+or_left false b h = cc
+
+or_right : (a b : Bool) → b ≡ true → (a || b) ≡ true
+or_right true b h = refl
+or_right false b h = h
+
+pub who_is : IsField who_at is_who who_bytes
+unfolding who_at
+who_is = such_is actor_is is_numbered is_who (λ w a b. who_from w (and_parts (is_short w.actor) (is_word w.instance) a).1 b) who_parts
+
+pub sender_is : IsField sender_at is_sender who_bytes
+unfolding sender_at
+sender_is = such_is actor_is (λ w. is_numbered w || is_arbiter w) is_sender into back
+  where
+    into : (w : Who) → IsTrue (is_short w.actor && is_word w.instance) → IsTrue (is_numbered w || is_arbiter w) → IsTrue (is_sender w)
+    into w a b =
+        ⊎_elim (λ n. or_left (is_who w) (is_arbiter w) (who_from w (and_parts (is_short w.actor) (is_word w.instance) a).1 n)) (λ r. or_right (is_who w) (is_arbiter w) r) (or_cases (is_numbered w) (is_arbiter w) b)
+
+    back : (w : Who) → IsTrue (is_sender w) → IsTrue (is_short w.actor && is_word w.instance) × IsTrue (is_numbered w || is_arbiter w)
+    back w h =
+        ⊎_elim (λ n. let p = who_parts w n in (p.0, or_left (is_numbered w) (is_arbiter w) p.1)) (λ r. (arbiter_parts w r, or_right (is_numbered w) (is_arbiter w) r)) (or_cases (is_who w) (is_arbiter w) h)
+
+pub addressee_is : IsField addressee_at is_addressee who_bytes
+unfolding addressee_at
+addressee_is = such_is actor_is (λ w. is_node w.actor || is_arbiter w) is_addressee into back
+  where
+    into : (w : Who) → IsTrue (is_short w.actor && is_word w.instance) → IsTrue (is_node w.actor || is_arbiter w) → IsTrue (is_addressee w)
+    into w a b =
+        ⊎_elim (λ n. or_left (is_node w.actor && is_word w.instance) (is_arbiter w) (and_from (is_node w.actor) (is_word w.instance) n (and_parts (is_short w.actor) (is_word w.instance) a).1)) (λ r. or_right (is_node w.actor && is_word w.instance) (is_arbiter w) r) (or_cases (is_node w.actor) (is_arbiter w) b)
+
+    back : (w : Who) → IsTrue (is_addressee w) → IsTrue (is_short w.actor && is_word w.instance) × IsTrue (is_node w.actor || is_arbiter w)
+    back w h =
+        ⊎_elim (λ n. let p = and_parts (is_node w.actor) (is_word w.instance) n in (and_from (is_short w.actor) (is_word w.instance) (node_short w.actor p.0) p.1, or_left (is_node w.actor) (is_arbiter w) p.0)) (λ r. (arbiter_parts w r, or_right (is_node w.actor) (is_arbiter w) r)) (or_cases (is_node w.actor && is_word w.instance) (is_arbiter w) h)
+
+pub epoch_is : IsField epoch_at is_epoch epoch_bytes
+unfolding epoch_at epoch_bytes
+epoch_is =
+    made_is (pair_is (number_is 4) (number_is 4)) (λ x. record { data_loss = x.0; configuration = x.1 }) (λ e. (e.data_loss, e.configuration)) (λ x h. refl) (λ e. refl)
+
+pub unit_is : IsField unit_at (λ x. is_unit x.0 x.1) (λ x. unit_bytes x.0 x.1)
+unfolding unit_at unit_bytes
+unit_is = pair_is (number_is 2) epoch_is
+
+abbrev are_long : Interval → Bool
+are_long i = is_long i.lo && is_long i.hi
+
+interval_is : IsField interval_at are_long interval_bytes
+unfolding interval_at interval_bytes
+interval_is =
+    made_is (pair_is (number_is 8) (number_is 8)) (λ x. record { lo = x.0; hi = x.1 }) (λ i. (i.lo, i.hi)) (λ x h. refl) (λ i. refl)
+
+rising_long : (low : ℕ) (is : List Interval) → IsTrue (rises_from low is) → IsTrue (list_all are_long is)
+rising_long low [] h = refl
+rising_long low (i ∷ is) h =
+    let p = and_parts (nat_le low i.lo && nat_le i.lo i.hi && nat_lt i.hi (2 ^ 64)) (rises_from (i.hi + 2) is) h in
+    let q = and_parts (nat_le low i.lo && nat_le i.lo i.hi) (nat_lt i.hi (2 ^ 64)) p.0 in
+    let r = and_parts (nat_le low i.lo) (nat_le i.lo i.hi) q.0 in
+    let hi = ltb-true i.hi (2 ^ 64) q.1 in
+    let lo = leb-true i.lo i.hi r.1 in
+    and_from (are_long i) (list_all are_long is) (and_from (is_long i.lo) (is_long i.hi) (lt-ltb i.lo 18446744073709551616 (omega arith)) q.1) (rising_long (i.hi + 2) is p.1)
+
+intervals_is : IsField intervals_at (λ is. nat_le (length is) 32 && list_all are_long is) ranges_bytes
+unfolding intervals_at ranges_bytes
+intervals_is = list_is interval_is 32
+
+proper_long : (is : List Interval) → IsTrue (is_proper is) → IsTrue (nat_le (length is) 32 && list_all are_long is)
+proper_long is h =
+    let p = and_parts (fits is) (rises_from 0 is) h in
+    and_from (nat_le (length is) 32) (list_all are_long is) p.0 (rising_long 0 is p.1)
+
+pub ranges_is : IsField ranges_at is_proper ranges_bytes
+ranges_is = such_is intervals_is is_proper is_proper (λ is a b. b) (λ is h. (proper_long is h, h))
+
+pub part_is : IsField part_at is_part ranges_bytes
+part_is = such_is intervals_is is_part is_part (λ is a b. b) (λ is h. (proper_long is (and_parts (is_proper is) (is_some is) h).0, h))
+
+rising_short : (low : ℕ) (ns : List ℕ) → IsTrue (rises_above low ns) → IsTrue (list_all is_short ns)
+rising_short low [] h = refl
+rising_short low (n ∷ ns) h =
+    let p = and_parts (nat_lt low n && nat_le n 999) (rises_above n ns) h in
+    let q = and_parts (nat_lt low n) (nat_le n 999) p.0 in
+    and_from (is_short n) (list_all is_short ns) (below n 999 65536 q.1 (omega arith)) (rising_short n ns p.1)
+
+pub config_is : IsField config_at is_config config_bytes
+unfolding config_at config_bytes
+config_is = such_is base has_members is_config into back
+  where
+    base : IsField (made config_from (pair (pair unit_at (number_at 2)) (list_at 7 (number_at 2)))) (λ c. (is_unit c.partition c.epoch && is_short c.primary) && (nat_le (length c.members) 7 && list_all is_short c.members)) (λ c. (unit_bytes c.partition c.epoch ++ number_bytes 2 c.primary) ++ list_bytes (number_bytes 2) c.members)
+    base = made_is (pair_is (pair_is unit_is (number_is 2)) (list_is (number_is 2) 7)) config_from (λ c. (((c.partition, c.epoch), c.primary), c.members)) (λ x h. refl) (λ c. refl)
+
+    into : (c : Config) → IsTrue ((is_unit c.partition c.epoch && is_short c.primary) && (nat_le (length c.members) 7 && list_all is_short c.members)) → IsTrue (has_members c) → IsTrue (is_config c)
+    into c a b =
+        let u = is_unit c.partition c.epoch && is_short c.primary in
+        let few = nat_le (length c.members) 7 in
+        let p = and_parts u (few && list_all is_short c.members) a in
+        let q = and_parts few (list_all is_short c.members) p.1 in
+        and_from (u && few) (has_members c) (and_from u few p.0 q.0) b
+
+    back : (c : Config) → IsTrue (is_config c) → IsTrue ((is_unit c.partition c.epoch && is_short c.primary) && (nat_le (length c.members) 7 && list_all is_short c.members)) × IsTrue (has_members c)
+    back c h =
+        let u = is_unit c.partition c.epoch && is_short c.primary in
+        let few = nat_le (length c.members) 7 in
+        let p = and_parts (u && few) (has_members c) h in
+        let q = and_parts u few p.0 in
+        let r = and_parts (rises_above 0 c.members) (list_any (λ n. n == c.primary) c.members) p.1 in
+        (and_from u (few && list_all is_short c.members) q.0 (and_from few (list_all is_short c.members) q.1 (rising_short 0 c.members r.0)), p.1)
+
+abbrev after_flag : Bool × List ℕ → Field (Option Config)
+after_flag x = elim x.0 [ true ↦ made Some config_at x.1 | false ↦ Some (None, x.1) ]
+
+pub done_is : IsField done_at is_done done_bytes
+unfolding done_at done_bytes
+done_is = record {
+  found = λ bytes x h e.
+      let a = bind_some (flag_at bytes) after_flag x e in
+      let f = flag_is.found bytes a.0 h a.1 in
+      found bytes a.0.0 a.0.1 x f.1 (bytes_behind bytes (flag_bytes a.0.0) a.0.1 h f.1) a.2;
+  again = again;
+}
+  where
+    found : (bytes : List ℕ) (flag : Bool) (rest : List ℕ) (x : Option Config × List ℕ) → bytes ≡ flag_bytes flag ++ rest → AreBytes rest → after_flag (flag, rest) ≡ Some x → IsTrue (is_done x.0) × (bytes ≡ done_bytes x.0 ++ x.1)
+    found bytes true rest x e h s =
+        let c = bind_some (config_at rest) (λ (z : Config × List ℕ). Some (Some z.0, z.1)) x s in
+        let f = config_is.found rest c.0 h c.1 in
+        let P : Option Config × List ℕ → Type 0 = λ z. IsTrue (is_done z.0) × (bytes ≡ done_bytes z.0 ++ z.1) in
+        subst P (some_same (Some c.0.0, c.0.1) x c.2) (
+          f.0,
+          e ∙ (ap (λ r. flag_bytes true ++ r) f.1 ∙ sym (append_assoc (flag_bytes true) (config_bytes c.0.0) c.0.1)),
+        )
+    found bytes false rest x e h s =
+        let P : Option Config × List ℕ → Type 0 = λ z. IsTrue (is_done z.0) × (bytes ≡ done_bytes z.0 ++ z.1) in
+        subst P (some_same (None, rest) x s) (refl, e)
+
+    again : (d : Option Config) (rest : List ℕ) → IsTrue (is_done d) → done_at (done_bytes d ++ rest) ≡ Some (d, rest)
+    again None rest h = ap (λ (o : Field Bool). o >>= after_flag) (flag_is.again false rest refl)
+    again (Some c) rest h =
+        ap done_at (append_assoc (flag_bytes true) (config_bytes c) rest)
+        ∙ (ap (λ (o : Field Bool). o >>= after_flag) (flag_is.again true (config_bytes c ++ rest) refl)
+        ∙ ap (λ (o : Field Config). o >>= λ z. Some (Some z.0, z.1)) (config_is.again c rest h))
+
+pub payload_is : IsField payload_at is_payload payload_bytes
+unfolding payload_at payload_bytes bytes_at
+payload_is = record {
+  found = λ bytes x h e.
+      let a = bind_some (such (λ n. nat_le n 512) (number_at 2) bytes) (λ (z : ℕ × List ℕ). bytes_at z.0 z.1) x e in
+      let f = count.found bytes a.0 h a.1 in
+      let t = tested (nat_le a.0.0 (length a.0.1)) (take a.0.0 a.0.1, drop a.0.0 a.0.1) x a.2 in
+      let fits = leb-true a.0.0 (length a.0.1) t.0 in
+      let long : length (take a.0.0 a.0.1) ≡ a.0.0 = length-take-le a.0.0 a.0.1 fits in
+      let P : List ℕ × List ℕ → Type 0 = λ z. IsTrue (is_payload z.0) × (bytes ≡ (number_bytes 2 (length z.0) ++ z.0) ++ z.1) in
+      subst P t.1 (
+        le-leb (length (take a.0.0 a.0.1)) 512 (let l = leb-true a.0.0 512 f.0 in omega arith),
+        f.1
+            ∙ (ap (λ n. number_bytes 2 n ++ a.0.1) (sym long)
+            ∙ (ap (λ r. number_bytes 2 (length (take a.0.0 a.0.1)) ++ r) (sym (take-append-drop a.0.0 a.0.1))
+            ∙ sym (append_assoc (number_bytes 2 (length (take a.0.0 a.0.1))) (take a.0.0 a.0.1) (drop a.0.0 a.0.1)))),
+      );
+  again = λ text rest h.
+      let whole : length text ≤ length (text ++ rest) = omega (arith, length-append text rest) in
+      ap payload_at (append_assoc (number_bytes 2 (length text)) text rest)
+      ∙ (ap (λ (o : Field ℕ). o >>= λ z. bytes_at z.0 z.1) (count.again (length text) (text ++ rest) h)
+      ∙ (ap (λ b. cond b (Some (take (length text) (text ++ rest), drop (length text) (text ++ rest))) None) (le-leb (length text) (length (text ++ rest)) whole)
+      ∙ (ap (λ t. Some (t, drop (length text) (text ++ rest))) (take_at text rest (length text) refl) ∙ ap (λ r. Some (text, r)) (drop_at text rest (length text) refl))));
+}
+  where
+    count : IsField (such (λ n. nat_le n 512) (number_at 2)) (λ n. nat_le n 512) (number_bytes 2)
+    count = such_is (number_is 2) (λ n. nat_le n 512) (λ n. nat_le n 512) (λ n a b. b) (λ n h. (below n 512 65536 h (omega arith), h))

@@ -1,0 +1,7 @@
+pub mod Puts
+pub mod Times
+pub mod Numbers
+pub mod Forms
+pub mod FieldLaws
+pub mod Standing
+pub mod FieldLengths

@@ -1,0 +1,7 @@
+use Rattle.wire_fields.specs.Texts.{session_bytes}
+use Rattle.wire_fields.proofs.Puts.{puts_more}
+use Rattle.wire_fields.proofs.write.number.put_session.Goals as goal
+
+pub returns-clause-wrote : goal.returns-clause-wrote
+unfolding session_bytes
+returns-clause-wrote c = puts_more c.put_u32-at.ensures.wrote c.put_u32.ensures.wrote

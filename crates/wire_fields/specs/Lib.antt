@@ -1,0 +1,4 @@
+pub mod Texts
+pub mod Stands
+pub mod Readers
+pub mod Writers

@@ -1,0 +1,3 @@
+/// No such field stands there.
+#[derive(Clone, Copy, Debug, PartialEq, Eq)]
+pub struct NotField;
