@@ -76,6 +76,7 @@ pub(crate) fn accuse(
 {
     let link = slot.as_mut()?;
     link.state = LinkState::Accused;
+    // Only what arbitrators answer to this accusation counts.
     link.tally = Tally::new(me, link.peer, arbitrators);
     link.rounds = RoundTally::new(me, arbitrators, rounds);
     ask_arbiters(link, arbitrators, out);
@@ -128,6 +129,7 @@ pub(crate) fn spoken(
         LinkState::Offered => out.send(link.peer, say::offer(link)),
         LinkState::Bound => {
             out.send(link.peer, say::renew(link, firing.reading, announce));
+            // A flight stands until the peer confirms it or gives it back, so it is sent until then.
             transfer_again(link, out);
         }
         LinkState::Parting => say_gone(link, out),

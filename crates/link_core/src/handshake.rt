@@ -19,6 +19,7 @@ pub(crate) fn hello_repeated(slot: &mut Option<Link>, theirs: u32, out: &mut Out
         && matches!(link.state, LinkState::Offered)
         && link.yours == theirs
     {
+        // The first Offer may be lost: whoever greets says Hello until one arrives.
         out.send(link.peer, say::offer(link));
     }
 }
@@ -42,6 +43,7 @@ pub(crate) fn offer_taken(
     link.peer = from;
     link.yours = theirs;
     link.state = LinkState::Bound;
+    // Both sides must count by one length, so the smaller one holds.
     link.len = link.len.min(len);
     link.until = now + link.len;
     out.send(
@@ -90,6 +92,7 @@ pub(crate) fn take_seen(
     };
     match link.state {
         LinkState::Offered => {
+            // The lease runs since the Offer: whoever accepts is bound before whoever greets relies on it.
             link.state = LinkState::Bound;
             out.send(link.peer, say::renew(link, now, announce));
             LinkNotes::one(LinkNote::BoundNow)

@@ -25,10 +25,12 @@ fn renew(link: &mut Link, version: u32, got: u32, ranges: &RangeSet)
     ensures { link.new ≡ renewed link.old version got ranges.now }
 {
     link.state = LinkState::Bound;
+    // Frames come late and in any order: an older one must not bring back what the peer has given away since.
     if link.held_version < version {
         link.held = ranges.copy();
         link.held_version = version;
     }
+    // The peer has taken the flight, so it can never return.
     if matches!(&link.flight, Some(flight) if flight.number <= got) {
         link.flight = None;
     }
@@ -110,6 +112,8 @@ pub(crate) fn ack_seen(slot: &mut Option<Link>, stamp: u64, version: u32)
         return;
     };
     if matches!(link.state, LinkState::Bound | LinkState::Parting) {
+        // Counted from the stamp, this node's reading when it asked: a late answer gives no more time than an early one,
+        // and takes none away.
         link.until = link.until.max(stamp + link.len);
         link.acked = link.acked.max(version);
     }

@@ -100,6 +100,7 @@ fn round_judged(
     match verdict {
         RoundVerdict::Won => return becomes_heir(slot, ripe),
         RoundVerdict::Next(_) => claim_round(link, arbitrators, rounds, out),
+        // No round is left in which this claimer could win.
         RoundVerdict::Over => *slot = None,
         RoundVerdict::Open => {}
     }
@@ -136,6 +137,7 @@ pub(crate) fn kept_seen(
     let Some(link) = slot else {
         return LinkNotes::none();
     };
+    // Rounds are claimed by whom a majority has discharged: an heir needs none, and before that none is open.
     if link.state != LinkState::Discharged {
         return LinkNotes::none();
     }

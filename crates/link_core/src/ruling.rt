@@ -71,6 +71,7 @@ fn kept_discharged(slot: &mut Option<Link>, rounds: u8) -> LinkNotes
         return LinkNotes::none();
     };
     let notes = discharge_told(link);
+    // With nothing to inherit, or no way to become heir, the slot serves another link.
     if is_bare(link) || !may_succeed(link, rounds) {
         *slot = None;
     } else {
@@ -85,6 +86,7 @@ fn judged(slot: &mut Option<Link>, ripe: u64, rounds: u8, verdict: Verdict) -> L
     match verdict {
         Verdict::Heir => made_heir(slot, ripe),
         Verdict::Discharged => kept_discharged(slot, rounds),
+        // So many arbitrators count this node as accused that another may be its heir.
         Verdict::Lost => LinkNotes::one(LinkNote::Leave(Why::Lost)),
         Verdict::Open => LinkNotes::none(),
     }
@@ -148,6 +150,7 @@ pub(crate) fn ruling_seen(
     if !awaits(link.state) {
         return LinkNotes::none();
     }
+    // An heir waits from the step in which its majority came, and that may be this one.
     let ripe = ripe_at(now, terms.bound, terms.answer, link);
     let verdict = note(link, arbitrator, ruling);
     judged(slot, ripe, terms.rounds, verdict)

@@ -81,6 +81,7 @@ impl RingNode {
         ensures short { length out.new ≤ 176 }
     {
         for i in 0..SLOTS {
+            // A slot before may have made the node leave, and whoever has left does nothing.
             if !self.is_left() {
                 self.fire_slot(i, now, out, told);
             }
@@ -100,6 +101,7 @@ impl RingNode {
         let (Some(i), Some(version)) = (self.token.frozen_for(), self.token.frozen_since()) else {
             return Ok(());
         };
+        // Whoever has not acknowledged still counts the frozen part as this node's, and would take it over with the rest.
         if !all_acked(self.links.slots(), version) {
             return Ok(());
         }

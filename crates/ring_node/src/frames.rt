@@ -137,6 +137,7 @@ impl RingNode {
         ensures short { length out.new ≤ 11 }
     {
         if self.passes(message) {
+            // First, so that the row of the frame knows of its sender.
             self.hear_sender(now, message.from);
             self.hear_frame(now, message, out, told);
         }

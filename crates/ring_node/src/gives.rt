@@ -88,6 +88,7 @@ impl RingNode {
         let Some(peer) = self.peer(i) else {
             return Ok(());
         };
+        // One part goes at a time: a second freeze would be of a version that the first one's acknowledgements don't cover.
         if self.token.frozen_for().is_some() || self.has_flight(i) {
             refuse(Verb::Give, Reason::Busy, told);
             return Ok(());

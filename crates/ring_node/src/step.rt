@@ -85,6 +85,7 @@ impl RingNode {
         if self.is_left() {
             return;
         }
+        // Past the fence others may hold what this node held: it leaves before it does anything else.
         if self.is_past(now) {
             self.leave(Why::Fence, out, told);
             return;
