@@ -103,7 +103,8 @@ impl VoteTally {
         self.verdict()
     }
 
-    fn answered(&self, arbitrator: u8) -> bool
+    /// Whether an answer of this arbitrator is counted.
+    pub fn answered(&self, arbitrator: u8) -> bool
         ensures { result ≡ has_answered arbitrator self.now.answers }
     {
         is_of_one(self.answers.as_slice(), arbitrator)

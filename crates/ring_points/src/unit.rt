@@ -1,4 +1,4 @@
-ghost use Rattle.std.specs.Prelude.{◌≡◌, ◌<◌, ◌∷◌, ◌++◌, [], length};
+ghost use Rattle.std.specs.Prelude.{◌≡◌, ◌≤◌, ◌<◌, ◌∷◌, ◌++◌, [], length};
 
 use arrayvec::ArrayVec;
 use std::marker::Model;
@@ -38,7 +38,8 @@ impl Members {
     }
 
     pub fn as_slice(&self) -> &[u16]
-        ensures { result.now ≡ self.now }
+        ensures nodes { result.now ≡ self.now }
+        ensures few { length result.now ≤ 7 }
     {
         self.nodes.as_slice()
     }

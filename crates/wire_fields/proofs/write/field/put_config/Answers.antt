@@ -5,4 +5,4 @@ use Rattle.wire_fields.proofs.write.field.put_config.Goals as goal
 pub returns : goal.returns
 unfolding config_bytes
 returns c =
-    rw (← c.as_slice.ensures) (puts_more (puts_more c.put_unit-at.ensures.wrote c.put_u16-at.ensures.wrote) c.put_members.ensures)
+    rw (← c.as_slice.ensures.nodes) (puts_more (puts_more c.put_unit-at.ensures.wrote c.put_u16-at.ensures.wrote) c.put_members.ensures)

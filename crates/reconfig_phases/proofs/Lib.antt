@@ -1,0 +1,5 @@
+pub mod Polled
+pub mod Asked
+pub mod Voted
+pub mod Rising
+pub mod Chosen
