@@ -1,5 +1,6 @@
 use crate::bytes::Payload;
 use ring_points::{Config, Epoch, Who};
+use std::default::Default;
 
 /// What an actor keeps, synced before anything that it says rests on it.
 #[derive(Drop)]
@@ -60,4 +61,10 @@ pub enum Record {
         round: u8,
         claimer: Who,
     },
+}
+
+impl Default for Record {
+    fn default() -> Self {
+        Record::Boot { instance: 0 }
+    }
 }

@@ -1,4 +1,4 @@
-ghost use Rattle.std.specs.Prelude.{◌≡◌, IfOk};
+ghost use Rattle.std.specs.Prelude.{◌≡◌, ◌≤◌, IfOk, length};
 ghost use Rattle.replica_core.specs.Replicas.{same_entry};
 
 use crate::epoch::same_epoch;
@@ -6,23 +6,26 @@ use ring_points::Epoch;
 use std::alloc::{AllocError, Global};
 use std::marker::Model;
 
-/// The bytes of an entry, which contracts see as their list.
+/// The bytes of an entry, at most 512, which contracts see as their list.
 #[derive(Drop)]
 pub struct EntryBytes {
     bytes: Vec<u8>,
 }
 
 impl Model for EntryBytes {
-    ghost use Rattle.std.specs.Prelude.{List, ℕ};
+    ghost use Rattle.std.specs.Prelude.{◌≤◌, List, ℕ, length};
 
     ghost Value = { List ℕ };
 
     ghost view = { λ a. a.bytes.items };
+
+    ghost invariant = { λ a. length a.bytes.items ≤ 512 };
 }
 
 impl EntryBytes {
     /// A copy of these bytes.
     pub fn from_slice(alloc: Global, bytes: &[u8]) -> Result<Self, AllocError>
+        requires { length bytes.now ≤ 512 }
         ensures { IfOk result (λ copy. copy ≡ bytes.now) }
     {
         Ok(EntryBytes {
@@ -31,7 +34,8 @@ impl EntryBytes {
     }
 
     pub fn as_slice(&self) -> &[u8]
-        ensures { result.now ≡ self.now }
+        ensures bytes { result.now ≡ self.now }
+        ensures short { length result.now ≤ 512 }
     {
         self.bytes.as_slice()
     }

@@ -175,6 +175,7 @@ impl Replica {
     /// number of the log where the log is of another epoch or entries before this one are missing; `Held` where the
     /// number is in the log; else `LogFull` where it would be 100,001.
     pub fn append(&mut self, e: Epoch, lsn: u32, bytes: &[u8]) -> Result<Done, ReplicaRefusal>
+        requires { length bytes.now ≤ 512 }
         ensures { Answers (append_call e lsn bytes.now self.old) self.old self.new result }
     {
         self.admit(e)?;

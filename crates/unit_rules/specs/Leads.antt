@@ -8,11 +8,15 @@ use Rattle.replica_core.specs.declared.role.Role.TheVariants.{Primary}
 use Rattle.unit_rules.specs.declared.lead.Peer.{Peer}
 use Rattle.unit_rules.specs.Seats.{Lead, Seat}
 
--- at its activation a primary knows of no confirmed entry; all that it has is committed, and what comes next is sent
+-- a member of which no entry is known to be confirmed is sent what comes next
+abbrev pub first_peer : ℕ → ℕ → Peer
+first_peer last node = record { node = node; confirmed = 0; next = last + 1 }
+
+-- at its activation a primary knows of no confirmed entry, and all that it has is committed
 abbrev pub first_lead : ℕ → Config → ℕ → Lead
 first_lead me config last =
     record {
-      peers = map (λ n. record { node = n; confirmed = 0; next = last + 1 }) (filter (λ n. not (n == me)) config.members);
+      peers = map (first_peer last) (filter (λ n. not (n == me)) config.members);
       committed = last;
     }
 

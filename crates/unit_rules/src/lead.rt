@@ -10,11 +10,12 @@ pub struct Taking {
 }
 
 /// Another member, as the primary knows it.
-#[derive(Clone, Copy)]
+#[derive(Clone, Copy, Default)]
 pub struct Peer {
     pub node: u16,
     /// The last entry that it confirmed. It only rises.
     pub confirmed: u32,
-    /// The entry that it is sent next. It follows what the member says, so it may fall.
-    pub next: u32,
+    /// The entry that it is sent next. It follows what the member says, so it may fall, and may be one above all numbers
+    /// of four bytes.
+    pub next: u64,
 }
