@@ -1,11 +1,10 @@
 -- The row of Activate.
-use Rattle.std.proofs.Common.{◌≡◌, ℕ, ◌+◌, Bool, true, false, cond, ◌==◌, ◌&&◌, List, [], ◌∷◌, length, Option, None, Some, Ok, refl, sym, ap, ◌∙◌, subst, inl, inr, arith}
-use Rattle.std.proofs.lemmas.Bool.{eqb-true, both_ways, not-true, not-false}
+use Rattle.std.proofs.Common.{◌≡◌, ℕ, ◌+◌, Bool, true, false, cond, ◌==◌, ◌&&◌, List, [], ◌∷◌, length, None, Some, Ok, refl, sym, ap, ◌∙◌, subst, inl, inr, arith}
+use Rattle.std.proofs.lemmas.Bool.{eqb-true, both_ways}
 use Rattle.std.specs.Prelude.{not, map, filter, if◌then◌else◌}
 use Rattle.std.specs.List.{list_any}
 use Rattle.fabric_lemmas.specs.Members.{IsMember}
 use Rattle.ring_points.specs.declared.unit.Config.{Config}
-use Rattle.ring_points.specs.declared.unit.Epoch.{Epoch}
 use Rattle.ring_points.specs.declared.who.Who.{Who}
 use Rattle.ring_points.specs.Epochs.{is_older, same_epoch}
 use Rattle.replica_core.specs.declared.refusal.ReplicaRefusal.TheVariants.{Older, NotMember, Gap}
@@ -28,13 +27,13 @@ use Rattle.epoch_machine.proofs.Histories.{deed_keeps}
 use Rattle.unit_rules.specs.declared.lead.Peer.{Peer}
 use Rattle.unit_rules.specs.Activations.{same_role, say_activated, role_begun, activate_answered, activate_received}
 use Rattle.unit_rules.specs.Deeds.{acted}
-use Rattle.unit_rules.specs.Leads.{first_lead, is_primary, lead_of}
+use Rattle.unit_rules.specs.Leads.{first_lead}
 use Rattle.unit_rules.specs.Seats.{Lead, Seat}
 use Rattle.epoch_refinement.specs.Epochs.{IsEpoch}
 use Rattle.epoch_refinement.specs.Refined.{Refined}
 use Rattle.epoch_refinement.specs.Seats.{IsNumbered, ShowsSeat, ShowsLead}
 use Rattle.epoch_refinement.specs.Shown.{ShownActivate}
-use Rattle.epoch_refinement.proofs.Doing.{nothing_refined, not_primary}
+use Rattle.epoch_refinement.proofs.Doing.{nothing_refined}
 use Rattle.epoch_refinement.proofs.Numbers.{older_not, same_epoch-true, one_epoch, older_self, real}
 use Rattle.epoch_refinement.proofs.Lasting.{deed_later, later_refl, sync_later}
 

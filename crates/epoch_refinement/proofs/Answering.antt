@@ -1,5 +1,5 @@
 -- An answer to a reconfiguration, in each of its phases.
-use Rattle.std.proofs.Common.{◌≡◌, ℕ, ◌+◌, ◌-◌, ◌<◌, ◌≤◌, Bool, true, false, ◌&&◌, ◌==◌, nat_lt, nat_le, List, [], ◌∷◌, Option, None, Some, Ok, Err, refl, sym, ap, ◌∙◌, subst, ◌⊎◌, inl, inr, ⊎_elim, arith}
+use Rattle.std.proofs.Common.{◌≡◌, ℕ, ◌-◌, ◌<◌, ◌≤◌, Bool, true, false, ◌==◌, nat_lt, nat_le, List, Option, Some, Ok, Err, refl, sym, ap, ◌∙◌, subst, inl, inr, ⊎_elim, arith}
 use Rattle.std.proofs.lemmas.Bool.{eqb-true, ltb-true, leb-true, and_parts}
 use Rattle.std.specs.Prelude.{if◌then◌else◌}
 use Rattle.fabric_lemmas.specs.Members.{IsMember}
@@ -24,8 +24,8 @@ use Rattle.unit_rules.specs.Reconfigs.{PreparePhase, SwapPhase, PromisePhase, Vo
 use Rattle.unit_rules.specs.Transitions.{stays, enters, asks_promises, after_prepare, after_promise, after_swap, after_vote, after_copy, after_done, after_activate, goes_on, carried, answered_by, answer_received}
 use Rattle.unit_rules.specs.Deeds.{still}
 use Rattle.unit_rules.specs.Reconfigs.{Superseded}
-use Rattle.epoch_refinement.specs.Epochs.{IsNumber, IsEpoch, settings_to}
-use Rattle.epoch_refinement.specs.Reconfigs.{actors_in, is_create, is_preparing, NoneAbove, ShowsPhase, ShowsReconfig, ShowsTask, IsAnswerOf, Went}
+use Rattle.epoch_refinement.specs.Epochs.{IsEpoch, settings_to}
+use Rattle.epoch_refinement.specs.Reconfigs.{is_preparing, NoneAbove, ShowsPhase, ShowsReconfig, ShowsTask, IsAnswerOf, Went}
 use Rattle.epoch_refinement.specs.Shown.{Shown, ShownPrepared, ShownPromised, ShownVoted}
 use Rattle.epoch_refinement.proofs.Asking.{to_reconfig, task_shown, asks_shown, ShowsActed, still_went}
 use Rattle.epoch_refinement.proofs.Preparing.{prepared_refines}

@@ -1,5 +1,5 @@
 -- The row of Append.
-use Rattle.std.proofs.Common.{◌≡◌, ℕ, ◌+◌, ◌≤◌, Bool, true, false, ◌||◌, ◌==◌, nat_lt, List, [], ◌∷◌, ◌++◌, length, Ok, refl, sym, ap, ◌∙◌, subst, inl, inr, ⊎_elim, arith}
+use Rattle.std.proofs.Common.{◌≡◌, ℕ, ◌+◌, ◌≤◌, Bool, true, false, ◌||◌, ◌==◌, nat_lt, List, [], ◌∷◌, ◌++◌, length, Ok, refl, sym, ap, ◌∙◌, subst, inl, ⊎_elim, arith}
 use Rattle.std.proofs.lemmas.Bool.{ltb-false, eqb-false}
 use Rattle.std.proofs.lemmas.List.{length-append}
 use Rattle.std.specs.Prelude.{not, if◌then◌else◌}
@@ -24,12 +24,12 @@ use Rattle.epoch_machine.proofs.Prefixes.{prefix_length}
 use Rattle.epoch_machine.proofs.Kept.{one_sync, sync_plan, positive}
 use Rattle.epoch_machine.proofs.Histories.{deed_keeps}
 use Rattle.unit_rules.specs.Deeds.{acted, still}
-use Rattle.unit_rules.specs.Seats.{Seat, seated}
+use Rattle.unit_rules.specs.Seats.{Seat}
 use Rattle.unit_rules.specs.Writes.{append_answered, append_received, say_appended}
 use Rattle.epoch_refinement.specs.Epochs.{IsEpoch}
 use Rattle.epoch_refinement.specs.Facts.{of_node, Later, is_append, Has}
 use Rattle.epoch_refinement.specs.Refined.{Refined}
-use Rattle.epoch_refinement.specs.Seats.{ShowsSeat, ShowsLead}
+use Rattle.epoch_refinement.specs.Seats.{ShowsSeat}
 use Rattle.epoch_refinement.specs.Shown.{ShownAppend}
 use Rattle.epoch_refinement.proofs.Doing.{nothing_refined}
 use Rattle.epoch_refinement.proofs.Numbers.{real, older_not, same_epoch-true}

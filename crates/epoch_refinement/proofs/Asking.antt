@@ -1,18 +1,14 @@
 -- A reconfiguration in its phases: what it asks shows what its phase has.
-use Rattle.std.proofs.Common.{◌≡◌, ℕ, ◌<◌, ◌≤◌, Bool, true, false, List, [], ◌∷◌, Some, refl, sym, ap, ◌∙◌, subst, ◌⊎◌, inl, inr, ⊎_elim, arith}
-use Rattle.fabric_lemmas.specs.Members.{IsMember}
+use Rattle.std.proofs.Common.{◌≡◌, ℕ, ◌<◌, true, List, [], ◌∷◌, refl, sym, subst, inl, ⊎_elim, arith}
 use Rattle.ring_points.specs.declared.unit.Epoch.{Epoch}
 use Rattle.ring_points.specs.declared.who.Who.{Who}
 use Rattle.fabric_terms.specs.declared.message.Body.{Body}
 use Rattle.epoch_machine.specs.Epochs.{number_of}
-use Rattle.epoch_machine.specs.Plans.{Attempt}
 use Rattle.epoch_machine.specs.World.{World}
 use Rattle.epoch_machine.specs.Invariant.{Invariant}
-use Rattle.unit_rules.specs.declared.reconfig.Task.{Task}
 use Rattle.unit_rules.specs.Deeds.{Acted, send_all}
 use Rattle.unit_rules.specs.Questions.{question, asks}
-use Rattle.unit_rules.specs.Reconfigs.{Reconfig, Prepare, Phase0, Phase1, Decide, Phase2, Phase3, Phase4, Step, Stay, task_of}
-use Rattle.unit_rules.specs.Transitions.{enters, stays}
+use Rattle.unit_rules.specs.Reconfigs.{Reconfig, Prepare, Phase0, Phase1, Decide, Phase2, Phase3, Phase4, Step, task_of}
 use Rattle.epoch_refinement.specs.Epochs.{IsEpoch, settings_to}
 use Rattle.epoch_refinement.specs.Reconfigs.{is_preparing, NoneAbove, ShowsPhase, ShowsReconfig, ShowsTask, ShowsStep, Went}
 use Rattle.epoch_refinement.specs.Refined.{AllShown}

@@ -1,5 +1,5 @@
 -- The configuration that was done last, and the replica with the greatest log: what is chosen is not behind any other.
-use Rattle.std.proofs.Common.{◌≡◌, ℕ, ◌<◌, ◌≤◌, Bool, true, false, cond, ◌&&◌, ◌||◌, nat_lt, List, [], ◌∷◌, Option, None, Some, refl, sym, ap, ◌∙◌, subst, ◌⊎◌, inl, inr, ⊎_elim, arith}
+use Rattle.std.proofs.Common.{◌≡◌, ℕ, ◌<◌, ◌≤◌, Bool, true, false, ◌&&◌, nat_lt, List, [], ◌∷◌, Option, None, Some, refl, sym, ap, ◌∙◌, subst, ◌⊎◌, inl, inr, ⊎_elim, arith}
 use Rattle.std.proofs.lemmas.Bool.{ltb-true, ltb-false, and_parts, and_cases, or_cases, or_parts, not-true}
 use Rattle.std.specs.Prelude.{not, if◌then◌else◌}
 use Rattle.fabric_lemmas.specs.Members.{IsMember}
@@ -8,7 +8,7 @@ use Rattle.ring_points.specs.Epochs.{is_older, same_epoch}
 use Rattle.epoch_machine.specs.Epochs.{number_of}
 use Rattle.epoch_machine.specs.Evidence.{NotAhead}
 use Rattle.unit_rules.specs.declared.reconfig.Standing.{Standing}
-use Rattle.unit_rules.specs.Choices.{higher, higher_if, highest_done, has_less, is_ahead_of, ahead_of, furthest}
+use Rattle.unit_rules.specs.Choices.{higher_if, highest_done, has_less, is_ahead_of, ahead_of, furthest}
 use Rattle.epoch_refinement.specs.Epochs.{IsNumber}
 use Rattle.epoch_refinement.proofs.Numbers.{number_older_below, number_older_not, number_same_not, same_epoch-true}
 

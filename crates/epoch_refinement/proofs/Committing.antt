@@ -1,7 +1,7 @@
 -- What a primary commits, and the row of Appended.
-use Rattle.std.proofs.Common.{◌≡◌, ℕ, ◌+◌, ◌<◌, ◌≤◌, max, Bool, true, false, cond, ◌&&◌, ◌||◌, ◌==◌, nat_lt, nat_le, List, [], ◌∷◌, length, Option, None, Some, refl, sym, ap, ◌∙◌, subst, inl, inr, ⊎_elim, arith}
+use Rattle.std.proofs.Common.{◌≡◌, ℕ, ◌+◌, ◌<◌, ◌≤◌, max, Bool, true, false, cond, ◌&&◌, ◌==◌, nat_lt, nat_le, List, [], ◌∷◌, length, Option, None, Some, refl, sym, ap, ◌∙◌, subst, inl, inr, ⊎_elim, arith}
 use Rattle.std.proofs.lemmas.Bool.{eqb-true, ltb-true, leb-true, cases_lt, or_cases, and_parts}
-use Rattle.std.specs.Prelude.{not, map, filter, if◌then◌else◌}
+use Rattle.std.specs.Prelude.{not, map, if◌then◌else◌}
 use Rattle.std.specs.List.{list_any}
 use Rattle.fabric_lemmas.specs.Members.{IsMember}
 use Rattle.ring_points.specs.declared.unit.Epoch.{Epoch}
@@ -25,16 +25,16 @@ use Rattle.unit_rules.specs.declared.lead.Peer.{Peer}
 use Rattle.unit_rules.specs.Deeds.{still}
 use Rattle.unit_rules.specs.Leads.{is_primary, lead_of, confirmed_up_to, peer_confirms, confirmed_by, confirmed_of, most_confirmed}
 use Rattle.unit_rules.specs.Seats.{Lead, Seat}
-use Rattle.unit_rules.specs.Writes.{commits, committed_up_to, committed, appended_to, appended_received}
+use Rattle.unit_rules.specs.Writes.{commits, committed, appended_to, appended_received}
 use Rattle.epoch_refinement.specs.Epochs.{IsEpoch}
 use Rattle.epoch_refinement.specs.Facts.{of_node, Later, is_appended, Has}
 use Rattle.epoch_refinement.specs.Refined.{Refined}
 use Rattle.epoch_refinement.specs.Seats.{IsConfirmed, ShowsSeat, ShowsLead}
 use Rattle.epoch_refinement.proofs.Activating.{lead_is}
 use Rattle.epoch_refinement.proofs.Confirmed.{has_confirmed, Committable, committable, any_in, map_in}
-use Rattle.epoch_refinement.proofs.Doing.{nothing_refined, leads}
+use Rattle.epoch_refinement.proofs.Doing.{nothing_refined}
 use Rattle.epoch_refinement.proofs.Numbers.{same_epoch-true, real}
-use Rattle.epoch_refinement.proofs.Lasting.{deed_later, later_refl, later_trans, sync_later}
+use Rattle.epoch_refinement.proofs.Lasting.{deed_later, later_trans, sync_later}
 
 -- a lead that the world shows, at the seat of a primary
 module _ {c : Settings} {w : World} (inv : Invariant c w) (p : ℕ) (me : Who) (s : Seat) (shows : ShowsSeat w p me.actor s) (l : Lead) (r : Role)

@@ -1,6 +1,6 @@
 -- The rows of Fetch and Piece.
-use Rattle.std.proofs.Common.{◌≡◌, ℕ, zero, suc, ◌+◌, ◌-◌, ◌<◌, ◌≤◌, Bool, true, false, cond, ◌==◌, ◌&&◌, nat_lt, nat_le, List, [], ◌∷◌, ◌++◌, length, Option, None, Some, ◌⊎◌, Ok, refl, sym, ap, ◌∙◌, subst, inl, inr, ⊎_elim, arith}
-use Rattle.std.proofs.lemmas.Bool.{eqb-true, leb-true, and_parts, and_cases, both_ways, not-true, not-false}
+use Rattle.std.proofs.Common.{◌≡◌, ℕ, zero, suc, ◌+◌, ◌-◌, ◌<◌, ◌≤◌, Bool, true, false, cond, ◌==◌, ◌&&◌, nat_le, List, [], ◌∷◌, ◌++◌, length, Option, None, Some, ◌⊎◌, Ok, refl, sym, ap, ◌∙◌, subst, inl, inr, arith}
+use Rattle.std.proofs.lemmas.Bool.{eqb-true, leb-true, and_parts, both_ways, not-true}
 use Rattle.std.proofs.lemmas.List.{length-append}
 use Rattle.std.specs.Prelude.{slice_get, not, if◌then◌else◌}
 use Rattle.fabric_lemmas.specs.Members.{IsMember}
@@ -10,7 +10,7 @@ use Rattle.ring_points.specs.Epochs.{is_older, same_epoch}
 use Rattle.replica_core.specs.declared.entry.Entry.{Entry}
 use Rattle.replica_core.specs.declared.refusal.Done.TheVariants.{New, Held}
 use Rattle.replica_core.specs.declared.refusal.ReplicaRefusal.TheVariants.{Older, Gap}
-use Rattle.replica_core.specs.Replicas.{Replica, raised, settled, collecting, collected_in}
+use Rattle.replica_core.specs.Replicas.{Replica, raised, settled, collected_in}
 use Rattle.replica_core.specs.Roles.{demoted}
 use Rattle.replica_core.specs.declared.refusal.Done.{Done}
 use Rattle.replica_core.specs.Calls.{Outcome, unless, held_if, is_gap, is_collected, collected_call}
@@ -26,17 +26,17 @@ use Rattle.epoch_machine.specs.Invariant.{Invariant}
 use Rattle.epoch_machine.proofs.Replaced.{put_at}
 use Rattle.epoch_machine.proofs.Histories.{deed_keeps}
 use Rattle.unit_rules.specs.declared.lead.Taking.{Taking}
-use Rattle.unit_rules.specs.Copies.{entry_given, fetch_received, fetch_next, adoption, copy_goes_on, piece_collected, is_wanted, piece_for, piece_received}
+use Rattle.unit_rules.specs.Copies.{entry_given, fetch_received, fetch_next, adoption, piece_collected, is_wanted, piece_for, piece_received}
 use Rattle.unit_rules.specs.Deeds.{Keep, acted, still}
-use Rattle.unit_rules.specs.Leads.{is_primary, lead_of}
-use Rattle.unit_rules.specs.Seats.{Lead, Seat, seated, entry_at}
+use Rattle.unit_rules.specs.Leads.{is_primary}
+use Rattle.unit_rules.specs.Seats.{Seat, seated, entry_at}
 use Rattle.fabric_terms.specs.declared.record.Record.TheVariants as kept
 use Rattle.epoch_refinement.specs.Epochs.{IsEpoch}
 use Rattle.epoch_refinement.specs.Facts.{of_node, Later}
 use Rattle.epoch_refinement.specs.Refined.{Refined}
 use Rattle.epoch_refinement.specs.Seats.{IsNumbered, ShowsSeat}
 use Rattle.epoch_refinement.specs.Shown.{ShownSync, ShownFetch, ShownPiece}
-use Rattle.epoch_refinement.proofs.Doing.{after_refined, nothing_refined, not_primary, leads}
+use Rattle.epoch_refinement.proofs.Doing.{after_refined, nothing_refined, not_primary}
 use Rattle.epoch_refinement.proofs.Numbers.{older_not, same_not, below_older, same_epoch-true, one_epoch, older_self}
 use Rattle.epoch_refinement.proofs.Lasting.{deed_later, later_refl, sync_later}
 use Rattle.epoch_refinement.proofs.Promising.{shows_later, numbered_none, numbered_push}

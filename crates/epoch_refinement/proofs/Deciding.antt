@@ -1,6 +1,6 @@
 -- The ends of the phases after the proposal: votes, copies, what is done, and roles.
-use Rattle.std.proofs.Common.{◌≡◌, ℕ, ◌-◌, ◌<◌, ◌≤◌, Bool, true, false, ◌&&◌, ◌==◌, List, [], ◌∷◌, length, Option, None, Some, Ok, Err, refl, sym, ap, ◌∙◌, subst, ◌⊎◌, inl, inr, ⊎_elim, arith}
-use Rattle.std.proofs.lemmas.Bool.{eqb-true, and_parts, both_ways}
+use Rattle.std.proofs.Common.{◌≡◌, ℕ, ◌<◌, Bool, true, false, ◌&&◌, ◌==◌, List, [], ◌∷◌, Option, None, Some, Ok, Err, refl, sym, ap, ◌∙◌, subst, inl, arith}
+use Rattle.std.proofs.lemmas.Bool.{eqb-true, and_parts}
 use Rattle.std.specs.Prelude.{if◌then◌else◌, find, option_map, nat_eq}
 use lib.Pointwise.{pointwise}
 use Rattle.fabric_lemmas.specs.Members.{IsMember}
@@ -9,9 +9,7 @@ use Rattle.ring_points.specs.declared.unit.Epoch.{Epoch}
 use Rattle.ring_points.specs.declared.who.Who.{Who}
 use Rattle.ring_points.specs.Epochs.{same_epoch}
 use Rattle.ring_points.specs.Whos.{arbiter_actor}
-use Rattle.arbiter_quorum.specs.declared.verdict.VoteVerdict.{VoteVerdict}
-use Rattle.arbiter_quorum.specs.declared.verdict.VoteVerdict.TheVariants as verdict
-use Rattle.arbiter_quorum.specs.Counted.{are_counted, count_given}
+use Rattle.arbiter_quorum.specs.Counted.{count_given}
 use Rattle.arbiter_quorum.specs.Tallies.{is_majority}
 use Rattle.arbiter_quorum.specs.Votes.{VoteTally, same_config, has_majority, decided_of, verdict_by, one_may_win, vote_verdict_of}
 use Rattle.epoch_machine.specs.Majorities.{MajorityOf}
@@ -28,12 +26,11 @@ use Rattle.unit_rules.specs.declared.reconfig.Kind.TheVariants.{Create, Swap, He
 use Rattle.unit_rules.specs.declared.reconfig.Task.{Task}
 use Rattle.unit_rules.specs.Phases.{is_taken_up, voted_by, copied_with, done_with, activated_with}
 use Rattle.unit_rules.specs.Polls.{poll_of, arbiters_to, is_carried, has_answered}
-use Rattle.unit_rules.specs.Reconfigs.{Source, VotePhase, CopyPhase, DonePhase, ActivatePhase, Reconfig, Decide, Phase2, Phase3, Phase4, Step}
+use Rattle.unit_rules.specs.Reconfigs.{Source, VotePhase, CopyPhase, DonePhase, ActivatePhase, Decide, Phase2, Phase3, Phase4}
 use Rattle.unit_rules.specs.Transitions.{source_by, copies, after_vote, stores, after_copy, activates, after_done, after_activate}
 use Rattle.epoch_refinement.specs.Epochs.{IsEpoch, settings_to}
-use Rattle.epoch_refinement.specs.Facts.{is_plan, is_synced, Has}
-use Rattle.epoch_refinement.specs.Reconfigs.{actors_in, is_create, NoneAbove, ShowsPlan, ShowsPhase, ShowsTask, Went}
-use Rattle.epoch_refinement.specs.Shown.{IsPlanOf, ShownVoted, ShownAsk, ShownActivate}
+use Rattle.epoch_refinement.specs.Reconfigs.{is_create, NoneAbove, ShowsPlan, ShowsPhase, ShowsTask, Went}
+use Rattle.epoch_refinement.specs.Shown.{IsPlanOf, ShownVoted}
 use Rattle.epoch_refinement.proofs.Asking.{to_reconfig, asks_shown, ShowsActed, still_went, went_map, still_none}
 use Rattle.epoch_refinement.proofs.Lasting.{deed_later}
 use Rattle.epoch_refinement.proofs.Numbers.{same_epoch-true}
@@ -198,9 +195,9 @@ module _ {k : ℕ} {w : World} (inv : Invariant (settings_to k) w) (p : ℕ) (x 
           went_map g
           (λ s. (
             to_reconfig (Phase3 (record { task = q.task; config = q.config; poll = poll_of (arbiters_to q.task.arbitrators) })) t s (still_none g below)
-            (λ e. absurd (cc (e))),
+                (λ e. absurd (cc (e))),
             asks_shown _ k p n x (Phase3 (record { task = q.task; config = q.config; poll = poll_of (arbiters_to q.task.arbitrators) })) me t s
-            (arbiters_to q.task.arbitrators),
+                (arbiters_to q.task.arbitrators),
           )))
       go false e = still_went inv (to_reconfig (Phase2 q) t shows below (λ e. absurd (cc (e))), tt)
 

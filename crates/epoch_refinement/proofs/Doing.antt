@@ -1,6 +1,6 @@
 -- Deeds one after another, and what comes after them.
 use Rattle.std.proofs.Common.{◌≡◌, ℕ, Bool, true, false, ◌&&◌, List, [], ◌∷◌, ◌++◌, Option, None, Some, refl, sym, ◌∙◌}
-use Rattle.std.proofs.lemmas.Bool.{and_left, and_right, both_ways}
+use Rattle.std.proofs.lemmas.Bool.{and_left}
 use Rattle.std.specs.Prelude.{if◌then◌else◌, not}
 use Rattle.ring_points.specs.declared.who.Who.{Who}
 use Rattle.ring_points.specs.Epochs.{is_older}
@@ -9,7 +9,7 @@ use Rattle.epoch_machine.specs.Settings.{Settings}
 use Rattle.epoch_machine.specs.World.{World}
 use Rattle.epoch_machine.specs.World as machine
 use Rattle.epoch_machine.specs.Invariant.{Invariant}
-use Rattle.unit_rules.specs.Deeds.{Deed, Keep, Send, Tell, Acted, acted, after_deeds, still}
+use Rattle.unit_rules.specs.Deeds.{Deed, Keep, Send, Tell, Acted, after_deeds, still}
 use Rattle.unit_rules.specs.Leads.{is_primary, lead_of}
 use Rattle.unit_rules.specs.Seats.{Lead, Seat}
 use Rattle.epoch_refinement.specs.Facts.{of_node, Later}

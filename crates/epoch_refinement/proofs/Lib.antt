@@ -20,3 +20,4 @@ pub mod Deciding
 pub mod Answering
 pub mod Losing
 pub mod Managing
+pub mod Elsewhere

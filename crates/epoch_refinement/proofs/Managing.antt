@@ -1,24 +1,20 @@
 -- The manager of a partition: its commands, what answers make of it, and its firing.
-use Rattle.std.proofs.Common.{◌≡◌, ℕ, ◌+◌, ◌*◌, ◌<◌, ◌≤◌, Bool, true, false, cond, ◌&&◌, ◌||◌, ◌==◌, nat_lt, nat_le, List, [], ◌∷◌, length, Option, None, Some, Ok, Err, refl, sym, ap, ◌∙◌, subst, ◌⊎◌, inl, inr, ⊎_elim, arith}
-use Rattle.std.proofs.lemmas.Bool.{eqb-true, eqb-false, ltb-false, or_parts, and_left, both_ways, eq-eqb}
+use Rattle.std.proofs.Common.{◌≡◌, ℕ, ◌<◌, ◌≤◌, Bool, true, false, cond, nat_lt, nat_le, List, length, Option, None, Some, Ok, Err, refl, sym, ap, ◌∙◌, subst, arith}
+use Rattle.std.proofs.lemmas.Bool.{ltb-false, or_parts, and_left, eq-eqb}
 use Rattle.std.specs.Prelude.{Result, not, is_some, unwrap_or, if◌then◌else◌}
 use Rattle.fabric_lemmas.specs.Maps.{at, put, without}
-use Rattle.fabric_lemmas.specs.Members.{IsMember}
 use Rattle.fabric_lemmas.proofs.Maps.{at-put, at-without}
-use Rattle.ring_points.specs.declared.unit.Config.{Config}
 use Rattle.ring_points.specs.declared.unit.Epoch.{Epoch}
 use Rattle.ring_points.specs.declared.who.Who.{Who}
 use Rattle.ring_points.specs.Epochs.{is_older}
 use Rattle.fabric_terms.specs.declared.message.Body.{Body}
-use Rattle.fabric_terms.specs.declared.report.Report.TheVariants as report
 use Rattle.failover_units.specs.declared.refusal.UnitRefusal.{UnitRefusal}
 use Rattle.failover_units.specs.declared.refusal.UnitRefusal.TheVariants.{Exists, Full}
 use Rattle.failover_units.specs.declared.unit.KnownUnit.{KnownUnit}
-use Rattle.failover_units.specs.Units.{Table, unit_of, greater, seen_at, noted, is_full_for, changed, created}
+use Rattle.failover_units.specs.Units.{Table, unit_of, greater, seen_at, noted, is_full_for, changed}
 use Rattle.token_core.specs.Tokens.{last_number}
 use Rattle.replica_core.specs.Replicas.{first_epoch}
 use Rattle.epoch_machine.specs.Epochs.{number_of}
-use Rattle.epoch_machine.specs.Plans.{Attempt}
 use Rattle.epoch_machine.specs.Settings.{Opens}
 use Rattle.epoch_machine.specs.World.{World}
 use Rattle.epoch_machine.specs.Invariant.{Invariant}
@@ -27,20 +23,20 @@ use Rattle.unit_rules.specs.declared.reconfig.Kind.{Kind}
 use Rattle.unit_rules.specs.declared.reconfig.Kind.TheVariants.{Create, Swap, Heal, Lose}
 use Rattle.unit_rules.specs.declared.reconfig.Task.{Task}
 use Rattle.fabric_terms.specs.declared.report.Reason.TheVariants as reason
-use Rattle.unit_rules.specs.Deeds.{Deed, Acted, acted, still, refuse}
-use Rattle.unit_rules.specs.Epochs.{next_epoch, epoch_after_loss, is_past_end}
-use Rattle.unit_rules.specs.Manager.{Managed, verb_of, epoch_of, entered, task, task_commanded, begins, begins_in, task_begun, reconfig_commanded, table_or, over, stands, answer_for, manager_answered}
+use Rattle.unit_rules.specs.Deeds.{Deed, refuse}
+use Rattle.unit_rules.specs.Epochs.{epoch_after_loss, is_past_end}
+use Rattle.unit_rules.specs.Manager.{Managed, verb_of, epoch_of, entered, task, task_commanded, begins, begins_in, reconfig_commanded, table_or, stands, answer_for, manager_answered}
 use Rattle.unit_rules.specs.Polls.{arbiters_to}
 use Rattle.unit_rules.specs.Questions.{awaited, reconfig_fired}
 use Rattle.unit_rules.specs.Reconfigs.{Reconfig, Step, Stay, Finished, Superseded, Refused, task_of}
 use Rattle.unit_rules.specs.Transitions.{begun, answer_received}
-use Rattle.epoch_refinement.specs.Epochs.{IsNumber, IsEpoch, settings_to}
-use Rattle.epoch_refinement.specs.Reconfigs.{is_lose, NoneAbove, ShowsPhase, ShowsTask, ShowsReconfig, ShowsManager, ShowsStep, IsAnswerOf, Went, ManagerWent}
+use Rattle.epoch_refinement.specs.Epochs.{IsEpoch, settings_to}
+use Rattle.epoch_refinement.specs.Reconfigs.{is_lose, NoneAbove, ShowsPhase, ShowsTask, ShowsReconfig, ShowsManager, ShowsStep, IsAnswerOf, ManagerWent}
 use Rattle.epoch_refinement.specs.Laws.{ManagerAnswersAreDeeds, CommandsAreDeeds, QuestionsAreShown}
 use Rattle.epoch_refinement.specs.Refined.{AllShown}
 use Rattle.epoch_refinement.specs.Shown.{Shown}
 use Rattle.epoch_refinement.proofs.Answering.{answer_refines}
-use Rattle.epoch_refinement.proofs.Asking.{to_reconfig, task_shown, asks_shown, ShowsActed, still_went, went_map}
+use Rattle.epoch_refinement.proofs.Asking.{to_reconfig, task_shown, asks_shown, still_went, went_map}
 use Rattle.epoch_refinement.proofs.Losing.{first_opens}
 use Rattle.epoch_refinement.proofs.Numbers.{number_older_below, number_older_not}
 use Rattle.epoch_refinement.proofs.Polls.{asked_all, none_answered}
@@ -159,9 +155,11 @@ module _ {k : ℕ} {w : World} (inv : Invariant (settings_to k) w) (p : ℕ) (x 
       go None i = (0, still_went inv (shows, tt))
       go (Some r) i =
           let q = (shows.busy r i).0 in
-          let g = answer_refines inv p x (unit_of p s.units).highest nodes from r me q e b of shown in
-          (q.number, went_map g (λ a. step_stands p x s w shows r i g.after q.number (answer_received nodes from.actor e b r).state
-          (answer_received nodes from.actor e b r).deeds a.0 a.1))
+          let g = answer_refines inv p x (unit_of p s.units).highest nodes from r me q e b of shown in (
+            q.number,
+            went_map g (λ a. step_stands p x s w shows r i g.after q.number (answer_received nodes from.actor e b r).state
+                (answer_received nodes from.actor e b r).deeds a.0 a.1),
+          )
 
   -- the epoch of a command is above all that are known
   module _ (kind : Kind) (fits : is_past_end (epoch_of kind (unit_of p s.units).highest) ≡ false) where
@@ -207,19 +205,22 @@ module _ {k : ℕ} {w : World} (inv : Invariant (settings_to k) w) (p : ℕ) (x 
 
     -- it begins, the partition being known from then on
     began : at p s.reconfigs ≡ None → (units : Table) → unit_of p units ≡ unit_of p s.units → is_some (at p units) ≡ true → ManagerWent k p w x (begins begins_as units s)
-    began free units same known = (n, still_went inv (
-      record {
-        small = subst (λ (u : KnownUnit). u.highest.configuration < 4294967296) (sym same) shows.small;
-        idle = λ none. absurd (let e : Some (begun begins_as) ≡ None = sym (at_put p (begun begins_as) s.reconfigs) ∙ none in cc (e));
-        busy = λ z e.
-            let one : Some (begun begins_as) ≡ Some z = sym (at_put p (begun begins_as) s.reconfigs) ∙ e in
-            let is : begun begins_as ≡ z = cc in (
-              subst (λ (q : Reconfig × KnownUnit). ShowsReconfig w k p x (let u : KnownUnit = q.1 in u.highest) q.0) (λ i. (is i, sym same i)) stands_now,
-              known,
-            );
-      },
-      asks_shown w k p n x (begun begins_as) me shows_task phase (arbiters_to k),
-    ))
+    began free units same known = (
+      n,
+      still_went inv (
+        record {
+          small = subst (λ (u : KnownUnit). u.highest.configuration < 4294967296) (sym same) shows.small;
+          idle = λ none. absurd (let e : Some (begun begins_as) ≡ None = sym (at_put p (begun begins_as) s.reconfigs) ∙ none in cc (e));
+          busy = λ z e.
+              let one : Some (begun begins_as) ≡ Some z = sym (at_put p (begun begins_as) s.reconfigs) ∙ e in
+              let is : begun begins_as ≡ z = cc in (
+                subst (λ (q : Reconfig × KnownUnit). ShowsReconfig w k p x (let u : KnownUnit = q.1 in u.highest) q.0) (λ i. (is i, sym same i)) stands_now,
+                known,
+              );
+        },
+        asks_shown w k p n x (begun begins_as) me shows_task phase (arbiters_to k),
+      ),
+    )
       where
         none_yet : NoneAbove w x (number_of (unit_of p s.units).highest)
         none_yet = shows.idle free

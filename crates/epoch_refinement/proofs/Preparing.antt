@@ -1,13 +1,11 @@
 -- The end of the phase Prepare.
-use Rattle.std.proofs.Common.{◌≡◌, ℕ, ◌<◌, ◌≤◌, Bool, true, false, List, [], ◌∷◌, length, Option, None, Some, Ok, Err, refl, sym, ap, ◌∙◌, subst, ◌⊎◌, inl, inr, ⊎_elim, arith}
+use Rattle.std.proofs.Common.{◌≡◌, ℕ, ◌<◌, Bool, true, false, List, [], ◌∷◌, Option, None, Some, Ok, Err, refl, sym, ap, ◌∙◌, subst, ◌⊎◌, inl, inr, ⊎_elim, arith}
 use Rattle.std.proofs.lemmas.Bool.{both_ways}
 use Rattle.std.specs.Prelude.{Result, if◌then◌else◌}
 use Rattle.fabric_lemmas.specs.Members.{IsMember}
 use Rattle.ring_points.specs.declared.unit.Config.{Config}
 use Rattle.ring_points.specs.declared.unit.Epoch.{Epoch}
 use Rattle.ring_points.specs.declared.who.Who.{Who}
-use Rattle.fabric_terms.specs.declared.message.Body.{Body}
-use Rattle.fabric_terms.specs.declared.message.Body.TheVariants as body
 use Rattle.epoch_machine.specs.Epochs.{number_of}
 use Rattle.epoch_machine.specs.Evidence.{NotAbove, AnsweredTo, Carried}
 use Rattle.epoch_machine.specs.Majorities.{MajorityOf}
@@ -30,19 +28,18 @@ use Rattle.failover_units.specs.declared.refusal.UnitRefusal.TheVariants as refu
 use Rattle.arbiter_quorum.specs.Votes.{no_votes}
 use Rattle.unit_rules.specs.declared.reconfig.Kind.{Kind}
 use Rattle.unit_rules.specs.declared.reconfig.Kind.TheVariants.{Create, Swap, Heal, Lose}
-use Rattle.unit_rules.specs.declared.reconfig.Task.{Task}
 use Rattle.unit_rules.specs.Choices.{is_among, highest_done}
-use Rattle.unit_rules.specs.Phases.{config_of, prepared_with}
-use Rattle.unit_rules.specs.Polls.{Poll, arbiters_to, answered, answers_in, is_carried}
-use Rattle.unit_rules.specs.Reconfigs.{Source, PreparePhase, Reconfig, Prepare, Phase0, Phase1, Decide, Step, task_of}
-use Rattle.unit_rules.specs.Transitions.{first_of, create_placed, swap_begun, heal_placed, lose_begun, prepared_as, after_prepare, is_refused, enters, stays, proposes, asks_promises}
+use Rattle.unit_rules.specs.Phases.{config_of}
+use Rattle.unit_rules.specs.Polls.{arbiters_to, answers_in, is_carried}
+use Rattle.unit_rules.specs.Reconfigs.{Source, PreparePhase, Reconfig, Prepare, Phase0, Phase1, Decide, task_of}
+use Rattle.unit_rules.specs.Transitions.{first_of, create_placed, heal_placed, prepared_as, is_refused, enters, proposes, asks_promises}
 use Rattle.epoch_refinement.specs.Epochs.{IsEpoch, settings_to}
-use Rattle.epoch_refinement.specs.Reconfigs.{actors_in, is_create, is_lose, is_preparing, HasLeft, NoneAbove, ShowsPhase, ShowsTask, Went}
+use Rattle.epoch_refinement.specs.Reconfigs.{is_create, is_lose, is_preparing, HasLeft, NoneAbove, ShowsPhase, ShowsTask, Went}
 use Rattle.epoch_refinement.specs.Shown.{IsPlanOf, IsDone, ShownPrepared}
 use Rattle.epoch_refinement.proofs.Asking.{to_reconfig, asks_shown, ShowsActed, still_went, went_map, still_none}
 use Rattle.epoch_refinement.proofs.Choosing.{NotOver, IsSmall, highest_over}
 use Rattle.epoch_refinement.proofs.Lasting.{deed_later, later_trans}
-use Rattle.epoch_refinement.proofs.Polls.{asked_all, none_answered, asked_still, answered_in, answers_are, are_answers, carried_by}
+use Rattle.epoch_refinement.proofs.Polls.{asked_all, none_answered, answers_are, are_answers, carried_by}
 
 not_above : (p : ℕ) (plan prev : Option Plan) (d o : Option Config) → IsDone p plan d → IsDone p prev o → NotOver d o → NotAbove plan prev
 not_above p None prev d o a b h = tt
@@ -172,9 +169,9 @@ module _ {k : ℕ} {w : World} (inv : Invariant (settings_to k) w) (p : ℕ) (x 
         went_map went
         (λ s. (
           to_reconfig (Decide (record { task = q.task; config = config; source = source; votes = no_votes q.task.arbitrators })) t s (still_none went below)
-          (λ e. absurd (cc (e))),
+              (λ e. absurd (cc (e))),
           asks_shown _ k p n x (Decide (record { task = q.task; config = config; source = source; votes = no_votes q.task.arbitrators })) me t s
-          (arbiters_to q.task.arbitrators),
+              (arbiters_to q.task.arbitrators),
         ))
 
   -- it is refused, and nothing was done

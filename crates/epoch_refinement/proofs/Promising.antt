@@ -1,6 +1,5 @@
 -- The row of Promise.
-use Rattle.std.proofs.Common.{◌≡◌, ℕ, zero, suc, ◌+◌, ◌<◌, Bool, true, false, cond, List, [], ◌∷◌, ◌++◌, length, Some, ◌⊎◌, Ok, refl, sym, ap, ◌∙◌, subst, inl, inr, ⊎_elim, arith}
-use Rattle.std.proofs.lemmas.Bool.{both_ways}
+use Rattle.std.proofs.Common.{◌≡◌, ℕ, zero, suc, ◌+◌, ◌<◌, Bool, true, false, cond, List, [], ◌∷◌, ◌++◌, length, ◌⊎◌, Ok, refl, sym, ap, ◌∙◌, subst, inl, inr, ⊎_elim, arith}
 use Rattle.ring_points.specs.declared.unit.Epoch.{Epoch}
 use Rattle.ring_points.specs.declared.who.Who.{Who}
 use Rattle.ring_points.specs.Epochs.{is_older, same_epoch}
@@ -27,7 +26,6 @@ use Rattle.epoch_refinement.specs.Epochs.{IsEpoch}
 use Rattle.epoch_refinement.specs.Facts.{Actor, Later}
 use Rattle.epoch_refinement.specs.Refined.{Refined}
 use Rattle.epoch_refinement.specs.Seats.{IsNumbered, ShowsSeat}
-use Rattle.epoch_refinement.specs.Shown.{ShownPromised}
 use Rattle.epoch_refinement.proofs.Doing.{not_primary}
 use Rattle.epoch_refinement.proofs.Numbers.{older_not, same_not, below_older, same_epoch-true, real}
 use Rattle.epoch_refinement.proofs.Lasting.{deed_later, later_refl, later_trans, sync_later, lead_later}
@@ -153,18 +151,18 @@ module _ {c : Settings} {w : World} (inv : Invariant c w) (p : ℕ) (me : Who) (
         sent = (
           (shows.partition, real n e is (let lt = above in omega arith)),
           (
-          shows.partition,
-          record {
-            epoch = (raising w me.actor n).promised me.actor;
-            joined = w.joined me.actor;
-            log = w.log me.actor;
-            promised = inl refl;
-            epoch_is = subst (λ k. IsEpoch k e) (sym (put_at w.promised me.actor n)) is;
-            joined_is = shows.joined;
-            last_is = ap length shows.log;
-            room = shows.room;
-          },
-          tt,
+            shows.partition,
+            record {
+              epoch = (raising w me.actor n).promised me.actor;
+              joined = w.joined me.actor;
+              log = w.log me.actor;
+              promised = inl refl;
+              epoch_is = subst (λ k. IsEpoch k e) (sym (put_at w.promised me.actor n)) is;
+              joined_is = shows.joined;
+              last_is = ap length shows.log;
+              room = shows.room;
+            },
+            tt,
           ),
         );
         told = ap (λ k. TellsPromised me.actor k ∷ w.told) is.is;

@@ -1,6 +1,6 @@
 -- The ends of phases 0 and 1.
-use Rattle.std.proofs.Common.{◌≡◌, ℕ, ◌<◌, ◌≤◌, Bool, true, false, ◌==◌, List, [], ◌∷◌, length, Option, None, Some, Ok, Err, refl, sym, ap, ◌∙◌, subst, ◌⊎◌, inl, inr, ⊎_elim, arith}
-use Rattle.std.proofs.lemmas.Bool.{eqb-true, both_ways}
+use Rattle.std.proofs.Common.{◌≡◌, ℕ, ◌<◌, Bool, true, false, length, Option, None, Some, Err, refl, sym, ap, ◌∙◌, subst, inl, inr, ⊎_elim}
+use Rattle.std.proofs.lemmas.Bool.{both_ways}
 use Rattle.std.specs.Prelude.{if◌then◌else◌}
 use Rattle.fabric_lemmas.specs.Members.{IsMember}
 use Rattle.ring_points.specs.declared.unit.Config.{Config}
@@ -11,8 +11,7 @@ use Rattle.epoch_machine.specs.Epochs.{number_of}
 use Rattle.epoch_machine.specs.Evidence.{NotAhead, PromisedBehind, FromOrigin, Planned}
 use Rattle.epoch_machine.specs.Majorities.{MajorityOf}
 use Rattle.epoch_machine.specs.Messages.{promised_by}
-use Rattle.epoch_machine.specs.Plans.{Plan, Attempt}
-use Rattle.epoch_machine.specs.Settings.{Opens}
+use Rattle.epoch_machine.specs.Plans.{Plan}
 use Rattle.epoch_machine.specs.World.{World}
 use Rattle.epoch_machine.specs.Deeds.{Proposes}
 use Rattle.epoch_machine.specs.Guards.{Can}
@@ -20,15 +19,14 @@ use Rattle.epoch_machine.specs.Effects.{after}
 use Rattle.epoch_machine.specs.Invariant.{Invariant}
 use Rattle.epoch_machine.proofs.Histories.{deed_keeps}
 use Rattle.unit_rules.specs.declared.reconfig.Standing.{Standing}
-use Rattle.unit_rules.specs.declared.reconfig.Task.{Task}
 use Rattle.unit_rules.specs.Choices.{furthest}
 use Rattle.unit_rules.specs.Deeds.{Acted}
-use Rattle.unit_rules.specs.Phases.{Choice, config_of, primary_by, chosen_from, chosen_of}
+use Rattle.unit_rules.specs.Phases.{config_of, primary_by, chosen_from, chosen_of}
 use Rattle.unit_rules.specs.Polls.{arbiters_to, answers_in, is_carried}
 use Rattle.unit_rules.specs.Reconfigs.{Source, PromisePhase, Reconfig, Phase1, Decide, Step}
 use Rattle.unit_rules.specs.Transitions.{after_promise, proposes}
 use Rattle.epoch_refinement.specs.Epochs.{IsEpoch, settings_to}
-use Rattle.epoch_refinement.specs.Reconfigs.{actors_in, is_create, HasLeft, HasEntered, NoneAbove, ShowsPhase, ShowsTask, Went}
+use Rattle.epoch_refinement.specs.Reconfigs.{is_create, HasLeft, NoneAbove, ShowsPhase, ShowsTask, Went}
 use Rattle.epoch_refinement.specs.Shown.{IsPlanOf, ShownPromised}
 use Rattle.epoch_refinement.proofs.Asking.{to_reconfig, asks_shown, ShowsActed, went_map, still_none}
 use Rattle.epoch_refinement.proofs.Choosing.{Behind, furthest_over}
@@ -133,9 +131,9 @@ module _ {k : ℕ} {w : World} (inv : Invariant (settings_to k) w) (p : ℕ) (x 
         went_map went
         (λ s. (
           to_reconfig (Decide (record { task = q.task; config = config; source = source; votes = no_votes q.task.arbitrators })) t s (still_none went below)
-          (λ e. absurd (cc (e))),
+              (λ e. absurd (cc (e))),
           asks_shown _ k p n x (Decide (record { task = q.task; config = config; source = source; votes = no_votes q.task.arbitrators })) me t s
-          (arbiters_to q.task.arbitrators),
+              (arbiters_to q.task.arbitrators),
         ))
 
   -- a majority has promised, or it goes on as it is said

@@ -1,17 +1,17 @@
 -- The rows of an arbitrator.
-use Rattle.std.proofs.Common.{◌≡◌, ℕ, ◌<◌, ◌≤◌, Bool, true, false, cond, ◌&&◌, ◌==◌, nat_lt, List, [], ◌∷◌, ◌++◌, Option, None, Some, ◌⊎◌, refl, sym, ap, ◌∙◌, subst, inl, inr, ⊎_elim, arith}
+use Rattle.std.proofs.Common.{◌≡◌, ℕ, ◌<◌, ◌≤◌, Bool, true, false, cond, nat_lt, List, [], ◌∷◌, Option, None, Some, refl, sym, ◌∙◌, subst, inl, inr, ⊎_elim, arith}
 use Rattle.std.proofs.lemmas.Bool.{and_parts, lt-ltb, ltb-true, both_ways}
 use Rattle.std.specs.Prelude.{if◌then◌else◌, find}
 use Rattle.fabric_lemmas.specs.Members.{IsMember}
 use Rattle.ring_points.specs.declared.unit.Config.{Config}
 use Rattle.ring_points.specs.declared.unit.Epoch.{Epoch}
 use Rattle.ring_points.specs.declared.who.Who.{Who}
-use Rattle.ring_points.specs.Epochs.{is_older, same_epoch}
+use Rattle.ring_points.specs.Epochs.{same_epoch}
 use Rattle.ring_points.specs.Whos.{same_who}
 use Rattle.ring_points.proofs.Whos.{same_who-true}
 use Rattle.fabric_terms.specs.declared.message.Body.{Body}
 use Rattle.fabric_terms.specs.declared.message.Body.TheVariants as body
-use Rattle.fabric_terms.specs.declared.record.Record.TheVariants.{PreparedBy, VotedFor, DoneFor}
+use Rattle.fabric_terms.specs.declared.record.Record.TheVariants.{PreparedBy, DoneFor}
 use Rattle.epoch_machine.specs.Plans.{Plan}
 use Rattle.epoch_machine.specs.Settings.{Settings}
 use Rattle.epoch_machine.specs.World.{World, replaced}
@@ -22,7 +22,7 @@ use Rattle.epoch_machine.specs.Invariant.{Invariant}
 use Rattle.epoch_machine.proofs.Replaced.{put_at}
 use Rattle.epoch_machine.proofs.Histories.{deed_keeps}
 use Rattle.unit_rules.specs.declared.register.Preparation.{Preparation}
-use Rattle.unit_rules.specs.Registers.{Register, Reply, reply, reply_keeping, is_above, is_below, is_prepared_for, prepared_epoch, prepare_received, vote_in, vote_settled, vote_received, is_newer, done_received}
+use Rattle.unit_rules.specs.Registers.{Register, reply, reply_keeping, is_above, is_below, is_prepared_for, prepared_epoch, prepare_received, vote_in, vote_settled, vote_received, is_newer, done_received}
 use Rattle.epoch_refinement.specs.Epochs.{IsEpoch}
 use Rattle.epoch_refinement.specs.Shown.{partition_of, IsPlanOf, IsDone, Shown, ShownVote, ShownVoted, ShownAsk}
 use Rattle.epoch_refinement.specs.Registers.{ShowsRegister, RefinedReply}

@@ -1,20 +1,13 @@
 -- Each row of a replica and of an arbitrator is deeds.
-use Rattle.std.proofs.Common.{◌≡◌, ℕ, List, [], Option, None, Some, refl, sym, ap, ◌∙◌, subst}
-use Rattle.ring_points.specs.declared.who.Who.{Who}
-use Rattle.fabric_terms.specs.declared.message.Body.{Body}
+use Rattle.std.proofs.Common.{◌≡◌, [], refl, sym, ap, ◌∙◌, subst}
 use Rattle.fabric_terms.specs.declared.message.Body.TheVariants as body
-use Rattle.epoch_machine.specs.Settings.{Settings}
-use Rattle.epoch_machine.specs.World.{World}
 use Rattle.epoch_machine.specs.Deeds.{Restarts}
 use Rattle.epoch_machine.specs.Effects.{after}
-use Rattle.epoch_machine.specs.Invariant.{Invariant}
 use Rattle.epoch_machine.proofs.Replaced.{put_at}
 use Rattle.epoch_machine.proofs.Histories.{deed_keeps}
-use Rattle.unit_rules.specs.Registers.{Register, Reply, prepare_received, vote_received, done_received}
+use Rattle.unit_rules.specs.Registers.{prepare_received, vote_received, done_received}
 use Rattle.epoch_refinement.specs.Laws.{ReplicaFramesAreDeeds, WritesAreDeeds, FiringsAreDeeds, RestartsAreDeeds, AnswersAreDeeds}
-use Rattle.epoch_refinement.specs.Registers.{ShowsRegister, RefinedReply}
-use Rattle.epoch_refinement.specs.Rows.{register_answers}
-use Rattle.epoch_refinement.specs.Shown.{partition_of, Shown}
+use Rattle.epoch_refinement.specs.Registers.{RefinedReply}
 use Rattle.epoch_refinement.proofs.Doing.{nothing_refined}
 use Rattle.epoch_refinement.proofs.Lasting.{deed_later}
 use Rattle.epoch_refinement.proofs.Promising.{numbered_none, promise_refines}

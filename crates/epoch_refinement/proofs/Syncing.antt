@@ -1,7 +1,7 @@
 -- The row of Sync.
-use Rattle.std.proofs.Common.{◌≡◌, ℕ, ◌<◌, ◌≤◌, Bool, true, false, cond, ◌&&◌, ◌||◌, ◌==◌, List, [], ◌∷◌, ◌++◌, length, Some, Ok, refl, sym, ap, ◌∙◌, subst, inl, arith}
-use Rattle.std.proofs.lemmas.Bool.{eqb-true, eqb-false, and_parts, ltb-true, both_ways}
-use Rattle.std.specs.Prelude.{if◌then◌else◌, nat_lt}
+use Rattle.std.proofs.Common.{◌≡◌, ℕ, ◌<◌, ◌≤◌, Bool, true, false, cond, ◌&&◌, ◌||◌, ◌==◌, List, [], ◌∷◌, length, Some, Ok, refl, sym, ap, ◌∙◌, subst, inl, arith}
+use Rattle.std.proofs.lemmas.Bool.{eqb-true, eqb-false, and_parts}
+use Rattle.std.specs.Prelude.{if◌then◌else◌}
 use Rattle.ring_points.specs.declared.unit.Epoch.{Epoch}
 use Rattle.ring_points.specs.declared.who.Who.{Who}
 use Rattle.ring_points.specs.Epochs.{is_older, same_epoch}
@@ -10,7 +10,7 @@ use Rattle.fabric_terms.specs.declared.record.Record.TheVariants as kept
 use Rattle.fabric_terms.specs.declared.report.Report.TheVariants as report
 use Rattle.replica_core.specs.declared.entry.Entry.{Entry}
 use Rattle.replica_core.specs.declared.refusal.Done.TheVariants.{New}
-use Rattle.replica_core.specs.declared.refusal.ReplicaRefusal.TheVariants.{Older, Gap}
+use Rattle.replica_core.specs.declared.refusal.ReplicaRefusal.TheVariants.{Older}
 use Rattle.replica_core.specs.declared.role.Role.{Role}
 use Rattle.replica_core.specs.declared.role.Role.TheVariants.{None as NoRole, IdleSecondary, ActiveSecondary, Primary}
 use Rattle.replica_core.specs.Roles.{demoted, is_idle}
@@ -26,8 +26,8 @@ use Rattle.epoch_machine.specs.Invariant.{Invariant}
 use Rattle.epoch_machine.proofs.Replaced.{put_at}
 use Rattle.epoch_machine.proofs.Histories.{deed_keeps}
 use Rattle.unit_rules.specs.declared.lead.Taking.{Taking}
-use Rattle.unit_rules.specs.Copies.{adoption, nothing_adopted, log_adopted, fetch_next, own_adopted, log_taken, copy_begun, sync_taken, sync_answered, sync_received}
-use Rattle.unit_rules.specs.Deeds.{Deed, Keep, Send, Tell, acted, still}
+use Rattle.unit_rules.specs.Copies.{adoption, nothing_adopted, log_adopted, fetch_next, own_adopted, copy_begun, sync_taken, sync_answered, sync_received}
+use Rattle.unit_rules.specs.Deeds.{Keep, Send, Tell, acted}
 use Rattle.unit_rules.specs.Leads.{is_primary}
 use Rattle.unit_rules.specs.Seats.{Seat, seated}
 use Rattle.epoch_refinement.specs.Epochs.{IsEpoch}
@@ -37,9 +37,9 @@ use Rattle.epoch_refinement.specs.Seats.{IsNumbered, ShowsSeat}
 use Rattle.epoch_refinement.specs.Shown.{ShownSync}
 use Rattle.epoch_refinement.specs.Told.{tells_all}
 use Rattle.epoch_refinement.proofs.Doing.{after_refined, nothing_refined, not_primary}
-use Rattle.epoch_refinement.proofs.Numbers.{real, older_not, same_not, same_epoch-true, older_self, same_self}
+use Rattle.epoch_refinement.proofs.Numbers.{real, same_not, same_epoch-true, older_self}
 use Rattle.epoch_refinement.proofs.Lasting.{deed_later, later_refl, later_trans, sync_later}
-use Rattle.epoch_refinement.proofs.Promising.{raising, raised_shows, shows_later, numbered_none, promise_above}
+use Rattle.epoch_refinement.proofs.Promising.{raised_shows, shows_later, numbered_none, promise_above}
 
 -- what is adopted is told to who asked, whether it is empty or not
 
@@ -214,7 +214,7 @@ module _ {c : Settings} {w : World} (inv : Invariant c w) (p : ℕ) (me : Who) (
         adopt_own_call t.epoch t.last next.replica ≡ call.own_adopted none whole t.epoch next.replica
     own_call none whole h i =
         λ k. unless (not_older k) (Older next.replica.promised) next.replica
-            (held_if (apart_now k) next.replica (call.own_adopted (h k) (i k) t.epoch next.replica))
+        (held_if (apart_now k) next.replica (call.own_adopted (h k) (i k) t.epoch next.replica))
 
     not_above : is_older next.replica.promised t.epoch ≡ false
     not_above = let i = is_idle_now in subst (λ z. is_older z t.epoch ≡ false) (sym (i.promised ∙ is_promised)) (older_self t.epoch)

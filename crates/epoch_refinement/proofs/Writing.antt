@@ -1,5 +1,5 @@
 -- The rows of a write, and of a firing.
-use Rattle.std.proofs.Common.{◌≡◌, ℕ, zero, suc, ◌+◌, ◌-◌, ◌<◌, ◌≤◌, Bool, true, false, cond, ◌||◌, ◌==◌, nat_lt, List, [], ◌∷◌, ◌++◌, length, Option, None, Some, Ok, Err, refl, sym, ap, ◌∙◌, subst, inl, inr, ⊎_elim, arith}
+use Rattle.std.proofs.Common.{◌≡◌, ℕ, zero, suc, ◌+◌, ◌-◌, ◌<◌, ◌≤◌, Bool, true, false, ◌||◌, ◌==◌, nat_lt, List, [], ◌∷◌, ◌++◌, length, Option, None, Some, Ok, refl, sym, ap, ◌∙◌, subst, inl, inr, ⊎_elim, arith}
 use Rattle.std.proofs.lemmas.Bool.{ltb-true, eqb-false, cases_lt}
 use Rattle.std.proofs.lemmas.List.{length-append}
 use Rattle.std.specs.Prelude.{not, map}
@@ -7,8 +7,6 @@ use Rattle.std.specs.List.{flat_map}
 use Rattle.ring_points.specs.declared.unit.Epoch.{Epoch}
 use Rattle.ring_points.specs.declared.who.Who.{Who}
 use Rattle.ring_points.specs.Epochs.{is_older, same_epoch}
-use Rattle.fabric_terms.specs.declared.message.Body.TheVariants as body
-use Rattle.fabric_terms.specs.declared.record.Record.TheVariants as kept
 use Rattle.fabric_terms.specs.declared.report.Report.TheVariants as report
 use Rattle.fabric_terms.specs.declared.report.Reason.TheVariants as reason
 use Rattle.fabric_terms.specs.declared.report.Verb.TheVariants as verb
@@ -32,11 +30,11 @@ use Rattle.epoch_machine.proofs.Kept.{active_sync, sync_plan, positive}
 use Rattle.epoch_machine.proofs.Writing.{role_log}
 use Rattle.epoch_machine.proofs.Histories.{deed_keeps}
 use Rattle.unit_rules.specs.declared.lead.Peer.{Peer}
-use Rattle.unit_rules.specs.Deeds.{Deed, Keep, Send, Tell, acted}
+use Rattle.unit_rules.specs.Deeds.{Deed, Tell, acted}
 use Rattle.unit_rules.specs.Leads.{lead_of}
 use Rattle.unit_rules.specs.Seats.{Lead, Seat, seated, entry_at}
 use Rattle.unit_rules.specs.Writes.{accepted, append_to, write_answered, write_to, write_commanded, entry_sent, lead_fired, seat_fired}
-use Rattle.epoch_refinement.specs.Epochs.{IsNumber, IsEpoch}
+use Rattle.epoch_refinement.specs.Epochs.{IsEpoch}
 use Rattle.epoch_refinement.specs.Facts.{of_node, Later}
 use Rattle.epoch_refinement.specs.Refined.{AllShown, Refined}
 use Rattle.epoch_refinement.specs.Seats.{ShowsSeat, ShowsLead}
@@ -44,8 +42,8 @@ use Rattle.epoch_refinement.specs.Shown.{ShownAppend}
 use Rattle.epoch_refinement.specs.Told.{tells_all}
 use Rattle.epoch_refinement.proofs.Committing.{lead_epoch, committed_refines}
 use Rattle.epoch_refinement.proofs.Copying.{entry_found}
-use Rattle.epoch_refinement.proofs.Doing.{after_refined, nothing_refined, leads, shown_append, tells_append}
-use Rattle.epoch_refinement.proofs.Numbers.{one_epoch, same_self, real}
+use Rattle.epoch_refinement.proofs.Doing.{after_refined, nothing_refined}
+use Rattle.epoch_refinement.proofs.Numbers.{one_epoch, real}
 use Rattle.epoch_refinement.proofs.Lasting.{deed_later, later_refl, later_trans, sync_later, lead_longer, all_shown_later}
 use Rattle.epoch_refinement.proofs.Promising.{shows_later, numbered_push}
 

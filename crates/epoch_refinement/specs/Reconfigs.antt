@@ -17,14 +17,14 @@ use Rattle.failover_units.specs.Units.{unit_of}
 use Rattle.epoch_machine.specs.Epochs.{number_of}
 use Rattle.epoch_machine.specs.Messages.{adopted_by, kept_by}
 use Rattle.epoch_machine.specs.Plans.{Plan, Attempt}
-use Rattle.epoch_machine.specs.Settings.{Settings, Opens}
+use Rattle.epoch_machine.specs.Settings.{Opens}
 use Rattle.epoch_machine.specs.World.{World}
 use Rattle.epoch_machine.specs.Invariant.{Invariant}
 use Rattle.unit_rules.specs.declared.reconfig.Kind.{Kind}
 use Rattle.unit_rules.specs.declared.reconfig.Kind.TheVariants.{Create, Lose}
 use Rattle.unit_rules.specs.declared.reconfig.Standing.{Standing}
 use Rattle.unit_rules.specs.declared.reconfig.Task.{Task}
-use Rattle.unit_rules.specs.Deeds.{Deed, Acted}
+use Rattle.unit_rules.specs.Deeds.{Acted}
 use Rattle.unit_rules.specs.Manager.{Managed}
 use Rattle.unit_rules.specs.Polls.{Poll, arbiters_to}
 use Rattle.unit_rules.specs.Reconfigs.{Source, Reconfig, Prepare, Phase0, Phase1, Decide, Phase2, Phase3, Phase4, Step, Stay, Finished, Superseded, Refused, task_of}

@@ -7,7 +7,6 @@ use Rattle.std.specs.Prelude.{◌≡◌, ℕ, ◌+◌, ◌<◌, ◌≤◌, ◌==
 use Rattle.std.specs.List.{list_any}
 use Rattle.fabric_lemmas.specs.Members.{IsMember}
 use Rattle.ring_points.specs.Epochs.{is_older}
-use Rattle.replica_core.specs.Replicas.{Replica}
 use Rattle.epoch_machine.specs.Logs.{Entry, IsAt}
 use Rattle.epoch_machine.specs.Messages.{appended_by}
 use Rattle.epoch_machine.specs.Plans.{Role}

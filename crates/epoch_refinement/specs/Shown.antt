@@ -4,7 +4,6 @@
 -- shows that something was done: an answer that it was given, a question that the phase before it came to its end. What
 -- was sent stays sent, so a frame goes on showing it, whenever it arrives.
 use Rattle.std.specs.Prelude.{◌≡◌, ℕ, ◌+◌, ◌<◌, ◌≤◌, List, length, Option, None, Some, ◌⊎◌}
-use Rattle.fabric_lemmas.specs.Members.{IsMember}
 use Rattle.ring_points.specs.declared.unit.Config.{Config}
 use Rattle.ring_points.specs.declared.unit.Epoch.{Epoch}
 use Rattle.ring_points.specs.declared.who.Who.{Who}
