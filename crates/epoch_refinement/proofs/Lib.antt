@@ -21,3 +21,4 @@ pub mod Answering
 pub mod Losing
 pub mod Managing
 pub mod Elsewhere
+pub mod Parts

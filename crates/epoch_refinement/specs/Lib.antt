@@ -7,4 +7,5 @@ pub mod Refined
 pub mod Registers
 pub mod Reconfigs
 pub mod Rows
+pub mod Nodes
 pub mod Laws
