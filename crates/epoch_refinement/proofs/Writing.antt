@@ -1,0 +1,298 @@
+-- The rows of a write, and of a firing.
+use Rattle.std.proofs.Common.{◌≡◌, ℕ, zero, suc, ◌+◌, ◌-◌, ◌<◌, ◌≤◌, Bool, true, false, ◌||◌, ◌==◌, nat_lt, List, [], ◌∷◌, ◌++◌, length, Option, None, Some, Ok, refl, sym, ap, ◌∙◌, subst, inl, inr, ⊎_elim, arith}
+use Rattle.std.proofs.lemmas.Bool.{ltb-true, eqb-false, cases_lt}
+use Rattle.std.proofs.lemmas.List.{length-append}
+use Rattle.std.specs.Prelude.{not, map}
+use Rattle.std.specs.List.{flat_map}
+use Rattle.ring_points.specs.declared.unit.Epoch.{Epoch}
+use Rattle.ring_points.specs.declared.who.Who.{Who}
+use Rattle.ring_points.specs.Epochs.{is_older, same_epoch}
+use Rattle.fabric_terms.specs.declared.report.Report.TheVariants as report
+use Rattle.fabric_terms.specs.declared.report.Reason.TheVariants as reason
+use Rattle.fabric_terms.specs.declared.report.Verb.TheVariants as verb
+use Rattle.replica_core.specs.declared.entry.Entry.{Entry}
+use Rattle.replica_core.specs.declared.refusal.Done.TheVariants.{New}
+use Rattle.replica_core.specs.declared.refusal.ReplicaRefusal.TheVariants.{Older, Gap, LogFull}
+use Rattle.replica_core.specs.Replicas.{Replica, written}
+use Rattle.replica_core.specs.Calls.{unless, held_if}
+use Rattle.epoch_machine.specs.Epochs.{number_of}
+use Rattle.epoch_machine.specs.Logs.{IsAt}
+use Rattle.epoch_machine.specs.Plans.{Role}
+use Rattle.epoch_machine.specs.Settings.{Settings}
+use Rattle.epoch_machine.specs.World.{World, TellsAccepted}
+use Rattle.epoch_machine.specs.Deeds.{Writes, SendsAppend}
+use Rattle.epoch_machine.specs.Guards.{Can}
+use Rattle.epoch_machine.specs.Effects.{after}
+use Rattle.epoch_machine.specs.SoundRoles.{SoundRole}
+use Rattle.epoch_machine.specs.Invariant.{Invariant}
+use Rattle.epoch_machine.proofs.Replaced.{put_at}
+use Rattle.epoch_machine.proofs.Kept.{active_sync, sync_plan, positive}
+use Rattle.epoch_machine.proofs.Writing.{role_log}
+use Rattle.epoch_machine.proofs.Histories.{deed_keeps}
+use Rattle.unit_rules.specs.declared.lead.Peer.{Peer}
+use Rattle.unit_rules.specs.Deeds.{Deed, Tell, acted}
+use Rattle.unit_rules.specs.Leads.{lead_of}
+use Rattle.unit_rules.specs.Seats.{Lead, Seat, seated, entry_at}
+use Rattle.unit_rules.specs.Writes.{accepted, append_to, write_answered, write_to, write_commanded, entry_sent, lead_fired, seat_fired}
+use Rattle.epoch_refinement.specs.Epochs.{IsEpoch}
+use Rattle.epoch_refinement.specs.Facts.{of_node, Later}
+use Rattle.epoch_refinement.specs.Refined.{AllShown, Refined}
+use Rattle.epoch_refinement.specs.Seats.{ShowsSeat, ShowsLead}
+use Rattle.epoch_refinement.specs.Shown.{ShownAppend}
+use Rattle.epoch_refinement.specs.Told.{tells_all}
+use Rattle.epoch_refinement.proofs.Committing.{lead_epoch, committed_refines}
+use Rattle.epoch_refinement.proofs.Copying.{entry_found}
+use Rattle.epoch_refinement.proofs.Doing.{after_refined, nothing_refined}
+use Rattle.epoch_refinement.proofs.Numbers.{one_epoch, real}
+use Rattle.epoch_refinement.proofs.Lasting.{deed_later, later_refl, later_trans, sync_later, lead_longer, all_shown_later}
+use Rattle.epoch_refinement.proofs.Promising.{shows_later, numbered_push}
+
+last_at : (xs : List Entry) (y : Entry) → IsAt (xs ++ (y ∷ [])) (length xs) y
+last_at [] y = refl
+last_at (z ∷ xs) y = last_at xs y
+
+-- beyond a front
+beyond : (xs ys : List Entry) (n : ℕ) (x : Entry) → length xs ≤ n → IsAt (xs ++ ys) n x → IsAt ys (n - length xs) x
+beyond [] ys n x le h = subst (λ k. IsAt ys k x) (omega arith) h
+beyond (z ∷ xs) ys zero x le h = absurd (omega arith)
+beyond (z ∷ xs) ys (suc n) x le h = let less : length xs ≤ n = omega arith in subst (λ k. IsAt ys k x) (omega arith) (beyond xs ys n x less h)
+
+-- appends to peers tell nothing
+appends_tell : (node : ℕ) (log : List Entry) (e : Epoch) (r : Replica) (lsn : ℕ) (text : List ℕ) (peers : List Peer) (before : List _) →
+    tells_all node log (map (append_to e r lsn text) peers) before ≡ before
+appends_tell node log e r lsn text [] before = refl
+appends_tell node log e r lsn text (q ∷ qs) before = appends_tell node log e r lsn text qs before
+
+module _ {c : Settings} {w : World} (inv : Invariant c w) (p : ℕ) (me : Who) (s : Seat) (shows : ShowsSeat w p me.actor s) where
+  -- a write of a primary
+  module _ (text : List ℕ) (l : Lead) (is_lead : lead_of s ≡ Some l) where
+    abbrev r : Role
+    r = (shows.lead l is_lead).0
+
+    lead : ShowsLead w me.actor (length s.replica.log) l r
+    lead = (shows.lead l is_lead).1
+
+    sound_role : SoundRole w.active w.told me.actor (w.promised me.actor) (w.joined me.actor) (w.log me.actor) r
+    sound_role = inv.roles me.actor r lead.role
+
+    abbrev x : Entry
+    x = record { epoch = s.replica.at; lsn = length s.replica.log + 1; bytes = text }
+
+    abbrev place : ℕ
+    place = length (w.log me.actor)
+
+    epoch_is : IsEpoch r.plan.epoch s.replica.at
+    epoch_is = lead_epoch inv p me s shows l r lead
+
+    can_write : Can c w (Writes me.actor r x)
+    can_write = (lead.role, let e = epoch_is in sym e.is)
+
+    abbrev y : World
+    y = after w (Writes me.actor r x)
+
+    longer : y.log me.actor ≡ s.replica.log ++ (x ∷ [])
+    longer = put_at w.log me.actor (w.log me.actor ++ (x ∷ [])) ∙ ap (λ l. l ++ (x ∷ [])) shows.log
+
+    length_now : length (s.replica.log ++ x ∷ []) ≡ length s.replica.log + 1
+    length_now = length-append s.replica.log (x ∷ [])
+
+    can_send : Can c y (SendsAppend me.actor place r x)
+    can_send = (lead.role, subst (λ l. IsAt l place x) (sym (put_at w.log me.actor (w.log me.actor ++ (x ∷ [])))) (last_at (w.log me.actor) x))
+
+    abbrev z : World
+    z = after y (SendsAppend me.actor place r x)
+
+    all : Later (of_node me.actor) w z
+    all = later_trans (deed_later w (Writes me.actor r x)) (deed_later y (SendsAppend me.actor place r x))
+
+    next : Invariant c z
+    next = deed_keeps (deed_keeps inv (Writes me.actor r x) can_write) (SendsAppend me.actor place r x) can_send
+
+    lead_now : (q : Role) (m : Lead) → ShowsLead w me.actor (length s.replica.log) m q → ShowsLead z me.actor (length (s.replica.log ++ x ∷ [])) m q
+    lead_now q m i = lead_longer all i.role (let n = length_now in omega arith) i
+
+    written_shows : length s.replica.log + 1 ≤ 100000 → ShowsSeat z p me.actor (seated s (written x s.replica))
+    written_shows fits = record {
+      partition = shows.partition;
+      promised = shows.promised;
+      joined = shows.joined;
+      log = longer;
+      room = let n = length_now in omega arith;
+      collected = shows.collected;
+      taken = λ t i. sync_later all (shows.taken t i);
+      reached = shows.reached;
+      numbered = numbered_push s.replica.log x refl (let j = shows.joined in j.small) shows.numbered;
+      numbered_collected = shows.numbered_collected;
+      idle = shows.idle;
+      lead = λ m i. let d = shows.lead m i in (d.0, lead_now d.0 m d.1);
+    }
+
+    append_shown : (lsn : ℕ) → lsn ≡ length s.replica.log + 1 → ShownAppend z s.replica.at lsn text
+    append_shown lsn same = record {
+      plan = r.plan;
+      synced = active_sync inv r.plan sound_role.activated;
+      epoch = epoch_is;
+      is = inr (
+        place,
+        let n = ap length shows.log in omega arith,
+        inl (λ i. record { epoch = r.plan.epoch; place = place; entry = record { epoch = s.replica.at; lsn = same i; bytes = text } }),
+      );
+    }
+
+    all_sent : (lsn : ℕ) → lsn ≡ length s.replica.log + 1 → (qs : List Peer) → AllShown z p me (map (append_to s.replica.at (written x s.replica) lsn text) qs)
+    all_sent lsn same [] = tt
+    all_sent lsn same (q ∷ qs) = (shows.partition, append_shown lsn same, all_sent lsn same qs)
+
+    is_real : 0 < r.plan.epoch
+    is_real = positive inv r.plan (sync_plan inv r.plan (active_sync inv r.plan sound_role.activated))
+
+    writes : length s.replica.log + 1 ≤ 100000 → Refined c w p me (write_answered text l s (Ok New, written x s.replica))
+    writes fits =
+        after_refined all
+        (accepted s.replica.partition s.replica.at (length (s.replica.log ++ x ∷ [])) text ++
+        map (append_to s.replica.at (written x s.replica) (length (s.replica.log ++ x ∷ [])) text) l.peers)
+        ((shows.partition, real r.plan.epoch s.replica.at epoch_is is_real), all_sent (length (s.replica.log ++ x ∷ [])) length_now l.peers)
+        (λ log.
+        (let e = epoch_is in ap (λ n. TellsAccepted me.actor n ∷ w.told) e.is) ∙
+        sym (appends_tell me.actor log s.replica.at (written x s.replica) (length (s.replica.log ++ x ∷ [])) text l.peers (TellsAccepted me.actor (number_of s.replica.at) ∷ w.told)))
+        (committed_refines next p me (seated s (written x s.replica)) (written_shows fits) l r (lead_now r l lead))
+
+  pub write_refines : (text : List ℕ) → Refined c w p me (write_commanded text s)
+  unfolding write_commanded
+  write_refines text = go (lead_of s) refl
+    where
+      refused : Refined c w p me (acted s (Tell (report.Refused verb.Write reason.Full) ∷ []))
+      refused = record { after = w; inv = inv; later = later_refl w; shows = shows; sent = (tt, tt); told = refl }
+
+      by : (l : Lead) → lead_of s ≡ Some l → (older : Bool) → (ahead : Bool) → (held : Bool) → nat_lt (length s.replica.log + 1) (length s.replica.log + 1) ≡ held →
+          (full : Bool) → (length s.replica.log == 100000) ≡ full →
+          Refined c w p me
+          (write_answered text l s
+          (unless older (Older s.replica.promised) s.replica (unless ahead (Gap (length s.replica.log)) s.replica
+          (held_if held s.replica
+          (unless full LogFull s.replica (Ok New, written (record { epoch = s.replica.at; lsn = length s.replica.log + 1; bytes = text }) s.replica))))))
+      by l h true ahead held k full i = nothing_refined inv shows
+      by l h false true held k full i = nothing_refined inv shows
+      by l h false false true k full i = absurd (let lt = ltb-true (length s.replica.log + 1) (length s.replica.log + 1) k in omega arith)
+      by l h false false false k true i = refused
+      by l h false false false k false i = writes text l h (let d = eqb-false (length s.replica.log) 100000 i in let r = shows.room in omega arith)
+
+      go : (o : Option Lead) → lead_of s ≡ o → Refined c w p me (write_to text s o)
+      go None h = record { after = w; inv = inv; later = later_refl w; shows = shows; sent = (tt, tt); told = refl }
+      go (Some l) h =
+          by l h (is_older s.replica.at s.replica.promised)
+          (not (same_epoch s.replica.at s.replica.at) || nat_lt (length s.replica.log + 1) (length s.replica.log + 1))
+          (nat_lt (length s.replica.log + 1) (length s.replica.log + 1)) refl (length s.replica.log == 100000) refl
+
+-- a firing of a primary: each peer is sent the entry that is next for it
+module _ {c : Settings} {w : World} (inv : Invariant c w) (p : ℕ) (me : Who) (s : Seat) (shows : ShowsSeat w p me.actor s) (l : Lead)
+    (is_lead : lead_of s ≡ Some l) where
+  abbrev role : Role
+  role = (shows.lead l is_lead).0
+
+  fired_lead : ShowsLead w me.actor (length s.replica.log) l role
+  fired_lead = (shows.lead l is_lead).1
+
+  fired_sound : SoundRole w.active w.told me.actor (w.promised me.actor) (w.joined me.actor) (w.log me.actor) role
+  fired_sound = inv.roles me.actor role fired_lead.role
+
+  fired_epoch : IsEpoch role.plan.epoch s.replica.at
+  fired_epoch = lead_epoch inv p me s shows l role fired_lead
+
+  module _ (q : Peer) (x : Entry) (place : ℕ) (lsn_is : q.next ≡ place + 1) (at : IsAt s.replica.log place x) (rest : List Deed)
+      (shown : AllShown w p me rest) (silent : (log : List Entry) → tells_all me.actor log rest w.told ≡ w.told) where
+    sends : Refined c w p me (acted s (append_to s.replica.at s.replica q.next x.bytes q ∷ rest))
+    sends = ⊎_elim of_base of_epoch (cases_lt place (length role.plan.base))
+      where
+        in_world : IsAt (w.log me.actor) place x
+        in_world = subst (λ l. IsAt l place x) (sym shows.log) at
+
+        of_base : place < length role.plan.base → Refined c w p me (acted s (append_to s.replica.at s.replica q.next x.bytes q ∷ rest))
+        of_base lt = record {
+          after = w;
+          inv = inv;
+          later = later_refl w;
+          shows = shows;
+          sent =
+              (shows.partition, record { plan = role.plan; synced = active_sync inv role.plan fired_sound.activated; epoch = fired_epoch; is = inl (omega arith) }, shown);
+          told = sym (silent s.replica.log);
+        }
+
+        can : Can c w (SendsAppend me.actor place role x)
+        can = (fired_lead.role, in_world)
+
+        of_epoch : length role.plan.base ≤ place → Refined c w p me (acted s (append_to s.replica.at s.replica q.next x.bytes q ∷ rest))
+        of_epoch le =
+            let written = beyond role.plan.base (w.written role.plan.epoch) place x le
+            (subst (λ l. IsAt l place x) (role_log inv me.actor role fired_lead.role) in_world) in
+            let number = inv.logs.entries role.plan.epoch (place - length role.plan.base) x written in
+            let small = shows.numbered.small place x at in
+            let e = fired_epoch in
+            let epoch : x.epoch ≡ s.replica.at = one_epoch x.epoch s.replica.at role.plan.epoch (record { small = small; is = sym number }) e.number in
+            let n : x.lsn ≡ q.next = shows.numbered.lsn place x at ∙ sym lsn_is in
+            record {
+              after = after w (SendsAppend me.actor place role x);
+              inv = deed_keeps inv (SendsAppend me.actor place role x) can;
+              later = deed_later w (SendsAppend me.actor place role x);
+              shows = shows_later (deed_later w (SendsAppend me.actor place role x)) refl refl refl refl refl shows;
+              sent = (
+                shows.partition,
+                record {
+                  plan = role.plan;
+                  synced = active_sync inv role.plan fired_sound.activated;
+                  epoch = fired_epoch;
+                  is =
+                      inr (
+                        place,
+                        lsn_is,
+                        inl (λ i. record { epoch = role.plan.epoch; place = place; entry = record { epoch = sym epoch i; lsn = sym n i; bytes = x.bytes } }),
+                      );
+                },
+                all_shown_later (deed_later w (SendsAppend me.actor place role x)) p me rest shown,
+              );
+              told = sym (silent s.replica.log);
+            }
+
+-- the deeds of a firing tell nothing
+pub fired_tells : (node : ℕ) (log : List Entry) (r : Replica) (qs : List Peer) (before : List _) →
+    tells_all node log (flat_map (λ q. entry_sent r q (entry_at q.next r.log)) qs) before ≡ before
+fired_tells node log r [] before = refl
+fired_tells node log r (q ∷ qs) before = go (entry_at q.next r.log) (fired_tells node log r qs before)
+  where
+    go : (o : Option Entry) → tells_all node log (flat_map (λ q. entry_sent r q (entry_at q.next r.log)) qs) before ≡ before →
+        tells_all node log (entry_sent r q o ++ flat_map (λ q. entry_sent r q (entry_at q.next r.log)) qs) before ≡ before
+    go None e = e
+    go (Some x) e = e
+
+peers_fired : {c : Settings} {w : World} (inv : Invariant c w) (p : ℕ) (me : Who) (s : Seat) (shows : ShowsSeat w p me.actor s) (l : Lead) →
+    lead_of s ≡ Some l → (qs : List Peer) → Refined c w p me (acted s (flat_map (λ q. entry_sent s.replica q (entry_at q.next s.replica.log)) qs))
+peers_fired {w = w} inv p me s shows l is_lead [] = record { after = w; inv = inv; later = later_refl w; shows = shows; sent = tt; told = refl }
+peers_fired {c = c} {w = w} inv p me s shows l is_lead (q ∷ qs) =
+    go (peers_fired inv p me s shows l is_lead qs) (entry_at q.next s.replica.log) refl
+  where
+    go : Refined c w p me (acted s (flat_map (λ q. entry_sent s.replica q (entry_at q.next s.replica.log)) qs)) → (o : Option Entry) →
+        entry_at q.next s.replica.log ≡ o →
+        Refined c w p me (acted s (entry_sent s.replica q o ++ flat_map (λ q. entry_sent s.replica q (entry_at q.next s.replica.log)) qs))
+    go before None h = before
+    go before (Some x) h =
+        let found = entry_found q.next s.replica.log x h in
+        let more = sends before.inv p me s before.shows l is_lead q x found.0 found.1 found.2
+        (flat_map (λ q. entry_sent s.replica q (entry_at q.next s.replica.log)) qs) before.sent
+        (λ log. fired_tells me.actor log s.replica qs before.after.told) in
+        record {
+          after = more.after;
+          inv = more.inv;
+          later = later_trans before.later more.later;
+          shows = more.shows;
+          sent = more.sent;
+          told =
+              more.told ∙ fired_tells me.actor s.replica.log s.replica qs before.after.told ∙ before.told;
+        }
+
+pub fire_refines : {c : Settings} {w : World} (inv : Invariant c w) (p : ℕ) (me : Who) (s : Seat) → ShowsSeat w p me.actor s → Refined c w p me (acted s (seat_fired s))
+unfolding seat_fired
+fire_refines {c = c} {w = w} inv p me s shows = go (lead_of s) refl
+  where
+    go : (o : Option Lead) → lead_of s ≡ o → Refined c w p me (acted s (lead_fired s.replica o))
+    go None h = record { after = w; inv = inv; later = later_refl w; shows = shows; sent = tt; told = refl }
+    go (Some l) h = peers_fired inv p me s shows l h l.peers

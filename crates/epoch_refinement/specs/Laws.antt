@@ -1,0 +1,67 @@
+-- Each row of a partition is deeds of the partition's machine.
+use Rattle.std.specs.Prelude.{◌≡◌, ℕ, ◌<◌, Bool, List, Some}
+use Rattle.fabric_lemmas.specs.Maps.{at}
+use Rattle.ring_points.specs.declared.unit.Epoch.{Epoch}
+use Rattle.replica_place.specs.declared.load.NodeLoad.{NodeLoad}
+use Rattle.unit_rules.specs.declared.reconfig.Kind.{Kind}
+use Rattle.unit_rules.specs.Manager.{Managed, reconfig_commanded, manager_answered}
+use Rattle.unit_rules.specs.Questions.{reconfig_fired}
+use Rattle.unit_rules.specs.Reconfigs.{Reconfig}
+use Rattle.epoch_refinement.specs.Epochs.{settings_to}
+use Rattle.epoch_refinement.specs.Reconfigs.{ShowsManager, IsAnswerOf, ManagerWent}
+use Rattle.ring_points.specs.declared.who.Who.{Who}
+use Rattle.fabric_terms.specs.declared.message.Body.{Body}
+use Rattle.epoch_machine.specs.Settings.{Settings}
+use Rattle.epoch_machine.specs.World.{World}
+use Rattle.epoch_machine.specs.Invariant.{Invariant}
+use Rattle.unit_rules.specs.Deeds.{acted, still}
+use Rattle.unit_rules.specs.Registers.{Register, Reply}
+use Rattle.unit_rules.specs.Seats.{Seat}
+use Rattle.unit_rules.specs.Writes.{write_commanded, seat_fired}
+use Rattle.epoch_refinement.specs.Refined.{AllShown, Refined}
+use Rattle.epoch_refinement.specs.Registers.{ShowsRegister, RefinedReply}
+use Rattle.epoch_refinement.specs.Rows.{seat_received, begun_again, register_answers}
+use Rattle.epoch_refinement.specs.Seats.{ShowsSeat}
+use Rattle.epoch_refinement.specs.Shown.{partition_of, Shown}
+
+-- it holds of every replica of a partition that shows a world of the machine
+abbrev pub OfReplicas : (Settings → World → ℕ → Who → Seat → Type 0) → Type 0
+OfReplicas Holds = (c : Settings) (w : World) (p : ℕ) (me : Who) (s : Seat) → Invariant c w → ShowsSeat w p me.actor s → Holds c w p me s
+
+-- whatever frame comes to its node that was sent
+abbrev pub ReplicaFramesAreDeeds : Type 0
+ReplicaFramesAreDeeds =
+    OfReplicas (λ c w p me s. (from to : Who) (b : Body) → to.actor ≡ me.actor → Shown w p from to b → Refined c w p me (seat_received me from b s))
+
+abbrev pub WritesAreDeeds : Type 0
+WritesAreDeeds = OfReplicas (λ c w p me s. (text : List ℕ) → Refined c w p me (write_commanded text s))
+
+abbrev pub FiringsAreDeeds : Type 0
+FiringsAreDeeds = OfReplicas (λ c w p me s. Refined c w p me (acted s (seat_fired s)))
+
+abbrev pub RestartsAreDeeds : Type 0
+RestartsAreDeeds = OfReplicas (λ c w p me s. Refined c w p me (still (begun_again s)))
+
+-- whatever an arbitrator that shows a world of the machine is asked by a frame that was sent
+abbrev pub AnswersAreDeeds : Type 0
+AnswersAreDeeds =
+    (c : Settings) (w : World) (p : ℕ) (me from to : Who) (b : Body) (r : Register) (reply : Reply) → Invariant c w → ShowsRegister w p me.actor r →
+    Shown w p from to b → partition_of b ≡ p → register_answers from b r ≡ Some reply → RefinedReply c w p me from r reply
+
+-- it holds of every manager of a partition, by k arbitrators, that shows a world of the machine
+abbrev pub OfManagers : ((k p : ℕ) → World → Who → Managed → Type 0) → Type 0
+OfManagers Holds =
+    (k p : ℕ) (w : World) (x : Who) (s : Managed) → Invariant (settings_to k) w → ShowsManager w k p x s → 0 < x.instance → Holds k p w x s
+
+-- whatever answer comes to it that was sent, wherever nodes are placed then
+abbrev pub ManagerAnswersAreDeeds : Type 0
+ManagerAnswersAreDeeds =
+    OfManagers (λ k p w x s. (nodes : List NodeLoad) (from : Who) (e : Epoch) (b : Body) → IsAnswerOf e b → Shown w p from x b →
+    ManagerWent k p w x (manager_answered nodes from.actor p e b s))
+
+abbrev pub CommandsAreDeeds : Type 0
+CommandsAreDeeds = OfManagers (λ k p w x s. (is_manager : Bool) (kind : Kind) → ManagerWent k p w x (reconfig_commanded is_manager k p kind s))
+
+-- what it asks again when it fires
+abbrev pub QuestionsAreShown : Type 0
+QuestionsAreShown = OfManagers (λ k p w x s. (r : Reconfig) → at p s.reconfigs ≡ Some r → AllShown w p x (reconfig_fired r))

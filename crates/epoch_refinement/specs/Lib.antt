@@ -1,0 +1,11 @@
+pub mod Epochs
+pub mod Facts
+pub mod Shown
+pub mod Told
+pub mod Seats
+pub mod Refined
+pub mod Registers
+pub mod Reconfigs
+pub mod Rows
+pub mod Nodes
+pub mod Laws

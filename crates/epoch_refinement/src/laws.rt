@@ -1,0 +1,43 @@
+ghost use Rattle.epoch_refinement.specs.Laws.{AnswersAreDeeds, CommandsAreDeeds, FiringsAreDeeds, ManagerAnswersAreDeeds, QuestionsAreShown, ReplicaFramesAreDeeds, RestartsAreDeeds, WritesAreDeeds};
+
+/// Whatever frame comes to a replica that was sent, in whatever order and however often, what it makes of it is deeds of
+/// the machine of its partition: what it sends is sent there, and what it tells is told there.
+pub fn frames_are_deeds()
+    ensures { ReplicaFramesAreDeeds }
+{}
+
+/// So is a write at a replica, whether it is taken or refused.
+pub fn writes_are_deeds()
+    ensures { WritesAreDeeds }
+{}
+
+/// So is what a replica sends again when it fires.
+pub fn firings_are_deeds()
+    ensures { FiringsAreDeeds }
+{}
+
+/// So is a restart of its node, after which a replica has its promise and its log, but no role and nothing collected.
+pub fn restarts_are_deeds()
+    ensures { RestartsAreDeeds }
+{}
+
+/// So is each answer of an arbitrator, with what it records before.
+pub fn answers_are_deeds()
+    ensures { AnswersAreDeeds }
+{}
+
+/// So is what a manager makes of an answer, in each phase: a majority that it counts is one of the machine, and what it
+/// goes on to propose, to copy, to store and to activate is proposed, synced, asked for and activated there.
+pub fn manager_answers_are_deeds()
+    ensures { ManagerAnswersAreDeeds }
+{}
+
+/// So is a command to a manager: its epoch is above all that this instance left the phase Prepare of.
+pub fn commands_are_deeds()
+    ensures { CommandsAreDeeds }
+{}
+
+/// What a manager asks again when it fires shows what its phase has.
+pub fn questions_are_shown()
+    ensures { QuestionsAreShown }
+{}
