@@ -99,7 +99,8 @@ pub all_have : {X : Type 0} (u : ℕ) (ns : List (ℕ × X)) → AllHave u (map 
 all_have u [] = tt
 all_have u (n ∷ ns) = (ap (λ (b : Bool). if b then Some u else at n.0 (map (λ m. (m.0, u)) ns)) (eq-eqb n.0 n.0 refl), have_more u n.0 (map (λ m. (m.0, u)) ns) ns (all_have u ns))
 
-pub even_tick : {a : Upper} (t u : ℕ) (readings : List (ℕ × ℕ)) (rs : List (ℕ × Running a)) → t ≤ u → AllHave u readings rs → AllEven {a = a} t rs → AllEven {a = a} u (map (ticked {a = a} u readings) rs)
+pub even_tick : {a : Upper} (t u : ℕ) (readings : List (ℕ × ℕ)) (rs : List (ℕ × Running a)) → t ≤ u → AllHave u readings rs → AllEven {a = a} t rs →
+    AllEven {a = a} u (map (ticked {a = a} u readings) rs)
 even_tick {a} t u readings [] h have e = tt
 even_tick {a} t u readings (r ∷ rs) h have e =
     let shows_u : unwrap_or (at r.0 readings) r.1.reading ≡ u = ap (λ (o : Option ℕ). unwrap_or o r.1.reading) have.0 in
@@ -110,13 +111,15 @@ same_nodes {X} u [] = refl
 same_nodes {X} u (n ∷ ns) = rw (eq-eqb n.0 n.0 refl) (same_nodes {X = X} u ns)
 
 -- the readings are within the bound of every pair of each boot
-pub fit_all : {a : Upper} (c : FabricConfig) (w : World a) (t u : ℕ) (readings : List (ℕ × ℕ)) → AllEven {a = a} t w.nodes → t ≤ u → AllShow u readings → readings_fit c w u readings ≡ true
+pub fit_all : {a : Upper} (c : FabricConfig) (w : World a) (t u : ℕ) (readings : List (ℕ × ℕ)) → AllEven {a = a} t w.nodes → t ≤ u → AllShow u readings →
+    readings_fit c w u readings ≡ true
 fit_all {a} c w t u [] e h s = refl
 fit_all {a} c w t u (r ∷ rs) e h s = rw (fits (at r.0 w.nodes) refl) (fit_all c w t u rs e h s.1)
   where
     fits : (o : Option (Running a)) → at r.0 w.nodes ≡ o → fits_pairs c u r.1 (at r.0 w.nodes) ≡ true
     fits None f = ap (fits_pairs {a = a} c u r.1) f
-    fits (Some x) f = ap (fits_pairs {a = a} c u r.1) f ∙ ap (λ (v : ℕ). fits_pairs {a = a} c u v (Some x)) s.0 ∙ even_fits c.bound x.pairs t u (even_at t r.0 w.nodes x e f).pairs h
+    fits (Some x) f = ap (fits_pairs {a = a} c u r.1) f ∙ ap (λ (v : ℕ). fits_pairs {a = a} c u v (Some x)) s.0
+        ∙ even_fits c.bound x.pairs t u (even_at t r.0 w.nodes x e f).pairs h
 
 pub all_show_u : {X : Type 0} (u : ℕ) (ns : List (ℕ × X)) → AllShow u (map (λ n. (n.0, u)) ns)
 all_show_u u [] = tt

@@ -40,7 +40,8 @@ mirrors_first a = record { time = refl; nodes = refl; even = tt; arbiters = refl
 
 seen_put : {a : Upper} (k : ℕ) (x : Running a) (rs : List (ℕ × Running a)) → map (seen {a = a}) (put k x rs) ≡ put k x.node (map (seen {a = a}) rs)
 seen_put {a} k x [] = refl
-seen_put {a} k x (e ∷ es) = by_keys (nat_lt k e.0) (k == e.0) ∙ ap (λ (behind : List (ℕ × NodeState a)). put_here k x.node (seen {a = a} e) (map (seen {a = a}) es) behind (nat_lt k e.0) (k == e.0)) (seen_put k x es)
+seen_put {a} k x (e ∷ es) = by_keys (nat_lt k e.0) (k == e.0)
+    ∙ ap (λ (behind : List (ℕ × NodeState a)). put_here k x.node (seen {a = a} e) (map (seen {a = a}) es) behind (nat_lt k e.0) (k == e.0)) (seen_put k x es)
   where
     by_keys : (b c : Bool) → map (seen {a = a}) (put_here k x e es (put k x es) b c) ≡ put_here k x.node (seen {a = a} e) (map (seen {a = a}) es) (map (seen {a = a}) (put k x es)) b c
     by_keys true c = refl
@@ -54,7 +55,8 @@ seen_at : {a : Upper} (k : ℕ) (rs : List (ℕ × Running a)) → at k (map (se
 seen_at {a} k [] = refl
 seen_at {a} k (e ∷ es) = by_key (e.0 == k) (seen_at k es)
   where
-    by_key : (b : Bool) → at k (map (seen {a = a}) es) ≡ option_map (λ (r : Running a). r.node) (at k es) → (if b then Some e.1.node else at k (map (seen {a = a}) es)) ≡ option_map (λ (r : Running a). r.node) (if b then Some e.1 else at k es)
+    by_key : (b : Bool) → at k (map (seen {a = a}) es) ≡ option_map (λ (r : Running a). r.node) (at k es) →
+        (if b then Some e.1.node else at k (map (seen {a = a}) es)) ≡ option_map (λ (r : Running a). r.node) (if b then Some e.1 else at k es)
     by_key true later = refl
     by_key false later = later
 
@@ -72,7 +74,8 @@ runs_as {a} p w n s m h = by_state (at n w.nodes) refl
 
     by_state : (o : Option (Running a)) → at n w.nodes ≡ o → RunsAs {a = a} w n s
     by_state None e = let f : None ≡ Some s = sym (ap (option_map (λ (r : Running a). r.node)) e) ∙ there in cc
-    by_state (Some r) e = let f : Some r.node ≡ Some s = sym (ap (option_map (λ (x : Running a). x.node)) e) ∙ there in record { state = r; here = e; same = cc }
+    by_state (Some r) e = let f : Some r.node ≡ Some s = sym (ap (option_map (λ (x : Running a). x.node)) e)
+        ∙ there in record { state = r; here = e; same = cc }
 
 none_runs : {a : Upper} (p : Cluster a) (w : World a) (n : ℕ) → Mirrors {a = a} p w → at n p.nodes ≡ None → is_some (at n w.nodes) ≡ false
 none_runs {a} p w n m h = by_state (at n w.nodes) refl
@@ -86,7 +89,8 @@ none_runs {a} p w n m h = by_state (at n w.nodes) refl
 
 -- A node's step, and an arbitrator's.
 
-pub acted_mirrors : {a : Upper} (p : Cluster a) (w : World a) (n t : ℕ) (pairs : List (ℕ × ℕ)) (d : Did (NodeState a)) → Mirrors {a = a} p w → t ≡ p.time → EvenPairs p.time pairs → Mirrors {a = a} (node_did p n d) (node_acted a w n t pairs d).world
+pub acted_mirrors : {a : Upper} (p : Cluster a) (w : World a) (n t : ℕ) (pairs : List (ℕ × ℕ)) (d : Did (NodeState a)) → Mirrors {a = a} p w → t ≡ p.time →
+    EvenPairs p.time pairs → Mirrors {a = a} (node_did p n d) (node_acted a w n t pairs d).world
 acted_mirrors {a} p w n t pairs d m time even = record {
   time = m.time;
   nodes = seen_put n (record { node = d.state; reading = t; pairs = pairs }) w.nodes ∙ ap (put n d.state) m.nodes;
@@ -97,7 +101,8 @@ acted_mirrors {a} p w n t pairs d m time even = record {
   count = ap (λ (k : ℕ). k + length d.sent) m.count;
 }
 
-pub ruled_mirrors : {a : Upper} (p : Cluster a) (w : World a) (n : ℕ) (d : Did (ArbiterState a)) → Mirrors {a = a} p w → Mirrors {a = a} (arbiter_did p n d) (arbiter_acted a w n d).world
+pub ruled_mirrors : {a : Upper} (p : Cluster a) (w : World a) (n : ℕ) (d : Did (ArbiterState a)) → Mirrors {a = a} p w →
+    Mirrors {a = a} (arbiter_did p n d) (arbiter_acted a w n d).world
 ruled_mirrors {a} p w n d m = record {
   time = m.time;
   nodes = m.nodes;
@@ -109,7 +114,8 @@ ruled_mirrors {a} p w n d m = record {
 }
 
 -- An input of a node that runs.
-acts_mirrors : {a : Upper} (c : FabricConfig) (p : Cluster a) (w : World a) (n : ℕ) (i : Input) (s : NodeState a) → Mirrors {a = a} p w → at n p.nodes ≡ Some s → Mirrors {a = a} (node_does a c p n i (at n p.nodes)) (acts_at a c w n i (at n w.nodes)).world
+acts_mirrors : {a : Upper} (c : FabricConfig) (p : Cluster a) (w : World a) (n : ℕ) (i : Input) (s : NodeState a) → Mirrors {a = a} p w →
+    at n p.nodes ≡ Some s → Mirrors {a = a} (node_does a c p n i (at n p.nodes)) (acts_at a c w n i (at n w.nodes)).world
 acts_mirrors {a} c p w n i s m h =
     let r = runs_as p w n s m h in
     let even = even_at p.time n w.nodes r.state m.even r.here in
@@ -123,7 +129,8 @@ acts_mirrors {a} c p w n i s m h =
 
 -- Ticks.
 
-seen_ticked : {a : Upper} (t : ℕ) (readings : List (ℕ × ℕ)) (rs : List (ℕ × Running a)) → map (seen {a = a}) (map (ticked {a = a} t readings) rs) ≡ map (seen {a = a}) rs
+seen_ticked : {a : Upper} (t : ℕ) (readings : List (ℕ × ℕ)) (rs : List (ℕ × Running a)) →
+    map (seen {a = a}) (map (ticked {a = a} t readings) rs) ≡ map (seen {a = a}) rs
 seen_ticked t readings [] = refl
 seen_ticked {a} t readings (r ∷ rs) = ap (λ (xs : List (ℕ × NodeState a)). seen {a = a} r ∷ xs) (seen_ticked t readings rs)
 
@@ -135,7 +142,8 @@ shown_seen {a} u (r ∷ rs) = ap (λ (xs : List (ℕ × ℕ)). (r.0, u) ∷ xs) 
 shown_all : {a : Upper} (p : Cluster a) (w : World a) (u : ℕ) → Mirrors {a = a} p w → all_show u p.nodes ≡ map (λ n. (n.0, u)) w.nodes
 shown_all p w u m = ap (all_show u) (sym m.nodes) ∙ shown_seen u w.nodes
 
-ticks_mirrors : {a : Upper} (p : Cluster a) (w : World a) (u advance : ℕ) (readings : List (ℕ × ℕ)) → Mirrors {a = a} p w → p.time ≤ u → w.time + advance ≡ u → readings ≡ map (λ n. (n.0, u)) w.nodes → Mirrors {a = a} (record p { time = u }) (ticks a w (w.time + advance) readings).world
+ticks_mirrors : {a : Upper} (p : Cluster a) (w : World a) (u advance : ℕ) (readings : List (ℕ × ℕ)) → Mirrors {a = a} p w → p.time ≤ u → w.time + advance ≡ u →
+    readings ≡ map (λ n. (n.0, u)) w.nodes → Mirrors {a = a} (record p { time = u }) (ticks a w (w.time + advance) readings).world
 ticks_mirrors {a} p w u advance readings m h e f = rw (e, f) (record {
   time = refl;
   nodes = seen_ticked u (map (λ n. (n.0, u)) w.nodes) w.nodes ∙ m.nodes;
@@ -146,11 +154,13 @@ ticks_mirrors {a} p w u advance readings m h e f = rw (e, f) (record {
   count = m.count;
 })
 
-pub tick_mirrors : {a : Upper} (c : FabricConfig) (p : Cluster a) (w : World a) (u : ℕ) → Mirrors {a = a} p w → p.time ≤ u → Mirrors {a = a} (record p { time = u }) (world_step a c w (tick_to p u)).world
+pub tick_mirrors : {a : Upper} (c : FabricConfig) (p : Cluster a) (w : World a) (u : ℕ) → Mirrors {a = a} p w → p.time ≤ u →
+    Mirrors {a = a} (record p { time = u }) (world_step a c w (tick_to p u)).world
 unfolding world_step
 tick_mirrors {a} c p w u m h = ticks_mirrors p w u (u - p.time) (all_show u p.nodes) m h (omega (arith, m.time)) (shown_all p w u m)
 
-pub tick_may : {a : Upper} (is_frame : List ℕ → Bool) (c : FabricConfig) (p : Cluster a) (w : World a) (u : ℕ) → Mirrors {a = a} p w → p.time ≤ u → MayCome {a = a} is_frame c w (tick_to p u)
+pub tick_may : {a : Upper} (is_frame : List ℕ → Bool) (c : FabricConfig) (p : Cluster a) (w : World a) (u : ℕ) → Mirrors {a = a} p w → p.time ≤ u →
+    MayCome {a = a} is_frame c w (tick_to p u)
 unfolding is_there keeps_bound
 tick_may {a} is_frame c p w u m h =
     let time : w.time + (u - p.time) ≡ u = omega (arith, m.time) in
@@ -164,29 +174,34 @@ tick_may {a} is_frame c p w u m h =
 kept_same : {a : Upper} (p : Cluster a) (w : World a) (n : ℕ) → Mirrors {a = a} p w → kept_of w n ≡ kept_by p n
 kept_same p w n m = ap (λ (ks : List (ℕ × List Record)). unwrap_or (at n ks) []) m.kept
 
-pub fire_mirrors : {a : Upper} (c : FabricConfig) (p : Cluster a) (w : World a) (n : ℕ) (s : NodeState a) → Mirrors {a = a} p w → at n p.nodes ≡ Some s → Mirrors {a = a} (comes a c p (Fires n)) (world_step a c w (event.Fire n)).world
+pub fire_mirrors : {a : Upper} (c : FabricConfig) (p : Cluster a) (w : World a) (n : ℕ) (s : NodeState a) → Mirrors {a = a} p w → at n p.nodes ≡ Some s →
+    Mirrors {a = a} (comes a c p (Fires n)) (world_step a c w (event.Fire n)).world
 unfolding world_step
 fire_mirrors c p w n s m h = acts_mirrors c p w n input.Fire s m h
 
-pub bid_mirrors : {a : Upper} (c : FabricConfig) (p : Cluster a) (w : World a) (n : ℕ) (d : Command) (s : NodeState a) → Mirrors {a = a} p w → at n p.nodes ≡ Some s → Mirrors {a = a} (comes a c p (Bids n d)) (world_step a c w (event.Do n d)).world
+pub bid_mirrors : {a : Upper} (c : FabricConfig) (p : Cluster a) (w : World a) (n : ℕ) (d : Command) (s : NodeState a) → Mirrors {a = a} p w →
+    at n p.nodes ≡ Some s → Mirrors {a = a} (comes a c p (Bids n d)) (world_step a c w (event.Do n d)).world
 unfolding world_step
 bid_mirrors c p w n d s m h = acts_mirrors c p w n (input.Do d) s m h
 
 -- the start of a node, after its tick
-start_mirrors : {a : Upper} (c : FabricConfig) (q : Cluster a) (w : World a) (n u : ℕ) → Mirrors {a = a} q w → q.time ≡ u → Mirrors {a = a} (node_did q n (node_begun a c n (kept_by q n))) (world_step a c w (event.Start n (Some u))).world
+start_mirrors : {a : Upper} (c : FabricConfig) (q : Cluster a) (w : World a) (n u : ℕ) → Mirrors {a = a} q w → q.time ≡ u →
+    Mirrors {a = a} (node_did q n (node_begun a c n (kept_by q n))) (world_step a c w (event.Start n (Some u))).world
 unfolding world_step
 start_mirrors {a} c q w n u m e =
     let d : node_begun a c n (kept_of w n) ≡ node_begun a c n (kept_by q n) = ap (node_begun a c n) (kept_same q w n m) in
     subst (λ (x : Did (NodeState a)). Mirrors {a = a} (node_did q n x) (node_acted a w n u ((w.time, u) ∷ []) (node_begun a c n (kept_of w n))).world) d
     (acted_mirrors q w n u ((w.time, u) ∷ []) (node_begun a c n (kept_of w n)) m (sym e) (m.time ∙ e, omega (arith, e), tt))
 
-pub begin_mirrors : {a : Upper} (c : FabricConfig) (p : Cluster a) (w : World a) (n u : ℕ) → Mirrors {a = a} p w → p.time ≤ u → Mirrors {a = a} (comes a c p (Begins n u)) (world_step a c (world_step a c w (tick_to p u)).world (event.Start n (Some u))).world
+pub begin_mirrors : {a : Upper} (c : FabricConfig) (p : Cluster a) (w : World a) (n u : ℕ) → Mirrors {a = a} p w → p.time ≤ u →
+    Mirrors {a = a} (comes a c p (Begins n u)) (world_step a c (world_step a c w (tick_to p u)).world (event.Start n (Some u))).world
 begin_mirrors {a} c p w n u m h = start_mirrors c (record p { time = u }) (world_step a c w (tick_to p u)).world n u (tick_mirrors c p w u m h) refl
 
 number_of : (m : ℕ) → arbiter_number (arbiter_actor m) ≡ m
 number_of m = omega arith
 
-pub stand_mirrors : {a : Upper} (c : FabricConfig) (p : Cluster a) (w : World a) (n : ℕ) → Mirrors {a = a} p w → Mirrors {a = a} (comes a c p (Stands n)) (world_step a c w (event.Start (arbiter_actor n) None)).world
+pub stand_mirrors : {a : Upper} (c : FabricConfig) (p : Cluster a) (w : World a) (n : ℕ) → Mirrors {a = a} p w →
+    Mirrors {a = a} (comes a c p (Stands n)) (world_step a c w (event.Start (arbiter_actor n) None)).world
 unfolding world_step
 stand_mirrors {a} c p w n m = record {
   time = m.time;
@@ -205,7 +220,9 @@ stand_mirrors {a} c p w n m = record {
 frame_same : {a : Upper} (p : Cluster a) (w : World a) (k : ℕ) → Mirrors {a = a} p w → frame_in w k ≡ frame_of p k
 frame_same p w k m = ap (λ (fs : List Message). slice_get fs (w.count - k)) m.frames ∙ ap (λ (n : ℕ). slice_get p.frames (n - k)) m.count
 
-node_hears : {a : Upper} (c : FabricConfig) (p : Cluster a) (w : World a) (f : Message) (o : Option (NodeState a)) → at f.to.actor p.nodes ≡ o → Mirrors {a = a} p w → FitsInstance p f false → Mirrors {a = a} (node_does a c p f.to.actor (input.Frame f) (at f.to.actor p.nodes)) (arrives_at_node a c w f (at f.to.actor w.nodes)).world
+node_hears : {a : Upper} (c : FabricConfig) (p : Cluster a) (w : World a) (f : Message) (o : Option (NodeState a)) → at f.to.actor p.nodes ≡ o →
+    Mirrors {a = a} p w → FitsInstance p f false →
+    Mirrors {a = a} (node_does a c p f.to.actor (input.Frame f) (at f.to.actor p.nodes)) (arrives_at_node a c w f (at f.to.actor w.nodes)).world
 node_hears {a} c p w f None e m fits =
     let gone = none_at (at f.to.actor w.nodes) (none_runs p w f.to.actor m e) in
     subst (λ (q : Cluster a). Mirrors {a = a} q (arrives_at_node a c w f (at f.to.actor w.nodes)).world) (sym (ap (node_does a c p f.to.actor (input.Frame f)) e))
@@ -216,12 +233,14 @@ node_hears {a} c p w f None e m fits =
     none_at (Some r) h = cc
 node_hears {a} c p w f (Some s) e m fits =
     let r = runs_as p w f.to.actor s m e in
-    let instance : (f.to.instance == 0 || f.to.instance == r.state.node.ring.me.instance) ≡ true = ap (λ (x : NodeState a). f.to.instance == 0 || f.to.instance == x.ring.me.instance) r.same ∙ fits s e in
+    let instance : (f.to.instance == 0 || f.to.instance == r.state.node.ring.me.instance) ≡ true =
+    ap (λ (x : NodeState a). f.to.instance == 0 || f.to.instance == x.ring.me.instance) r.same ∙ fits s e in
     let arrives_here : arrives_at_node a c w f (at f.to.actor w.nodes) ≡ acts_at a c w f.to.actor (input.Frame f) (at f.to.actor w.nodes) =
     ap (arrives_at_node a c w f) r.here ∙ ap (arrives_if a c w f r.state) instance ∙ sym (ap (acts_at a c w f.to.actor (input.Frame f)) r.here) in
     subst (λ (x : Stepped a). Mirrors {a = a} (node_does a c p f.to.actor (input.Frame f) (at f.to.actor p.nodes)) x.world) (sym arrives_here) (acts_mirrors c p w f.to.actor (input.Frame f) s m e)
 
-arbiter_hears : {a : Upper} (c : FabricConfig) (p : Cluster a) (w : World a) (f : Message) (n : ℕ) (o : Option (ArbiterState a)) → at n p.arbiters ≡ o → Mirrors {a = a} p w → Mirrors {a = a} (arbiter_does a c p n f (at n p.arbiters)) (arrives_at_arbiter a c w f n (at n w.arbiters)).world
+arbiter_hears : {a : Upper} (c : FabricConfig) (p : Cluster a) (w : World a) (f : Message) (n : ℕ) (o : Option (ArbiterState a)) → at n p.arbiters ≡ o →
+    Mirrors {a = a} p w → Mirrors {a = a} (arbiter_does a c p n f (at n p.arbiters)) (arrives_at_arbiter a c w f n (at n w.arbiters)).world
 arbiter_hears {a} c p w f n None e m =
     let there : at n w.arbiters ≡ None = ap (at n) m.arbiters ∙ e in
     subst (λ (q : Cluster a). Mirrors {a = a} q (arrives_at_arbiter a c w f n (at n w.arbiters)).world) (sym (ap (arbiter_does a c p n f) e))
@@ -231,11 +250,13 @@ arbiter_hears {a} c p w f n (Some s) e m =
     subst (λ (q : Cluster a). Mirrors {a = a} q (arrives_at_arbiter a c w f n (at n w.arbiters)).world) (sym (ap (arbiter_does a c p n f) e))
     (subst (λ (x : Stepped a). Mirrors {a = a} (arbiter_did p n (arbiter_step a c n f s)) x.world) (sym (ap (arrives_at_arbiter a c w f n) there)) (ruled_mirrors p w n (arbiter_step a c n f s) m))
 
-hears_mirrors : {a : Upper} (c : FabricConfig) (p : Cluster a) (w : World a) (f : Message) (b : Bool) → Mirrors {a = a} p w → FitsInstance p f b → Mirrors {a = a} (hears_as a c p f b) (arrives_at a c w f b).world
+hears_mirrors : {a : Upper} (c : FabricConfig) (p : Cluster a) (w : World a) (f : Message) (b : Bool) → Mirrors {a = a} p w → FitsInstance p f b →
+    Mirrors {a = a} (hears_as a c p f b) (arrives_at a c w f b).world
 hears_mirrors c p w f true m fits = arbiter_hears c p w f (arbiter_number f.to.actor) (at (arbiter_number f.to.actor) p.arbiters) refl m
 hears_mirrors c p w f false m fits = node_hears c p w f (at f.to.actor p.nodes) refl m fits
 
-pub give_mirrors : {a : Upper} (c : FabricConfig) (p : Cluster a) (w : World a) (k : ℕ) (f : Message) → Mirrors {a = a} p w → frame_of p k ≡ Some f → FitsInstance p f (is_arbiter_actor f.to.actor) → Mirrors {a = a} (comes a c p (Hears k)) (world_step a c w (event.Give k)).world
+pub give_mirrors : {a : Upper} (c : FabricConfig) (p : Cluster a) (w : World a) (k : ℕ) (f : Message) → Mirrors {a = a} p w → frame_of p k ≡ Some f →
+    FitsInstance p f (is_arbiter_actor f.to.actor) → Mirrors {a = a} (comes a c p (Hears k)) (world_step a c w (event.Give k)).world
 unfolding world_step
 give_mirrors {a} c p w k f m e fits =
     let there : frame_in w k ≡ Some f = frame_same p w k m ∙ e in
@@ -253,23 +274,34 @@ some_there {X} o x e = ap (λ (y : Option X). is_some y) e
 le_holds : (x y : ℕ) → x ≤ y → nat_le x y ≡ true
 le_holds x y h = grind (arith, nat_tests)
 
-pub fire_may : {a : Upper} (is_frame : List ℕ → Bool) (c : FabricConfig) (p : Cluster a) (w : World a) (n : ℕ) (s : NodeState a) → Mirrors {a = a} p w → at n p.nodes ≡ Some s → MayCome {a = a} is_frame c w (event.Fire n)
+pub fire_may : {a : Upper} (is_frame : List ℕ → Bool) (c : FabricConfig) (p : Cluster a) (w : World a) (n : ℕ) (s : NodeState a) → Mirrors {a = a} p w →
+    at n p.nodes ≡ Some s → MayCome {a = a} is_frame c w (event.Fire n)
 unfolding is_there keeps_bound
 fire_may is_frame c p w n s m h = let r = runs_as p w n s m h in record { there = some_there (at n w.nodes) r.state r.here; bound = refl }
 
-pub bid_may : {a : Upper} (is_frame : List ℕ → Bool) (c : FabricConfig) (p : Cluster a) (w : World a) (n : ℕ) (d : Command) (s : NodeState a) → Mirrors {a = a} p w → at n p.nodes ≡ Some s → command_names c n d ≡ true → MayCome {a = a} is_frame c w (event.Do n d)
+pub bid_may : {a : Upper} (is_frame : List ℕ → Bool) (c : FabricConfig) (p : Cluster a) (w : World a) (n : ℕ) (d : Command) (s : NodeState a) →
+    Mirrors {a = a} p w → at n p.nodes ≡ Some s → command_names c n d ≡ true → MayCome {a = a} is_frame c w (event.Do n d)
 unfolding is_there keeps_bound
-bid_may is_frame c p w n d s m h names = let r = runs_as p w n s m h in record { there = both (is_some (at n w.nodes)) (command_names c n d) (some_there (at n w.nodes) r.state r.here) names; bound = refl }
+bid_may is_frame c p w n d s m h names = let r =
+    runs_as p w n s m h in record {
+      there = both (is_some (at n w.nodes)) (command_names c n d) (some_there (at n w.nodes) r.state r.here) names;
+      bound = refl;
+    }
 
-pub give_may : {a : Upper} (is_frame : List ℕ → Bool) (c : FabricConfig) (p : Cluster a) (w : World a) (k : ℕ) → Mirrors {a = a} p w → 1 ≤ k → k ≤ p.count → MayCome {a = a} is_frame c w (event.Give k)
+pub give_may : {a : Upper} (is_frame : List ℕ → Bool) (c : FabricConfig) (p : Cluster a) (w : World a) (k : ℕ) → Mirrors {a = a} p w → 1 ≤ k → k ≤ p.count →
+    MayCome {a = a} is_frame c w (event.Give k)
 unfolding is_there keeps_bound
-give_may is_frame c p w k m low high = record { there = both (nat_le 1 k) (nat_le k w.count) (le_holds 1 k low) (le_holds k w.count (omega (arith, m.count))); bound = refl }
+give_may is_frame c p w k m low high =
+    record { there = both (nat_le 1 k) (nat_le k w.count) (le_holds 1 k low) (le_holds k w.count (omega (arith, m.count))); bound = refl }
 
-pub start_may : {a : Upper} (is_frame : List ℕ → Bool) (c : FabricConfig) (p : Cluster a) (w : World a) (n u : ℕ) → Mirrors {a = a} p w → is_configured_node c n ≡ true → at n p.nodes ≡ None → MayCome {a = a} is_frame c w (event.Start n (Some u))
+pub start_may : {a : Upper} (is_frame : List ℕ → Bool) (c : FabricConfig) (p : Cluster a) (w : World a) (n u : ℕ) → Mirrors {a = a} p w →
+    is_configured_node c n ≡ true → at n p.nodes ≡ None → MayCome {a = a} is_frame c w (event.Start n (Some u))
 unfolding is_there keeps_bound
-start_may is_frame c p w n u m named none = record { there = both (is_configured_node c n) (not (is_some (at n w.nodes))) named (ap not (none_runs p w n m none)); bound = refl }
+start_may is_frame c p w n u m named none =
+    record { there = both (is_configured_node c n) (not (is_some (at n w.nodes))) named (ap not (none_runs p w n m none)); bound = refl }
 
-pub stand_may : {a : Upper} (is_frame : List ℕ → Bool) (c : FabricConfig) (p : Cluster a) (w : World a) (n : ℕ) → Mirrors {a = a} p w → is_configured_arbiter c (arbiter_actor n) ≡ true → at n p.arbiters ≡ None → MayCome {a = a} is_frame c w (event.Start (arbiter_actor n) None)
+pub stand_may : {a : Upper} (is_frame : List ℕ → Bool) (c : FabricConfig) (p : Cluster a) (w : World a) (n : ℕ) → Mirrors {a = a} p w →
+    is_configured_arbiter c (arbiter_actor n) ≡ true → at n p.arbiters ≡ None → MayCome {a = a} is_frame c w (event.Start (arbiter_actor n) None)
 unfolding is_there keeps_bound
 stand_may {a} is_frame c p w n m named none =
     let gone : at (arbiter_number (arbiter_actor n)) w.arbiters ≡ None = ap (λ (k : ℕ). at k w.arbiters) (number_of n) ∙ ap (at n) m.arbiters ∙ none in

@@ -16,7 +16,8 @@ record Follows (a : Upper) (is_frame : List ℕ → Bool) (c : FabricConfig) (p 
   pub mirrors : Mirrors {a = a} p (world_after a c h)
   pub valid : Valid a is_frame c h
 
-followed : (a : Upper) (is_frame : List ℕ → Bool) (c : FabricConfig) (p : Cluster a) (h : History) (x : Comes) → Follows a is_frame c p h → MayArrive a c p x → Follows a is_frame c (comes a c p x) (on_lines (events_for {a = a} p x) h)
+followed : (a : Upper) (is_frame : List ℕ → Bool) (c : FabricConfig) (p : Cluster a) (h : History) (x : Comes) → Follows a is_frame c p h → MayArrive a c p x →
+    Follows a is_frame c (comes a c p x) (on_lines (events_for {a = a} p x) h)
 followed a is_frame c p h (Begins n u) f k = record {
   mirrors = begin_mirrors c p (world_after a c h) n u f.mirrors k.2;
   valid = ((f.valid, tick_may is_frame c p (world_after a c h) u f.mirrors k.2), start_may is_frame c (record p { time = u }) _ n u (tick_mirrors c p (world_after a c h) u f.mirrors k.2) k.0 k.1);
@@ -42,7 +43,8 @@ followed a is_frame c p h (Fires n) f k = record {
   valid = (f.valid, fire_may is_frame c p (world_after a c h) n k.0 f.mirrors k.1);
 }
 
-all_followed : (a : Upper) (is_frame : List ℕ → Bool) (c : FabricConfig) (xs : List Comes) → IsCluster a c xs → Follows a is_frame c (cluster_after a c xs) (events_of a c xs)
+all_followed : (a : Upper) (is_frame : List ℕ → Bool) (c : FabricConfig) (xs : List Comes) → IsCluster a c xs →
+    Follows a is_frame c (cluster_after a c xs) (events_of a c xs)
 all_followed a is_frame c [] k = record { mirrors = mirrors_first a; valid = tt }
 all_followed a is_frame c (x ∷ xs) k = followed a is_frame c (cluster_after a c xs) (events_of a c xs) x (all_followed a is_frame c xs k.0) k.1
 

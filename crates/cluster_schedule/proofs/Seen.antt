@@ -66,7 +66,8 @@ found (m ∷ ms) ago = by_test (is_step m) refl ago (λ n. found ms n)
 no_clock : (w : Who) (p : ℕ) → Holds [] w p → ⊥
 no_clock w p h = let k = h.runs in cc
 
-holds_back : (run : Run) (back : ℕ) (w : Who) (p : ℕ) → clocks_of (steps_of (drop back run)) ≡ clocks_of (drop back run) → Holds (steps_of (drop back run)) w p → Holds (drop back run) w p
+holds_back : (run : Run) (back : ℕ) (w : Who) (p : ℕ) → clocks_of (steps_of (drop back run)) ≡ clocks_of (drop back run) →
+    Holds (steps_of (drop back run)) w p → Holds (drop back run) w p
 holds_back run back w p e h = record {
   reading = h.reading;
   owned = h.owned;
