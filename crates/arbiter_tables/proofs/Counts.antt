@@ -15,7 +15,7 @@ use Rattle.unit_rules.specs.Registers.{Register, Registers, empty_register, regi
 use Rattle.arbiter_tables.specs.Registers.{with_prepared, with_vote, with_done, put_all, voted_all, registers_of, one_of, entries_in, registered}
 use Rattle.arbiter_tables.proofs.Changes.{rises-changed}
 use Rattle.arbiter_tables.proofs.LookUps.{put-found, put-left}
-use Rattle.arbiter_tables.proofs.Views.{rises-put_all}
+use Rattle.arbiter_tables.proofs.Views.{rises-put_all, rises_always}
 
 abbrev weigh : ℕ × Register → ℕ
 weigh e = entries_in e.1
@@ -100,3 +100,21 @@ registers_counted prepared votes done once once' =
     omega (arith, put-counted (λ r. r.prepared) with_prepared prepared [] refl once (λ x r. refl) prepared-more (λ q. refl),
     put-counted (λ r. r.done) with_done done first up once' (λ x r. refl) done-more none,
     voted-counted votes (put_all with_done done first) (rises-put_all with_done done first up))
+
+-- Of tables after a change.
+
+pub prepared_now : (prepared : List (ℕ × Preparation)) (votes : List Config) (done : List (ℕ × Config)) (p : ℕ) (x : Preparation)
+    → registered (changed p (with_prepared x) (registers_of prepared votes done)) + one_of (register_of p (registers_of prepared votes done)).prepared
+    ≡ registered (registers_of prepared votes done) + 1
+prepared_now prepared votes done p x = prepared_counted p x (registers_of prepared votes done) (rises_always prepared votes done)
+
+pub vote_now : (prepared : List (ℕ × Preparation)) (votes : List Config) (done : List (ℕ × Config)) (vote : Config)
+    → registered (changed vote.partition (with_vote vote) (registers_of prepared votes done)) ≡ registered (registers_of prepared votes done) + 1
+vote_now prepared votes done vote = vote_counted vote (registers_of prepared votes done) (rises_always prepared votes done)
+
+pub done_now : (prepared : List (ℕ × Preparation)) (votes : List Config) (done : List (ℕ × Config)) (p : ℕ) (x : Config)
+    → registered (changed p (with_done x) (registers_of prepared votes done)) + one_of (register_of p (registers_of prepared votes done)).done
+    ≡ registered (registers_of prepared votes done) + 1
+done_now prepared votes done p x = done_counted p x (registers_of prepared votes done) (rises_always prepared votes done)
+
+pub ruleset as_counts = (prepared_now, vote_now, done_now)
