@@ -1,6 +1,6 @@
 use crate::records::{ACCUSED, BOOT, read};
-use keep_log::{KeptError, RECORD_LIMIT, Record, encode_record, read_records};
 use fabric_terms::Payload;
+use keep_log::{KeptError, RECORD_LIMIT, Record, encode_record, read_records};
 use ring_points::Epoch;
 use std::test::Fail;
 
@@ -36,24 +36,36 @@ const EPOCH: Epoch = Epoch {
 
 #[test]
 fn a_replica_is_what_it_kept(rt: HostRuntime) -> Result<(), Fail> {
-    let kept = read(rt.alloc(), &[BOOT, PROMISED, ADOPTED_NONE, WROTE, WROTE_NEXT])?;
+    let kept = read(
+        rt.alloc(),
+        &[BOOT, PROMISED, ADOPTED_NONE, WROTE, WROTE_NEXT],
+    )?;
     let [replica] = kept.replicas.as_slice() else {
         panic!(rt; "one replica");
     };
-    assert_eq!(rt; (replica.partition(), replica.promised(), replica.at()), (1, EPOCH, EPOCH));
+    assert_eq!(rt;
+        (replica.partition(), replica.promised(), replica.at()),
+        (1, EPOCH, EPOCH)
+    );
     assert_eq!(rt; replica.log().len(), 2);
-    assert_eq!(rt; replica.log()[0].bytes.as_slice(), b"hi");
+    assert_eq!(rt; replica.log()[0].bytes.as_slice(), b"hi".as_slice());
     Ok(())
 }
 
 #[test]
 fn what_comes_in_is_adopted(rt: HostRuntime) -> Result<(), Fail> {
     // the first entry may come again
-    let kept = read(rt.alloc(), &[BOOT, PROMISED, INCOMING, INCOMING, ADOPTED_ONE])?;
+    let kept = read(
+        rt.alloc(),
+        &[BOOT, PROMISED, INCOMING, INCOMING, ADOPTED_ONE],
+    )?;
     let [replica] = kept.replicas.as_slice() else {
         panic!(rt; "one replica");
     };
-    assert_eq!(rt; (replica.at(), replica.log().len(), replica.collected()), (EPOCH, 1, 0));
+    assert_eq!(rt;
+        (replica.at(), replica.log().len(), replica.collected()),
+        (EPOCH, 1, 0)
+    );
     let kept = read(rt.alloc(), &[PROMISED, INCOMING, INCOMING_NEXT])?;
     assert_eq!(rt; kept.replicas.as_slice()[0].collected(), 2);
     let kept = read(rt.alloc(), &[PROMISED, INCOMING, BOOT])?;
@@ -69,7 +81,10 @@ fn replicas_rise_by_partition(rt: HostRuntime) -> Result<(), Fail> {
     let [a, b, c] = kept.replicas.as_slice() else {
         panic!(rt; "three replicas");
     };
-    assert_eq!(rt; (a.partition(), b.partition(), c.partition()), (0, 1, 65_535));
+    assert_eq!(rt;
+        (a.partition(), b.partition(), c.partition()),
+        (0, 1, 65_535)
+    );
     Ok(())
 }
 
@@ -92,7 +107,10 @@ fn names_the_first_bad_record_of_a_node(rt: HostRuntime) -> Result<(), Fail> {
         (&[PROMISED, WROTE], 2),
         (&[PROMISED, ADOPTED_NONE, WROTE_NEXT], 3),
         (&[PROMISED, ADOPTED_NONE, WROTE, WROTE], 4),
-        (&[PROMISED, ADOPTED_NONE, WROTE, PROMISED_AGAIN, WROTE_NEXT], 5),
+        (
+            &[PROMISED, ADOPTED_NONE, WROTE, PROMISED_AGAIN, WROTE_NEXT],
+            5,
+        ),
         (&[INCOMING], 1),
         (&[PROMISED, INCOMING_NEXT], 2),
         // a boot ends the collection

@@ -6,7 +6,8 @@ use std::test::Fail;
 // The epochs 0.1 and 0.2 of partition 1 are prepared for 1.1.
 const PREPARED: &[u8] = b"\x03\x00\x01\x00\x00\x00\x00\x00\x00\x00\x01\x00\x01\x00\x00\x00\x01";
 
-const PREPARED_NEXT: &[u8] = b"\x03\x00\x01\x00\x00\x00\x00\x00\x00\x00\x02\x00\x01\x00\x00\x00\x01";
+const PREPARED_NEXT: &[u8] =
+    b"\x03\x00\x01\x00\x00\x00\x00\x00\x00\x00\x02\x00\x01\x00\x00\x00\x01";
 
 // In 0.1 partition 1 has the members 1 and 2, and the primary 2.
 const VOTED: &[u8] = b"\x04\x00\x01\x00\x00\x00\x00\x00\x00\x00\x01\x00\x02\x02\x00\x01\x00\x02";
@@ -20,7 +21,9 @@ fn reads_what_an_arbitrator_decided(rt: HostRuntime) -> Result<(), Fail> {
     match kept.arbiter.as_slice() {
         [
             Record::PreparedBy {
-                partition, epoch, ..
+                partition,
+                epoch,
+                ..
             },
             Record::VotedFor { config },
             _,
