@@ -1,2 +1,7 @@
 mod AccuserEntries
+mod Changes
 mod ClaimerEntries
+pub mod Counts
+mod LookUps
+mod Views
+mod VoteEntries

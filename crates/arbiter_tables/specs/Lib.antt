@@ -1,2 +1,4 @@
+pub mod Ballots
 pub mod Keys
+pub mod Registers
 pub mod Tables

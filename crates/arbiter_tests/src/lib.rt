@@ -9,6 +9,10 @@ mod answers;
 #[cfg(test)]
 mod full;
 #[cfg(test)]
+mod lists_of_nodes;
+#[cfg(test)]
+mod lists_of_registers;
+#[cfg(test)]
 mod questions;
 #[cfg(test)]
 mod records;

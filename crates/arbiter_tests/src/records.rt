@@ -3,16 +3,16 @@ use ring_points::Who;
 use std::alloc::Global;
 use std::test::Fail;
 
-const BOOT: &[u8] = b"\x01\x00\x00\x00\x01";
+pub const BOOT: &[u8] = b"\x01\x00\x00\x00\x01";
 
-const ACCUSED: &[u8] = b"\x02\x00\x02\x00\x00\x00\x01\x00\x01\x00\x00\x00\x01";
+pub const ACCUSED: &[u8] = b"\x02\x00\x02\x00\x00\x00\x01\x00\x01\x00\x00\x00\x01";
 
 const CLAIMED: &[u8] = b"\x0a\x00\x02\x00\x00\x00\x01\x02\x00\x03\x00\x00\x00\x01";
 
 // The claimer 3.1 of the second round about 1.1.
 const ANOTHER_CLAIMED: &[u8] = b"\x0a\x00\x01\x00\x00\x00\x01\x02\x00\x03\x00\x00\x00\x01";
 
-fn read(alloc: Global, records: &[&[u8]]) -> Result<Kept, KeptError> {
+pub fn read(alloc: Global, records: &[&[u8]]) -> Result<Kept, KeptError> {
     let mut kept = Vec::new(alloc);
     for bytes in records {
         let bytes = bytes.to_vec(alloc).map_err(|_| KeptError::OutOfMemory)?;
@@ -151,7 +151,7 @@ fn names_the_first_bad_record(rt: HostRuntime) -> Result<(), Fail> {
         (
             [
                 ACCUSED,
-                b"\x03\x00\x01\x00\x00\x00\x00\x00\x00\x00\x01\x00\x01\x00\x00\x00\x01",
+                b"\x0b\x00\x01\x00\x00\x00\x00\x00\x00\x00\x01\x00\x01\x00\x00\x00\x01",
             ],
             2,
         ),

@@ -1,6 +1,12 @@
-pub mod Growing
+pub mod RecordForms
+pub mod KindLaws
 pub mod Spelled
 pub mod Lists
-pub mod Nexts
-pub mod NextClaims
-pub mod Reading
+pub mod MapEntries
+pub mod Seating
+pub mod Answered
+pub mod Growing
+pub mod Holding
+pub mod Takings
+pub mod OnTheWay
+pub mod InPlace

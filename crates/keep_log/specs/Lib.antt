@@ -1,4 +1,8 @@
 pub mod Spellings
+pub mod Readings
+pub mod Items
+pub mod Amounts
 pub mod Places
+pub mod Taking
 pub mod Outcomes
 pub mod Laws

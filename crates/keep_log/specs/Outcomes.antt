@@ -4,14 +4,15 @@ use Rattle.fabric_terms.specs.declared.record.Record.{Record}
 use Rattle.keep_log.specs.declared.kept.Kept.{Kept}
 use Rattle.keep_log.specs.declared.kept_error.KeptError.{KeptError}
 use Rattle.keep_log.specs.declared.kept_error.KeptError.TheVariants.{BadRecord, OutOfMemory}
-use Rattle.keep_log.specs.Places.{Follows, IsBadAfter, nothing_kept, with_records}
+use Rattle.keep_log.specs.Amounts.{Holds, nothing}
+use Rattle.keep_log.specs.Places.{Follows, IsBadAfter}
 
 -- the bytes are records, each in its place, and this is what they amount to
 abbrev pub AmountsTo : List (List ℕ) → Kept → Type 0
-AmountsTo lists kept = (records : List Record) × (Follows nothing_kept lists records × (kept ≡ with_records nothing_kept records))
+AmountsTo lists kept = (records : List Record) × (Follows nothing lists records × Holds records kept)
 
 -- what all records amount to, or the place, from 1, of the first that is bad
 abbrev pub Reads : List (List ℕ) → Result Kept KeptError → Type 0
 Reads lists (Ok kept) = AmountsTo lists kept
-Reads lists (Err (BadRecord place)) = (n : ℕ) × (place ≡ n + 1) × IsBadAfter nothing_kept lists n
+Reads lists (Err (BadRecord place)) = (n : ℕ) × (place ≡ n + 1) × IsBadAfter nothing lists n
 Reads lists (Err OutOfMemory) = ⊤

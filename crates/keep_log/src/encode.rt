@@ -1,47 +1,161 @@
 // How records are written.
 
-ghost use Rattle.std.specs.Prelude.{◌≡◌, ◌++◌, length, drop, IsTrue};
-ghost use Rattle.keep_log.specs.Spellings.{is_sound, spelling};
+ghost use Rattle.std.specs.Prelude.{◌≡◌, ◌≤◌, ◌+◌, ◌++◌, length, drop, IsTrue};
+ghost use Rattle.wire_fields.specs.Writers.{Puts};
+ghost use Rattle.keep_log.specs.Spellings.{is_sound, kind_of, fields_of, spelling};
 
 use fabric_terms::Record;
-use wire_fields::write::{put_u8, put_u32, put_who};
+use wire_fields::write::{
+    put_config, put_epoch, put_flag, put_payload, put_u8, put_u32, put_unit, put_who,
+};
 
 /// No record has more bytes.
 pub const RECORD_LIMIT: usize = 600;
 
-/// The first byte of a record says its kind.
-pub(crate) const BOOT: u8 = 1;
-
-pub(crate) const ACCUSED_BY: u8 = 2;
-
-pub(crate) const CLAIMED_BY: u8 = 10;
-
-/// Writes the record to the front of `into`, and gives its length. The bytes behind it are left as they were.
-pub fn encode_record(item: &Record, into: &mut [u8; RECORD_LIMIT]) -> usize
-    requires { IsTrue (is_sound item.now) }
-    ensures written { into.new ≡ spelling item.now ++ drop (length (spelling item.now)) into.old }
-    ensures length { result ≡ length (spelling item.now) }
+fn kind_of(item: &Record) -> u8
+    ensures { result ≡ kind_of item.now }
 {
     match item {
-        Record::Boot { instance } => {
-            let at = put_u8(into, 0, BOOT);
-            put_u32(into, at, *instance)
-        }
+        Record::Boot { .. } => 1,
+        Record::AccusedBy { .. } => 2,
+        Record::PreparedBy { .. } => 3,
+        Record::VotedFor { .. } => 4,
+        Record::DoneFor { .. } => 5,
+        Record::PromisedAt { .. } => 6,
+        Record::Wrote { .. } => 7,
+        Record::Incoming { .. } => 8,
+        Record::AdoptedAt { .. } => 9,
+        Record::ClaimedBy { .. } => 10,
+    }
+}
+
+// The fields of a boot or of an accusation. Gives the place after them.
+fn put_early(into: &mut [u8; RECORD_LIMIT], at: usize, item: &Record) -> usize
+    requires room { at + 540 ≤ 600 }
+    requires high { kind_of item.now ≤ 2 }
+    ensures { Puts (fields_of item.now) into.old at into.new result }
+{
+    match item {
+        Record::Boot { instance } => put_u32(into, at, *instance),
         Record::AccusedBy { victim, first } => {
-            let at = put_u8(into, 0, ACCUSED_BY);
             let at = put_who(into, at, *victim);
             put_who(into, at, *first)
         }
+        _ => unreachable!(),
+    }
+}
+
+// The fields of a register's record. Gives the place after them.
+fn put_registered(into: &mut [u8; RECORD_LIMIT], at: usize, item: &Record) -> usize
+    requires room { at + 540 ≤ 600 }
+    requires sound { IsTrue (is_sound item.now) }
+    requires low { 3 ≤ kind_of item.now }
+    requires high { kind_of item.now ≤ 5 }
+    ensures { Puts (fields_of item.now) into.old at into.new result }
+{
+    match item {
+        Record::PreparedBy {
+            partition,
+            epoch,
+            preparer,
+        } => {
+            let at = put_unit(into, at, *partition, *epoch);
+            put_who(into, at, *preparer)
+        }
+        Record::VotedFor { config } => put_config(into, at, config),
+        Record::DoneFor { config } => put_config(into, at, config),
+        _ => unreachable!(),
+    }
+}
+
+// The fields of a replica's record. Gives the place after them.
+fn put_replicated(into: &mut [u8; RECORD_LIMIT], at: usize, item: &Record) -> usize
+    requires room { at + 540 ≤ 600 }
+    requires sound { IsTrue (is_sound item.now) }
+    requires low { 6 ≤ kind_of item.now }
+    requires high { kind_of item.now ≤ 9 }
+    ensures { Puts (fields_of item.now) into.old at into.new result }
+{
+    match item {
+        Record::PromisedAt { partition, epoch } => put_unit(into, at, *partition, *epoch),
+        Record::Wrote {
+            partition,
+            epoch,
+            lsn,
+            text,
+        } => {
+            let at = put_unit(into, at, *partition, *epoch);
+            let at = put_u32(into, at, *lsn);
+            put_payload(into, at, text)
+        }
+        Record::Incoming {
+            partition,
+            epoch,
+            lsn,
+            entry_epoch,
+            text,
+        } => {
+            let at = put_unit(into, at, *partition, *epoch);
+            let at = put_u32(into, at, *lsn);
+            let at = put_epoch(into, at, *entry_epoch);
+            put_payload(into, at, text)
+        }
+        Record::AdoptedAt {
+            partition,
+            epoch,
+            last,
+            own,
+        } => {
+            let at = put_unit(into, at, *partition, *epoch);
+            let at = put_u32(into, at, *last);
+            put_flag(into, at, *own)
+        }
+        _ => unreachable!(),
+    }
+}
+
+// The fields of a claim. Gives the place after them.
+fn put_claimed(into: &mut [u8; RECORD_LIMIT], at: usize, item: &Record) -> usize
+    requires room { at + 540 ≤ 600 }
+    requires low { 10 ≤ kind_of item.now }
+    ensures { Puts (fields_of item.now) into.old at into.new result }
+{
+    match item {
         Record::ClaimedBy {
             victim,
             round,
             claimer,
         } => {
-            let at = put_u8(into, 0, CLAIMED_BY);
             let at = put_who(into, at, *victim);
             let at = put_u8(into, at, *round);
             put_who(into, at, *claimer)
         }
-        _ => 0,
+        _ => unreachable!(),
     }
+}
+
+// The fields of a record. Gives the place after them.
+fn put_fields(into: &mut [u8; RECORD_LIMIT], at: usize, item: &Record) -> usize
+    requires room { at + 540 ≤ 600 }
+    requires sound { IsTrue (is_sound item.now) }
+    ensures { Puts (fields_of item.now) into.old at into.new result }
+{
+    match kind_of(item) {
+        0..=2 => put_early(into, at, item),
+        3..=5 => put_registered(into, at, item),
+        6..=9 => put_replicated(into, at, item),
+        _ => put_claimed(into, at, item),
+    }
+}
+
+/// Writes the record to the front of `into`, and gives its length, which is at most 600. The bytes behind it are left as
+/// they were.
+pub fn encode_record(item: &Record, into: &mut [u8; RECORD_LIMIT]) -> usize
+    requires { IsTrue (is_sound item.now) }
+    ensures written { into.new ≡ spelling item.now ++ drop (length (spelling item.now)) into.old }
+    ensures length { result ≡ length (spelling item.now) }
+    ensures fits { result ≤ 600 }
+{
+    let at = put_u8(into, 0, kind_of(item));
+    put_fields(into, at, item)
 }

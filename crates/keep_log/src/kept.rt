@@ -1,9 +1,7 @@
-ghost use Rattle.std.specs.Prelude.{◌≡◌, ◌∷◌, ◌++◌, [], true, OnOk};
-ghost use Rattle.ring_rules.specs.Arbiters.{no_table, table_after};
-ghost use Rattle.keep_log.specs.Places.{nothing_kept, is_next, with_record};
+ghost use Rattle.std.specs.Prelude.{◌≡◌, ◌∷◌, ◌++◌, [], OnOk};
 
-use arbiter_tables::Table;
 use fabric_terms::{OutOfMemory, Record};
+use replica_core::Replica;
 use std::alloc::Global;
 use std::marker::Model;
 
@@ -23,13 +21,21 @@ impl Model for Records {
 }
 
 impl Records {
+    pub(crate) fn new(alloc: Global) -> Self
+        ensures { result ≡ [] }
+    {
+        Records {
+            items: Vec::new(alloc),
+        }
+    }
+
     pub fn as_slice(&self) -> &[Record]
         ensures { result.now ≡ self.now }
     {
         self.items.as_slice()
     }
 
-    fn push(&mut self, item: Record) -> Result<(), OutOfMemory>
+    pub(crate) fn push(&mut self, item: Record) -> Result<(), OutOfMemory>
         ensures { OnOk result (self.new ≡ self.old ++ item ∷ []) }
     {
         self.items.push(item)?;
@@ -37,57 +43,50 @@ impl Records {
     }
 }
 
-/// What an actor's records amount to: a node's boots, an arbitrator's own records.
+/// The replicas of a node, rising by partition. Contracts see them as their list.
+#[derive(Drop)]
+pub struct Replicas {
+    items: Vec<Replica>,
+}
+
+impl Model for Replicas {
+    ghost use Rattle.std.specs.Prelude.{List};
+    ghost use Rattle.replica_core.specs.Replicas.{Replica};
+
+    ghost Value = { List Replica };
+
+    ghost view = { λ a. a.items.items };
+}
+
+impl Replicas {
+    pub(crate) fn new(items: Vec<Replica>) -> Self
+        ensures { result ≡ items.items }
+    {
+        Replicas { items }
+    }
+
+    pub fn as_slice(&self) -> &[Replica]
+        ensures { result.now ≡ self.now }
+    {
+        self.items.as_slice()
+    }
+
+    /// The replicas themselves, for the node that starts with them.
+    pub fn into_vec(self) -> Vec<Replica>
+        ensures { result.items ≡ self }
+    {
+        self.items
+    }
+}
+
+/// What an actor's records amount to: a node's boots and replicas, an arbitrator's own records.
 #[derive(Drop)]
 pub struct Kept {
     /// How many instances of the node have begun.
     pub boots: u32,
     /// The records of an arbitrator.
     pub arbiter: Records,
-}
-
-impl Kept {
-    /// An actor that has kept nothing.
-    pub(crate) fn new(alloc: Global) -> Self
-        ensures { result ≡ nothing_kept }
-    {
-        Kept {
-            boots: 0,
-            arbiter: Records {
-                items: Vec::new(alloc),
-            },
-        }
-    }
-
-    /// Keeps a record that can come next, and in the table what it says.
-    pub(crate) fn add(&mut self, table: &mut Table, item: Record) -> Result<(), OutOfMemory>
-        requires table { table.old ≡ table_after no_table self.old.arbiter }
-        requires next { is_next self.old item ≡ true }
-        ensures kept { OnOk result (self.new ≡ with_record self.old item) }
-        ensures table { OnOk result (table.new ≡ table_after no_table self.new.arbiter) }
-    {
-        match item {
-            Record::Boot { instance } => {
-                self.boots = instance;
-                Ok(())
-            }
-            Record::AccusedBy { victim, first } => {
-                table.accuse(victim, first)?;
-                self.arbiter.push(Record::AccusedBy { victim, first })
-            }
-            Record::ClaimedBy {
-                victim,
-                round,
-                claimer,
-            } => {
-                table.claim(victim, round, claimer)?;
-                self.arbiter.push(Record::ClaimedBy {
-                    victim,
-                    round,
-                    claimer,
-                })
-            }
-            _ => Ok(()),
-        }
-    }
+    /// One for each partition that the records of a node name. None has a role; what one collected since the last boot
+    /// is still there, and the boot of the next instance ends that.
+    pub replicas: Replicas,
 }
