@@ -1,3 +1,4 @@
+pub mod Fulls
 pub mod Keeping
 pub mod Restores
 pub mod Rounds
