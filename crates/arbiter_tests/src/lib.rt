@@ -9,6 +9,8 @@ mod answers;
 #[cfg(test)]
 mod full;
 #[cfg(test)]
+mod partitions;
+#[cfg(test)]
 mod questions;
 #[cfg(test)]
 mod records;

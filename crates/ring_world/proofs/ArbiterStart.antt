@@ -42,7 +42,7 @@ module _ (a : World) (w : RuledWorld fabric) (place : ℕ) (q : Seat)
   state_is : arbiter_begun fabric a.config (place + 1) (kept_of w (arbiter_actor (place + 1))) ≡ state_of q.arbiter
   state_is =
       arbiter_begun-is fabric a.config (place + 1) (kept_of w (arbiter_actor (place + 1)))
-      ∙ ap (λ (x : Arbiter). state_of x) (sym old.arbiter)
+      ∙ ap (λ (x : Arbiter). state_of x) (sym old.kept)
 
   tables_are : begun.arbiters ≡ put (place + 1) (state_of q.arbiter) w.arbiters
   tables_are =
@@ -53,7 +53,7 @@ module _ (a : World) (w : RuledWorld fabric) (place : ℕ) (q : Seat)
   is_started =
       record {
         running = sym (ap (λ ts. at (place + 1) ts) tables_are ∙ at_same_put (place + 1) (state_of q.arbiter) w.arbiters);
-        arbiter = old.arbiter;
+        kept = old.kept;
         few = omega (arith, old.few);
       }
 

@@ -130,7 +130,7 @@ module _ (a : World) (w : RuledWorld fabric) (place : ℕ) (s : ArbiterState fab
       by_value false e = absurd (cc)
 
   number_is : heard.before.arbiter.number ≡ place + 1
-  number_is = ap (λ (x : Arbiter). x.number) old.arbiter
+  number_is = ap (λ (x : Arbiter). x.number) old.kept
 
   is_done : ruled_by a.config m heard.before.arbiter ≡ done
   is_done =
@@ -153,7 +153,7 @@ module _ (a : World) (w : RuledWorld fabric) (place : ℕ) (s : ArbiterState fab
   restored_is : heard.after.arbiter ≡ restored (place + 1) (kept_of after (arbiter_actor (place + 1)))
   restored_is =
       arbiter_is
-      ∙ (ap (λ (x : Arbiter). with_kept done.records x) old.arbiter
+      ∙ (ap (λ (x : Arbiter). with_kept done.records x) old.kept
       ∙ (sym (kept_more (fresh (place + 1)) (kept_of w (arbiter_actor (place + 1))) done.records)
       ∙ ap (λ rs. restored (place + 1) rs) (sym (kept_here w (arbiter_actor (place + 1)) done.records))))
 
@@ -169,7 +169,7 @@ module _ (a : World) (w : RuledWorld fabric) (place : ℕ) (s : ArbiterState fab
       record {
         running = ap (λ b. state_where b heard.after.arbiter) (hears.runs ∙ runs.0)
             ∙ (ap (λ (x : ArbiterState fabric). Some x) state_is ∙ sym (at_same_put (place + 1) done.state w.arbiters));
-        arbiter = restored_is;
+        kept = restored_is;
         few = omega (arith, old.few, facts.few, size, more);
       }
 

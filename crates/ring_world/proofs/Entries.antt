@@ -20,7 +20,7 @@ rises_after rs [] up = up
 rises_after rs (r ∷ more) up = rises_after (register_after rs r) more (rises_with r rs up)
 
 pub seat_rises : (w : RuledWorld fabric) (events k : ℕ) (s : Seat) → IsSeat w events k s → rises s.arbiter.registers ≡ true
-seat_rises w events k s h = ap (λ (a : Arbiter). rises a.registers) h.arbiter ∙ rises_after [] (kept_of w (arbiter_actor k)) refl
+seat_rises w events k s h = ap (λ (a : Arbiter). rises a.registers) h.kept ∙ rises_after [] (kept_of w (arbiter_actor k)) refl
 
 -- one record makes one entry at most
 one_entry : (r : Record) (a : Arbiter) → rises a.registers ≡ true → entries (with_kept (r ∷ []) a) ≤ entries a + 1

@@ -24,7 +24,7 @@ use Rattle.ring_world.specs.declared.seat.Seat.{Seat}
 use Rattle.ring_world.specs.Stands.{SeenStands, ArbitersStand}
 
 pub seat_later : (w : RuledWorld fabric) (events k : ℕ) (s : Seat) → IsSeat w events k s → IsSeat w (events + 1) k s
-seat_later w events k s h = record { running = h.running; arbiter = h.arbiter; few = omega (arith, h.few) }
+seat_later w events k s h = record { running = h.running; kept = h.kept; few = omega (arith, h.few) }
 
 -- arbitrators of whom nothing is recorded, while other actors act
 pub arbiters_on : (a b : Seen) (w v : RuledWorld fabric) → ArbitersStand a w → v.arbiters ≡ w.arbiters → ((k : ℕ) → kept_of v (arbiter_actor k) ≡ kept_of w (arbiter_actor k))
@@ -35,7 +35,7 @@ arbiters_on a b w v s tables kept seats config events = record {
       let old = s.seats k q (ap (λ ss. slice_get ss k) (sym seats) ∙ g) in
       record {
         running = old.running ∙ ap (λ ts. at (k + 1) ts) (sym tables);
-        arbiter = old.arbiter ∙ ap (λ rs. restored (k + 1) rs) (sym (kept (k + 1)));
+        kept = old.kept ∙ ap (λ rs. restored (k + 1) rs) (sym (kept (k + 1)));
         few = omega (arith, old.few);
       };
   others = λ arbiter lt. ap (λ ts. at arbiter ts) tables ∙ s.others arbiter (subst (λ (n : ℕ). n < arbiter) (ap length seats) lt);

@@ -47,7 +47,7 @@ arbiters_set a b w v place q s within seats config events new tables kept =
         let other : k + 1 ≡ place + 1 → ⊥ = λ e. h.0 (omega arith) in
         record {
           running = old.running ∙ sym (tables (k + 1) other);
-          arbiter = old.arbiter ∙ ap (λ rs. restored (k + 1) rs) (sym (kept (k + 1) other));
+          kept = old.kept ∙ ap (λ rs. restored (k + 1) rs) (sym (kept (k + 1) other));
           few = omega (arith, old.few);
         }
 

@@ -29,5 +29,5 @@ pub record AreEmpty (count : ℕ) (seats : List Seat) : Type 0 where
 -- the seat of this arbitrator has what its records amount to, each entry from an event of its own, and runs as the rules say
 pub record IsSeat (w : RuledWorld fabric) (events arbiter : ℕ) (s : Seat) : Type 0 where
   pub running : state_where s.runs s.arbiter ≡ at arbiter w.arbiters
-  pub arbiter : s.arbiter ≡ restored arbiter (kept_of w (arbiter_actor arbiter))
+  pub kept : s.arbiter ≡ restored arbiter (kept_of w (arbiter_actor arbiter))
   pub few : entries s.arbiter ≤ events

@@ -170,26 +170,26 @@ impl Arbiter {
     {
         let (partition, epoch) = (config.partition, config.epoch);
         let prepared = self.registers.prepared(partition);
-        if is_below(prepared, epoch) {
+        if !is_below(prepared, epoch) {
+            let kept = if self.is_newer(config) {
+                Some(self.keep_done(config)?)
+            } else {
+                None
+            };
             return Ok(Answer::Reply {
-                kept: None,
+                kept,
                 to: asker,
-                body: Body::NoDone {
-                    partition,
-                    epoch,
-                    kept: prepared_epoch(prepared),
-                },
+                body: Body::DoneKept { partition, epoch },
             });
         }
-        let kept = if self.is_newer(config) {
-            Some(self.keep_done(config)?)
-        } else {
-            None
-        };
         Ok(Answer::Reply {
-            kept,
+            kept: None,
             to: asker,
-            body: Body::DoneKept { partition, epoch },
+            body: Body::NoDone {
+                partition,
+                epoch,
+                kept: prepared_epoch(prepared),
+            },
         })
     }
 }
