@@ -10,8 +10,8 @@ use Rattle.fabric_lemmas.specs.Maps.{rises}
 use Rattle.fabric_lemmas.proofs.Maps.{rises-put}
 use Rattle.arbiter_core.specs.declared.answer.ArbiterError.{ArbiterError}
 use Rattle.arbiter_core.specs.declared.answer.ArbiterError.TheVariants.{TableFull}
-use Rattle.ring_rules.specs.Arbiters.{Table, table_with, table_after}
-use Rattle.unit_rules.specs.Registers.{Registers, register_after, registers_after, register_of}
+use Rattle.ring_rules.specs.Arbiters.{Table, table_with}
+use Rattle.unit_rules.specs.Registers.{Registers, register_after, register_of}
 use Rattle.arbiter_tables.specs.Registers.{are_placed, is_placed, one_of, registered}
 use Rattle.arbiter_tables.specs.Tables.{entries_of}
 use Rattle.arbiter_tables.proofs.Counts.{prepared_counted, vote_counted, done_counted}
@@ -65,8 +65,12 @@ registers_more _ rs up = omega arith
 pub grown : (rest : List Record) (a : Arbiter) → rises a.registers ≡ true → entries a ≤ entries (with_kept rest a)
 grown [] a up = omega arith
 grown (r ∷ rest) a up =
-    omega (arith, table_more r a.table, registers_more r a.registers up,
-    grown rest (record a { table = table_with a.table r; registers = register_after a.registers r }) (rises_with r a.registers up))
+    omega (
+      arith,
+      table_more r a.table,
+      registers_more r a.registers up,
+      grown rest (record a { table = table_with a.table r; registers = register_after a.registers r }) (rises_with r a.registers up),
+    )
 
 -- where there is a place for a record, the entries stay in their limit, and else they pass it
 within : (records : List Record) (a : Arbiter) → is_full_for records a ≡ false → entries a ≤ 1000000 → entries (with_kept records a) ≤ 1000000
@@ -150,6 +154,7 @@ pub first_new : (own : ℕ) (records : List Record) (i : ℕ) (item : Record) (a
     → IsRestoring own records (drop i records) a → (is_new a.table item ≡ true) × (is_placed a.registers item ≡ true)
 first_new own records i item a inside is state =
     let P : List Record → Type 0 = λ rest. IsRestoring own records rest a in
-    let s = subst P (next_rest records i item inside is) state in
-    ((and_parts (is_new a.table item) (is_once (table_with a.table item) (drop (i + 1) records)) s.once).0,
-    (and_parts (is_placed a.registers item) (are_placed (register_after a.registers item) (drop (i + 1) records)) s.placed).0)
+    let s = subst P (next_rest records i item inside is) state in (
+      (and_parts (is_new a.table item) (is_once (table_with a.table item) (drop (i + 1) records)) s.once).0,
+      (and_parts (is_placed a.registers item) (are_placed (register_after a.registers item) (drop (i + 1) records)) s.placed).0,
+    )

@@ -52,7 +52,16 @@ fn keeps_what_is_prepared_and_done(rt: HostRuntime) -> Result<(), Fail> {
     for is_new in [true, false] {
         let (kept, body) = answered(&rt, &mut arbiter, node(1), prepare(2));
         assert_eq!(rt; kept, is_new);
-        assert!(rt; matches!(body, Body::Prepared { partition: 1, done: None, .. }));
+        assert!(rt;
+            matches!(
+                body,
+                Body::Prepared {
+                    partition: 1,
+                    done: None,
+                    ..
+                }
+            )
+        );
     }
     let (kept, body) = answered(&rt, &mut arbiter, node(2), prepare(2));
     assert!(rt; !kept);
@@ -66,10 +75,19 @@ fn keeps_what_is_prepared_and_done(rt: HostRuntime) -> Result<(), Fail> {
         panic!(rt; "voted below the prepared epoch");
     };
     assert_eq!(rt; prepared, epoch(2));
-    let (kept, body) = answered(&rt, &mut arbiter, node(1), Body::DoneAsk { config: config(2) });
+    let (kept, body) = answered(
+        &rt,
+        &mut arbiter,
+        node(1),
+        Body::DoneAsk { config: config(2) },
+    );
     assert!(rt; kept && matches!(body, Body::DoneKept { partition: 1, .. }));
     let (kept, body) = answered(&rt, &mut arbiter, node(2), prepare(3));
-    let Body::Prepared { done: Some(done), .. } = body else {
+    let Body::Prepared {
+        done: Some(done),
+        ..
+    } = body
+    else {
         panic!(rt; "nothing is done");
     };
     assert!(rt; kept);

@@ -73,7 +73,9 @@ impl Arbiter {
     fn vote_of(&self, partition: u16, epoch: Epoch) -> Option<Config>
         ensures { result ≡ vote_in epoch (register_of partition self.now.registers).votes }
     {
-        self.registers.vote_of(partition, epoch).map(|vote| vote.copy())
+        self.registers
+            .vote_of(partition, epoch)
+            .map(|vote| vote.copy())
     }
 
     /// Answers a Prepare: an epoch above the prepared one is kept, and answered with what was done; its preparer is
