@@ -1,2 +1,4 @@
 pub mod Arbiters
 pub mod Laws
+pub mod Lives
+pub mod RegisterLaws

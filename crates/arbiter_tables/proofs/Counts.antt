@@ -75,14 +75,21 @@ put-counted get set (e ∷ es) rs up once sets more none =
     let before : Registers = put_all set es rs in
     let absent = lookup-absent es e.0 (IsDistinct-head nat_eq e.0 (keys_of es) once) in
     let free : get (register_of e.0 before) ≡ None = put-found get set es rs e.0 sets (none e.0) ∙ absent in
-    omega (arith, registered-put 0 e.0 (set e.1 (register_of e.0 before)) before (rises-put_all set es rs up),
-    more e.1 (register_of e.0 before) free, put-counted get set es rs up (IsDistinct-tail nat_eq e.0 (keys_of es) once) sets more none)
+    omega (
+      arith,
+      registered-put 0 e.0 (set e.1 (register_of e.0 before)) before (rises-put_all set es rs up),
+      more e.1 (register_of e.0 before) free,
+      put-counted get set es rs up (IsDistinct-tail nat_eq e.0 (keys_of es) once) sets more none,
+    )
 
 voted-counted : (votes : List Config) (rs : Registers) → rises rs ≡ true → registered (voted_all votes rs) ≡ registered rs + length votes
 voted-counted [] rs up = omega arith
 voted-counted (vote ∷ votes) rs up =
-    omega (arith, vote_counted vote rs up,
-    voted-counted votes (changed vote.partition (with_vote vote) rs) (rises-changed vote.partition (with_vote vote) rs up))
+    omega (
+      arith,
+      vote_counted vote rs up,
+      voted-counted votes (changed vote.partition (with_vote vote) rs) (rises-changed vote.partition (with_vote vote) rs up),
+    )
 
 prepared-more : (x : Preparation) (r : Register) → r.prepared ≡ None → entries_in (with_prepared x r) ≡ entries_in r + 1
 prepared-more x r none = omega (arith, ap (λ (o : Option Preparation). one_of o) none)
@@ -97,9 +104,12 @@ registers_counted prepared votes done once once' =
     let first : Registers = put_all with_prepared prepared [] in
     let up = rises-put_all with_prepared prepared [] refl in
     let none : (q : ℕ) → (register_of q first).done ≡ None = λ q. put-left (λ r. r.done) with_prepared prepared [] q (λ x r. refl) in
-    omega (arith, put-counted (λ r. r.prepared) with_prepared prepared [] refl once (λ x r. refl) prepared-more (λ q. refl),
-    put-counted (λ r. r.done) with_done done first up once' (λ x r. refl) done-more none,
-    voted-counted votes (put_all with_done done first) (rises-put_all with_done done first up))
+    omega (
+      arith,
+      put-counted (λ r. r.prepared) with_prepared prepared [] refl once (λ x r. refl) prepared-more (λ q. refl),
+      put-counted (λ r. r.done) with_done done first up once' (λ x r. refl) done-more none,
+      voted-counted votes (put_all with_done done first) (rises-put_all with_done done first up),
+    )
 
 -- Of tables after a change.
 

@@ -13,6 +13,8 @@ mod lists_of_nodes;
 #[cfg(test)]
 mod lists_of_registers;
 #[cfg(test)]
+mod partitions;
+#[cfg(test)]
 mod questions;
 #[cfg(test)]
 mod records;

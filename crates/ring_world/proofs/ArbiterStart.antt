@@ -1,9 +1,9 @@
 -- A start of an arbitrator: the world stands for the world after it.
 use Rattle.std.proofs.Common.{◌≡◌, ℕ, ◌+◌, ◌<◌, true, [], Some, None, refl, sym, ap, subst, ◌∙◌, arith, length}
 use Rattle.std.specs.Prelude.{slice_get, slice_set}
+use Rattle.arbiter_core.specs.Arbiters.{Arbiter}
 use Rattle.point_places.specs.Spots.{place_at}
 use Rattle.ring_points.specs.Whos.{arbiter_actor}
-use Rattle.ring_rules.specs.Arbiters.{Table}
 use Rattle.world_rules.specs.Arbiters.{ArbiterState, arbiter_begun}
 use Rattle.world_rules.proofs.Rows.{arbiter_begun-is}
 use Rattle.world_rules.specs.Events.{starts_with, arbiter_number}
@@ -42,7 +42,7 @@ module _ (a : World) (w : RuledWorld fabric) (place : ℕ) (q : Seat)
   state_is : arbiter_begun fabric a.config (place + 1) (kept_of w (arbiter_actor (place + 1))) ≡ state_of q.arbiter
   state_is =
       arbiter_begun-is fabric a.config (place + 1) (kept_of w (arbiter_actor (place + 1)))
-      ∙ ap (λ (t : Table). record { table = t; beside = tt }) (sym old.table)
+      ∙ ap (λ (x : Arbiter). state_of x) (sym old.kept)
 
   tables_are : begun.arbiters ≡ put (place + 1) (state_of q.arbiter) w.arbiters
   tables_are =
@@ -53,8 +53,7 @@ module _ (a : World) (w : RuledWorld fabric) (place : ℕ) (q : Seat)
   is_started =
       record {
         running = sym (ap (λ ts. at (place + 1) ts) tables_are ∙ at_same_put (place + 1) (state_of q.arbiter) w.arbiters);
-        number = old.number;
-        table = old.table;
+        kept = old.kept;
         few = omega (arith, old.few);
       }
 

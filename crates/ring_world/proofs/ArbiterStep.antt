@@ -2,23 +2,23 @@
 use Rattle.std.proofs.Common.{◌≡◌, ℕ, ◌+◌, ◌≤◌, ◌<◌, Bool, true, false, List, [], ◌∷◌, ◌++◌, Option, Some, None, refl, sym, ap, subst, ◌∙◌, arith, length}
 use Rattle.std.specs.Prelude.{◌==◌, slice_set, All, IfSome, IsTrue}
 use Rattle.std.specs.Option.{option_to_list}
-use Rattle.std.proofs.lemmas.List.{length-append}
 use Rattle.std.proofs.lemmas.Option.{slice_get_within}
-use Rattle.arbiter_core.specs.Arbiters.{Arbiter}
-use Rattle.arbiter_tables.specs.Tables.{entries_of}
+use Rattle.arbiter_core.specs.Arbiters.{Arbiter, entries, fresh, restored, with_kept}
 use Rattle.fabric_terms.specs.declared.config.FabricConfig.{FabricConfig}
 use Rattle.fabric_terms.specs.declared.message.Body.{Body}
 use Rattle.fabric_terms.specs.declared.message.Body.TheVariants as body
 use Rattle.fabric_terms.specs.declared.message.Message.{Message}
 use Rattle.fabric_terms.specs.declared.record.Record.{Record}
-use Rattle.fabric_terms.specs.declared.record.Record.TheVariants as kind
 use Rattle.fabric_terms.specs.declared.report.Report.{Report}
 use Rattle.point_places.specs.Spots.{place_at}
 use Rattle.ring_points.specs.Whos.{arbiter_actor}
 use Rattle.ring_points.specs.declared.who.Who.{Who}
-use Rattle.ring_rules.specs.Arbiters.{Table, accusation_kept, claim_kept, claimer_kept, first_accuser, first_claimer, first_kept, no_table, table_after, table_with, takes_frame}
+use Rattle.ring_rules.specs.Arbiters.{Table, accusation_kept, claim_kept, table_after, takes_frame}
+use Rattle.unit_rules.specs.Deeds.{did, unless}
+use Rattle.unit_rules.specs.Registers.{Registers, Reply, question_answered, register_after, registers_after, replied}
+use Rattle.world_rules.specs.Above.{is_ring_record}
 use Rattle.fabric_terms.specs.Messages.{is_sound}
-use Rattle.world_rules.specs.Arbiters.{ArbiterState, arbiter_step, arbiter_takes}
+use Rattle.world_rules.specs.Arbiters.{ArbiterState, arbiter_step, arbiter_takes, beside_did}
 use Rattle.fabric_lemmas.specs.Maps.{at}
 use Rattle.fabric_above.specs.Fabric.{fabric}
 use Rattle.world_rules.specs.Uppers.{Did}
@@ -35,61 +35,62 @@ use Rattle.ring_world.specs.Stands.{SeenStands, Stands}
 use Rattle.ring_world.specs.Steps.{IsSoundFrame}
 use Rattle.ring_world.specs.declared.world.Acted.{Acted}
 use Rattle.ring_world.specs.declared.world.World.{World}
+use Rattle.ring_world.proofs.Entries.{few_entries, kept_more, seat_rises}
+use Rattle.ring_world.proofs.FewRecords.{accused_apart, accused_few, claimed_apart, claimed_few}
+use Rattle.ring_world.proofs.RegisterReplies.{AnswersSo, LeavesTable, answers_so}
 use Rattle.ring_world.proofs.FramesAfter.{sound_sent}
 use Rattle.ring_world.proofs.Maps.{unequal}
 use Rattle.ring_world.proofs.Growth.{kept_here, kept_there, posted-length}
 use Rattle.ring_world.proofs.KeptNodes.{kept_follows, same_run}
 use Rattle.ring_world.proofs.SeatChanges.{arbiters_set, at_other_put, at_same_put}
 
--- one record makes one entry at most
+-- with these records kept
+abbrev kept_state : List Record → ArbiterState fabric → ArbiterState fabric
+kept_state records s = record { table = table_after s.table records; beside = registers_after s.beside records }
 
-one_more : (table : Table) (r : Record) → entries_of (table_with table r) ≤ entries_of table + 1
-one_more table (kind.AccusedBy victim first) = let e = length-append table.accusations ((victim, first) ∷ []) in omega arith
-one_more table (kind.ClaimedBy victim round claimer) = let e = length-append table.claims ((victim, round, claimer) ∷ []) in omega arith
-one_more table _ = omega arith
-
-few_entries : (table : Table) (rs : List Record) → entries_of (table_after table rs) ≤ entries_of table + length rs
-few_entries table [] = omega arith
-few_entries table (r ∷ rs) = let one = one_more table r in let more = few_entries (table_with table r) rs in omega arith
-
--- what a step keeps, and how little it does
+-- a step leaves what it records, and does little
 pub record IsRuling (s : ArbiterState fabric) (d : Did (ArbiterState fabric)) : Type 0 where
-  pub table : d.state.table ≡ table_after s.table d.records
+  pub state : d.state ≡ kept_state d.records s
   pub few : length d.records ≤ 1
   pub told : d.told ≡ []
 
-accused_few : (table : Table) (accuser victim : Who) → length (accusation_kept table.accusations accuser victim) ≤ 1
-unfolding accusation_kept
-accused_few table accuser victim = by_firsts (first_accuser accuser table.accusations) (first_accuser victim table.accusations)
-  where
-    by_firsts : (x y : Option Who) → length (first_kept accuser victim x y) ≤ 1
-    by_firsts None None = omega arith
-    by_firsts None (Some y) = omega arith
-    by_firsts (Some x) y = omega arith
-
-claimed_few : (table : Table) (claimer victim : Who) (round : ℕ) → length (claim_kept table claimer victim round) ≤ 1
-unfolding claim_kept
-claimed_few table claimer victim round = by_firsts (first_accuser victim table.accusations) (first_claimer victim round table.claims) (round == 1)
-  where
-    by_firsts : (x y : Option Who) (b : Bool) → length (claimer_kept claimer victim round x y b) ≤ 1
-    by_firsts None y b = omega arith
-    by_firsts (Some x) (Some y) b = omega arith
-    by_firsts (Some x) None true = omega arith
-    by_firsts (Some x) None false = omega arith
-
 module _ (c : FabricConfig) (arbiter : ℕ) (m : Message) (s : ArbiterState fabric) where
+  -- the table is kept by its records, and the registers beside it stay
+  apart : (records : List Record) → registers_after s.beside records ≡ s.beside → record s { table = table_after s.table records } ≡ kept_state records s
+  apart records stays = ap (λ (rs : Registers). record s { table = table_after s.table records; beside = rs }) (sym stays)
+
+  replied_by : (kept : Option Record) (said : Body) → LeavesTable kept
+      → IsRuling s (beside_did fabric s (did (replied m.from s.beside (Some (record { kept = kept; body = said })))))
+  replied_by None said leaves = record { state = refl; few = omega arith; told = refl }
+  replied_by (Some r) said leaves =
+      let one : unless (is_ring_record r) r [] ≡ r ∷ [] = ap (λ b. unless b r []) leaves.0 in
+      record {
+        state = ap (λ (t : Table). record s { table = t; beside = register_after s.beside r }) (sym (leaves.1 s.table))
+            ∙ ap (λ (rs : List Record). kept_state rs s) (sym one);
+        few = omega (arith, ap length one);
+        told = refl;
+      }
+
+  replied_so : (o : Option Reply) → AnswersSo o → IsRuling s (beside_did fabric s (did (replied m.from s.beside o)))
+  replied_so None h = record { state = refl; few = omega arith; told = refl }
+  replied_so (Some r) h = replied_by r.kept r.body h.kept
+
   by_body : (said : Body) (b : Bool) → IsRuling s (arbiter_takes fabric c arbiter m s said b)
-  by_body said false = record { table = refl; few = omega arith; told = refl }
-  by_body (body.Accuse victim) true = record { table = refl; few = accused_few s.table m.from victim; told = refl }
-  by_body (body.Claim victim round) true = record { table = refl; few = claimed_few s.table m.from victim round; told = refl }
-  by_body _ true = record { table = refl; few = omega arith; told = refl }
+  by_body said false = record { state = refl; few = omega arith; told = refl }
+  by_body (body.Accuse victim) true = record {
+    state = apart (accusation_kept s.table.accusations m.from victim) (accused_apart s.table m.from victim s.beside);
+    few = accused_few s.table m.from victim;
+    told = refl;
+  }
+  by_body (body.Claim victim round) true = record {
+    state = apart (claim_kept s.table m.from victim round) (claimed_apart s.table m.from victim round s.beside);
+    few = claimed_few s.table m.from victim round;
+    told = refl;
+  }
+  by_body _ true = replied_so (question_answered m.body m.from s.beside) (answers_so m.body m.from s.beside)
 
   is_ruling : IsRuling s (arbiter_step fabric c arbiter m s)
   is_ruling = subst (λ (d : Did (ArbiterState fabric)). IsRuling s d) (sym (arbiter_step-is fabric c arbiter m s)) (by_body m.body (takes_frame arbiter m))
-
-after_more : (table : Table) (rs more : List Record) → table_after table (rs ++ more) ≡ table_after (table_after table rs) more
-after_more table [] more = refl
-after_more table (r ∷ rs) more = after_more (table_with table r) rs more
 
 few_reply : {X : Type 0} (o : Option X) → length (option_to_list o) ≤ 1
 few_reply None = omega arith
@@ -128,16 +129,19 @@ module _ (a : World) (w : RuledWorld fabric) (place : ℕ) (s : ArbiterState fab
       by_value true e = (refl, cc)
       by_value false e = absurd (cc)
 
+  number_is : heard.before.arbiter.number ≡ place + 1
+  number_is = ap (λ (x : Arbiter). x.number) old.kept
+
   is_done : ruled_by a.config m heard.before.arbiter ≡ done
   is_done =
-      ap (λ (k : ℕ). arbiter_step fabric a.config k m (state_of heard.before.arbiter)) old.number
+      ap (λ (k : ℕ). arbiter_step fabric a.config k m (state_of heard.before.arbiter)) number_is
       ∙ ap (λ (x : ArbiterState fabric). arbiter_step fabric a.config (place + 1) m x) runs.1
 
   pub sent_is : option_to_list reply ≡ done.sent
   sent_is = hears.sent ∙ ap (λ (d : Did (ArbiterState fabric)). d.sent) is_done
 
-  arbiter_is : heard.after.arbiter ≡ record heard.before.arbiter { table = done.state.table }
-  arbiter_is = hears.arbiter ∙ ap (λ (d : Did (ArbiterState fabric)). record heard.before.arbiter { table = d.state.table }) is_done
+  arbiter_is : heard.after.arbiter ≡ with_kept done.records heard.before.arbiter
+  arbiter_is = hears.arbiter ∙ ap (λ (d : Did (ArbiterState fabric)). with_kept d.records heard.before.arbiter) is_done
 
   facts : IsRuling s done
   facts = is_ruling a.config (place + 1) m s
@@ -145,27 +149,28 @@ module _ (a : World) (w : RuledWorld fabric) (place : ℕ) (s : ArbiterState fab
   abbrev after : RuledWorld fabric
   after = (arbiter_acted fabric w (place + 1) done).world
 
-  old_table : s.table ≡ table_after no_table (kept_of w (arbiter_actor (place + 1)))
-  old_table = ap (λ (x : ArbiterState fabric). x.table) (sym runs.1) ∙ old.table
+  -- the arbitrator is the one that its records make, these among them
+  restored_is : heard.after.arbiter ≡ restored (place + 1) (kept_of after (arbiter_actor (place + 1)))
+  restored_is =
+      arbiter_is
+      ∙ (ap (λ (x : Arbiter). with_kept done.records x) old.kept
+      ∙ (sym (kept_more (fresh (place + 1)) (kept_of w (arbiter_actor (place + 1))) done.records)
+      ∙ ap (λ rs. restored (place + 1) rs) (sym (kept_here w (arbiter_actor (place + 1)) done.records))))
 
-  table_is : done.state.table ≡ table_after no_table (kept_of after (arbiter_actor (place + 1)))
-  table_is =
-      facts.table
-      ∙ (ap (λ (t : Table). table_after t done.records) old_table
-      ∙ (sym (after_more no_table (kept_of w (arbiter_actor (place + 1))) done.records) ∙ ap (λ rs. table_after no_table rs) (sym (kept_here w (arbiter_actor (place + 1)) done.records))))
+  state_is : state_of heard.after.arbiter ≡ done.state
+  state_is =
+      ap (λ (x : Arbiter). state_of x) arbiter_is
+      ∙ (ap (λ (x : ArbiterState fabric). kept_state done.records x) runs.1 ∙ sym facts.state)
 
   seat_after : IsSeat after (a.events + 1) (place + 1) heard.after
   seat_after =
-      let size : entries_of heard.after.arbiter.table ≡ entries_of (table_after s.table done.records) =
-      ap (λ (x : Arbiter). entries_of x.table) arbiter_is ∙ ap (λ (t : Table). entries_of t) facts.table in
-      let was : entries_of heard.before.arbiter.table ≡ entries_of s.table = ap (λ (x : ArbiterState fabric). entries_of x.table) runs.1 in
-      let more = few_entries s.table done.records in
+      let more = few_entries done.records heard.before.arbiter (seat_rises w a.events (place + 1) heard.before old) in
+      let size : entries heard.after.arbiter ≡ entries (with_kept done.records heard.before.arbiter) = ap (λ (x : Arbiter). entries x) arbiter_is in
       record {
         running = ap (λ b. state_where b heard.after.arbiter) (hears.runs ∙ runs.0)
-            ∙ (ap (λ (x : Arbiter). Some (state_of x)) arbiter_is ∙ sym (at_same_put (place + 1) done.state w.arbiters));
-        number = ap (λ (x : Arbiter). x.number) arbiter_is ∙ old.number;
-        table = ap (λ (x : Arbiter). x.table) arbiter_is ∙ table_is;
-        few = omega (arith, old.few, facts.few, size, was, more);
+            ∙ (ap (λ (x : ArbiterState fabric). Some x) state_is ∙ sym (at_same_put (place + 1) done.state w.arbiters));
+        kept = restored_is;
+        few = omega (arith, old.few, facts.few, size, more);
       }
 
   kept_on : (q : ℕ) → (arbiter_actor (place + 1) == q) ≡ false → kept_of after q ≡ kept_of w q

@@ -35,7 +35,7 @@ module _ (a : World) (w : RuledWorld fabric) (place : ℕ) (q : Seat) (t : Arbit
   is_stopped : IsSeat after (a.events + 1) (place + 1) stopped_seat
   is_stopped =
       let old = st.arbiters.seats place q here in
-      record { running = sym (at_same_without (place + 1) w.arbiters); number = old.number; table = old.table; few = omega (arith, old.few) }
+      record { running = sym (at_same_without (place + 1) w.arbiters); kept = old.kept; few = omega (arith, old.few) }
 
   stands_stopped : SeenStands seen_stopped after
   stands_stopped = record {

@@ -14,7 +14,7 @@ use Rattle.ring_world.specs.Answers.{IsWorld, is_frame, ruled}
 use Rattle.ring_world.specs.Stands.{Stands}
 use Rattle.ring_world.specs.Steps.{IsSoundFrame, LeavesSound}
 use Rattle.ring_world.specs.declared.world.World.{World}
-use Rattle.ring_world.proofs.Frames.{frames_are_in_format}
+use Rattle.fabric_fit.proofs.Sends.{frames_are_in_format}
 use Rattle.ring_world.proofs.Limits.{bound-give}
 use Rattle.ring_world.proofs.NextEvents.{own, sound_next}
 use Rattle.ring_world.proofs.Arrivals.{all_at, frame_none, frame_some}

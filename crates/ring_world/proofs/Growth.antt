@@ -4,6 +4,7 @@ use Rattle.std.specs.Prelude.{◌==◌, unwrap_or, slice_get}
 use Rattle.std.proofs.lemmas.List.{append-nil}
 use Rattle.std.proofs.lemmas.Bool.{eqb-true}
 use Rattle.std.proofs.lemmas.Bool.Decides.{nat_tests}
+use Rattle.arbiter_core.specs.Arbiters.{restored}
 use Rattle.fabric_terms.specs.declared.config.FabricConfig.{FabricConfig}
 use Rattle.fabric_terms.specs.declared.message.Body.{Body}
 use Rattle.fabric_terms.specs.declared.message.Message.{Message}
@@ -11,7 +12,6 @@ use Rattle.fabric_terms.specs.declared.record.Record.{Record}
 use Rattle.fabric_terms.specs.Sent.{from_all}
 use Rattle.ring_points.specs.Whos.{arbiter_actor}
 use Rattle.ring_points.specs.declared.who.Who.{Who}
-use Rattle.ring_rules.specs.Arbiters.{no_table, table_after}
 use Rattle.fabric_lemmas.specs.Maps.{at, put}
 use Rattle.fabric_above.specs.Fabric.{fabric}
 use Rattle.world_rules.specs.Worlds.{World as RuledWorld, kept_of, posted, numbers_of}
@@ -24,7 +24,7 @@ use Rattle.ring_world.specs.declared.seat.Seat.{Seat}
 use Rattle.ring_world.specs.Stands.{SeenStands, ArbitersStand}
 
 pub seat_later : (w : RuledWorld fabric) (events k : ℕ) (s : Seat) → IsSeat w events k s → IsSeat w (events + 1) k s
-seat_later w events k s h = record { running = h.running; number = h.number; table = h.table; few = omega (arith, h.few) }
+seat_later w events k s h = record { running = h.running; kept = h.kept; few = omega (arith, h.few) }
 
 -- arbitrators of whom nothing is recorded, while other actors act
 pub arbiters_on : (a b : Seen) (w v : RuledWorld fabric) → ArbitersStand a w → v.arbiters ≡ w.arbiters → ((k : ℕ) → kept_of v (arbiter_actor k) ≡ kept_of w (arbiter_actor k))
@@ -35,8 +35,7 @@ arbiters_on a b w v s tables kept seats config events = record {
       let old = s.seats k q (ap (λ ss. slice_get ss k) (sym seats) ∙ g) in
       record {
         running = old.running ∙ ap (λ ts. at (k + 1) ts) (sym tables);
-        number = old.number;
-        table = old.table ∙ ap (λ rs. table_after no_table rs) (sym (kept (k + 1)));
+        kept = old.kept ∙ ap (λ rs. restored (k + 1) rs) (sym (kept (k + 1)));
         few = omega (arith, old.few);
       };
   others = λ arbiter lt. ap (λ ts. at arbiter ts) tables ∙ s.others arbiter (subst (λ (n : ℕ). n < arbiter) (ap length seats) lt);

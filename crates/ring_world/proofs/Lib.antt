@@ -5,13 +5,15 @@ pub mod Growth
 pub mod FramesAfter
 pub mod NodePlaces
 pub mod NodeStep
-pub mod Frames
 pub mod NextEvents
 pub mod InputNames
 pub mod Seats
 pub mod StopNames
 pub mod NodeStop
 pub mod Edits
+pub mod Entries
+pub mod FewRecords
+pub mod RegisterReplies
 pub mod SeatChanges
 pub mod KeptNodes
 pub mod SeatHearing

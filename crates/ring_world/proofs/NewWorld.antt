@@ -71,7 +71,7 @@ empty_more n seats s h is = record {
     ]
 
 seat_is : (k : ℕ) → IsSeat (empty_world fabric) 0 k (empty_seat k)
-seat_is k = record { running = refl; number = refl; table = refl; few = omega arith }
+seat_is k = record { running = refl; kept = refl; few = omega arith }
 
 pub new_stands : (c : FabricConfig) (n : ℕ) (kept : List NodeKept) (seats : List Seat) → IsSound c → n ≡ last_node + 1 → kept ≡ replicate n nothing_kept → AreEmpty (length c.arbiters) seats → SeenStands (new_seen c kept seats) (empty_world fabric)
 new_stands c n kept seats sound many none empty = record {

@@ -19,7 +19,7 @@ use Rattle.ring_world.specs.Stands.{Stands}
 use Rattle.ring_world.specs.Steps.{LeavesSound, CanStep}
 use Rattle.ring_world.specs.declared.world.Acted.{Acted}
 use Rattle.ring_world.specs.declared.world.World.{World}
-use Rattle.ring_world.proofs.Frames.{frames_are_in_format}
+use Rattle.fabric_fit.proofs.Sends.{frames_are_in_format}
 use Rattle.ring_world.proofs.Limits.{room_is, room_test}
 
 -- a world stands for a history of its own configuration

@@ -2,9 +2,9 @@
 use Rattle.std.proofs.Common.{◌≡◌, ℕ, zero, suc, ◌+◌, ◌<◌, ◌⊎◌, inl, inr, cond, List, [], ◌∷◌, Option, Some, None, refl, sym, ap, subst, ◌∙◌, arith, length}
 use Rattle.std.specs.Prelude.{slice_get, slice_set}
 use Rattle.std.proofs.lemmas.List.{length-set}
+use Rattle.arbiter_core.specs.Arbiters.{restored}
 use Rattle.fabric_terms.specs.declared.config.FabricConfig.{FabricConfig}
 use Rattle.ring_points.specs.Whos.{arbiter_actor}
-use Rattle.ring_rules.specs.Arbiters.{no_table, table_after}
 use Rattle.fabric_lemmas.specs.Maps.{at, put, without}
 use Rattle.fabric_above.specs.Fabric.{fabric}
 use Rattle.world_rules.specs.Worlds.{World as RuledWorld, kept_of}
@@ -47,8 +47,7 @@ arbiters_set a b w v place q s within seats config events new tables kept =
         let other : k + 1 ≡ place + 1 → ⊥ = λ e. h.0 (omega arith) in
         record {
           running = old.running ∙ sym (tables (k + 1) other);
-          number = old.number;
-          table = old.table ∙ ap (λ rs. table_after no_table rs) (sym (kept (k + 1) other));
+          kept = old.kept ∙ ap (λ rs. restored (k + 1) rs) (sym (kept (k + 1) other));
           few = omega (arith, old.few);
         }
 

@@ -1,7 +1,7 @@
 -- What an arbitrator does with a message, at its seat.
 use Rattle.std.specs.Prelude.{◌≡◌, ℕ, ◌<◌, Option, Some, slice_get, slice_set}
 use Rattle.std.specs.Option.{option_to_list}
-use Rattle.arbiter_core.specs.Arbiters.{Arbiter}
+use Rattle.arbiter_core.specs.Arbiters.{Arbiter, with_kept}
 use Rattle.fabric_terms.specs.declared.config.FabricConfig.{FabricConfig}
 use Rattle.fabric_terms.specs.declared.message.Body.{Body}
 use Rattle.fabric_terms.specs.declared.message.Message.{Message}
@@ -24,7 +24,7 @@ ruled_by c m a = arbiter_step fabric c a.number m (state_of a)
 -- the seat is as the rules say: what the arbitrator records is kept, and this is its answer
 pub record Hears (c : FabricConfig) (m : Message) (old new : Seat) (reply : Option (Who × Body)) : Type 0 where
   pub runs : new.runs ≡ old.runs
-  pub arbiter : new.arbiter ≡ record old.arbiter { table = (ruled_by c m old.arbiter).state.table }
+  pub arbiter : new.arbiter ≡ with_kept (ruled_by c m old.arbiter).records old.arbiter
   pub sent : option_to_list reply ≡ (ruled_by c m old.arbiter).sent
 
 -- the running arbitrator of this number, and that its answer leaves sound frames

@@ -1,11 +1,11 @@
-ghost use Rattle.std.specs.Prelude.{◌≡◌, ◌∷◌, ◌<◌, ◌+◌, Some, OnErr, IfOk, IfSome, IsTrue, length};
-ghost use Rattle.arbiter_tables.specs.Tables.{entries_of};
+ghost use Rattle.std.specs.Prelude.{◌≡◌, ◌∷◌, ◌<◌, ◌+◌, Some, true, OnErr, IfOk, IfSome, IsTrue, length};
+ghost use Rattle.arbiter_core.specs.Arbiters.{entries};
 ghost use Rattle.fabric_terms.specs.declared.config.FabricConfig.{FabricConfig as Configuration};
 ghost use Rattle.ring_points.specs.Whos.{arbiter_actor};
 ghost use Rattle.fabric_terms.specs.Messages.{is_sound};
 ghost use Rattle.std.specs.Option.{option_to_list};
 ghost use Rattle.world_rules.specs.Arbiters.{ArbiterState, arbiter_step};
-ghost use Rattle.fabric_lemmas.specs.Maps.{at};
+ghost use Rattle.fabric_lemmas.specs.Maps.{at, rises};
 ghost use Rattle.fabric_above.specs.Fabric.{fabric};
 ghost use Rattle.world_rules.specs.Worlds.{World as RuledWorld, arbiter_acted, numbers_of, posted};
 ghost use Rattle.ring_world.specs.Moves.{Same, Steps};
@@ -23,7 +23,8 @@ use ring_points::Who;
 impl Seat {
     /// The arbitrator hears a message: what it records is kept, and its answer is given.
     fn hear(&mut self, message: &Message) -> Result<Option<(Who, Body)>, OutOfMemory>
-        requires few { entries_of self.old.arbiter.table < most_events }
+        requires few { entries self.old.arbiter < most_events }
+        requires rise { rises self.old.arbiter.registers ≡ true }
         ensures hears { IfOk result (λ reply. (c : Configuration) → Hears c message.now self.old self.new reply) }
         ensures refused { OnErr result (self.new ≡ self.old) }
     {

@@ -1,6 +1,16 @@
 use Rattle.std.proofs.lemmas.Result.{err_from_is_err_and}
-use Rattle.arbiter_core.proofs.Restores.{restored_more, restored_is, restore_refused}
+use Rattle.arbiter_core.proofs.Restores.{first_new, restored_more, restored_is, restore_refused}
 use Rattle.arbiter_core.proofs.arbiter.Arbiter.restore.Goals as goal
+
+pub remember-requires-clause-new : goal.remember-requires-clause-new
+remember-requires-clause-new c =
+    (first_new c.args.number c.args.records.now c.loop-item.item-index c.item-item.result c.loop-item.arbiter
+    c.loop-item-test.true c.item-item.is c.loop-item.invariant).0
+
+pub remember-requires-clause-placed : goal.remember-requires-clause-placed
+remember-requires-clause-placed c =
+    (first_new c.args.number c.args.records.now c.loop-item.item-index c.item-item.result c.loop-item.arbiter
+    c.loop-item-test.true c.item-item.is c.loop-item.invariant).1
 
 pub loop-item-preserved : goal.loop-item-preserved
 loop-item-preserved c =
