@@ -56,10 +56,10 @@ module _ {A : Type 0} where
     where
       by : (b : Bool) → (e.0 == actor) ≡ b
           → (place actor es < length es
-              → set es (place actor es) ((get_or es (place actor es) d).0, Some (unwrap_or (get_or es (place actor es) d).1 x))
-              ≡ answered actor x es)
+          → set es (place actor es) ((get_or es (place actor es) d).0, Some (unwrap_or (get_or es (place actor es) d).1 x))
+          ≡ answered actor x es)
           → set (e ∷ es) (place actor (e ∷ es))
-              ((get_or (e ∷ es) (place actor (e ∷ es)) d).0, Some (unwrap_or (get_or (e ∷ es) (place actor (e ∷ es)) d).1 x))
+          ((get_or (e ∷ es) (place actor (e ∷ es)) d).0, Some (unwrap_or (get_or (e ∷ es) (place actor (e ∷ es)) d).1 x))
           ≡ answered actor x (e ∷ es)
       by true is rest = rw (here actor e es is, is) refl
       by false is rest = rw (later actor e es is, is) (ap (λ (fs : Poll A). e ∷ fs) (rest (omega (arith, later actor e es is, some))))

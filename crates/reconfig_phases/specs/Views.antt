@@ -33,6 +33,13 @@ step_of (step.Finished config) = rules.Finished config
 step_of (step.Superseded epoch) = rules.Superseded epoch
 step_of (step.Refused refusal) = rules.Refused refusal
 
+-- this holds where the configuration is active
+abbrev pub IfFinished : Progress → Type 0 → Type 0
+IfFinished (progress.Finished config) P = P
+IfFinished progress.Stays P = Unit {0}
+IfFinished (progress.Superseded epoch) P = Unit {0}
+IfFinished (progress.Refused refusal) P = Unit {0}
+
 -- a phase ends as it is defined, or stands so
 abbrev pub Ends : {A P : Type 0} → Result A P → Option A → P → Type 0
 Ends defined (Some x) new = defined ≡ Ok x

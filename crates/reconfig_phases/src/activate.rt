@@ -1,4 +1,4 @@
-ghost use Rattle.std.specs.Prelude.{◌≡◌, ◌≤◌};
+ghost use Rattle.std.specs.Prelude.{◌≡◌, ◌≤◌, IfSome};
 ghost use Rattle.reconfig_phases.specs.Tasks.{IsTask};
 ghost use Rattle.reconfig_phases.specs.Views.{Ends};
 ghost use Rattle.unit_rules.specs.Phases.{activate_ends, activate_on};
@@ -41,17 +41,21 @@ impl ActivatePhase {
         ActivatePhase { task, config, poll }
     }
 
-    /// Counts an answer. It ends once the primary and a majority of the members have their roles.
+    /// Counts an answer. It ends once the primary and a majority of the members have their roles, and is then left as it
+    /// was.
     #[tactic(auto, unfolding(unit_rules::specs::Phases::activate_ends))]
     pub(crate) fn count(&mut self, answer: &Message) -> Option<()>
         ensures ends { Ends (activate_ends answer.now.from.actor answer.now.body self.old) result self.new }
+        ensures same { IfSome result (λ _. self.new ≡ self.old) }
         ensures rest { self.new ≡ record self.old { poll = self.new.poll } }
     {
         if let Body::Activated { .. } = &answer.body {
-            self.poll.answer(answer.from.actor, ());
-            if self.poll.has_answered(self.config.primary) && self.poll.is_carried() {
+            let mut poll = self.poll.copy();
+            poll.answer(answer.from.actor, ());
+            if poll.has_answered(self.config.primary) && poll.is_carried() {
                 return Some(());
             }
+            self.poll = poll;
         }
         None
     }

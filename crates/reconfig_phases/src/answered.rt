@@ -1,6 +1,7 @@
 ghost use Rattle.std.specs.Prelude.{◌≡◌, ◌≤◌, ◌+◌, length};
 ghost use Rattle.reconfig_phases.specs.Answers.{received};
-ghost use Rattle.reconfig_phases.specs.Views.{Does, reconfig_of, step_of, step_with};
+ghost use Rattle.reconfig_phases.specs.Views.{Does, IfFinished, reconfig_of, step_of, step_with};
+ghost use Rattle.unit_rules.specs.Reconfigs.{task_of};
 ghost use Rattle.unit_rules.specs.Transitions.{goes_on};
 
 use crate::answers::{answered_unit, carried};
@@ -14,7 +15,9 @@ impl Reconfig {
     /// Counts an answer in the phase in which it is, and enters the next one where that ends.
     fn go_on(&mut self, answer: &Message, nodes: &[NodeLoad], out: &mut Outbox) -> Progress
         requires { length out.old + 9 ≤ 192 }
-        ensures { Does (goes_on nodes.now answer.now.from.actor answer.now.body (reconfig_of self.old)) (step_with self.new result) out.old out.new }
+        ensures does { Does (goes_on nodes.now answer.now.from.actor answer.now.body (reconfig_of self.old)) (step_with self.new result) out.old out.new }
+        ensures task { task_of (reconfig_of self.new) ≡ task_of (reconfig_of self.old) }
+        ensures finished { IfFinished result ((self.new ≡ self.old) × (out.new ≡ out.old)) }
     {
         let task = self.task();
         match self {
@@ -66,11 +69,13 @@ impl Reconfig {
 
     /// Takes an answer for its partition, in place. An answer to another epoch changes nothing, and neither does a message
     /// that is no answer. A carried epoch is tested first: one that is not below its own supersedes it. After any progress
-    /// but `Stays` it is over. At most nine messages are sent.
+    /// but `Stays` it is over; where it is finished it is left as it was. At most nine messages are sent.
     #[tactic(auto, unfolding(unit_rules::specs::Transitions::answer_received))]
     pub fn answer(&mut self, answer: &Message, nodes: &[NodeLoad], out: &mut Outbox) -> Progress
         requires { length out.old + 9 ≤ 192 }
-        ensures { Does (received nodes.now answer.now (reconfig_of self.old)) (step_with self.new result) out.old out.new }
+        ensures does { Does (received nodes.now answer.now (reconfig_of self.old)) (step_with self.new result) out.old out.new }
+        ensures task { task_of (reconfig_of self.new) ≡ task_of (reconfig_of self.old) }
+        ensures finished { IfFinished result ((self.new ≡ self.old) × (out.new ≡ out.old)) }
     {
         let Some((_, epoch)) = answered_unit(&answer.body) else {
             return Progress::Stays;

@@ -89,6 +89,29 @@ fn waiting_in<A>(entries: &[(u16, Option<A>)]) -> ArrayVec<u16, 9>
     actors
 }
 
+/// The same again.
+fn copied(entries: &[(u16, Option<()>)]) -> ArrayVec<(u16, Option<()>), 9>
+    requires { length entries.now ≤ 9 }
+    ensures { result.items ≡ entries.now }
+{
+    let mut copy = ArrayVec::new();
+    for entry in entries {
+        copy.push(*entry);
+    }
+    copy
+}
+
+impl Poll<()> {
+    /// The same again.
+    pub fn copy(&self) -> Self
+        ensures { result ≡ self.now }
+    {
+        Poll {
+            entries: copied(self.entries()),
+        }
+    }
+}
+
 impl<A: Drop> Poll<A> {
     /// Nobody has answered yet.
     pub fn new(actors: &[u16]) -> Self

@@ -1,7 +1,7 @@
 ghost use Rattle.std.specs.Prelude.{◌≡◌, ◌≤◌, ◌+◌, ◌∷◌, [], length};
 ghost use Rattle.reconfig_phases.specs.Tasks.{IsTask};
-ghost use Rattle.reconfig_phases.specs.Views.{Does, reconfig_of, step_with};
-ghost use Rattle.unit_rules.specs.Reconfigs.{Stay};
+ghost use Rattle.reconfig_phases.specs.Views.{Does, IfFinished, reconfig_of, step_with};
+ghost use Rattle.unit_rules.specs.Reconfigs.{Stay, task_of};
 ghost use Rattle.unit_rules.specs.Transitions.{activates, after_promise, asks_promises, copies, create_placed, enters, first_of, heal_placed, lose_begun, prepared_as, proposes, source_by, stores, swap_begun};
 ghost use Rattle.unit_rules.specs.Phases.{promised_with};
 ghost use Rattle.replica_place.specs.Placement.{placement};
@@ -50,7 +50,8 @@ impl Reconfig {
     pub(crate) fn propose(&mut self, task: Task, config: Config, source: Source, out: &mut Outbox)
         requires task { IsTask task }
         requires room { length out.old + 9 ≤ 192 }
-        ensures { Does (proposes task config source) (Stay (reconfig_of self.new)) out.old out.new }
+        ensures does { Does (proposes task config source) (Stay (reconfig_of self.new)) out.old out.new }
+        ensures task { task_of (reconfig_of self.new) ≡ task }
     {
         *self = Reconfig::Decide(VotePhase::new(task, config, source));
         self.ask(arbiters(task.arbitrators).as_slice(), out);
@@ -60,7 +61,8 @@ impl Reconfig {
     pub(crate) fn copy_log(&mut self, task: Task, config: Config, source: Source, out: &mut Outbox)
         requires task { IsTask task }
         requires room { length out.old + 9 ≤ 192 }
-        ensures { Does (copies task config source) (Stay (reconfig_of self.new)) out.old out.new }
+        ensures does { Does (copies task config source) (Stay (reconfig_of self.new)) out.old out.new }
+        ensures task { task_of (reconfig_of self.new) ≡ task }
     {
         let members = config.members.copy();
         *self = Reconfig::Phase2(CopyPhase::new(task, config, source));
@@ -71,7 +73,8 @@ impl Reconfig {
     pub(crate) fn store(&mut self, task: Task, config: Config, out: &mut Outbox)
         requires task { IsTask task }
         requires room { length out.old + 9 ≤ 192 }
-        ensures { Does (stores task config) (Stay (reconfig_of self.new)) out.old out.new }
+        ensures does { Does (stores task config) (Stay (reconfig_of self.new)) out.old out.new }
+        ensures task { task_of (reconfig_of self.new) ≡ task }
     {
         *self = Reconfig::Phase3(DonePhase::new(task, config));
         self.ask(arbiters(task.arbitrators).as_slice(), out);
@@ -81,7 +84,8 @@ impl Reconfig {
     pub(crate) fn activate(&mut self, task: Task, config: Config, out: &mut Outbox)
         requires task { IsTask task }
         requires room { length out.old + 9 ≤ 192 }
-        ensures { Does (activates task config) (Stay (reconfig_of self.new)) out.old out.new }
+        ensures does { Does (activates task config) (Stay (reconfig_of self.new)) out.old out.new }
+        ensures task { task_of (reconfig_of self.new) ≡ task }
     {
         let members = config.members.copy();
         *self = Reconfig::Phase4(ActivatePhase::new(task, config));
@@ -90,10 +94,13 @@ impl Reconfig {
 
     /// Create: the members are placed, and the primary is the first of them.
     fn create(&mut self, task: Task, count: u8, nodes: &[NodeLoad], out: &mut Outbox) -> Progress
+        requires own { task_of (reconfig_of self.old) ≡ task }
         requires task { IsTask task }
         requires count { count ≤ 7 }
         requires room { length out.old + 9 ≤ 192 }
-        ensures { Does (create_placed task (placement nodes.now count)) (step_with self.new result) out.old out.new }
+        ensures does { Does (create_placed task (placement nodes.now count)) (step_with self.new result) out.old out.new }
+        ensures task { task_of (reconfig_of self.new) ≡ task }
+        ensures over { IfFinished result ⊥ }
     {
         match place(nodes, count) {
             Ok(placed) => {
@@ -117,9 +124,12 @@ impl Reconfig {
 
     /// Swap: the node is a member, and the old primary promises first.
     fn swap(&mut self, task: Task, old: Config, node: u16, out: &mut Outbox) -> Progress
+        requires own { task_of (reconfig_of self.old) ≡ task }
         requires task { IsTask task }
         requires room { length out.old + 9 ≤ 192 }
-        ensures { Does (swap_begun task old node) (step_with self.new result) out.old out.new }
+        ensures does { Does (swap_begun task old node) (step_with self.new result) out.old out.new }
+        ensures task { task_of (reconfig_of self.new) ≡ task }
+        ensures over { IfFinished result ⊥ }
     {
         if !old.members.as_slice().contains(&node) {
             return Progress::Refused(UnitRefusal::NotMember);
@@ -143,10 +153,13 @@ impl Reconfig {
         nodes: &[NodeLoad],
         out: &mut Outbox,
     ) -> Progress
+        requires own { task_of (reconfig_of self.old) ≡ task }
         requires task { IsTask task }
         requires count { count ≤ 7 }
         requires room { length out.old + 9 ≤ 192 }
-        ensures { Does (heal_placed task old (placement nodes.now count)) (step_with self.new result) out.old out.new }
+        ensures does { Does (heal_placed task old (placement nodes.now count)) (step_with self.new result) out.old out.new }
+        ensures task { task_of (reconfig_of self.new) ≡ task }
+        ensures over { IfFinished result ⊥ }
     {
         match place(nodes, count) {
             Ok(placed) => {
@@ -163,9 +176,12 @@ impl Reconfig {
 
     /// Lose: the node's replica promises, and goes on alone.
     fn lose(&mut self, task: Task, node: u16, out: &mut Outbox) -> Progress
+        requires own { task_of (reconfig_of self.old) ≡ task }
         requires task { IsTask task }
         requires room { length out.old + 9 ≤ 192 }
-        ensures { Does (lose_begun task node) (step_with self.new result) out.old out.new }
+        ensures does { Does (lose_begun task node) (step_with self.new result) out.old out.new }
+        ensures task { task_of (reconfig_of self.new) ≡ task }
+        ensures over { IfFinished result ⊥ }
     {
         let asked = [node];
         *self = Reconfig::Phase1(PromisePhase::new(task, &asked, members_of(&asked), node));
@@ -181,9 +197,12 @@ impl Reconfig {
         nodes: &[NodeLoad],
         out: &mut Outbox,
     ) -> Progress
+        requires own { task_of (reconfig_of self.old) ≡ task }
         requires task { IsTask task }
         requires room { length out.old + 9 ≤ 192 }
-        ensures { Does (prepared_as nodes.now task task.kind old) (step_with self.new result) out.old out.new }
+        ensures does { Does (prepared_as nodes.now task task.kind old) (step_with self.new result) out.old out.new }
+        ensures task { task_of (reconfig_of self.new) ≡ task }
+        ensures over { IfFinished result ⊥ }
     {
         match (task.kind, old) {
             (Kind::Create(_), Some(_)) => Progress::Refused(UnitRefusal::Exists),
@@ -205,11 +224,14 @@ impl Reconfig {
         standing: Standing,
         out: &mut Outbox,
     ) -> Progress
+        requires own { task_of (reconfig_of self.old) ≡ task }
         requires task { IsTask task }
         requires room { length out.old + 9 ≤ 192 }
-        ensures { Does (after_promise task (λ r. enters r old.now.members)
+        ensures does { Does (after_promise task (λ r. enters r old.now.members)
             (promised_with old.now.primary standing (asks_promises task old.now.members old.now.members primary)))
             (step_with self.new result) out.old out.new }
+        ensures task { task_of (reconfig_of self.new) ≡ task }
+        ensures over { IfFinished result ⊥ }
     {
         let asked = old.members.as_slice();
         let mut phase = PromisePhase::new(task, asked, old.members.copy(), primary);
