@@ -51,4 +51,15 @@ append_held epoch lsn bytes s e =
     (held (length s.log == 100000) LogFull s (Ok New, written entry s) (λ f. not_held s (written entry s) f))))
     e
 
-pub ruleset calls_stay = (activate_refused, append_held)
+stays : {A : Type 0} (b : Bool) (why : ReplicaRefusal) (s : Replica) (next : Outcome A) → next.1.log ≡ s.log → (unless b why s next).1.log ≡ s.log
+stays true why s next more = refl
+stays false why s next more = more
+
+-- an activation leaves the log
+pub activate_log : (me : ℕ) (config : Config) (s : Replica) → (activate_call me config s).1.log ≡ s.log
+activate_log me config s =
+    stays (is_older config.epoch s.promised) (Older s.promised) s _
+    (stays (not (is_member me config)) NotMember s _
+    (stays (not (same_epoch s.at config.epoch)) (Gap (length s.log)) s (Ok (role_of me config), record (raised config.epoch s) { role = role_of me config }) refl))
+
+pub ruleset calls_stay = (activate_refused, activate_log, append_held)

@@ -6,6 +6,7 @@
 //! a row does exactly what its rule says, and that want of memory changes nothing.
 #![tactic(auto)]
 
+mod activate;
 mod append;
 mod fetch;
 mod lead;
@@ -15,6 +16,7 @@ mod seat;
 mod send;
 mod sync;
 
+pub use activate::activate_received;
 pub use append::append_received;
 pub use fetch::fetch_received;
 pub use lead::{Lead, most_confirmed};

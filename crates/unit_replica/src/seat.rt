@@ -1,4 +1,5 @@
 ghost use Rattle.std.specs.Prelude.{◌≡◌, ◌≤◌, length};
+ghost use Rattle.replica_core.specs.Replicas.{IsSound};
 ghost use Rattle.unit_rules.specs.Seats.{first_seat, last_of};
 
 use crate::lead::Lead;
@@ -52,6 +53,7 @@ impl Seat {
 pub(crate) fn last_of(replica: &Replica) -> u32
     ensures last { result ≡ last_of replica.now }
     ensures few { result ≤ 100000 }
+    ensures sound { IsSound replica.now }
 {
     replica.log().len() as u32
 }
