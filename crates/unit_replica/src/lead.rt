@@ -1,0 +1,158 @@
+ghost use Rattle.std.specs.Prelude.{◌≡◌, ◌≤◌, if◌then◌else◌, length, map, max};
+ghost use Rattle.unit_rules.specs.Leads.{confirmed_by, confirmed_of, first_lead, is_confirmed, most_confirmed, peer_confirms};
+
+use arbiter_quorum::is_majority;
+use arrayvec::ArrayVec;
+use ring_points::Config;
+use std::marker::Model;
+use unit_rules::Peer;
+
+/// What a primary knows: of each other member, rising, and the last committed entry.
+#[derive(Drop)]
+pub struct Lead {
+    peers: ArrayVec<Peer, 7>,
+    committed: u32,
+}
+
+impl Model for Lead {
+    ghost use Rattle.std.specs.Prelude.{◌≤◌, length};
+    ghost use Rattle.unit_rules.specs.Seats.{Lead};
+
+    ghost Value = { Lead };
+
+    ghost view = { λ l. record { peers = l.peers.items; committed = l.committed } };
+
+    ghost invariant = { λ l. length l.peers.items ≤ 7 };
+}
+
+/// A member, once this node has its entries up to `last`: it is sent the next one. An entry that the primary has not is
+/// not confirmed.
+fn confirmed_peer(peer: Peer, node: u16, last: u32, own: u32) -> Peer
+    ensures { result ≡ peer_confirms node last own peer }
+{
+    if peer.node != node {
+        return peer;
+    }
+    let confirmed = if last <= own {
+        peer.confirmed.max(last)
+    } else {
+        peer.confirmed
+    };
+    Peer {
+        node,
+        confirmed,
+        next: u64::from(last) + 1,
+    }
+}
+
+/// The members, once this node has its entries up to `last`.
+fn confirmed_peers(peers: &[Peer], node: u16, last: u32, own: u32) -> ArrayVec<Peer, 7>
+    requires { length peers.now ≤ 7 }
+    ensures peers { result.items ≡ map (peer_confirms node last own) peers.now }
+    ensures few { length result.items ≤ 7 }
+{
+    let mut told = ArrayVec::new();
+    for peer in peers {
+        told.push(confirmed_peer(*peer, node, last, own));
+    }
+    told
+}
+
+/// Whether a majority has confirmed the entry.
+fn is_confirmed(confirmed: &[u32], lsn: u32) -> bool
+    requires { length confirmed.now ≤ 8 }
+    ensures { result ≡ is_confirmed confirmed.now lsn }
+{
+    let count = confirmed.iter().filter(|last| lsn <= **last).count();
+    is_majority(confirmed.len() as u8, count)
+}
+
+/// The greater of two entries, where a majority has confirmed the second.
+fn greater_confirmed(most: u32, confirmed: &[u32], lsn: u32) -> u32
+    requires { length confirmed.now ≤ 8 }
+    ensures { result ≡ (if is_confirmed confirmed.now lsn then max most lsn else most) }
+{
+    if is_confirmed(confirmed, lsn) {
+        most.max(lsn)
+    } else {
+        most
+    }
+}
+
+/// The greatest entry that a majority has confirmed, of what each member has confirmed.
+#[tactic(auto, using(crate::proofs::Confirmed::greatest_more))]
+pub fn most_confirmed(confirmed: &[u32]) -> u32
+    requires { length confirmed.now ≤ 8 }
+    ensures { result ≡ most_confirmed confirmed.now }
+{
+    let mut most = 0;
+    for lsn in confirmed {
+        most = greater_confirmed(most, confirmed, *lsn);
+    }
+    most
+}
+
+impl Lead {
+    /// At its activation a primary knows of no confirmed entry; all that it has is committed, and what comes next is
+    /// sent.
+    pub fn first(me: u16, config: &Config, last: u32) -> Self
+        requires { length config.now.members ≤ 7 }
+        ensures { result ≡ first_lead me config.now last }
+    {
+        let mut peers = ArrayVec::new();
+        for node in config.members.as_slice() {
+            if *node != me {
+                peers.push(Peer {
+                    node: *node,
+                    confirmed: 0,
+                    next: u64::from(last) + 1,
+                });
+            }
+        }
+        Lead {
+            peers,
+            committed: last,
+        }
+    }
+
+    /// The other members, rising.
+    pub fn peers(&self) -> &[Peer]
+        ensures peers { result.now ≡ self.now.peers }
+        ensures few { length result.now ≤ 7 }
+    {
+        self.peers.as_slice()
+    }
+
+    /// The last committed entry.
+    pub fn committed(&self) -> u32
+        ensures { result ≡ self.now.committed }
+    {
+        self.committed
+    }
+
+    /// A member says that it has its entries up to `last`; `own` is the primary's last entry.
+    pub fn confirm(&mut self, node: u16, last: u32, own: u32)
+        ensures { self.new ≡ confirmed_by node last own self.old }
+    {
+        self.peers = confirmed_peers(self.peers.as_slice(), node, last, own);
+    }
+
+    /// All entries up to this one are committed.
+    pub fn commit(&mut self, lsn: u32)
+        ensures { self.new ≡ record self.old { committed = lsn } }
+    {
+        self.committed = lsn;
+    }
+
+    /// The greatest entry that a majority of the members has confirmed, the primary with its last entry among them.
+    pub fn most_confirmed(&self, own: u32) -> u32
+        ensures { result ≡ most_confirmed (confirmed_of self.now own) }
+    {
+        let mut confirmed: ArrayVec<u32, 8> = ArrayVec::new();
+        confirmed.push(own);
+        for peer in self.peers.as_slice() {
+            confirmed.push(peer.confirmed);
+        }
+        most_confirmed(confirmed.as_slice())
+    }
+}

@@ -1,0 +1,91 @@
+ghost use Rattle.std.specs.Prelude.{◌≡◌, ◌≤◌, IfOk, OnErr};
+ghost use Rattle.replica_core.specs.Calls.{adopt_call};
+ghost use Rattle.unit_rules.specs.Copies.{copy_goes_on, is_wanted, piece_collected, piece_received};
+ghost use Rattle.unit_desk.specs.Desks.{Does, HasRoom, HasRoomFor, Left};
+
+use crate::seat::Seat;
+use crate::sync::{fetch_next, tell_adopted};
+use fabric_terms::{OutOfMemory, Payload, Record};
+use replica_core::{Entry, EntryBytes, Replica, ReplicaRefusal};
+use ring_points::Epoch;
+use std::alloc::Global;
+use unit_desk::Desk;
+use unit_rules::Taking;
+
+/// Whether an entry of this epoch and number is one of the Sync's log, which is not taken yet.
+fn is_wanted(taking: Taking, epoch: Epoch, lsn: u32, replica: &Replica) -> bool
+    ensures { result ≡ is_wanted taking epoch lsn replica.now }
+{
+    taking.epoch == epoch && replica.at() != epoch && 1 <= lsn && lsn <= taking.last
+}
+
+/// What follows an entry that was collected: with the last one the log is adopted, else the next is asked for.
+fn go_on(taking: Taking, lsn: u32, replica: &Replica, desk: &mut Desk)
+    requires { HasRoomFor 1 1 1 desk.old }
+    ensures { Left (copy_goes_on taking lsn replica.now) desk.old desk.new }
+{
+    if lsn == taking.last {
+        tell_adopted(replica.partition(), taking, false, desk);
+    } else {
+        fetch_next(taking, replica, desk);
+    }
+}
+
+/// The entry is collected, and the copy goes on. It is an error where memory is short, and then nothing is changed.
+fn collect(
+    taking: Taking,
+    entry: &Entry,
+    seat: &mut Seat,
+    desk: &mut Desk,
+) -> Result<(), OutOfMemory>
+    requires lsn { entry.now.lsn ≤ 100000 }
+    requires room { HasRoomFor 2 1 1 desk.old }
+    ensures does { IfOk result (λ _. Does (piece_collected taking entry.now seat.old (adopt_call taking.epoch entry.now taking.last seat.old.replica)) seat.new desk.old desk.new) }
+    ensures refused { OnErr result ((seat.new ≡ seat.old) × (desk.new ≡ desk.old)) }
+{
+    match seat.replica.adopt(taking.epoch, entry, taking.last) {
+        Ok(_) => {
+            desk.records.keep(Record::Incoming {
+                partition: seat.replica.partition(),
+                epoch: taking.epoch,
+                lsn: entry.lsn,
+                entry_epoch: entry.epoch,
+                text: Payload::from_slice(entry.bytes.as_slice()),
+            });
+            go_on(taking, entry.lsn, &seat.replica, desk);
+            Ok(())
+        }
+        Err(ReplicaRefusal::OutOfMemory) => Err(OutOfMemory),
+        Err(_) => Ok(()),
+    }
+}
+
+/// Piece: an entry of the Sync that was taken last is collected; with the last one, what is collected becomes the log.
+/// It is an error where memory is short, and then nothing is changed.
+#[tactic(auto, unfolding(unit_rules::specs::Copies::piece_received))]
+pub fn piece_received(
+    alloc: Global,
+    epoch: Epoch,
+    lsn: u32,
+    entry_epoch: Epoch,
+    text: &Payload,
+    seat: &mut Seat,
+    desk: &mut Desk,
+) -> Result<(), OutOfMemory>
+    requires { HasRoom desk.old }
+    ensures does { IfOk result (λ _. Does (piece_received epoch (record { epoch = entry_epoch; lsn = lsn; bytes = text.now }) seat.old) seat.new desk.old desk.new) }
+    ensures refused { OnErr result ((seat.new ≡ seat.old) × (desk.new ≡ desk.old)) }
+{
+    let Some(taking) = seat.taking else {
+        return Ok(());
+    };
+    if !is_wanted(taking, epoch, lsn, &seat.replica) {
+        return Ok(());
+    }
+    let entry = Entry {
+        epoch: entry_epoch,
+        lsn,
+        bytes: EntryBytes::from_slice(alloc, text.as_slice())?,
+    };
+    collect(taking, &entry, seat, desk)
+}

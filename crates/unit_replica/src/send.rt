@@ -1,0 +1,107 @@
+ghost use Rattle.std.specs.Prelude.{◌≡◌, ◌+◌, ◌≤◌, ◌∷◌, ◌++◌, ◌&&◌, [], flat_map, length, map, not};
+ghost use Rattle.ring_points.specs.Epochs.{is_older};
+ghost use Rattle.unit_rules.specs.Deeds.{frames_of};
+ghost use Rattle.unit_rules.specs.Leads.{is_primary};
+ghost use Rattle.unit_rules.specs.Seats.{entry_at};
+ghost use Rattle.unit_rules.specs.Writes.{append_to, entry_sent, seat_fired};
+
+use crate::fetch::entry_at;
+use crate::seat::Seat;
+use fabric_terms::{Body, Outbox, Payload};
+use replica_core::{Replica, Role};
+use ring_points::{Epoch, Who};
+use unit_rules::Peer;
+
+/// Whether a replica takes writes: it is a primary, and has promised nothing higher than its epoch.
+pub(crate) fn takes_writes(replica: &Replica) -> bool
+    ensures { result ≡ (is_primary replica.now.role && not (is_older replica.now.at replica.now.promised)) }
+{
+    replica.role() == Role::Primary && !(replica.at() < replica.promised())
+}
+
+/// A member is sent an entry.
+pub(crate) fn append_to(
+    epoch: Epoch,
+    replica: &Replica,
+    lsn: u32,
+    text: &[u8],
+    peer: &Peer,
+    out: &mut Outbox,
+)
+    requires room { length out.old + 1 ≤ 192 }
+    requires text { length text.now ≤ 512 }
+    ensures { out.new ≡ out.old ++ frames_of (append_to epoch replica.now lsn text.now peer.now ∷ []) }
+{
+    let to = Who {
+        actor: peer.node,
+        instance: 0,
+    };
+    let body = Body::Append {
+        partition: replica.partition(),
+        epoch,
+        lsn,
+        text: Payload::from_slice(text),
+    };
+    out.send(to, body);
+}
+
+/// Each of these members is sent the entry.
+pub(crate) fn append_to_all(
+    epoch: Epoch,
+    replica: &Replica,
+    lsn: u32,
+    text: &[u8],
+    peers: &[Peer],
+    out: &mut Outbox,
+)
+    requires room { length out.old + length peers.now ≤ 192 }
+    requires text { length text.now ≤ 512 }
+    ensures { out.new ≡ out.old ++ frames_of (map (append_to epoch replica.now lsn text.now) peers.now) }
+{
+    for peer in peers {
+        append_to(epoch, replica, lsn, text, peer, out);
+    }
+}
+
+/// A member is sent the entry that is next for it, where there is one.
+fn send_next(replica: &Replica, peer: &Peer, out: &mut Outbox)
+    requires room { length out.old + 1 ≤ 192 }
+    ensures sent { out.new ≡ out.old ++ frames_of (entry_sent replica.now peer.now (entry_at peer.now.next replica.now.log)) }
+    ensures one { length out.new ≤ length out.old + 1 }
+{
+    if let Some(entry) = entry_at(peer.next, replica.log()) {
+        append_to(
+            replica.at(),
+            replica,
+            peer.next as u32,
+            entry.bytes.as_slice(),
+            peer,
+            out,
+        );
+    }
+}
+
+/// Each of these members is sent the entry that is next for it, where there is one.
+#[tactic(auto, using(unit_desk::proofs::Deeds::deeds_append))]
+fn send_all_next(replica: &Replica, peers: &[Peer], out: &mut Outbox)
+    requires { length out.old + length peers.now ≤ 192 }
+    ensures { out.new ≡ out.old ++ frames_of (flat_map (λ p. entry_sent replica.now p (entry_at p.next replica.now.log)) peers.now) }
+{
+    for peer in peers {
+        send_next(replica, peer, out);
+    }
+}
+
+/// A firing: the primary sends each other member the entry that is next for it, where there is one.
+#[tactic(auto, unfolding(unit_rules::specs::Writes::seat_fired))]
+pub fn seat_fired(seat: &Seat, out: &mut Outbox)
+    requires { length out.old + 7 ≤ 192 }
+    ensures sent { out.new ≡ out.old ++ frames_of (seat_fired seat.now) }
+{
+    if !takes_writes(&seat.replica) {
+        return;
+    }
+    if let Some(lead) = &seat.lead {
+        send_all_next(&seat.replica, lead.peers(), out);
+    }
+}
