@@ -39,7 +39,8 @@ fn begin_role(
 {
     if role == Role::Primary {
         seat.lead = Some(Lead::first(me, config, last));
-        desk.told.tell(Report::IsPrimary(config.partition, config.epoch));
+        desk.told
+            .tell(Report::IsPrimary(config.partition, config.epoch));
     } else {
         seat.lead = None;
     }
@@ -47,18 +48,8 @@ fn begin_role(
 }
 
 /// Activate: the replica takes its role of a configuration. Where it has that role already, it only says so.
-#[tactic(
-    auto,
-    using(crate::proofs::Calls::calls_stay),
-    unfolding(unit_rules::specs::Activations::activate_received)
-)]
-pub fn activate_received(
-    me: u16,
-    asker: Who,
-    config: &Config,
-    seat: &mut Seat,
-    desk: &mut Desk,
-)
+#[tactic(auto, using(crate::proofs::Calls::calls_stay), unfolding(unit_rules::specs::Activations::activate_received))]
+pub fn activate_received(me: u16, asker: Who, config: &Config, seat: &mut Seat, desk: &mut Desk)
     requires few { length config.now.members ≤ 7 }
     requires room { HasRoom desk.old }
     ensures { Does (activate_received me asker config.now seat.old) seat.new desk.old desk.new }
