@@ -22,3 +22,5 @@ pub mod Losing
 pub mod Managing
 pub mod Elsewhere
 pub mod Parts
+pub mod Quiet
+pub mod Managers

@@ -83,7 +83,7 @@ known_changed p f units known =
 
 module _ {k : ℕ} (p : ℕ) (x : Who) (s : Managed) (w : World) (shows : ShowsManager w k p x s) (r : Reconfig) (is : at p s.reconfigs ≡ Some r) where
   -- what stands after a step
-  step_stands : (v : World) (n : ℕ) (step : Step) (deeds : List Deed) → ShowsStep v k p x (unit_of p s.units).highest n step → AllShown v p x deeds →
+  pub step_stands : (v : World) (n : ℕ) (step : Step) (deeds : List Deed) → ShowsStep v k p x (unit_of p s.units).highest n step → AllShown v p x deeds →
       ShowsManager v k p x (stands (task_of r) s step deeds).state × AllShown v p x (stands (task_of r) s step deeds).deeds
   step_stands v n (Stay q) deeds shown sent = (
     record {
@@ -204,7 +204,7 @@ module _ {k : ℕ} {w : World} (inv : Invariant (settings_to k) w) (p : ℕ) (x 
     shows_task = record { partition = refl; arbitrators = refl; is = is_epoch; some = let lt = above kind in omega arith; opens = opens kind is_epoch }
 
     -- it begins, the partition being known from then on
-    began : at p s.reconfigs ≡ None → (units : Table) → unit_of p units ≡ unit_of p s.units → is_some (at p units) ≡ true → ManagerWent k p w x (begins begins_as units s)
+    pub began : at p s.reconfigs ≡ None → (units : Table) → unit_of p units ≡ unit_of p s.units → is_some (at p units) ≡ true → ManagerWent k p w x (begins begins_as units s)
     began free units same known = (
       n,
       still_went inv (
@@ -237,7 +237,7 @@ module _ {k : ℕ} {w : World} (inv : Invariant (settings_to k) w) (p : ℕ) (x 
             to_reconfig (begun begins_as) shows_task phase (λ t m same. let le = none_yet t m same in let lt = above kind in omega arith) (λ u. none_yet)
 
   -- the partition enters the units with what was known of it
-  entered_same : (kind : Kind) (units : Table) → entered kind p s.units ≡ Ok units → (unit_of p units ≡ unit_of p s.units) × (is_some (at p units) ≡ true)
+  pub entered_same : (kind : Kind) (units : Table) → entered kind p s.units ≡ Ok units → (unit_of p units ≡ unit_of p s.units) × (is_some (at p units) ≡ true)
   entered_same kind units e = by kind e
     where
       changes : (f : KnownUnit → KnownUnit) → f (unit_of p s.units) ≡ unit_of p s.units → changed p f s.units ≡ Ok units →
