@@ -24,3 +24,6 @@ pub mod Elsewhere
 pub mod Parts
 pub mod Quiet
 pub mod Managers
+pub mod Firing
+pub mod Stepping
+pub mod Arbitrating
