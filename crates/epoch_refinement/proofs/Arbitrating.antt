@@ -1,8 +1,8 @@
 -- What an arbitrator answers, seen in all partitions.
-use Rattle.std.proofs.Common.{◌≡◌, ℕ, ◌<◌, Bool, true, false, cond, ◌==◌, List, [], ◌∷◌, ◌++◌, Option, None, Some, refl, sym, ap, ◌∙◌, subst}
+use Rattle.std.proofs.Common.{◌≡◌, ℕ, cond, [], ◌∷◌, ◌++◌, Option, None, Some, refl, sym, ap, ◌∙◌, subst}
 use Rattle.std.proofs.lemmas.Bool.{eq-eqb}
 use Rattle.std.specs.Prelude.{unwrap_or}
-use Rattle.fabric_lemmas.specs.Maps.{at, put}
+use Rattle.fabric_lemmas.specs.Maps.{at}
 use Rattle.fabric_lemmas.proofs.Maps.{at-put}
 use Rattle.ring_points.specs.declared.who.Who.{Who}
 use Rattle.fabric_terms.specs.declared.message.Body.{Body}
@@ -12,12 +12,11 @@ use Rattle.fabric_terms.specs.declared.record.Record.TheVariants.{PreparedBy, Vo
 use Rattle.epoch_machine.specs.World.{World, replaced}
 use Rattle.epoch_machine.specs.Invariant.{Invariant}
 use Rattle.epoch_machine.proofs.Replaced.{put_at, put_cases}
-use Rattle.unit_rules.specs.Deeds.{acted, still}
-use Rattle.unit_rules.specs.Registers.{Register, Registers, Reply, empty_register, register_of, register_after, changed, replied, replied_with, question_received, prepare_received, vote_received, done_received}
+use Rattle.unit_rules.specs.Deeds.{still}
+use Rattle.unit_rules.specs.Registers.{Register, Registers, Reply, empty_register, register_of, register_after, changed, replied, replied_with, prepare_received, vote_received, done_received}
 use Rattle.epoch_refinement.specs.Epochs.{settings_to}
-use Rattle.epoch_refinement.specs.Facts.{of_arbiter, Later}
 use Rattle.epoch_refinement.specs.Laws.{QuestionsAreDeeds}
-use Rattle.epoch_refinement.specs.Nodes.{Machines, ShowsArbiter, AllSent, Beyond, ArbiterRefined}
+use Rattle.epoch_refinement.specs.Nodes.{Machines, ShowsArbiter, Beyond, ArbiterRefined}
 use Rattle.epoch_refinement.specs.Registers.{ShowsRegister, recorded, IsRecordOf, RefinedReply}
 use Rattle.epoch_refinement.specs.Rows.{register_answers}
 use Rattle.epoch_refinement.specs.Shown.{partition_of, Shown}

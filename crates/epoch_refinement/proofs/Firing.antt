@@ -1,22 +1,20 @@
 -- A firing of a whole node: all that stands asks and sends again.
-use Rattle.std.proofs.Common.{◌≡◌, ℕ, ◌+◌, ◌<◌, ◌≤◌, Bool, true, false, cond, ◌&&◌, ◌==◌, nat_le, List, [], ◌∷◌, ◌++◌, Option, None, Some, refl, sym, ap, ◌∙◌, subst, inl, inr, arith}
+use Rattle.std.proofs.Common.{◌≡◌, ℕ, ◌+◌, ◌<◌, ◌≤◌, Bool, true, false, cond, ◌==◌, nat_le, List, [], ◌∷◌, ◌++◌, Option, None, Some, refl, sym, ap, ◌∙◌, subst, inl, inr, arith}
 use Rattle.std.proofs.lemmas.Bool.{and_parts, leb-true, eqb-true, eq-eqb}
 use Rattle.std.specs.Prelude.{unwrap_or, map}
 use Rattle.std.specs.List.{flat_map}
-use Rattle.fabric_lemmas.specs.Maps.{at, rises, rises_from}
+use Rattle.fabric_lemmas.specs.Maps.{at, rises_from}
 use Rattle.fabric_lemmas.specs.Members.{IsMember}
-use Rattle.ring_points.specs.declared.unit.Epoch.{Epoch}
 use Rattle.ring_points.specs.declared.who.Who.{Who}
 use Rattle.fabric_terms.specs.declared.message.Body.{Body}
 use Rattle.replica_core.specs.declared.entry.Entry.{Entry}
-use Rattle.replica_core.specs.Replicas.{Replica}
 use Rattle.epoch_machine.specs.World.{World}
 use Rattle.epoch_machine.specs.World as machine
 use Rattle.epoch_machine.specs.Invariant.{Invariant}
 use Rattle.unit_rules.specs.declared.lead.Peer.{Peer}
 use Rattle.unit_rules.specs.Deeds.{Deed, Keep, Send, Tell, acted, send_all}
 use Rattle.unit_rules.specs.Leads.{lead_of}
-use Rattle.unit_rules.specs.Questions.{question, awaited, asks, reconfig_fired}
+use Rattle.unit_rules.specs.Questions.{question, awaited, reconfig_fired}
 use Rattle.unit_rules.specs.Reconfigs.{Reconfig}
 use Rattle.unit_rules.specs.Seats.{Lead, Seat, first_seat, entry_at}
 use Rattle.unit_rules.specs.Steps.{Failover, fired}

@@ -1,7 +1,7 @@
 -- What a manager does, seen in all partitions.
-use Rattle.std.proofs.Common.{◌≡◌, ℕ, ◌<◌, Bool, true, false, List, [], ◌∷◌, Option, None, Some, Ok, Err, refl, sym, ap, ◌∙◌, subst}
+use Rattle.std.proofs.Common.{◌≡◌, ℕ, ◌<◌, Bool, true, false, List, Option, None, Some, Ok, Err, refl}
 use Rattle.std.specs.Prelude.{Result, not, is_some, if◌then◌else◌}
-use Rattle.fabric_lemmas.specs.Maps.{at, put}
+use Rattle.fabric_lemmas.specs.Maps.{at}
 use Rattle.fabric_lemmas.proofs.Maps.{rises-put}
 use Rattle.ring_points.specs.declared.unit.Epoch.{Epoch}
 use Rattle.ring_points.specs.declared.who.Who.{Who}
@@ -15,7 +15,7 @@ use Rattle.replica_place.specs.declared.load.NodeLoad.{NodeLoad}
 use Rattle.unit_rules.specs.declared.reconfig.Kind.{Kind}
 use Rattle.unit_rules.specs.Deeds.{still, refuse}
 use Rattle.unit_rules.specs.Epochs.{is_past_end}
-use Rattle.unit_rules.specs.Manager.{Managed, verb_of, reason_of, epoch_of, entered, task_commanded, begins, begins_in, stands_after, answer_for, manager_answered, reconfig_commanded}
+use Rattle.unit_rules.specs.Manager.{verb_of, reason_of, epoch_of, entered, task_commanded, begins, begins_in, stands_after, answer_for, manager_answered, reconfig_commanded}
 use Rattle.unit_rules.specs.Polls.{arbiters_to}
 use Rattle.unit_rules.specs.Reconfigs.{Reconfig, task_of}
 use Rattle.unit_rules.specs.Steps.{Failover, by_manager}
@@ -48,9 +48,11 @@ module _ {k : ℕ} {m : Machines} {x : Who} {s : Failover} (inv : (p : ℕ) → 
           let beside =
           stands_beside g.after k x (unit_of q s.managed.units).highest c.number q (task_of r) c.partition s.managed (answer_received nodes from.actor e b r).state
           (answer_received nodes from.actor e b r).deeds g.holds.0 in
-          manager_step inv shows q (stands_after (task_of r) s.managed (answer_received nodes from.actor e b r))
-          (c.number, went_map g (λ a. step_stands q x s.managed (m q) (shows.managers q) r i g.after c.number (answer_received nodes from.actor e b r).state
-          (answer_received nodes from.actor e b r).deeds a.0 a.1))
+          manager_step inv shows q (stands_after (task_of r) s.managed (answer_received nodes from.actor e b r)) (
+            c.number,
+            went_map g (λ a. step_stands q x s.managed (m q) (shows.managers q) r i g.after c.number (answer_received nodes from.actor e b r).state
+                (answer_received nodes from.actor e b r).deeds a.0 a.1),
+          )
           (λ p d. (beside.reconfigs p d, beside.units p d)) (beside.rises_on shows.reconfigs_rise)
           (λ w log a before.
           stands_quiet (task_of r) s.managed (answer_received nodes from.actor e b r).state (answer_received nodes from.actor e b r).deeds

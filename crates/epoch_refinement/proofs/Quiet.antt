@@ -1,7 +1,7 @@
 -- What a manager does tells the machines nothing, and leaves what it knows of other partitions.
-use Rattle.std.proofs.Common.{◌≡◌, ℕ, ◌<◌, Bool, true, false, cond, ◌==◌, List, [], ◌∷◌, ◌++◌, Option, None, Some, Ok, Err, refl, sym, ap, ◌∙◌, subst}
+use Rattle.std.proofs.Common.{◌≡◌, ℕ, Bool, true, false, cond, ◌==◌, List, [], ◌∷◌, Option, None, Some, Ok, Err, refl, sym, ap, ◌∙◌}
 use Rattle.std.proofs.lemmas.Bool.{eqb-true}
-use Rattle.std.specs.Prelude.{Result, not, is_some, map, if◌then◌else◌}
+use Rattle.std.specs.Prelude.{Result, is_some, map, if◌then◌else◌}
 use Rattle.fabric_lemmas.specs.Maps.{at, put, without, rises}
 use Rattle.fabric_lemmas.proofs.Maps.{at-put, at-without, rises-put, rises-without}
 use Rattle.ring_points.specs.declared.unit.Config.{Config}
@@ -12,7 +12,6 @@ use Rattle.ring_points.specs.Whos.{node_instance}
 use Rattle.arbiter_quorum.specs.Votes.{no_votes}
 use Rattle.ring_rules.specs.Rising.{rising}
 use Rattle.fabric_terms.specs.declared.message.Body.{Body}
-use Rattle.failover_units.specs.declared.refusal.UnitRefusal.{UnitRefusal}
 use Rattle.failover_units.specs.declared.refusal.UnitRefusal.TheVariants.{Exists, Full}
 use Rattle.failover_units.specs.declared.refusal.UnitRefusal.TheVariants as refusal
 use Rattle.failover_units.specs.declared.unit.KnownUnit.{KnownUnit}
@@ -29,13 +28,13 @@ use Rattle.unit_rules.specs.declared.reconfig.Kind.TheVariants.{Create, Swap, He
 use Rattle.unit_rules.specs.declared.reconfig.Standing.{Standing}
 use Rattle.unit_rules.specs.declared.reconfig.Task.{Task}
 use Rattle.unit_rules.specs.Choices.{is_among}
-use Rattle.unit_rules.specs.Deeds.{Deed, Acted, acted, still, send_all}
+use Rattle.unit_rules.specs.Deeds.{Deed, Acted, still, send_all}
 use Rattle.unit_rules.specs.Manager.{Managed, entered, table_or, stands}
 use Rattle.unit_rules.specs.Phases.{Choice, config_of, prepare_ends, swap_ends, promise_ends, vote_ends, copy_ends, done_ends, activate_ends, promised_with}
 use Rattle.unit_rules.specs.Polls.{poll_of, arbiters_to}
 use Rattle.unit_rules.specs.Questions.{question, asks}
 use Rattle.unit_rules.specs.Reconfigs.{Source, PreparePhase, SwapPhase, PromisePhase, VotePhase, CopyPhase, DonePhase, ActivatePhase, Reconfig, Prepare, Phase0, Phase1, Decide, Phase2, Phase3, Phase4, Step, Stay, Finished, Superseded, Refused, task_of}
-use Rattle.unit_rules.specs.Transitions.{stays, enters, proposes, first_of, source_by, create_placed, swap_begun, heal_placed, prepared_as, after_prepare, after_promise, after_swap, after_vote, after_copy, after_done, after_activate, asks_promises, goes_on, carried, answered_by, answer_received, is_refused}
+use Rattle.unit_rules.specs.Transitions.{stays, enters, proposes, first_of, source_by, create_placed, heal_placed, prepared_as, after_prepare, after_promise, after_swap, after_vote, after_copy, after_done, after_activate, asks_promises, goes_on, carried, answered_by, answer_received, is_refused}
 use Rattle.epoch_refinement.specs.Reconfigs.{ShowsStep}
 use Rattle.epoch_refinement.specs.Told.{tells_all}
 

@@ -1,8 +1,7 @@
 -- Each step of a whole node is deeds of the machines, and so is each answer of an arbitrator.
-use Rattle.std.proofs.Common.{◌≡◌, ℕ, ◌<◌, Bool, true, false, List, [], ◌∷◌, Option, None, Some, refl, sym, ap, ◌∙◌, subst, ◌⊎◌, ⊎_elim, arith}
+use Rattle.std.proofs.Common.{◌≡◌, ℕ, ◌<◌, Option, None, Some, refl, sym, ap, subst, ◌⊎◌, ⊎_elim, arith}
 use Rattle.std.specs.Prelude.{unwrap_or}
 use Rattle.fabric_lemmas.specs.Maps.{at}
-use Rattle.ring_points.specs.declared.interval.Interval.{Interval}
 use Rattle.ring_points.specs.declared.unit.Config.{Config}
 use Rattle.ring_points.specs.declared.unit.Epoch.{Epoch}
 use Rattle.ring_points.specs.declared.who.Who.{Who}
@@ -13,7 +12,6 @@ use Rattle.fabric_terms.specs.declared.message.Body.TheVariants as body
 use Rattle.fabric_terms.specs.declared.message.Message.{Message}
 use Rattle.fabric_terms.specs.declared.report.Reason.TheVariants as reason
 use Rattle.fabric_terms.specs.declared.report.Verb.TheVariants as verb
-use Rattle.ring_rules.specs.declared.input.Input.{Input}
 use Rattle.ring_rules.specs.declared.input.Input.TheVariants as input
 use Rattle.ring_rules.specs.Owns.{holds_point}
 use Rattle.ring_rules.specs.Rings.{Ring}
@@ -26,7 +24,7 @@ use Rattle.unit_rules.specs.Deeds.{Acted, still, refuse}
 use Rattle.unit_rules.specs.Loads.{Site, loads}
 use Rattle.unit_rules.specs.Manager.{reconfig_commanded}
 use Rattle.unit_rules.specs.Seats.{Seat, first_seat}
-use Rattle.unit_rules.specs.Steps.{Failover, by_manager, at_seat, at_found, at_standing, answer, frame_row, manage, list_units, command_row, failover_step}
+use Rattle.unit_rules.specs.Steps.{Failover, by_manager, at_seat, at_found, at_standing, answer, frame_row, manage, command_row, failover_step}
 use Rattle.unit_rules.specs.Writes.{appended_received, write_commanded}
 use Rattle.epoch_refinement.specs.Epochs.{settings_to}
 use Rattle.epoch_refinement.specs.Laws.{StepsAreDeeds}

@@ -1,5 +1,5 @@
 -- A whole node, with its manager and its replicas, on the machines of all partitions.
-use Rattle.std.specs.Prelude.{◌≡◌, ℕ, ◌<◌, Bool, true, false, cond, ◌==◌, List, [], ◌∷◌, unwrap_or, ◌⊎◌}
+use Rattle.std.specs.Prelude.{◌≡◌, ℕ, Bool, true, false, cond, ◌==◌, List, [], ◌∷◌, unwrap_or, ◌⊎◌}
 use Rattle.fabric_lemmas.specs.Maps.{at, rises}
 use Rattle.ring_points.specs.declared.who.Who.{Who}
 use Rattle.fabric_terms.specs.declared.message.Message.{Message}
