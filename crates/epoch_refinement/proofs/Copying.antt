@@ -1,4 +1,4 @@
--- The rows of Fetch and Piece.
+-- The row of Piece.
 use Rattle.std.proofs.Common.{◌≡◌, ℕ, zero, suc, ◌+◌, ◌-◌, ◌<◌, ◌≤◌, Bool, true, false, cond, ◌==◌, ◌&&◌, nat_le, List, [], ◌∷◌, ◌++◌, length, Option, None, Some, ◌⊎◌, Ok, refl, sym, ap, ◌∙◌, subst, inl, inr, arith}
 use Rattle.std.proofs.lemmas.Bool.{eqb-true, leb-true, and_parts, both_ways, not-true}
 use Rattle.std.proofs.lemmas.List.{length-append}
@@ -40,55 +40,9 @@ use Rattle.epoch_refinement.proofs.Doing.{after_refined, nothing_refined, not_pr
 use Rattle.epoch_refinement.proofs.Numbers.{older_not, same_not, below_older, same_epoch-true, one_epoch, older_self}
 use Rattle.epoch_refinement.proofs.Lasting.{deed_later, later_refl, sync_later}
 use Rattle.epoch_refinement.proofs.Promising.{shows_later, numbered_none, numbered_push}
-use Rattle.epoch_refinement.proofs.Syncing.{Adopts, adopts}
-
-place_found : (log : List Entry) (n : ℕ) (x : Entry) → slice_get log n ≡ Some x → IsAt log n x
-place_found [] n x h = absurd (cc (h))
-place_found (y ∷ ys) zero x h = cc
-place_found (y ∷ ys) (suc n) x h = place_found ys n x h
-
-pub entry_found : (lsn : ℕ) (log : List Entry) (x : Entry) → entry_at lsn log ≡ Some x → (place : ℕ) × (lsn ≡ place + 1) × IsAt log place x
-entry_found lsn log x h = go (nat_le 1 lsn) refl h
-  where
-    go : (b : Bool) → nat_le 1 lsn ≡ b → (if b then slice_get log (lsn - 1) else None) ≡ Some x → (place : ℕ) × (lsn ≡ place + 1) × IsAt log place x
-    go true i h = (lsn - 1, let le = leb-true 1 lsn i in omega arith, place_found log (lsn - 1) x h)
-    go false i h = absurd (cc (h))
+use Rattle.epoch_refinement.proofs.Adopting.{Adopts, adopts}
 
 module _ {c : Settings} {w : World} (inv : Invariant c w) (p : ℕ) (me : Who) (s : Seat) (shows : ShowsSeat w p me.actor s) where
-  pub fetch_refines : (from : Who) (e : Epoch) (lsn : ℕ) → ShownFetch w e me.actor → Refined c w p me (fetch_received from e lsn s)
-  unfolding fetch_received
-  fetch_refines from e lsn fetch = go (same_epoch s.replica.promised e) refl (entry_at lsn s.replica.log) refl
-    where
-      go : (same : Bool) → same_epoch s.replica.promised e ≡ same → (o : Option Entry) → entry_at lsn s.replica.log ≡ o →
-          Refined c w p me (if same then entry_given from e s o else still s)
-      go false h o i = nothing_refined inv shows
-      go true h None i = nothing_refined inv shows
-      go true h (Some x) i =
-          let found = entry_found lsn s.replica.log x i in
-          let promised : IsEpoch (w.promised me.actor) e = subst (IsEpoch (w.promised me.actor)) (same_epoch-true s.replica.promised e h) shows.promised in
-          let is = fetch.epoch in
-          let can : Can c w (SendsPiece me.actor found.0 fetch.plan x) =
-          (fetch.synced, fetch.origin_is, promised.is ∙ sym is.is, subst (λ l. IsAt l found.0 x) (sym shows.log) found.2) in
-          record {
-            after = after w (SendsPiece me.actor found.0 fetch.plan x);
-            inv = deed_keeps inv (SendsPiece me.actor found.0 fetch.plan x) can;
-            later = deed_later w (SendsPiece me.actor found.0 fetch.plan x);
-            shows = shows_later (deed_later w (SendsPiece me.actor found.0 fetch.plan x)) refl refl refl refl refl shows;
-            sent = (
-              shows.partition,
-              record {
-                epoch = fetch.plan.epoch;
-                place = found.0;
-                epoch_is = fetch.epoch;
-                place_is = shows.numbered.lsn found.0 x found.2;
-                small = shows.numbered.small found.0 x found.2;
-                sent = inl refl;
-              },
-              tt,
-            );
-            told = refl;
-          }
-
   -- an entry of the Sync last taken
   module _ (t : Taking) (is_taken : s.taking ≡ Some t) (e : Epoch) (x : Entry) (piece : ShownPiece w e x) (same : same_epoch t.epoch e ≡ true)
       (not_at : same_epoch s.replica.at t.epoch ≡ false) (not_older : is_older t.epoch s.replica.promised ≡ false)

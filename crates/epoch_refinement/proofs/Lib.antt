@@ -2,7 +2,9 @@ pub mod Numbers
 pub mod Lasting
 pub mod Doing
 pub mod Promising
+pub mod Adopting
 pub mod Syncing
+pub mod Fetching
 pub mod Copying
 pub mod Appending
 pub mod Activating
@@ -19,6 +21,7 @@ pub mod Proposing
 pub mod Deciding
 pub mod Answering
 pub mod Losing
+pub mod Knowing
 pub mod Managing
 pub mod Elsewhere
 pub mod Parts

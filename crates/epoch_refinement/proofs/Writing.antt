@@ -41,7 +41,7 @@ use Rattle.epoch_refinement.specs.Seats.{ShowsSeat, ShowsLead}
 use Rattle.epoch_refinement.specs.Shown.{ShownAppend}
 use Rattle.epoch_refinement.specs.Told.{tells_all}
 use Rattle.epoch_refinement.proofs.Committing.{lead_epoch, committed_refines}
-use Rattle.epoch_refinement.proofs.Copying.{entry_found}
+use Rattle.epoch_refinement.proofs.Fetching.{entry_found}
 use Rattle.epoch_refinement.proofs.Doing.{after_refined, nothing_refined}
 use Rattle.epoch_refinement.proofs.Numbers.{one_epoch, real}
 use Rattle.epoch_refinement.proofs.Lasting.{deed_later, later_refl, later_trans, sync_later, lead_longer, all_shown_later}
