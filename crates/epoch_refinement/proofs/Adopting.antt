@@ -1,45 +1,29 @@
 -- A log that is adopted, in a world where its epoch is promised.
-use Rattle.std.proofs.Common.{◌≡◌, ℕ, ◌<◌, ◌≤◌, Bool, true, false, cond, ◌&&◌, ◌||◌, ◌==◌, List, [], ◌∷◌, length, Some, Ok, refl, sym, ap, ◌∙◌, subst, inl, arith}
-use Rattle.std.proofs.lemmas.Bool.{eqb-true, eqb-false, and_parts}
+use Rattle.std.proofs.Common.{◌≡◌, ℕ, ◌<◌, ◌≤◌, Bool, true, false, ◌==◌, List, length, refl, sym, ◌∙◌, subst, inl, arith}
 use Rattle.std.specs.Prelude.{if◌then◌else◌}
-use Rattle.ring_points.specs.declared.unit.Epoch.{Epoch}
 use Rattle.ring_points.specs.declared.who.Who.{Who}
-use Rattle.ring_points.specs.Epochs.{is_older, same_epoch}
-use Rattle.fabric_terms.specs.declared.message.Body.TheVariants as body
-use Rattle.fabric_terms.specs.declared.record.Record.TheVariants as kept
-use Rattle.fabric_terms.specs.declared.report.Report.TheVariants as report
 use Rattle.replica_core.specs.declared.entry.Entry.{Entry}
-use Rattle.replica_core.specs.declared.refusal.Done.TheVariants.{New}
-use Rattle.replica_core.specs.declared.refusal.ReplicaRefusal.TheVariants.{Older}
-use Rattle.replica_core.specs.declared.role.Role.{Role}
-use Rattle.replica_core.specs.declared.role.Role.TheVariants.{None as NoRole, IdleSecondary, ActiveSecondary, Primary}
-use Rattle.replica_core.specs.Roles.{demoted, is_idle}
-use Rattle.replica_core.specs.Replicas.{Replica, raised, adopted}
-use Rattle.replica_core.specs.Calls.{Outcome, unless, held_if, adopt_own_call, idle_call}
-use Rattle.replica_core.specs.Calls as call
 use Rattle.epoch_machine.specs.Settings.{Settings}
-use Rattle.epoch_machine.specs.World.{World, TellsPromised, replaced}
-use Rattle.epoch_machine.specs.Deeds.{RaisesPromise, AdoptsNothing, AdoptsOwn, SaysAdopted}
-use Rattle.epoch_machine.specs.Guards.{MayAdopt, Can}
+use Rattle.epoch_machine.specs.World.{World, replaced}
+use Rattle.epoch_machine.specs.Deeds.{SaysAdopted}
+use Rattle.epoch_machine.specs.Guards.{MayAdopt}
 use Rattle.epoch_machine.specs.Effects.{adopting, after}
 use Rattle.epoch_machine.specs.Invariant.{Invariant}
 use Rattle.epoch_machine.proofs.Replaced.{put_at}
 use Rattle.epoch_machine.proofs.Histories.{deed_keeps}
 use Rattle.unit_rules.specs.declared.lead.Taking.{Taking}
-use Rattle.unit_rules.specs.Copies.{adoption, nothing_adopted, log_adopted, fetch_next, own_adopted, copy_begun, sync_taken, sync_answered, sync_received}
-use Rattle.unit_rules.specs.Deeds.{Keep, Send, Tell, acted}
+use Rattle.unit_rules.specs.Copies.{adoption, nothing_adopted, log_adopted}
+use Rattle.unit_rules.specs.Deeds.{acted}
 use Rattle.unit_rules.specs.Leads.{is_primary}
-use Rattle.unit_rules.specs.Seats.{Seat, seated}
+use Rattle.unit_rules.specs.Seats.{Seat}
 use Rattle.epoch_refinement.specs.Epochs.{IsEpoch}
 use Rattle.epoch_refinement.specs.Facts.{of_node, is_adopted, Has, Later}
 use Rattle.epoch_refinement.specs.Refined.{AllShown, Refined}
 use Rattle.epoch_refinement.specs.Seats.{IsNumbered, ShowsSeat}
 use Rattle.epoch_refinement.specs.Shown.{ShownSync}
 use Rattle.epoch_refinement.specs.Told.{tells_all}
-use Rattle.epoch_refinement.proofs.Doing.{after_refined, nothing_refined, not_primary}
-use Rattle.epoch_refinement.proofs.Numbers.{real, same_not, same_epoch-true, older_self}
-use Rattle.epoch_refinement.proofs.Lasting.{deed_later, later_refl, later_trans, sync_later}
-use Rattle.epoch_refinement.proofs.Promising.{raised_shows, shows_later, numbered_none, promise_above}
+use Rattle.epoch_refinement.proofs.Doing.{not_primary}
+use Rattle.epoch_refinement.proofs.Lasting.{deed_later, later_trans, sync_later}
 
 -- what is adopted is told to who asked, whether it is empty or not
 

@@ -45,14 +45,20 @@ here q rs (Some (PreparedBy r epoch preparer)) h =
     subst (λ r. register_of q (register_after rs (PreparedBy r epoch preparer)) ≡ recorded (register_of q rs) (Some (PreparedBy r epoch preparer))) (sym h)
     (changed_here q (λ r. record r { prepared = Some (record { epoch = epoch; preparer = preparer }) }) rs)
 here q rs (Some (VotedFor config)) h =
-    ap (λ z. register_of q (changed z (λ r. record r { votes = r.votes ++ config ∷ [] }) rs)) h ∙ changed_here q (λ r. record r { votes = r.votes ++ config ∷ [] }) rs
+    ap (λ z. register_of q (changed z (λ r. record r { votes = r.votes ++ config ∷ [] }) rs)) h ∙
+    changed_here q (λ r. record r { votes = r.votes ++ config ∷ [] }) rs
 here q rs (Some (DoneFor config)) h =
     ap (λ z. register_of q (changed z (λ r. record r { done = Some config }) rs)) h ∙ changed_here q (λ r. record r { done = Some config }) rs
 here q rs (Some r) h = absurd h
 
 there : (p q : ℕ) (rs : Registers) (o : Option Record) → IsRecordOf q o → (q ≡ p → ⊥) → register_of p (kept_in rs o) ≡ register_of p rs
 there p q rs None h d = refl
-there p q rs (Some (PreparedBy r epoch preparer)) h d = changed_there p r (λ r. record r { prepared = Some (record { epoch = epoch; preparer = preparer }) }) rs (λ e. d (sym h ∙ e))
+there p q rs (Some (PreparedBy r epoch preparer)) h d = changed_there p r (λ r. record r {
+  prepared = Some (record {
+    epoch = epoch;
+    preparer = preparer;
+  });
+}) rs (λ e. d (sym h ∙ e))
 there p q rs (Some (VotedFor config)) h d = changed_there p config.partition (λ r. record r { votes = r.votes ++ config ∷ [] }) rs (λ e. d (sym h ∙ e))
 there p q rs (Some (DoneFor config)) h d = changed_there p config.partition (λ r. record r { done = Some config }) rs (λ e. d (sym h ∙ e))
 there p q rs (Some r) h d = absurd h
@@ -100,11 +106,24 @@ module _ {k : ℕ} {m : Machines} (inv : (p : ℕ) → Invariant (settings_to k)
 
       go : (o : Option Record) → r.kept ≡ o → ArbiterRefined k m me (replied_with from rs o r.body)
       go None i =
-          record { after = replaced m q g.after; beyond = beyond; shows = subst (λ o. ShowsArbiter (replaced m q g.after) me.actor (kept_in rs o)) i shows_now; sent = (sent, tt); told = told }
+          record {
+            after = replaced m q g.after;
+            beyond = beyond;
+            shows = subst (λ o. ShowsArbiter (replaced m q g.after) me.actor (kept_in rs o)) i shows_now;
+            sent = (sent, tt);
+            told = told;
+          }
       go (Some z) i =
-          record { after = replaced m q g.after; beyond = beyond; shows = subst (λ o. ShowsArbiter (replaced m q g.after) me.actor (kept_in rs o)) i shows_now; sent = (sent, tt); told = told }
+          record {
+            after = replaced m q g.after;
+            beyond = beyond;
+            shows = subst (λ o. ShowsArbiter (replaced m q g.after) me.actor (kept_in rs o)) i shows_now;
+            sent = (sent, tt);
+            told = told;
+          }
 
-  asked : (to : Who) (b : Body) (r : Reply) → Shown (m (partition_of b)) (partition_of b) from to b → register_answers from b (register_of (partition_of b) rs) ≡ Some r →
+  asked : (to : Who) (b : Body) (r : Reply) → Shown (m (partition_of b)) (partition_of b) from to b →
+      register_answers from b (register_of (partition_of b) rs) ≡ Some r →
       ArbiterRefined k m me (replied from rs (Some r))
   asked to b r shown is =
       replies (partition_of b) r

@@ -1,46 +1,30 @@
 -- The row of Fetch.
-use Rattle.std.proofs.Common.{◌≡◌, ℕ, zero, suc, ◌+◌, ◌-◌, ◌<◌, ◌≤◌, Bool, true, false, cond, ◌==◌, ◌&&◌, nat_le, List, [], ◌∷◌, ◌++◌, length, Option, None, Some, ◌⊎◌, Ok, refl, sym, ap, ◌∙◌, subst, inl, inr, arith}
-use Rattle.std.proofs.lemmas.Bool.{eqb-true, leb-true, and_parts, both_ways, not-true}
-use Rattle.std.proofs.lemmas.List.{length-append}
-use Rattle.std.specs.Prelude.{slice_get, not, if◌then◌else◌}
-use Rattle.fabric_lemmas.specs.Members.{IsMember}
+use Rattle.std.proofs.Common.{◌≡◌, ℕ, zero, suc, ◌+◌, ◌-◌, Bool, true, false, nat_le, List, [], ◌∷◌, Option, None, Some, refl, sym, ◌∙◌, subst, inl, arith}
+use Rattle.std.proofs.lemmas.Bool.{leb-true}
+use Rattle.std.specs.Prelude.{slice_get, if◌then◌else◌}
 use Rattle.ring_points.specs.declared.unit.Epoch.{Epoch}
 use Rattle.ring_points.specs.declared.who.Who.{Who}
-use Rattle.ring_points.specs.Epochs.{is_older, same_epoch}
+use Rattle.ring_points.specs.Epochs.{same_epoch}
 use Rattle.replica_core.specs.declared.entry.Entry.{Entry}
-use Rattle.replica_core.specs.declared.refusal.Done.TheVariants.{New, Held}
-use Rattle.replica_core.specs.declared.refusal.ReplicaRefusal.TheVariants.{Older, Gap}
-use Rattle.replica_core.specs.Replicas.{Replica, raised, settled, collected_in}
-use Rattle.replica_core.specs.Roles.{demoted}
-use Rattle.replica_core.specs.declared.refusal.Done.{Done}
-use Rattle.replica_core.specs.Calls.{Outcome, unless, held_if, is_gap, is_collected, collected_call}
-use Rattle.epoch_machine.specs.Epochs.{number_of}
 use Rattle.epoch_machine.specs.Logs.{IsAt}
-use Rattle.epoch_machine.specs.Messages.{Piece}
 use Rattle.epoch_machine.specs.Settings.{Settings}
 use Rattle.epoch_machine.specs.World.{World}
-use Rattle.epoch_machine.specs.Deeds.{SendsPiece, Collects, AdoptsCollected}
-use Rattle.epoch_machine.specs.Guards.{MayAdopt, Can}
+use Rattle.epoch_machine.specs.Deeds.{SendsPiece}
+use Rattle.epoch_machine.specs.Guards.{Can}
 use Rattle.epoch_machine.specs.Effects.{after}
 use Rattle.epoch_machine.specs.Invariant.{Invariant}
-use Rattle.epoch_machine.proofs.Replaced.{put_at}
 use Rattle.epoch_machine.proofs.Histories.{deed_keeps}
-use Rattle.unit_rules.specs.declared.lead.Taking.{Taking}
-use Rattle.unit_rules.specs.Copies.{entry_given, fetch_received, fetch_next, adoption, piece_collected, is_wanted, piece_for, piece_received}
-use Rattle.unit_rules.specs.Deeds.{Keep, acted, still}
-use Rattle.unit_rules.specs.Leads.{is_primary}
-use Rattle.unit_rules.specs.Seats.{Seat, seated, entry_at}
-use Rattle.fabric_terms.specs.declared.record.Record.TheVariants as kept
+use Rattle.unit_rules.specs.Copies.{entry_given, fetch_received}
+use Rattle.unit_rules.specs.Deeds.{still}
+use Rattle.unit_rules.specs.Seats.{Seat, entry_at}
 use Rattle.epoch_refinement.specs.Epochs.{IsEpoch}
-use Rattle.epoch_refinement.specs.Facts.{of_node, Later}
 use Rattle.epoch_refinement.specs.Refined.{Refined}
-use Rattle.epoch_refinement.specs.Seats.{IsNumbered, ShowsSeat}
-use Rattle.epoch_refinement.specs.Shown.{ShownSync, ShownFetch, ShownPiece}
-use Rattle.epoch_refinement.proofs.Doing.{after_refined, nothing_refined, not_primary}
-use Rattle.epoch_refinement.proofs.Numbers.{older_not, same_not, below_older, same_epoch-true, one_epoch, older_self}
-use Rattle.epoch_refinement.proofs.Lasting.{deed_later, later_refl, sync_later}
-use Rattle.epoch_refinement.proofs.Promising.{shows_later, numbered_none, numbered_push}
-use Rattle.epoch_refinement.proofs.Adopting.{Adopts, adopts}
+use Rattle.epoch_refinement.specs.Seats.{ShowsSeat}
+use Rattle.epoch_refinement.specs.Shown.{ShownFetch}
+use Rattle.epoch_refinement.proofs.Doing.{nothing_refined}
+use Rattle.epoch_refinement.proofs.Numbers.{same_epoch-true}
+use Rattle.epoch_refinement.proofs.Lasting.{deed_later}
+use Rattle.epoch_refinement.proofs.Promising.{shows_later}
 
 place_found : (log : List Entry) (n : ℕ) (x : Entry) → slice_get log n ≡ Some x → IsAt log n x
 place_found [] n x h = absurd (cc (h))

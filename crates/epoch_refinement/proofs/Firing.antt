@@ -120,11 +120,13 @@ sent_join m x (Keep r ∷ ds) es a b = sent_join m x ds es a b
 sent_join m x (Send to y ∷ ds) es a b = (a.0, sent_join m x ds es a.1 b)
 sent_join m x (Tell r ∷ ds) es a b = sent_join m x ds es a b
 
-flat_sent : {X : Type 0} (m : Machines) (x : Who) (f : X → List Deed) (xs : List X) → ((e : X) → IsMember e xs → AllSent m x (f e)) → AllSent m x (flat_map f xs)
+flat_sent : {X : Type 0} (m : Machines) (x : Who) (f : X → List Deed) (xs : List X) → ((e : X) → IsMember e xs → AllSent m x (f e)) →
+    AllSent m x (flat_map f xs)
 flat_sent m x f [] each = tt
 flat_sent m x f (e ∷ es) each = sent_join m x (f e) (flat_map f es) (each e (inl refl)) (flat_sent m x f es (λ d i. each d (inr i)))
 
-module _ {k : ℕ} {m : Machines} {x : Who} {s : Failover} (inv : (p : ℕ) → Invariant (settings_to k) (m p)) (shows : ShowsNode k m x s) (me : 0 < x.instance) where
+module _ {k : ℕ} {m : Machines} {x : Who} {s : Failover} (inv : (p : ℕ) → Invariant (settings_to k) (m p)) (shows : ShowsNode k m x s)
+    (me : 0 < x.instance) where
   part : (p : ℕ) → Refined (settings_to k) (m p) p x (acted (seat_at p s) (seat_fired (seat_at p s)))
   part p = fire_refines (inv p) p x (seat_at p s) (shows.seats p)
 

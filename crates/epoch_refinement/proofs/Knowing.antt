@@ -1,45 +1,18 @@
 -- What a manager knows of a partition, after a change.
-use Rattle.std.proofs.Common.{◌≡◌, ℕ, ◌<◌, ◌≤◌, Bool, true, false, cond, nat_lt, nat_le, List, length, Option, None, Some, Ok, Err, refl, sym, ap, ◌∙◌, subst, arith}
-use Rattle.std.proofs.lemmas.Bool.{ltb-false, or_parts, and_left, eq-eqb}
-use Rattle.std.specs.Prelude.{Result, not, is_some, unwrap_or, if◌then◌else◌}
+use Rattle.std.proofs.Common.{◌≡◌, ℕ, ◌<◌, ◌≤◌, Bool, true, false, cond, nat_le, List, length, None, Some, Ok, Err, refl, ap, ◌∙◌, arith}
+use Rattle.std.proofs.lemmas.Bool.{and_left, eq-eqb}
+use Rattle.std.specs.Prelude.{not, is_some, unwrap_or}
 use Rattle.fabric_lemmas.specs.Maps.{at, put, without}
 use Rattle.fabric_lemmas.proofs.Maps.{at-put, at-without}
 use Rattle.ring_points.specs.declared.unit.Epoch.{Epoch}
-use Rattle.ring_points.specs.declared.who.Who.{Who}
 use Rattle.ring_points.specs.Epochs.{is_older}
-use Rattle.fabric_terms.specs.declared.message.Body.{Body}
-use Rattle.failover_units.specs.declared.refusal.UnitRefusal.{UnitRefusal}
-use Rattle.failover_units.specs.declared.refusal.UnitRefusal.TheVariants.{Exists, Full}
+use Rattle.failover_units.specs.declared.refusal.UnitRefusal.TheVariants.{Full}
 use Rattle.failover_units.specs.declared.unit.KnownUnit.{KnownUnit}
-use Rattle.failover_units.specs.Units.{Table, unit_of, greater, seen_at, noted, is_full_for, changed}
-use Rattle.token_core.specs.Tokens.{last_number}
+use Rattle.failover_units.specs.Units.{Table, unit_of, greater, is_full_for, changed}
 use Rattle.replica_core.specs.Replicas.{first_epoch}
 use Rattle.epoch_machine.specs.Epochs.{number_of}
-use Rattle.epoch_machine.specs.Settings.{Opens}
-use Rattle.epoch_machine.specs.World.{World}
-use Rattle.epoch_machine.specs.Invariant.{Invariant}
-use Rattle.replica_place.specs.declared.load.NodeLoad.{NodeLoad}
-use Rattle.unit_rules.specs.declared.reconfig.Kind.{Kind}
-use Rattle.unit_rules.specs.declared.reconfig.Kind.TheVariants.{Create, Swap, Heal, Lose}
-use Rattle.unit_rules.specs.declared.reconfig.Task.{Task}
-use Rattle.fabric_terms.specs.declared.report.Reason.TheVariants as reason
-use Rattle.unit_rules.specs.Deeds.{Deed, refuse}
-use Rattle.unit_rules.specs.Epochs.{epoch_after_loss, is_past_end}
-use Rattle.unit_rules.specs.Manager.{Managed, verb_of, epoch_of, entered, task, task_commanded, begins, begins_in, reconfig_commanded, table_or, stands, answer_for, manager_answered}
-use Rattle.unit_rules.specs.Polls.{arbiters_to}
-use Rattle.unit_rules.specs.Questions.{awaited, reconfig_fired}
-use Rattle.unit_rules.specs.Reconfigs.{Reconfig, Step, Stay, Finished, Superseded, Refused, task_of}
-use Rattle.unit_rules.specs.Transitions.{begun, answer_received}
-use Rattle.epoch_refinement.specs.Epochs.{IsEpoch, settings_to}
-use Rattle.epoch_refinement.specs.Reconfigs.{is_lose, NoneAbove, ShowsPhase, ShowsTask, ShowsReconfig, ShowsManager, ShowsStep, IsAnswerOf, ManagerWent}
-use Rattle.epoch_refinement.specs.Laws.{ManagerAnswersAreDeeds, CommandsAreDeeds, QuestionsAreShown}
-use Rattle.epoch_refinement.specs.Refined.{AllShown}
-use Rattle.epoch_refinement.specs.Shown.{Shown}
-use Rattle.epoch_refinement.proofs.Answering.{answer_refines}
-use Rattle.epoch_refinement.proofs.Asking.{to_reconfig, task_shown, asks_shown, still_went, went_map}
-use Rattle.epoch_refinement.proofs.Losing.{first_opens}
+use Rattle.unit_rules.specs.Manager.{table_or}
 use Rattle.epoch_refinement.proofs.Numbers.{number_older_below, number_older_not}
-use Rattle.epoch_refinement.proofs.Polls.{asked_all, none_answered}
 
 -- what is put at a number is there
 pub at_put : {X : Type 0} (p : ℕ) (x : X) (es : List (ℕ × X)) → at p (put p x es) ≡ Some x
@@ -68,7 +41,8 @@ pub greater_first : (a : Epoch) → a.configuration < 4294967296 → greater a f
 greater_first a x = go (is_older a first_epoch) refl
   where
     go : (t : Bool) → is_older a first_epoch ≡ t → cond t first_epoch a ≡ a
-    go true h = absurd (let lt = number_older_below a first_epoch (record { small = x; is = refl }) (record { small = omega arith; is = refl }) h in omega arith)
+    go true h = absurd (let lt = number_older_below a first_epoch (record { small = x; is = refl }) (record { small = omega arith; is = refl }) h in
+        omega arith)
     go false h = refl
 
 -- a known partition that changes

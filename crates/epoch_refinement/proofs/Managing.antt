@@ -1,17 +1,15 @@
 -- The manager of a partition: its commands, what answers make of it, and its firing.
-use Rattle.std.proofs.Common.{◌≡◌, ℕ, ◌<◌, ◌≤◌, Bool, true, false, cond, nat_lt, nat_le, List, length, Option, None, Some, Ok, Err, refl, sym, ap, ◌∙◌, subst, arith}
-use Rattle.std.proofs.lemmas.Bool.{ltb-false, or_parts, and_left, eq-eqb}
+use Rattle.std.proofs.Common.{◌≡◌, ℕ, ◌<◌, Bool, true, false, nat_lt, List, Option, None, Some, Ok, Err, refl, sym, ap, ◌∙◌, subst, arith}
+use Rattle.std.proofs.lemmas.Bool.{ltb-false, or_parts}
 use Rattle.std.specs.Prelude.{Result, not, is_some, unwrap_or, if◌then◌else◌}
 use Rattle.fabric_lemmas.specs.Maps.{at, put, without}
-use Rattle.fabric_lemmas.proofs.Maps.{at-put, at-without}
 use Rattle.ring_points.specs.declared.unit.Epoch.{Epoch}
 use Rattle.ring_points.specs.declared.who.Who.{Who}
-use Rattle.ring_points.specs.Epochs.{is_older}
 use Rattle.fabric_terms.specs.declared.message.Body.{Body}
 use Rattle.failover_units.specs.declared.refusal.UnitRefusal.{UnitRefusal}
 use Rattle.failover_units.specs.declared.refusal.UnitRefusal.TheVariants.{Exists, Full}
 use Rattle.failover_units.specs.declared.unit.KnownUnit.{KnownUnit}
-use Rattle.failover_units.specs.Units.{Table, unit_of, greater, seen_at, noted, is_full_for, changed}
+use Rattle.failover_units.specs.Units.{Table, unit_of, seen_at, noted, is_full_for, changed}
 use Rattle.token_core.specs.Tokens.{last_number}
 use Rattle.replica_core.specs.Replicas.{first_epoch}
 use Rattle.epoch_machine.specs.Epochs.{number_of}
@@ -39,7 +37,6 @@ use Rattle.epoch_refinement.proofs.Knowing.{at_put, at_out, greater_small, great
 use Rattle.epoch_refinement.proofs.Answering.{answer_refines}
 use Rattle.epoch_refinement.proofs.Asking.{to_reconfig, task_shown, asks_shown, still_went, went_map}
 use Rattle.epoch_refinement.proofs.Losing.{first_opens}
-use Rattle.epoch_refinement.proofs.Numbers.{number_older_below, number_older_not}
 use Rattle.epoch_refinement.proofs.Polls.{asked_all, none_answered}
 
 module _ {k : ℕ} (p : ℕ) (x : Who) (s : Managed) (w : World) (shows : ShowsManager w k p x s) (r : Reconfig) (is : at p s.reconfigs ≡ Some r) where
@@ -156,7 +153,8 @@ module _ {k : ℕ} {w : World} (inv : Invariant (settings_to k) w) (p : ℕ) (x 
 
     opens : (kind : Kind) → IsEpoch (number_of (epoch_of kind (unit_of p s.units).highest)) (epoch_of kind (unit_of p s.units).highest) → is_lose kind ≡ true →
         Opens (settings_to k) (number_of (epoch_of kind (unit_of p s.units).highest))
-    opens (Lose node) is e = first_opens k (number_of (epoch_after_loss (unit_of p s.units).highest)) (epoch_after_loss (unit_of p s.units).highest) is refl (omega arith)
+    opens (Lose node) is e = first_opens k (number_of (epoch_after_loss (unit_of p s.units).highest))
+        (epoch_after_loss (unit_of p s.units).highest) is refl (omega arith)
     opens (Create count) is e = absurd (cc (e))
     opens (Swap node) is e = absurd (cc (e))
     opens (Heal count) is e = absurd (cc (e))
@@ -165,7 +163,8 @@ module _ {k : ℕ} {w : World} (inv : Invariant (settings_to k) w) (p : ℕ) (x 
     shows_task = record { partition = refl; arbitrators = refl; is = is_epoch; some = let lt = above kind in omega arith; opens = opens kind is_epoch }
 
     -- it begins, the partition being known from then on
-    pub began : at p s.reconfigs ≡ None → (units : Table) → unit_of p units ≡ unit_of p s.units → is_some (at p units) ≡ true → ManagerWent k p w x (begins begins_as units s)
+    pub began : at p s.reconfigs ≡ None → (units : Table) → unit_of p units ≡ unit_of p s.units → is_some (at p units) ≡ true →
+        ManagerWent k p w x (begins begins_as units s)
     began free units same known = (
       n,
       still_went inv (
@@ -221,7 +220,8 @@ module _ {k : ℕ} {w : World} (inv : Invariant (settings_to k) w) (p : ℕ) (x 
       by : (kind : Kind) → entered kind p s.units ≡ Ok units → (unit_of p units ≡ unit_of p s.units) × (is_some (at p units) ≡ true)
       by (Create count) e = go (is_some (unit_of p s.units).config) e
         where
-          go : (b : Bool) → (if b then Err Exists else changed p (λ unit. unit) s.units) ≡ Ok units → (unit_of p units ≡ unit_of p s.units) × (is_some (at p units) ≡ true)
+          go : (b : Bool) → (if b then Err Exists else changed p (λ unit. unit) s.units) ≡ Ok units → (unit_of p units ≡ unit_of p s.units) ×
+              (is_some (at p units) ≡ true)
           go true e = absurd (cc (e))
           go false e = changes (λ unit. unit) refl e
       by (Swap node) e = changes (seen_at first_epoch) seen e

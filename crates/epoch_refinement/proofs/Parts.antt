@@ -173,7 +173,8 @@ module _ {k : ℕ} {m : Machines} {x : Who} {s : Failover} (inv : (p : ℕ) → 
   -- a row of its manager, which leaves what it knows of other partitions
   pub manager_step : (a : Acted Managed) → ManagerWent k q (m q) x a →
       ((p : ℕ) → (q ≡ p → ⊥) → (at p a.state.reconfigs ≡ at p s.managed.reconfigs) × (at p a.state.units ≡ at p s.managed.units)) →
-      rises a.state.reconfigs ≡ true → ((w : World) (log : List Entry) → AllShown w q x a.deeds → (before : List machine.Report) → tells_all x.actor log a.deeds before ≡ before) →
+      rises a.state.reconfigs ≡ true → ((w : World) (log : List Entry) → AllShown w q x a.deeds → (before : List machine.Report) →
+      tells_all x.actor log a.deeds before ≡ before) →
       NodeRefined k m x (by_manager s a)
   manager_step a went beside rises_on silent =
       let g = went.1 in

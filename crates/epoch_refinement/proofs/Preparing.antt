@@ -179,7 +179,8 @@ module _ {k : ℕ} {w : World} (inv : Invariant (settings_to k) w) (p : ℕ) (x 
   refused u = still_went inv (before, tt)
 
   -- it goes on in a phase that is entered from what was done
-  goes_on : (old : Config) → highest_done (answers_in q.poll) ≡ Some old → (r : Reconfig) → ShowsTask k p n (task_of r) → is_preparing r ≡ false → (actors : List ℕ) →
+  goes_on : (old : Config) → highest_done (answers_in q.poll) ≡ Some old → (r : Reconfig) → ShowsTask k p n (task_of r) → is_preparing r ≡ false →
+      (actors : List ℕ) →
       ((v : World) (plan : Plan) → IsPlanOf p plan old → HasLeft v x n plan → ShowsPhase v k p x n r) → Went k w x n (ShowsActed k p x h n (enters r actors))
   goes_on old e r task later actors phase =
       let g = leaves old e in
@@ -206,7 +207,14 @@ module _ {k : ℕ} {w : World} (inv : Invariant (settings_to k) w) (p : ℕ) (x 
     where
       go : (b : Bool) → Went k w x n (ShowsActed k p x h n
           (if b then enters (Phase0 (record { task = q.task; old = old; primary = node })) (old.primary ∷ []) else is_refused refusal.NotMember))
-      go true = goes_on old e (Phase0 (record { task = q.task; old = old; primary = node })) t refl (old.primary ∷ []) (λ v plan is left. ((plan, is, left), ap is_create same))
+      go true = goes_on old e (Phase0 (record { task = q.task; old = old; primary = node })) t refl (old.primary ∷ []) (λ v plan is left. (
+        (
+          plan,
+          is,
+          left,
+        ),
+        ap is_create same,
+      ))
       go false = refused refusal.NotMember
   prepared_refines nodes (Heal count) same (Some old) e = go (placement nodes count)
     where

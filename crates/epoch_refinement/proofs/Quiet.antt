@@ -65,7 +65,8 @@ prepared_quiet nodes t (Create count) None = go (placement nodes count)
     go (Ok placed) = proposes_quiet t (config_of t (first_of placed) (rising placed)) (record { origin = first_of placed; last = 0 })
 prepared_quiet nodes t (Swap node) (Some old) = go (is_among node old.members)
   where
-    go : (b : Bool) → Quiet (let a : Acted Step = if b then enters (Phase0 (record { task = t; old = old; primary = node })) (old.primary ∷ []) else is_refused refusal.NotMember in a).deeds
+    go : (b : Bool) → Quiet (let a : Acted Step = if b then enters (Phase0 (record { task = t; old = old; primary = node })) (old.primary ∷ [])
+        else is_refused refusal.NotMember in a).deeds
     go true = asks_quiet (Phase0 (record { task = t; old = old; primary = node })) (old.primary ∷ [])
     go false = none_quiet
 prepared_quiet nodes t (Heal count) (Some old) = go (placement nodes count)
@@ -78,7 +79,8 @@ prepared_quiet nodes t (Swap node) None = none_quiet
 prepared_quiet nodes t (Heal count) None = none_quiet
 prepared_quiet nodes t (Lose node) None = none_quiet
 
-promise_quiet : (t : Task) (f : Reconfig → Acted Step) → ((r : Reconfig) → Quiet (f r).deeds) → (o : Result Choice PromisePhase) → Quiet (after_promise t f o).deeds
+promise_quiet : (t : Task) (f : Reconfig → Acted Step) → ((r : Reconfig) → Quiet (f r).deeds) → (o : Result Choice PromisePhase) →
+    Quiet (after_promise t f o).deeds
 promise_quiet t f each (Ok choice) = proposes_quiet t choice.config choice.source
 promise_quiet t f each (Err p) = each (Phase1 p)
 
@@ -99,7 +101,12 @@ goes_quiet nodes actor b (Decide p) = go (vote_ends actor b p)
   where
     go : (o : Result (Option Config) VotePhase) → Quiet (after_vote p o).deeds
     go (Ok (Some config)) =
-        asks_quiet (Phase2 (record { task = p.task; config = config; source = source_by p.task.kind config p.source; poll = poll_of config.members })) config.members
+        asks_quiet (Phase2 (record {
+          task = p.task;
+          config = config;
+          source = source_by p.task.kind config p.source;
+          poll = poll_of config.members;
+        })) config.members
     go (Ok None) = none_quiet
     go (Err q) = none_quiet
 goes_quiet nodes actor b (Phase2 p) = go (copy_ends actor b p)

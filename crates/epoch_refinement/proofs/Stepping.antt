@@ -38,7 +38,8 @@ use Rattle.epoch_refinement.proofs.Managers.{answered_step, commanded_step}
 use Rattle.epoch_refinement.proofs.Parts.{between_none, seat_step}
 use Rattle.epoch_refinement.proofs.Rows.{frames_are_deeds_lem, writes_are_deeds_lem}
 
-module _ {k : ℕ} {m : Machines} {x : Who} {s : Failover} (inv : (p : ℕ) → Invariant (settings_to k) (m p)) (shows : ShowsNode k m x s) (me : 0 < x.instance) where
+module _ {k : ℕ} {m : Machines} {x : Who} {s : Failover} (inv : (p : ℕ) → Invariant (settings_to k) (m p)) (shows : ShowsNode k m x s)
+    (me : 0 < x.instance) where
   -- nothing is done
   nothing : NodeRefined k m x (still s)
   nothing = record { after = m; between = λ p. between_none (inv p); shows = shows; sent = tt; told = λ p. refl; real = tt }
@@ -90,7 +91,12 @@ module _ {k : ℕ} {m : Machines} {x : Who} {s : Failover} (inv : (p : ℕ) → 
     frame_step from to (body.Older q e kept) h = answered from q e (body.Older q e kept) refl h.shown
     frame_step from to (body.Promise q e) h = seat_step inv shows q _ (received (record { from = from; to = to; body = body.Promise q e }) h)
     frame_step from to (body.Sync q e origin last) h =
-        subst (λ (y : Who). NodeRefined k m x (at_seat q (sync_received y.actor (record { epoch = e; origin = origin; last = last; asker = from })) s)) (sym is_me)
+        subst (λ (y : Who). NodeRefined k m x (at_seat q (sync_received y.actor (record {
+          epoch = e;
+          origin = origin;
+          last = last;
+          asker = from;
+        })) s)) (sym is_me)
         (seat_step inv shows q _ (received (record { from = from; to = to; body = body.Sync q e origin last }) h))
     frame_step from to (body.Fetch q e lsn) h =
         standing q (fetch_received from e lsn) (still s) nothing (received (record { from = from; to = to; body = body.Fetch q e lsn }) h)

@@ -18,28 +18,25 @@ use Rattle.replica_core.specs.Replicas.{Replica, raised, adopted}
 use Rattle.replica_core.specs.Calls.{Outcome, unless, held_if, adopt_own_call, idle_call}
 use Rattle.replica_core.specs.Calls as call
 use Rattle.epoch_machine.specs.Settings.{Settings}
-use Rattle.epoch_machine.specs.World.{World, TellsPromised, replaced}
+use Rattle.epoch_machine.specs.World.{World, TellsPromised}
 use Rattle.epoch_machine.specs.Deeds.{RaisesPromise, AdoptsNothing, AdoptsOwn, SaysAdopted}
-use Rattle.epoch_machine.specs.Guards.{MayAdopt, Can}
-use Rattle.epoch_machine.specs.Effects.{adopting, after}
+use Rattle.epoch_machine.specs.Guards.{Can}
+use Rattle.epoch_machine.specs.Effects.{after}
 use Rattle.epoch_machine.specs.Invariant.{Invariant}
-use Rattle.epoch_machine.proofs.Replaced.{put_at}
 use Rattle.epoch_machine.proofs.Histories.{deed_keeps}
 use Rattle.unit_rules.specs.declared.lead.Taking.{Taking}
-use Rattle.unit_rules.specs.Copies.{adoption, nothing_adopted, log_adopted, fetch_next, own_adopted, copy_begun, sync_taken, sync_answered, sync_received}
+use Rattle.unit_rules.specs.Copies.{fetch_next, own_adopted, copy_begun, sync_taken, sync_answered, sync_received}
 use Rattle.unit_rules.specs.Deeds.{Keep, Send, Tell, acted}
 use Rattle.unit_rules.specs.Leads.{is_primary}
 use Rattle.unit_rules.specs.Seats.{Seat, seated}
 use Rattle.epoch_refinement.specs.Epochs.{IsEpoch}
-use Rattle.epoch_refinement.specs.Facts.{of_node, is_adopted, Has, Later}
-use Rattle.epoch_refinement.specs.Refined.{AllShown, Refined}
+use Rattle.epoch_refinement.specs.Refined.{Refined}
 use Rattle.epoch_refinement.specs.Seats.{IsNumbered, ShowsSeat}
 use Rattle.epoch_refinement.specs.Shown.{ShownSync}
-use Rattle.epoch_refinement.specs.Told.{tells_all}
 use Rattle.epoch_refinement.proofs.Adopting.{may_adopt, Adopts, adopts}
 use Rattle.epoch_refinement.proofs.Doing.{after_refined, nothing_refined, not_primary}
 use Rattle.epoch_refinement.proofs.Numbers.{real, same_not, same_epoch-true, older_self}
-use Rattle.epoch_refinement.proofs.Lasting.{deed_later, later_refl, later_trans, sync_later}
+use Rattle.epoch_refinement.proofs.Lasting.{deed_later, later_refl, sync_later}
 use Rattle.epoch_refinement.proofs.Promising.{raised_shows, shows_later, numbered_none, promise_above}
 
 -- a replica that is idle now, and else as it was
@@ -170,7 +167,8 @@ module _ {c : Settings} {w : World} (inv : Invariant c w) (p : ℕ) (me : Who) (
           role_is = subst (λ r. is_primary r ≡ false) (sym same_role) i.role_is;
         }
 
-    adopts_own : (none whole : Bool) → (t.last == 0) ≡ none → (none ≡ false → t.origin ≡ me.actor) → Refined c w p me (own_adopted t next (call.own_adopted none whole t.epoch next.replica))
+    adopts_own : (none whole : Bool) → (t.last == 0) ≡ none → (none ≡ false → t.origin ≡ me.actor) →
+        Refined c w p me (own_adopted t next (call.own_adopted none whole t.epoch next.replica))
     adopts_own true whole h own =
         let can : Can c w (AdoptsNothing me.actor sync.plan) =
         (may_adopt inv p me t next next_shows sync number_is before, let a = eqb-true t.last 0 h in let l = sync.last_is in omega arith) in
@@ -178,8 +176,12 @@ module _ {c : Settings} {w : World} (inv : Invariant c w) (p : ℕ) (me : Who) (
         (has_log [] [] refl (omega arith) numbered_none)
         (deed_keeps inv (AdoptsNothing me.actor sync.plan) can) (deed_later w (AdoptsNothing me.actor sync.plan))
     adopts_own false true h own =
-        let can : Can c w (AdoptsOwn me.actor sync.plan) =
-        (may_adopt inv p me t next next_shows sync number_is before, sync.origin_is ∙ own refl, let a = eqb-false t.last 0 h in let l = sync.last_is in omega arith) in
+        let can : Can c w (AdoptsOwn me.actor sync.plan) = (
+          may_adopt inv p me t next next_shows sync number_is before,
+          sync.origin_is ∙ own refl,
+          let a = eqb-false t.last 0 h in let l = sync.last_is in
+              omega arith,
+        ) in
         adopts inv p me t next next_shows sync number_is before (w.log me.actor) (seated next (adopted t.epoch next.replica.log next.replica)) true
         (has_log (w.log me.actor) next.replica.log next_shows.log next_shows.room next_shows.numbered)
         (deed_keeps inv (AdoptsOwn me.actor sync.plan) can) (deed_later w (AdoptsOwn me.actor sync.plan))
@@ -206,7 +208,8 @@ module _ {c : Settings} {w : World} (inv : Invariant c w) (p : ℕ) (me : Who) (
   taken_refines = go (same_epoch s.replica.at t.epoch) refl
     where
       go : (at : Bool) → same_epoch s.replica.at t.epoch ≡ at →
-          Refined c w p me (if at then acted s (Send t.asker (body.Adopted s.replica.partition t.epoch (length s.replica.log)) ∷ []) else copy_begun me.actor t s)
+          Refined c w p me (if at then acted s (Send t.asker (body.Adopted s.replica.partition t.epoch (length s.replica.log)) ∷ [])
+          else copy_begun me.actor t s)
       go true i =
           let joined : IsEpoch (w.joined me.actor) t.epoch = subst (IsEpoch (w.joined me.actor)) (same_epoch-true s.replica.at t.epoch i) shows.joined in
           let has_adopted : w.joined me.actor ≡ w.promised me.actor =

@@ -154,7 +154,8 @@ module _ {c : Settings} {w : World} (inv : Invariant c w) (p : ℕ) (me : Who) (
         ((shows.partition, real r.plan.epoch s.replica.at epoch_is is_real), all_sent (length (s.replica.log ++ x ∷ [])) length_now l.peers)
         (λ log.
         (let e = epoch_is in ap (λ n. TellsAccepted me.actor n ∷ w.told) e.is) ∙
-        sym (appends_tell me.actor log s.replica.at (written x s.replica) (length (s.replica.log ++ x ∷ [])) text l.peers (TellsAccepted me.actor (number_of s.replica.at) ∷ w.told)))
+        sym (appends_tell me.actor log s.replica.at (written x s.replica) (length (s.replica.log ++ x ∷
+        [])) text l.peers (TellsAccepted me.actor (number_of s.replica.at) ∷ w.told)))
         (committed_refines next p me (seated s (written x s.replica)) (written_shows fits) l r (lead_now r l lead))
 
   pub write_refines : (text : List ℕ) → Refined c w p me (write_commanded text s)
@@ -164,7 +165,8 @@ module _ {c : Settings} {w : World} (inv : Invariant c w) (p : ℕ) (me : Who) (
       refused : Refined c w p me (acted s (Tell (report.Refused verb.Write reason.Full) ∷ []))
       refused = record { after = w; inv = inv; later = later_refl w; shows = shows; sent = (tt, tt); told = refl }
 
-      by : (l : Lead) → lead_of s ≡ Some l → (older : Bool) → (ahead : Bool) → (held : Bool) → nat_lt (length s.replica.log + 1) (length s.replica.log + 1) ≡ held →
+      by : (l : Lead) → lead_of s ≡ Some l → (older : Bool) → (ahead : Bool) → (held : Bool) → nat_lt (length s.replica.log + 1)
+          (length s.replica.log + 1) ≡ held →
           (full : Bool) → (length s.replica.log == 100000) ≡ full →
           Refined c w p me
           (write_answered text l s
@@ -213,8 +215,16 @@ module _ {c : Settings} {w : World} (inv : Invariant c w) (p : ℕ) (me : Who) (
           inv = inv;
           later = later_refl w;
           shows = shows;
-          sent =
-              (shows.partition, record { plan = role.plan; synced = active_sync inv role.plan fired_sound.activated; epoch = fired_epoch; is = inl (omega arith) }, shown);
+          sent = (
+            shows.partition,
+            record {
+              plan = role.plan;
+              synced = active_sync inv role.plan fired_sound.activated;
+              epoch = fired_epoch;
+              is = inl (omega arith);
+            },
+            shown,
+          );
           told = sym (silent s.replica.log);
         }
 
@@ -289,7 +299,8 @@ peers_fired {c = c} {w = w} inv p me s shows l is_lead (q ∷ qs) =
               more.told ∙ fired_tells me.actor s.replica.log s.replica qs before.after.told ∙ before.told;
         }
 
-pub fire_refines : {c : Settings} {w : World} (inv : Invariant c w) (p : ℕ) (me : Who) (s : Seat) → ShowsSeat w p me.actor s → Refined c w p me (acted s (seat_fired s))
+pub fire_refines : {c : Settings} {w : World} (inv : Invariant c w) (p : ℕ) (me : Who) (s : Seat) → ShowsSeat w p me.actor s →
+    Refined c w p me (acted s (seat_fired s))
 unfolding seat_fired
 fire_refines {c = c} {w = w} inv p me s shows = go (lead_of s) refl
   where
