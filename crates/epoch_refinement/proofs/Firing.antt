@@ -28,7 +28,7 @@ use Rattle.epoch_refinement.specs.Told.{tells_all}
 use Rattle.epoch_refinement.proofs.Elsewhere.{manager_elsewhere}
 use Rattle.epoch_refinement.proofs.Managing.{manager_fires}
 use Rattle.epoch_refinement.proofs.Parts.{all_sent, between_node}
-use Rattle.epoch_refinement.proofs.Writing.{fire_refines}
+use Rattle.epoch_refinement.proofs.Sending.{fire_refines}
 
 -- Deeds that only send.
 

@@ -11,6 +11,7 @@ pub mod Activating
 pub mod Confirmed
 pub mod Committing
 pub mod Writing
+pub mod Sending
 pub mod Registering
 pub mod Polls
 pub mod Rows

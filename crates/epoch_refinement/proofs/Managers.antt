@@ -46,7 +46,8 @@ module _ {k : ℕ} {m : Machines} {x : Who} {s : Failover} (inv : (p : ℕ) → 
           let c = (busy.busy r i).0 in
           let g = answer_refines (inv q) q x (unit_of q s.managed.units).highest nodes from r me c e b of shown in
           let beside =
-          stands_beside g.after k x (unit_of q s.managed.units).highest c.number q (task_of r) c.partition s.managed (answer_received nodes from.actor e b r).state
+          stands_beside g.after k x (unit_of q s.managed.units).highest c.number q (task_of r) c.partition s.managed
+          (answer_received nodes from.actor e b r).state
           (answer_received nodes from.actor e b r).deeds g.holds.0 in
           manager_step inv shows q (stands_after (task_of r) s.managed (answer_received nodes from.actor e b r)) (
             c.number,

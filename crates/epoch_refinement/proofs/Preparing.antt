@@ -87,7 +87,8 @@ module _ {k : ℕ} {w : World} (inv : Invariant (settings_to k) w) (p : ℕ) (x 
   can_leave : (o : Option Config) → highest_done (answers_in q.poll) ≡ o → (prev : Option Plan) → IsDone p prev o → Carried w.answers x n prev →
       Can (settings_to k) w (LeavesPrepare (record { who = x; epoch = n; prev = prev }))
   can_leave o e prev d carry =
-      (t.some, shows.0, subst (λ ns. MajorityOf ns (AnsweredTo w.answers x n prev)) shows.1 (carried_by (AnsweredTo w.answers x n prev) q.poll each carried), carry)
+      let most = subst (λ ns. MajorityOf ns (AnsweredTo w.answers x n prev)) shows.1 (carried_by (AnsweredTo w.answers x n prev) q.poll each carried) in
+      (t.some, shows.0, most, carry)
     where
       each : (a : ℕ) (c : Option Config) → IsMember (a, Some c) q.poll → AnsweredTo w.answers x n prev a
       each a c m =

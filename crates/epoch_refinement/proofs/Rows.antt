@@ -17,7 +17,8 @@ use Rattle.epoch_refinement.proofs.Copying.{piece_refines}
 use Rattle.epoch_refinement.proofs.Appending.{append_refines}
 use Rattle.epoch_refinement.proofs.Activating.{activate_refines}
 use Rattle.epoch_refinement.proofs.Committing.{appended_refines}
-use Rattle.epoch_refinement.proofs.Writing.{write_refines, fire_refines}
+use Rattle.epoch_refinement.proofs.Writing.{write_refines}
+use Rattle.epoch_refinement.proofs.Sending.{fire_refines}
 use Rattle.epoch_refinement.proofs.Registering.{prepare_refines, vote_refines, done_refines}
 
 pub frames_are_deeds_lem : ReplicaFramesAreDeeds
