@@ -31,3 +31,4 @@ pub mod Managers
 pub mod Firing
 pub mod Stepping
 pub mod Arbitrating
+pub mod Beginning

@@ -1,4 +1,4 @@
-ghost use Rattle.epoch_refinement.specs.Laws.{AnswersAreDeeds, CommandsAreDeeds, FiringsAreDeeds, ManagerAnswersAreDeeds, QuestionsAreDeeds, QuestionsAreShown, ReplicaFramesAreDeeds, RestartsAreDeeds, StepsAreDeeds, WritesAreDeeds};
+ghost use Rattle.epoch_refinement.specs.Laws.{AnswersAreDeeds, BeginningsAreShown, CommandsAreDeeds, FiringsAreDeeds, ManagerAnswersAreDeeds, QuestionsAreDeeds, QuestionsAreShown, ReplicaFramesAreDeeds, RestartsAreDeeds, StepsAreDeeds, WritesAreDeeds};
 
 /// Whatever frame comes to a replica that was sent, in whatever order and however often, what it makes of it is deeds of
 /// the machine of its partition: what it sends is sent there, and what it tells is told there.
@@ -51,4 +51,9 @@ pub fn each_step_is_deeds()
 /// So is whatever a whole arbitrator is asked.
 pub fn each_question_is_deeds()
     ensures { QuestionsAreDeeds }
+{}
+
+/// Where nothing was done, a node and an arbitrator that have recorded nothing show the machines.
+pub fn beginnings_are_shown()
+    ensures { BeginningsAreShown }
 {}
