@@ -1,6 +1,5 @@
 -- Where nothing was done, who has recorded nothing shows the machines.
 use Rattle.std.proofs.Common.{ℕ, refl, arith}
-use Rattle.ring_points.specs.declared.who.Who.{Who}
 use Rattle.replica_core.specs.Replicas.{first_epoch}
 use Rattle.epoch_machine.specs.World.{empty_world}
 use Rattle.unit_rules.specs.Seats.{first_seat}
