@@ -6,7 +6,7 @@
 //! happen, `specs/Effects.antt` what it leaves. What was sent comes at any time, in any order, once, often or
 //! never, and a node may restart at any time. It stands on replicas' entries and on instances alone. Whoever
 //! shows that each row of the rules of partitions is a list of deeds has these laws of the rules:
-//! `proofs/Histories.antt` has what one deed keeps. That is not shown yet.
+//! `proofs/Histories.antt` has what one deed keeps. `epoch_refinement` shows it, row by row.
 #![tactic(auto)]
 
 mod laws;

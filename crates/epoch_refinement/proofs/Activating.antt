@@ -177,7 +177,8 @@ module _ {c : Settings} {w : World} (inv : Invariant c w) (p : ℕ) (me : Who) (
       -- an instance that has this role already only answers
       by : (role : Role) → (has : Bool) → Refined c w p me (acted s (say_activated from config ∷ [])) →
           Refined c w p me (role_begun me.actor from config s (record (raised config.epoch s.replica) { role = role }) role) →
-          Refined c w p me (if has then acted s (say_activated from config ∷ []) else role_begun me.actor from config s (record (raised config.epoch s.replica) { role = role }) role)
+          Refined c w p me (if has then acted s (say_activated from config ∷ [])
+          else role_begun me.actor from config s (record (raised config.epoch s.replica) { role = role }) role)
       by role true a b = a
       by role false a b = b
 
@@ -185,8 +186,13 @@ module _ {c : Settings} {w : World} (inv : Invariant c w) (p : ℕ) (me : Who) (
           same_epoch s.replica.at config.epoch ≡ at → (primary : Bool) → (config.primary == me.actor) ≡ primary →
           Refined c w p me
           (activate_answered me.actor from config s
-          (unless older (Older s.replica.promised) s.replica (unless (not member) NotMember s.replica (unless (not at) (Gap (length s.replica.log)) s.replica
-          (Ok (if primary then Primary else ActiveSecondary), record (raised config.epoch s.replica) { role = if primary then Primary else ActiveSecondary })))))
+          (unless older (Older s.replica.promised) s.replica (unless (not member) NotMember s.replica (unless (not at) (Gap (length s.replica.log)) s.replica (
+            Ok (if primary then Primary else ActiveSecondary),
+            record (raised config.epoch s.replica) {
+              role = if primary then Primary
+                  else ActiveSecondary;
+            },
+          )))))
       go true h member k at i primary j = record {
         after = w;
         inv = inv;

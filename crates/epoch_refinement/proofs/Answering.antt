@@ -77,7 +77,8 @@ module _ {k : ℕ} {w : World} (inv : Invariant (settings_to k) w) (p : ℕ) (x 
     (s.0.0, s.0.1, ⊎_elim (λ same. inl (asked_still actor z q.poll ∙ same)) (λ opens. inr opens) s.0.2),
     s.1,
     λ a d m. ⊎_elim (s.2 a d)
-        (λ i. subst (λ (y : ℕ × Standing). ShownPromised w y.0 q.task.epoch (let g : Standing = y.1 in g.at) (let g : Standing = y.1 in g.last)) (λ l. (sym i.0 l, sym i.1 l)) shown)
+        (λ i. subst (λ (y : ℕ × Standing). ShownPromised w y.0 q.task.epoch (let g : Standing = y.1 in g.at) (let g : Standing = y.1 in g.last))
+        (λ l. (sym i.0 l, sym i.1 l)) shown)
         (answered_in actor z q.poll a d m),
   )
 
@@ -96,19 +97,35 @@ module _ {k : ℕ} {w : World} (inv : Invariant (settings_to k) w) (p : ℕ) (x 
         λ m z i. absurd (none_answered q.old.members m z i),
       )
 
-      go : (b : Bool) → (from.actor == q.old.primary) ≡ b → Went k w x n (ShowsActed k p x h n (after_swap q (if b then Ok (record { at = at; last = last }) else Err q)))
+      go : (b : Bool) → (from.actor == q.old.primary) ≡ b → Went k w x n (ShowsActed k p x h n (after_swap q (if b then Ok (record {
+        at = at;
+        last = last;
+      }) else Err q)))
       go true i =
           let standing : Standing = record { at = at; last = last } in
           let phase = promise_noted (asks_promises q.task q.old.members q.old.members q.primary) t first q.old.primary (record { at = at; last = last })
           (subst (λ (z : ℕ × Epoch). ShownPromised w z.0 z.1 at last) (λ l. (eqb-true from.actor q.old.primary i l, of l)) shown) in
           promises_end inv p x h n
-          (record (asks_promises q.task q.old.members q.old.members q.primary) { poll = answered q.old.primary (record { at = at; last = last }) (poll_of q.old.members) })
+          (record (asks_promises q.task q.old.members q.old.members q.primary) {
+            poll = answered q.old.primary (record { at = at; last = last })
+                (poll_of q.old.members);
+          })
           t phase me below (λ r. enters r q.old.members)
           (still_went inv (
-            to_reconfig (Phase1 (record (asks_promises q.task q.old.members q.old.members q.primary) { poll = answered q.old.primary (record { at = at; last = last }) (poll_of q.old.members) }))
+            to_reconfig (Phase1 (record (asks_promises q.task q.old.members q.old.members q.primary) {
+              poll = answered q.old.primary (record {
+                at = at;
+                last = last;
+              }) (poll_of q.old.members);
+            }))
                 t phase below (λ u. absurd (cc (u))),
             asks_shown w k p n x
-                (Phase1 (record (asks_promises q.task q.old.members q.old.members q.primary) { poll = answered q.old.primary (record { at = at; last = last }) (poll_of q.old.members) }))
+                (Phase1 (record (asks_promises q.task q.old.members q.old.members q.primary) {
+                  poll = answered q.old.primary (record {
+                    at = at;
+                    last = last;
+                  }) (poll_of q.old.members);
+                }))
                 me t phase q.old.members,
           ))
       go false i = stays_went (Phase0 q) t s (λ u. absurd (cc (u)))
@@ -132,7 +149,8 @@ module _ {k : ℕ} {w : World} (inv : Invariant (settings_to k) w) (p : ℕ) (x 
       a = from.actor - arbiter_actor 0
 
       go : (b : Bool) → is_arbiter_to q.votes.arbitrators from.actor ≡ b → Went k w x n (ShowsActed k p x h n (after_vote q
-          (if b then voted_by (record q { votes = vote_noted q.votes (from.actor - arbiter_actor 0) first }) (vote_verdict_of (vote_noted q.votes (from.actor - arbiter_actor 0) first)) else Err q)))
+          (if b then voted_by (record q { votes = vote_noted q.votes (from.actor - arbiter_actor 0) first })
+          (vote_verdict_of (vote_noted q.votes (from.actor - arbiter_actor 0) first)) else Err q)))
       go true i =
           let parts = and_parts (nat_lt (arbiter_actor 0) from.actor) (nat_le from.actor (arbiter_actor q.votes.arbitrators)) i in
           let lt = ltb-true (arbiter_actor 0) from.actor parts.0 in
@@ -146,7 +164,8 @@ module _ {k : ℕ} {w : World} (inv : Invariant (settings_to k) w) (p : ℕ) (x 
             s.1,
             still_counted k (from.actor - arbiter_actor 0) first some few q.votes.answers s.2,
             λ b v m. ⊎_elim (s.3 b v)
-                (λ j. subst (λ (z : ℕ × Config). ShownVoted w p (arbiter_actor z.0) z.1 × IsEpoch n (let g : Config = z.1 in g.epoch)) (λ l. (sym j.0 l, sym j.1 l))
+                (λ j. subst (λ (z : ℕ × Config). ShownVoted w p (arbiter_actor z.0) z.1 × IsEpoch n (let g : Config = z.1 in g.epoch))
+                (λ l. (sym j.0 l, sym j.1 l))
                 (subst (λ z. ShownVoted w p z first) number shown.0, subst (IsEpoch n) (sym (shown.1 ∙ of)) (let i = t.is in i)))
                 (with_answer_in k (from.actor - arbiter_actor 0) first some few q.votes.answers b v m),
           )

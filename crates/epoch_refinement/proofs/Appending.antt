@@ -177,5 +177,6 @@ module _ {c : Settings} {w : World} (inv : Invariant c w) (p : ℕ) (me : Who) (
       go false h true i false j false k true l = nothing_refined inv shows
       go false h true i false j false k false l =
           accepted from e lsn text append h i
-          (let a = ltb-false (length s.replica.log + 1) lsn j in let b = ltb-false lsn (length s.replica.log + 1) k in let l = ap length shows.log in omega arith)
+          (let a = ltb-false (length s.replica.log + 1) lsn j in let b = ltb-false lsn (length s.replica.log + 1) k in let l = ap length shows.log in
+          omega arith)
           (let d = eqb-false (length s.replica.log) 100000 l in let r = shows.room in omega arith)

@@ -54,7 +54,8 @@ question_shown v k p n x to (Phase2 q) me t s =
 question_shown v k p n x to (Phase3 q) me t s = let j = s.0.is in (j.partition, s.0)
 question_shown v k p n x to (Phase4 q) me t s = let j = s.0.is in (j.partition, s.0)
 
-all_asked : (v : World) (p : ℕ) (x : Who) (b : Body) → ((to : Who) → (partition_of b ≡ p) × Shown v p x to b) → (tos : List Who) → AllShown v p x (send_all tos b)
+all_asked : (v : World) (p : ℕ) (x : Who) (b : Body) → ((to : Who) → (partition_of b ≡ p) × Shown v p x to b) → (tos : List Who) →
+    AllShown v p x (send_all tos b)
 all_asked v p x b each [] = tt
 all_asked v p x b each (to ∷ tos) = let e = each to in (e.0, e.1, all_asked v p x b each tos)
 

@@ -158,5 +158,6 @@ furthest_over (x ∷ xs) s o h = go (furthest xs) refl h (furthest_over xs (λ r
             let q : y ≡ o = cc in
             subst (λ o. IsMember o (x ∷ xs) × ((r : ℕ × Standing) → IsMember r (x ∷ xs) → Behind r o)) q (
               inr below.0,
-              λ r m. ⊎_elim (λ (j : r ≡ x). subst (λ r. Behind r y) (sym j) (ahead_false x y (s x (inl refl)) (s y (inr below.0)) i)) (λ (k : IsMember r xs). below.1 r k) m,
+              λ r m. ⊎_elim (λ (j : r ≡ x). subst (λ r. Behind r y) (sym j) (ahead_false x y (s x (inl refl)) (s y (inr below.0)) i))
+                  (λ (k : IsMember r xs). below.1 r k) m,
             )

@@ -99,7 +99,8 @@ module _ {c : Settings} {w : World} (inv : Invariant c w) (p : ℕ) (me : Who) (
 
   module _ (k : ℕ) (above : l.committed < k) (has : Committable me.actor last l r.plan.members k) where
     within : k ≤ last
-    within = ⊎_elim (λ e. omega arith) (λ q. ⊎_elim (λ none. let e = q.2 in omega arith) (λ some. let e = q.2 in let le = some.1 in omega arith) (lead.confirmed q.0 q.1)) has.one
+    within = ⊎_elim (λ e. omega arith) (λ q. ⊎_elim (λ none. let e = q.2 in omega arith) (λ some. let e = q.2 in let le = some.1 in omega arith)
+        (lead.confirmed q.0 q.1)) has.one
 
     can_commit : Can c v (Commits me.actor k r)
     can_commit = (

@@ -61,8 +61,10 @@ module _ (by : ℕ → Bool) (me : ℕ) (mine : by me ≡ true) where
           ≡ count by (cond (not same) (m ∷ others ms) (others ms)) + suc (length ms)
       go true h true i e = omega arith
       go true h false i e = absurd (both_ways (by m) i (subst (λ z. by z ≡ true) (sym (eqb-true m me h)) mine))
-      go false h true i e = let c : cond (by m) (suc (count by (others ms))) (count by (others ms)) ≡ suc (count by (others ms)) = ap (λ b. cond b (suc (count by (others ms))) (count by (others ms))) i in omega arith
-      go false h false i e = let c : cond (by m) (suc (count by (others ms))) (count by (others ms)) ≡ count by (others ms) = ap (λ b. cond b (suc (count by (others ms))) (count by (others ms))) i in omega arith
+      go false h true i e = let c : cond (by m) (suc (count by (others ms)))
+          (count by (others ms)) ≡ suc (count by (others ms)) = ap (λ b. cond b (suc (count by (others ms))) (count by (others ms))) i in omega arith
+      go false h false i e = let c : cond (by m) (suc (count by (others ms)))
+          (count by (others ms)) ≡ count by (others ms) = ap (λ b. cond b (suc (count by (others ms))) (count by (others ms))) i in omega arith
 
 fewer_others : (me : ℕ) (ms : List ℕ) → length (filter (λ m. not (m == me)) ms) ≤ length ms
 fewer_others me [] = omega arith
@@ -147,12 +149,14 @@ committable me own l ms member nodes some = record {
 
     majority : suc (length (map (λ (q : Peer). q.confirmed) l.peers)) < 2 * (1 + count_by (nat_le k) (map (λ (q : Peer). q.confirmed) l.peers))
     majority =
-        let lt = ltb-true (suc (length (map (λ (q : Peer). q.confirmed) l.peers))) (2 * count_by (nat_le k) (own ∷ map (λ (q : Peer). q.confirmed) l.peers)) found.1 in
+        let lt = ltb-true (suc (length (map (λ (q : Peer). q.confirmed) l.peers))) (2 * count_by (nat_le k) (own ∷
+        map (λ (q : Peer). q.confirmed) l.peers)) found.1 in
         go (nat_le k own)
         (subst (λ n. suc (length (map (λ (q : Peer). q.confirmed) l.peers)) < 2 * n)
         (sum_by-cons (λ n. cond (nat_le k n) 1 0) own (map (λ (q : Peer). q.confirmed) l.peers)) lt)
       where
-        go : (b : Bool) → suc (length (map (λ (q : Peer). q.confirmed) l.peers)) < 2 * (cond b 1 0 + count_by (nat_le k) (map (λ (q : Peer). q.confirmed) l.peers)) →
+        go : (b : Bool) → suc (length (map (λ (q : Peer). q.confirmed) l.peers)) < 2 * (cond b 1 0 + count_by (nat_le k)
+            (map (λ (q : Peer). q.confirmed) l.peers)) →
             suc (length (map (λ (q : Peer). q.confirmed) l.peers)) < 2 * (1 + count_by (nat_le k) (map (λ (q : Peer). q.confirmed) l.peers))
         go true lt = lt
         go false lt = omega arith

@@ -1,8 +1,8 @@
--- The rows of Fetch and Piece.
-use Rattle.std.proofs.Common.{◌≡◌, ℕ, zero, suc, ◌+◌, ◌-◌, ◌<◌, ◌≤◌, Bool, true, false, cond, ◌==◌, ◌&&◌, nat_le, List, [], ◌∷◌, ◌++◌, length, Option, None, Some, ◌⊎◌, Ok, refl, sym, ap, ◌∙◌, subst, inl, inr, arith}
+-- The row of Piece.
+use Rattle.std.proofs.Common.{◌≡◌, ℕ, ◌+◌, ◌<◌, ◌≤◌, Bool, true, false, cond, ◌==◌, ◌&&◌, nat_le, List, [], ◌∷◌, ◌++◌, length, Option, None, Some, ◌⊎◌, Ok, refl, sym, ap, ◌∙◌, subst, inl, inr, arith}
 use Rattle.std.proofs.lemmas.Bool.{eqb-true, leb-true, and_parts, both_ways, not-true}
 use Rattle.std.proofs.lemmas.List.{length-append}
-use Rattle.std.specs.Prelude.{slice_get, not, if◌then◌else◌}
+use Rattle.std.specs.Prelude.{not, if◌then◌else◌}
 use Rattle.fabric_lemmas.specs.Members.{IsMember}
 use Rattle.ring_points.specs.declared.unit.Epoch.{Epoch}
 use Rattle.ring_points.specs.declared.who.Who.{Who}
@@ -15,80 +15,33 @@ use Rattle.replica_core.specs.Roles.{demoted}
 use Rattle.replica_core.specs.declared.refusal.Done.{Done}
 use Rattle.replica_core.specs.Calls.{Outcome, unless, held_if, is_gap, is_collected, collected_call}
 use Rattle.epoch_machine.specs.Epochs.{number_of}
-use Rattle.epoch_machine.specs.Logs.{IsAt}
 use Rattle.epoch_machine.specs.Messages.{Piece}
 use Rattle.epoch_machine.specs.Settings.{Settings}
 use Rattle.epoch_machine.specs.World.{World}
-use Rattle.epoch_machine.specs.Deeds.{SendsPiece, Collects, AdoptsCollected}
+use Rattle.epoch_machine.specs.Deeds.{Collects, AdoptsCollected}
 use Rattle.epoch_machine.specs.Guards.{MayAdopt, Can}
 use Rattle.epoch_machine.specs.Effects.{after}
 use Rattle.epoch_machine.specs.Invariant.{Invariant}
 use Rattle.epoch_machine.proofs.Replaced.{put_at}
 use Rattle.epoch_machine.proofs.Histories.{deed_keeps}
 use Rattle.unit_rules.specs.declared.lead.Taking.{Taking}
-use Rattle.unit_rules.specs.Copies.{entry_given, fetch_received, fetch_next, adoption, piece_collected, is_wanted, piece_for, piece_received}
+use Rattle.unit_rules.specs.Copies.{fetch_next, adoption, piece_collected, is_wanted, piece_for, piece_received}
 use Rattle.unit_rules.specs.Deeds.{Keep, acted, still}
 use Rattle.unit_rules.specs.Leads.{is_primary}
-use Rattle.unit_rules.specs.Seats.{Seat, seated, entry_at}
+use Rattle.unit_rules.specs.Seats.{Seat, seated}
 use Rattle.fabric_terms.specs.declared.record.Record.TheVariants as kept
 use Rattle.epoch_refinement.specs.Epochs.{IsEpoch}
 use Rattle.epoch_refinement.specs.Facts.{of_node, Later}
 use Rattle.epoch_refinement.specs.Refined.{Refined}
 use Rattle.epoch_refinement.specs.Seats.{IsNumbered, ShowsSeat}
-use Rattle.epoch_refinement.specs.Shown.{ShownSync, ShownFetch, ShownPiece}
+use Rattle.epoch_refinement.specs.Shown.{ShownSync, ShownPiece}
 use Rattle.epoch_refinement.proofs.Doing.{after_refined, nothing_refined, not_primary}
 use Rattle.epoch_refinement.proofs.Numbers.{older_not, same_not, below_older, same_epoch-true, one_epoch, older_self}
 use Rattle.epoch_refinement.proofs.Lasting.{deed_later, later_refl, sync_later}
-use Rattle.epoch_refinement.proofs.Promising.{shows_later, numbered_none, numbered_push}
-use Rattle.epoch_refinement.proofs.Syncing.{Adopts, adopts}
-
-place_found : (log : List Entry) (n : ℕ) (x : Entry) → slice_get log n ≡ Some x → IsAt log n x
-place_found [] n x h = absurd (cc (h))
-place_found (y ∷ ys) zero x h = cc
-place_found (y ∷ ys) (suc n) x h = place_found ys n x h
-
-pub entry_found : (lsn : ℕ) (log : List Entry) (x : Entry) → entry_at lsn log ≡ Some x → (place : ℕ) × (lsn ≡ place + 1) × IsAt log place x
-entry_found lsn log x h = go (nat_le 1 lsn) refl h
-  where
-    go : (b : Bool) → nat_le 1 lsn ≡ b → (if b then slice_get log (lsn - 1) else None) ≡ Some x → (place : ℕ) × (lsn ≡ place + 1) × IsAt log place x
-    go true i h = (lsn - 1, let le = leb-true 1 lsn i in omega arith, place_found log (lsn - 1) x h)
-    go false i h = absurd (cc (h))
+use Rattle.epoch_refinement.proofs.Promising.{numbered_none, numbered_push}
+use Rattle.epoch_refinement.proofs.Adopting.{Adopts, adopts}
 
 module _ {c : Settings} {w : World} (inv : Invariant c w) (p : ℕ) (me : Who) (s : Seat) (shows : ShowsSeat w p me.actor s) where
-  pub fetch_refines : (from : Who) (e : Epoch) (lsn : ℕ) → ShownFetch w e me.actor → Refined c w p me (fetch_received from e lsn s)
-  unfolding fetch_received
-  fetch_refines from e lsn fetch = go (same_epoch s.replica.promised e) refl (entry_at lsn s.replica.log) refl
-    where
-      go : (same : Bool) → same_epoch s.replica.promised e ≡ same → (o : Option Entry) → entry_at lsn s.replica.log ≡ o →
-          Refined c w p me (if same then entry_given from e s o else still s)
-      go false h o i = nothing_refined inv shows
-      go true h None i = nothing_refined inv shows
-      go true h (Some x) i =
-          let found = entry_found lsn s.replica.log x i in
-          let promised : IsEpoch (w.promised me.actor) e = subst (IsEpoch (w.promised me.actor)) (same_epoch-true s.replica.promised e h) shows.promised in
-          let is = fetch.epoch in
-          let can : Can c w (SendsPiece me.actor found.0 fetch.plan x) =
-          (fetch.synced, fetch.origin_is, promised.is ∙ sym is.is, subst (λ l. IsAt l found.0 x) (sym shows.log) found.2) in
-          record {
-            after = after w (SendsPiece me.actor found.0 fetch.plan x);
-            inv = deed_keeps inv (SendsPiece me.actor found.0 fetch.plan x) can;
-            later = deed_later w (SendsPiece me.actor found.0 fetch.plan x);
-            shows = shows_later (deed_later w (SendsPiece me.actor found.0 fetch.plan x)) refl refl refl refl refl shows;
-            sent = (
-              shows.partition,
-              record {
-                epoch = fetch.plan.epoch;
-                place = found.0;
-                epoch_is = fetch.epoch;
-                place_is = shows.numbered.lsn found.0 x found.2;
-                small = shows.numbered.small found.0 x found.2;
-                sent = inl refl;
-              },
-              tt,
-            );
-            told = refl;
-          }
-
   -- an entry of the Sync last taken
   module _ (t : Taking) (is_taken : s.taking ≡ Some t) (e : Epoch) (x : Entry) (piece : ShownPiece w e x) (same : same_epoch t.epoch e ≡ true)
       (not_at : same_epoch s.replica.at t.epoch ≡ false) (not_older : is_older t.epoch s.replica.promised ≡ false)
@@ -121,7 +74,8 @@ module _ {c : Settings} {w : World} (inv : Invariant c w) (p : ℕ) (me : Who) (
     not_above = subst (λ z. is_older z t.epoch ≡ false) (sym epoch_is) (older_self t.epoch)
 
     not_leading : is_primary s.replica.role ≡ false
-    not_leading = shows.idle (below_older s.replica.at s.replica.promised shows.joined shows.promised (let q = promised_is in let b = before_joined in omega arith))
+    not_leading = shows.idle (below_older s.replica.at s.replica.promised shows.joined shows.promised (let q = promised_is in let b = before_joined in
+        omega arith))
 
     role_now : is_primary (raised t.epoch s.replica).role ≡ false
     role_now = subst (λ b. is_primary (cond b (demoted s.replica.role) s.replica.role) ≡ false) (sym not_above) not_leading
@@ -258,9 +212,11 @@ module _ {c : Settings} {w : World} (inv : Invariant c w) (p : ℕ) (me : Who) (
     same_call false = refl
 
     takes : Refined c w p me (piece_collected t x s
-        (unless (is_gap t.epoch x.lsn s.replica) (Gap (length (collected_in t.epoch s.replica))) s.replica (collected_call (x.lsn == t.last) t.epoch x s.replica)))
+        (unless (is_gap t.epoch x.lsn s.replica)
+        (Gap (length (collected_in t.epoch s.replica))) s.replica (collected_call (x.lsn == t.last) t.epoch x s.replica)))
     takes =
-        subst (λ o. Refined c w p me (piece_collected t x s (unless (is_gap t.epoch x.lsn s.replica) (Gap (length (collected_in t.epoch s.replica))) s.replica o)))
+        subst (λ o. Refined c w p me (piece_collected t x s (unless (is_gap t.epoch x.lsn s.replica)
+        (Gap (length (collected_in t.epoch s.replica))) s.replica o)))
         (sym (same_call (x.lsn == t.last)))
         (go (x.lsn == 1) refl (x.lsn == length (collected_in t.epoch s.replica) + 1) refl (x.lsn == t.last) refl (is_collected t.epoch x s.replica))
       where
@@ -284,7 +240,8 @@ module _ {c : Settings} {w : World} (inv : Invariant c w) (p : ℕ) (me : Who) (
       by : (t : Taking) → s.taking ≡ Some t → (wanted : Bool) → is_wanted t e x.lsn s.replica ≡ wanted →
           (older : Bool) → is_older t.epoch s.replica.promised ≡ older → (at : Bool) → same_epoch s.replica.at t.epoch ≡ at →
           Refined c w p me (if wanted then piece_collected t x s (unless older (Older s.replica.promised) s.replica (held_if at s.replica
-          (unless (is_gap t.epoch x.lsn s.replica) (Gap (length (collected_in t.epoch s.replica))) s.replica (collected_call (x.lsn == t.last) t.epoch x s.replica))))
+          (unless (is_gap t.epoch x.lsn s.replica)
+          (Gap (length (collected_in t.epoch s.replica))) s.replica (collected_call (x.lsn == t.last) t.epoch x s.replica))))
           else still s)
       by t h false i older j at k = nothing_refined inv shows
       by t h true i true j at k = nothing_refined inv shows
@@ -292,7 +249,8 @@ module _ {c : Settings} {w : World} (inv : Invariant c w) (p : ℕ) (me : Who) (
           let a = and_parts ((same_epoch t.epoch e && not (same_epoch s.replica.at e)) && nat_le 1 x.lsn) (nat_le x.lsn t.last) i in
           let b = and_parts (same_epoch t.epoch e && not (same_epoch s.replica.at e)) (nat_le 1 x.lsn) a.0 in
           let d = and_parts (same_epoch t.epoch e) (not (same_epoch s.replica.at e)) b.0 in
-          absurd (both_ways (same_epoch s.replica.at t.epoch) (subst (λ z. same_epoch s.replica.at z ≡ false) (sym (same_epoch-true t.epoch e d.0)) (not-true (same_epoch s.replica.at e) d.1)) k)
+          absurd (both_ways (same_epoch s.replica.at t.epoch) (subst (λ z. same_epoch s.replica.at z ≡ false) (sym (same_epoch-true t.epoch e d.0))
+          (not-true (same_epoch s.replica.at e) d.1)) k)
       by t h true i false j false k =
           let a = and_parts ((same_epoch t.epoch e && not (same_epoch s.replica.at e)) && nat_le 1 x.lsn) (nat_le x.lsn t.last) i in
           let b = and_parts (same_epoch t.epoch e && not (same_epoch s.replica.at e)) (nat_le 1 x.lsn) a.0 in

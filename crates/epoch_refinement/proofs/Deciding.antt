@@ -61,7 +61,8 @@ same_config-true c d h =
 decided_by : (t : VoteTally) (c : Config) → decided_of t ≡ Some c → has_majority t c ≡ true
 decided_by t c h = go (find (λ answer. has_majority t answer.1) t.answers) refl h
   where
-    go : (o : Option (ℕ × Config)) → find (λ answer. has_majority t answer.1) t.answers ≡ o → option_map (λ answer. answer.1) o ≡ Some c → has_majority t c ≡ true
+    go : (o : Option (ℕ × Config)) → find (λ answer. has_majority t answer.1) t.answers ≡ o → option_map (λ answer. answer.1) o ≡ Some c →
+        has_majority t c ≡ true
     go None e h = absurd (cc (h))
     go (Some a) e h =
         let same : a.1 ≡ c = cc in
@@ -242,6 +243,12 @@ module _ {k : ℕ} {w : World} (inv : Invariant (settings_to k) w) (p : ℕ) (x 
     where
       go : (b : Bool) → Went k w x n (ShowsActed k p x h n (after_activate old (if b then Ok tt else Err q)))
       go true =
-          still_went inv
-          (subst (λ (c : Config). (c.partition ≡ p) × IsEpoch n c.epoch × NoneAbove w x n) (sym same_config) (let i = shows.0.is in i.partition, shows.1, below), tt)
+          still_went inv (
+            subst (λ (c : Config). (c.partition ≡ p) × IsEpoch n c.epoch × NoneAbove w x n) (sym same_config) (
+              let i = shows.0.is in i.partition,
+              shows.1,
+              below,
+            ),
+            tt,
+          )
       go false = still_went inv (to_reconfig (Phase4 q) t shows below (λ e. absurd (cc (e))), tt)

@@ -1,22 +1,19 @@
 -- What one actor does leaves what all others show.
-use Rattle.std.proofs.Common.{◌≡◌, ℕ, ◌<◌, Bool, true, Option, Some, None, ◌⊎◌, refl, sym, ap, ◌∙◌, subst, inl, inr, ⊎_elim}
-use Rattle.fabric_lemmas.specs.Maps.{at}
+use Rattle.std.proofs.Common.{◌≡◌, ℕ, Option, Some, sym, ap, ◌∙◌, subst, ⊎_elim}
 use Rattle.fabric_lemmas.specs.Members.{IsMember}
 use Rattle.ring_points.specs.declared.unit.Config.{Config}
 use Rattle.ring_points.specs.declared.unit.Epoch.{Epoch}
 use Rattle.ring_points.specs.declared.who.Who.{Who}
 use Rattle.failover_units.specs.Units.{unit_of}
-use Rattle.epoch_machine.specs.Epochs.{number_of}
 use Rattle.epoch_machine.specs.Plans.{Plan, Attempt}
 use Rattle.epoch_machine.specs.World.{World}
-use Rattle.epoch_machine.specs.Invariant.{Invariant}
 use Rattle.unit_rules.specs.Manager.{Managed}
-use Rattle.unit_rules.specs.Reconfigs.{Reconfig, Prepare, Phase0, Phase1, Decide, Phase2, Phase3, Phase4, task_of}
+use Rattle.unit_rules.specs.Reconfigs.{Reconfig, Prepare, Phase0, Phase1, Decide, Phase2, Phase3, Phase4}
 use Rattle.unit_rules.specs.Registers.{Register}
 use Rattle.unit_rules.specs.Seats.{Seat}
-use Rattle.epoch_refinement.specs.Epochs.{IsEpoch, settings_to}
+use Rattle.epoch_refinement.specs.Epochs.{IsEpoch}
 use Rattle.epoch_refinement.specs.Facts.{Actor, of_arbiter, of_node, of_manager, is_attempt, is_plan, is_synced, is_asked, is_adopted, is_kept, is_active, is_answer, is_promise, Later}
-use Rattle.epoch_refinement.specs.Reconfigs.{HasLeft, HasEntered, NoneAbove, ShowsPhase, ShowsReconfig, ShowsManager, Went}
+use Rattle.epoch_refinement.specs.Reconfigs.{HasLeft, ShowsPhase, ShowsReconfig, ShowsManager, Went}
 use Rattle.epoch_refinement.specs.Registers.{ShowsRegister}
 use Rattle.epoch_refinement.specs.Seats.{ShowsSeat}
 use Rattle.epoch_refinement.specs.Shown.{IsDone, ShownPrepared, ShownPromised}

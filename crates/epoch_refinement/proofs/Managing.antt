@@ -1,17 +1,15 @@
 -- The manager of a partition: its commands, what answers make of it, and its firing.
-use Rattle.std.proofs.Common.{◌≡◌, ℕ, ◌<◌, ◌≤◌, Bool, true, false, cond, nat_lt, nat_le, List, length, Option, None, Some, Ok, Err, refl, sym, ap, ◌∙◌, subst, arith}
-use Rattle.std.proofs.lemmas.Bool.{ltb-false, or_parts, and_left, eq-eqb}
+use Rattle.std.proofs.Common.{◌≡◌, ℕ, ◌<◌, Bool, true, false, nat_lt, List, Option, None, Some, Ok, Err, refl, sym, ap, ◌∙◌, subst, arith}
+use Rattle.std.proofs.lemmas.Bool.{ltb-false, or_parts}
 use Rattle.std.specs.Prelude.{Result, not, is_some, unwrap_or, if◌then◌else◌}
 use Rattle.fabric_lemmas.specs.Maps.{at, put, without}
-use Rattle.fabric_lemmas.proofs.Maps.{at-put, at-without}
 use Rattle.ring_points.specs.declared.unit.Epoch.{Epoch}
 use Rattle.ring_points.specs.declared.who.Who.{Who}
-use Rattle.ring_points.specs.Epochs.{is_older}
 use Rattle.fabric_terms.specs.declared.message.Body.{Body}
 use Rattle.failover_units.specs.declared.refusal.UnitRefusal.{UnitRefusal}
 use Rattle.failover_units.specs.declared.refusal.UnitRefusal.TheVariants.{Exists, Full}
 use Rattle.failover_units.specs.declared.unit.KnownUnit.{KnownUnit}
-use Rattle.failover_units.specs.Units.{Table, unit_of, greater, seen_at, noted, is_full_for, changed}
+use Rattle.failover_units.specs.Units.{Table, unit_of, seen_at, noted, is_full_for, changed}
 use Rattle.token_core.specs.Tokens.{last_number}
 use Rattle.replica_core.specs.Replicas.{first_epoch}
 use Rattle.epoch_machine.specs.Epochs.{number_of}
@@ -35,55 +33,15 @@ use Rattle.epoch_refinement.specs.Reconfigs.{is_lose, NoneAbove, ShowsPhase, Sho
 use Rattle.epoch_refinement.specs.Laws.{ManagerAnswersAreDeeds, CommandsAreDeeds, QuestionsAreShown}
 use Rattle.epoch_refinement.specs.Refined.{AllShown}
 use Rattle.epoch_refinement.specs.Shown.{Shown}
+use Rattle.epoch_refinement.proofs.Knowing.{at_put, at_out, greater_small, greater_above, greater_first, known_changed}
 use Rattle.epoch_refinement.proofs.Answering.{answer_refines}
 use Rattle.epoch_refinement.proofs.Asking.{to_reconfig, task_shown, asks_shown, still_went, went_map}
 use Rattle.epoch_refinement.proofs.Losing.{first_opens}
-use Rattle.epoch_refinement.proofs.Numbers.{number_older_below, number_older_not}
 use Rattle.epoch_refinement.proofs.Polls.{asked_all, none_answered}
-
--- what is put at a number is there
-at_put : {X : Type 0} (p : ℕ) (x : X) (es : List (ℕ × X)) → at p (put p x es) ≡ Some x
-at_put p x es = at-put p x es p ∙ ap (λ b. cond b (Some x) (at p es)) (eq-eqb p p refl)
-
-at_out : {X : Type 0} (p : ℕ) (es : List (ℕ × X)) → at p (without p es) ≡ None
-at_out p es = at-without p es p ∙ ap (λ b. cond b None (at p es)) (eq-eqb p p refl)
-
--- the greater of two epochs is neither below
-
-greater_small : (a b : Epoch) → a.configuration < 4294967296 → b.configuration < 4294967296 → (greater a b).configuration < 4294967296
-greater_small a b x y = go (is_older a b)
-  where
-    go : (t : Bool) → (cond t b a).configuration < 4294967296
-    go true = y
-    go false = x
-
-greater_above : (a b : Epoch) → a.configuration < 4294967296 → b.configuration < 4294967296 → number_of b ≤ number_of (greater a b)
-greater_above a b x y = go (is_older a b) refl
-  where
-    go : (t : Bool) → is_older a b ≡ t → number_of b ≤ number_of (cond t b a)
-    go true h = omega arith
-    go false h = number_older_not a b (record { small = x; is = refl }) (record { small = y; is = refl }) h
-
-greater_first : (a : Epoch) → a.configuration < 4294967296 → greater a first_epoch ≡ a
-greater_first a x = go (is_older a first_epoch) refl
-  where
-    go : (t : Bool) → is_older a first_epoch ≡ t → cond t first_epoch a ≡ a
-    go true h = absurd (let lt = number_older_below a first_epoch (record { small = x; is = refl }) (record { small = omega arith; is = refl }) h in omega arith)
-    go false h = refl
-
--- a known partition that changes
-known_changed : (p : ℕ) (f : KnownUnit → KnownUnit) (units : Table) → is_some (at p units) ≡ true →
-    unit_of p (table_or units (changed p f units)) ≡ f (unit_of p units)
-known_changed p f units known =
-    (λ i. unit_of p (table_or units (cond (full i) (Err Full) (Ok (put p (f (unit_of p units)) units))))) ∙
-    ap (λ o. unwrap_or o (record { config = None; highest = record { data_loss = 0; configuration = 0 } })) (at_put p (f (unit_of p units)) units)
-  where
-    full : is_full_for p units ≡ false
-    full = and_left (not (is_some (at p units))) (nat_le 4096 (length units)) (ap not known)
 
 module _ {k : ℕ} (p : ℕ) (x : Who) (s : Managed) (w : World) (shows : ShowsManager w k p x s) (r : Reconfig) (is : at p s.reconfigs ≡ Some r) where
   -- what stands after a step
-  step_stands : (v : World) (n : ℕ) (step : Step) (deeds : List Deed) → ShowsStep v k p x (unit_of p s.units).highest n step → AllShown v p x deeds →
+  pub step_stands : (v : World) (n : ℕ) (step : Step) (deeds : List Deed) → ShowsStep v k p x (unit_of p s.units).highest n step → AllShown v p x deeds →
       ShowsManager v k p x (stands (task_of r) s step deeds).state × AllShown v p x (stands (task_of r) s step deeds).deeds
   step_stands v n (Stay q) deeds shown sent = (
     record {
@@ -195,7 +153,8 @@ module _ {k : ℕ} {w : World} (inv : Invariant (settings_to k) w) (p : ℕ) (x 
 
     opens : (kind : Kind) → IsEpoch (number_of (epoch_of kind (unit_of p s.units).highest)) (epoch_of kind (unit_of p s.units).highest) → is_lose kind ≡ true →
         Opens (settings_to k) (number_of (epoch_of kind (unit_of p s.units).highest))
-    opens (Lose node) is e = first_opens k (number_of (epoch_after_loss (unit_of p s.units).highest)) (epoch_after_loss (unit_of p s.units).highest) is refl (omega arith)
+    opens (Lose node) is e = first_opens k (number_of (epoch_after_loss (unit_of p s.units).highest))
+        (epoch_after_loss (unit_of p s.units).highest) is refl (omega arith)
     opens (Create count) is e = absurd (cc (e))
     opens (Swap node) is e = absurd (cc (e))
     opens (Heal count) is e = absurd (cc (e))
@@ -204,7 +163,8 @@ module _ {k : ℕ} {w : World} (inv : Invariant (settings_to k) w) (p : ℕ) (x 
     shows_task = record { partition = refl; arbitrators = refl; is = is_epoch; some = let lt = above kind in omega arith; opens = opens kind is_epoch }
 
     -- it begins, the partition being known from then on
-    began : at p s.reconfigs ≡ None → (units : Table) → unit_of p units ≡ unit_of p s.units → is_some (at p units) ≡ true → ManagerWent k p w x (begins begins_as units s)
+    pub began : at p s.reconfigs ≡ None → (units : Table) → unit_of p units ≡ unit_of p s.units → is_some (at p units) ≡ true →
+        ManagerWent k p w x (begins begins_as units s)
     began free units same known = (
       n,
       still_went inv (
@@ -237,7 +197,7 @@ module _ {k : ℕ} {w : World} (inv : Invariant (settings_to k) w) (p : ℕ) (x 
             to_reconfig (begun begins_as) shows_task phase (λ t m same. let le = none_yet t m same in let lt = above kind in omega arith) (λ u. none_yet)
 
   -- the partition enters the units with what was known of it
-  entered_same : (kind : Kind) (units : Table) → entered kind p s.units ≡ Ok units → (unit_of p units ≡ unit_of p s.units) × (is_some (at p units) ≡ true)
+  pub entered_same : (kind : Kind) (units : Table) → entered kind p s.units ≡ Ok units → (unit_of p units ≡ unit_of p s.units) × (is_some (at p units) ≡ true)
   entered_same kind units e = by kind e
     where
       changes : (f : KnownUnit → KnownUnit) → f (unit_of p s.units) ≡ unit_of p s.units → changed p f s.units ≡ Ok units →
@@ -260,7 +220,8 @@ module _ {k : ℕ} {w : World} (inv : Invariant (settings_to k) w) (p : ℕ) (x 
       by : (kind : Kind) → entered kind p s.units ≡ Ok units → (unit_of p units ≡ unit_of p s.units) × (is_some (at p units) ≡ true)
       by (Create count) e = go (is_some (unit_of p s.units).config) e
         where
-          go : (b : Bool) → (if b then Err Exists else changed p (λ unit. unit) s.units) ≡ Ok units → (unit_of p units ≡ unit_of p s.units) × (is_some (at p units) ≡ true)
+          go : (b : Bool) → (if b then Err Exists else changed p (λ unit. unit) s.units) ≡ Ok units → (unit_of p units ≡ unit_of p s.units) ×
+              (is_some (at p units) ≡ true)
           go true e = absurd (cc (e))
           go false e = changes (λ unit. unit) refl e
       by (Swap node) e = changes (seen_at first_epoch) seen e

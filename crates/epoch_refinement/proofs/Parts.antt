@@ -1,11 +1,10 @@
 -- What is done in one partition, seen in all partitions.
-use Rattle.std.proofs.Common.{◌≡◌, ℕ, ◌<◌, Bool, true, false, cond, ◌==◌, List, [], ◌∷◌, Option, Some, None, refl, sym, ap, ◌∙◌, subst, ◌⊎◌}
-use Rattle.std.proofs.lemmas.Bool.{eqb-true, eqb-false, eq-eqb, both_ways}
+use Rattle.std.proofs.Common.{◌≡◌, ℕ, ◌<◌, Bool, true, false, cond, ◌==◌, List, [], ◌∷◌, Some, None, refl, sym, ap, ◌∙◌, subst}
+use Rattle.std.proofs.lemmas.Bool.{eqb-true, eq-eqb}
 use Rattle.std.specs.Prelude.{is_some, unwrap_or}
 use Rattle.fabric_lemmas.specs.Maps.{at, put, rises}
 use Rattle.fabric_lemmas.proofs.Maps.{at-put, rises-put}
 use Rattle.ring_points.specs.declared.who.Who.{Who}
-use Rattle.fabric_terms.specs.declared.message.Body.{Body}
 use Rattle.fabric_terms.specs.declared.report.Report.{Report}
 use Rattle.fabric_terms.specs.declared.report.Report.TheVariants as report
 use Rattle.failover_units.specs.Units.{unit_of}
@@ -18,16 +17,15 @@ use Rattle.epoch_machine.specs.Invariant.{Invariant}
 use Rattle.epoch_machine.proofs.Replaced.{put_at, put_cases}
 use Rattle.unit_rules.specs.Deeds.{Deed, Keep, Send, Tell, Acted, acted}
 use Rattle.unit_rules.specs.Manager.{Managed}
-use Rattle.unit_rules.specs.Reconfigs.{Reconfig}
 use Rattle.unit_rules.specs.Seats.{Seat, first_seat}
 use Rattle.unit_rules.specs.Steps.{Failover, by_manager, by_seat}
 use Rattle.epoch_refinement.specs.Epochs.{settings_to}
-use Rattle.epoch_refinement.specs.Facts.{of_node, of_manager, Later}
+use Rattle.epoch_refinement.specs.Facts.{of_node, Later}
 use Rattle.epoch_refinement.specs.Nodes.{Machines, seat_at, ShowsNode, AllSent, is_told_of, tells_of, IsRealIn, AllReal, Between, NodeRefined}
 use Rattle.epoch_refinement.specs.Reconfigs.{NoneAbove, ShowsReconfig, ShowsManager, Went, ManagerWent}
 use Rattle.epoch_refinement.specs.Refined.{AllShown, Refined}
 use Rattle.epoch_refinement.specs.Seats.{ShowsSeat}
-use Rattle.epoch_refinement.specs.Shown.{partition_of, Shown}
+use Rattle.epoch_refinement.specs.Shown.{Shown}
 use Rattle.epoch_refinement.specs.Told.{tells, tells_all, IsOf}
 use Rattle.epoch_refinement.proofs.Elsewhere.{seat_elsewhere, manager_elsewhere, manager_beside}
 
@@ -175,7 +173,8 @@ module _ {k : ℕ} {m : Machines} {x : Who} {s : Failover} (inv : (p : ℕ) → 
   -- a row of its manager, which leaves what it knows of other partitions
   pub manager_step : (a : Acted Managed) → ManagerWent k q (m q) x a →
       ((p : ℕ) → (q ≡ p → ⊥) → (at p a.state.reconfigs ≡ at p s.managed.reconfigs) × (at p a.state.units ≡ at p s.managed.units)) →
-      rises a.state.reconfigs ≡ true → ((w : World) (log : List Entry) → AllShown w q x a.deeds → (before : List machine.Report) → tells_all x.actor log a.deeds before ≡ before) →
+      rises a.state.reconfigs ≡ true → ((w : World) (log : List Entry) → AllShown w q x a.deeds → (before : List machine.Report) →
+      tells_all x.actor log a.deeds before ≡ before) →
       NodeRefined k m x (by_manager s a)
   manager_step a went beside rises_on silent =
       let g = went.1 in

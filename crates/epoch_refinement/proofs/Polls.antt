@@ -85,7 +85,8 @@ module _ {A : Type 0} where
   pub has_answer : (a : ℕ) (poll : Poll A) → has_answered a poll ≡ true → (x : A) × IsMember (a, Some x) poll
   has_answer a [] h = absurd (cc (h))
   has_answer a (e ∷ es) h =
-      ⊎_elim (λ b. here e.1 refl (and_parts (e.0 == a) (is_some e.1) b)) (λ r. let i = has_answer a es r in (i.0, inr i.1)) (or_cases (e.0 == a && is_some e.1) (has_answered a es) h)
+      ⊎_elim (λ b. here e.1 refl (and_parts (e.0 == a) (is_some e.1) b)) (λ r. let i = has_answer a es r in (i.0, inr i.1))
+      (or_cases (e.0 == a && is_some e.1) (has_answered a es) h)
     where
       here : (o : Option A) → e.1 ≡ o → ((e.0 == a) ≡ true) × (is_some e.1 ≡ true) → (x : A) × IsMember (a, Some x) (e ∷ es)
       here None i b = absurd (let k : is_some e.1 ≡ false = ap is_some i in cc (k, b.1))
@@ -141,13 +142,15 @@ count_one_more : (f g : ℕ → Bool) → ((x : ℕ) → f x ≡ true → g x �
 count_one_more f g more a no_f has_g [] m = absurd m
 count_one_more f g more a no_f has_g (x ∷ xs) (inl e) = go (f x) refl (g x) refl (count_more f g more xs)
   where
-    go : (p : Bool) → f x ≡ p → (q : Bool) → g x ≡ q → count f xs ≤ count g xs → cond p (suc (count f xs)) (count f xs) + 1 ≤ cond q (suc (count g xs)) (count g xs)
+    go : (p : Bool) → f x ≡ p → (q : Bool) → g x ≡ q → count f xs ≤ count g xs → cond p (suc (count f xs))
+        (count f xs) + 1 ≤ cond q (suc (count g xs)) (count g xs)
     go true i q j le = absurd (both_ways (f a) no_f (subst (λ z. f z ≡ true) (sym e) i))
     go false i true j le = omega arith
     go false i false j le = absurd (both_ways (g a) (subst (λ z. g z ≡ false) (sym e) j) has_g)
 count_one_more f g more a no_f has_g (x ∷ xs) (inr m) = go (f x) refl (g x) refl (count_one_more f g more a no_f has_g xs m)
   where
-    go : (p : Bool) → f x ≡ p → (q : Bool) → g x ≡ q → count f xs + 1 ≤ count g xs → cond p (suc (count f xs)) (count f xs) + 1 ≤ cond q (suc (count g xs)) (count g xs)
+    go : (p : Bool) → f x ≡ p → (q : Bool) → g x ≡ q → count f xs + 1 ≤ count g xs → cond p (suc (count f xs))
+        (count f xs) + 1 ≤ cond q (suc (count g xs)) (count g xs)
     go true i true j le = omega arith
     go true i false j le = absurd (both_ways (g x) j (more x i))
     go false i true j le = omega arith
@@ -166,7 +169,8 @@ in_arbiters (suc n) a some le = go (a == suc n) refl (λ l. in_arbiters n a some
     before (x ∷ xs) (inl e) = inl e
     before (x ∷ xs) (inr m) = inr (before xs m)
 
-    go : (b : Bool) → (a == suc n) ≡ b → (a ≤ n → IsMember (arbiter_actor a) (arbiters_to n)) → IsMember (arbiter_actor a) (arbiters_to n ++ arbiter_actor (suc n) ∷ [])
+    go : (b : Bool) → (a == suc n) ≡ b → (a ≤ n → IsMember (arbiter_actor a) (arbiters_to n)) → IsMember (arbiter_actor a)
+        (arbiters_to n ++ arbiter_actor (suc n) ∷ [])
     go true e rest = after (arbiters_to n) (ap arbiter_actor (eqb-true a (suc n) e))
     go false e rest = before (arbiters_to n) (rest (let d = eqb-false a (suc n) e in omega arith))
 

@@ -87,7 +87,8 @@ module _ {k : ℕ} {w : World} (inv : Invariant (settings_to k) w) (p : ℕ) (x 
   can_leave : (o : Option Config) → highest_done (answers_in q.poll) ≡ o → (prev : Option Plan) → IsDone p prev o → Carried w.answers x n prev →
       Can (settings_to k) w (LeavesPrepare (record { who = x; epoch = n; prev = prev }))
   can_leave o e prev d carry =
-      (t.some, shows.0, subst (λ ns. MajorityOf ns (AnsweredTo w.answers x n prev)) shows.1 (carried_by (AnsweredTo w.answers x n prev) q.poll each carried), carry)
+      let most = subst (λ ns. MajorityOf ns (AnsweredTo w.answers x n prev)) shows.1 (carried_by (AnsweredTo w.answers x n prev) q.poll each carried) in
+      (t.some, shows.0, most, carry)
     where
       each : (a : ℕ) (c : Option Config) → IsMember (a, Some c) q.poll → AnsweredTo w.answers x n prev a
       each a c m =
@@ -179,7 +180,8 @@ module _ {k : ℕ} {w : World} (inv : Invariant (settings_to k) w) (p : ℕ) (x 
   refused u = still_went inv (before, tt)
 
   -- it goes on in a phase that is entered from what was done
-  goes_on : (old : Config) → highest_done (answers_in q.poll) ≡ Some old → (r : Reconfig) → ShowsTask k p n (task_of r) → is_preparing r ≡ false → (actors : List ℕ) →
+  goes_on : (old : Config) → highest_done (answers_in q.poll) ≡ Some old → (r : Reconfig) → ShowsTask k p n (task_of r) → is_preparing r ≡ false →
+      (actors : List ℕ) →
       ((v : World) (plan : Plan) → IsPlanOf p plan old → HasLeft v x n plan → ShowsPhase v k p x n r) → Went k w x n (ShowsActed k p x h n (enters r actors))
   goes_on old e r task later actors phase =
       let g = leaves old e in
@@ -206,7 +208,14 @@ module _ {k : ℕ} {w : World} (inv : Invariant (settings_to k) w) (p : ℕ) (x 
     where
       go : (b : Bool) → Went k w x n (ShowsActed k p x h n
           (if b then enters (Phase0 (record { task = q.task; old = old; primary = node })) (old.primary ∷ []) else is_refused refusal.NotMember))
-      go true = goes_on old e (Phase0 (record { task = q.task; old = old; primary = node })) t refl (old.primary ∷ []) (λ v plan is left. ((plan, is, left), ap is_create same))
+      go true = goes_on old e (Phase0 (record { task = q.task; old = old; primary = node })) t refl (old.primary ∷ []) (λ v plan is left. (
+        (
+          plan,
+          is,
+          left,
+        ),
+        ap is_create same,
+      ))
       go false = refused refusal.NotMember
   prepared_refines nodes (Heal count) same (Some old) e = go (placement nodes count)
     where

@@ -55,7 +55,8 @@ module _ {k : ℕ} {w : World} (inv : Invariant (settings_to k) w) (p : ℕ) (x 
     best = furthest_over (answers_in q.poll) (λ r m. let s = answer r m in let j = s.joined_is in j.small) o is_best
 
     abbrev origin : ShownPromised w o.0 q.task.epoch o.1.at o.1.last
-    origin = shows.2 o.0 o.1 (answers_are q.poll o.0 o.1 (furthest_over (answers_in q.poll) (λ r m. let s = answer r m in let j = s.joined_is in j.small) o is_best).0)
+    origin = shows.2 o.0 o.1 (answers_are q.poll o.0 o.1 (furthest_over (answers_in q.poll) (λ r m. let s = answer r m in let j = s.joined_is in
+        j.small) o is_best).0)
 
     abbrev config : Config
     config = config_of q.task (primary_by q.task.kind q) q.members

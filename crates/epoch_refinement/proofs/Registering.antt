@@ -65,7 +65,10 @@ older_is p (Some r) (Some d) q config a b h = go (nat_lt r.epoch q.epoch) refl
 
 module _ {c : Settings} {w : World} (inv : Invariant c w) (p : ℕ) (me : Who) (r : Register) (shows : ShowsRegister w p me.actor r) where
   -- the epoch is prepared for this Who; an answer that is given again is prepared again
-  prepared_shows : (asker : Who) (e : Epoch) (n : ℕ) → IsEpoch n e → (prepared : Option Preparation) → prepared ≡ Some (record { epoch = e; preparer = asker }) →
+  prepared_shows : (asker : Who) (e : Epoch) (n : ℕ) → IsEpoch n e → (prepared : Option Preparation) → prepared ≡ Some (record {
+    epoch = e;
+    preparer = asker;
+  }) →
       ShowsRegister (after w (Prepares me.actor asker n)) p me.actor (record r { prepared = prepared })
   prepared_shows asker e n is prepared same = record {
     nothing = λ h. absurd (cc (h, same));
@@ -90,7 +93,8 @@ module _ {c : Settings} {w : World} (inv : Invariant c w) (p : ℕ) (me : Who) (
       go None h = omega arith
       go (Some k) h = small_prepared k h
 
-  pub prepare_refines : (asker : Who) (e : Epoch) (n : ℕ) → IsEpoch n e → 0 < n → 0 < asker.instance → RefinedReply c w p me asker r (prepare_received p e asker r)
+  pub prepare_refines : (asker : Who) (e : Epoch) (n : ℕ) → IsEpoch n e → 0 < n → 0 < asker.instance →
+      RefinedReply c w p me asker r (prepare_received p e asker r)
   unfolding prepare_received
   prepare_refines asker e n is some begun = go (is_above r.prepared e) refl (is_prepared_for r.prepared e asker) refl
     where
@@ -207,7 +211,8 @@ module _ {c : Settings} {w : World} (inv : Invariant c w) (p : ℕ) (me : Who) (
         after = after w (KeepsDone me.actor ask.plan);
         inv = deed_keeps inv (KeepsDone me.actor ask.plan) (can h);
         later = deed_later w (KeepsDone me.actor ask.plan);
-        shows = done_shows (Some config) (subst (λ o. IsDone p o (Some config)) (sym (newer_is p (w.done me.actor) r.done ask.plan config shows.done ask.is i)) ask.is);
+        shows = done_shows (Some config) (subst (λ o. IsDone p o (Some config))
+            (sym (newer_is p (w.done me.actor) r.done ask.plan config shows.done ask.is i)) ask.is);
         kept = ask.is.partition;
         of = ask.is.partition;
         sent = (ask.plan.epoch, ask.is.epoch, inl refl);

@@ -12,11 +12,13 @@ use Rattle.epoch_refinement.proofs.Doing.{nothing_refined}
 use Rattle.epoch_refinement.proofs.Lasting.{deed_later}
 use Rattle.epoch_refinement.proofs.Promising.{numbered_none, promise_refines}
 use Rattle.epoch_refinement.proofs.Syncing.{sync_refines}
-use Rattle.epoch_refinement.proofs.Copying.{fetch_refines, piece_refines}
+use Rattle.epoch_refinement.proofs.Fetching.{fetch_refines}
+use Rattle.epoch_refinement.proofs.Copying.{piece_refines}
 use Rattle.epoch_refinement.proofs.Appending.{append_refines}
 use Rattle.epoch_refinement.proofs.Activating.{activate_refines}
 use Rattle.epoch_refinement.proofs.Committing.{appended_refines}
-use Rattle.epoch_refinement.proofs.Writing.{write_refines, fire_refines}
+use Rattle.epoch_refinement.proofs.Writing.{write_refines}
+use Rattle.epoch_refinement.proofs.Sending.{fire_refines}
 use Rattle.epoch_refinement.proofs.Registering.{prepare_refines, vote_refines, done_refines}
 
 pub frames_are_deeds_lem : ReplicaFramesAreDeeds

@@ -18,46 +18,26 @@ use Rattle.replica_core.specs.Replicas.{Replica, raised, adopted}
 use Rattle.replica_core.specs.Calls.{Outcome, unless, held_if, adopt_own_call, idle_call}
 use Rattle.replica_core.specs.Calls as call
 use Rattle.epoch_machine.specs.Settings.{Settings}
-use Rattle.epoch_machine.specs.World.{World, TellsPromised, replaced}
+use Rattle.epoch_machine.specs.World.{World, TellsPromised}
 use Rattle.epoch_machine.specs.Deeds.{RaisesPromise, AdoptsNothing, AdoptsOwn, SaysAdopted}
-use Rattle.epoch_machine.specs.Guards.{MayAdopt, Can}
-use Rattle.epoch_machine.specs.Effects.{adopting, after}
+use Rattle.epoch_machine.specs.Guards.{Can}
+use Rattle.epoch_machine.specs.Effects.{after}
 use Rattle.epoch_machine.specs.Invariant.{Invariant}
-use Rattle.epoch_machine.proofs.Replaced.{put_at}
 use Rattle.epoch_machine.proofs.Histories.{deed_keeps}
 use Rattle.unit_rules.specs.declared.lead.Taking.{Taking}
-use Rattle.unit_rules.specs.Copies.{adoption, nothing_adopted, log_adopted, fetch_next, own_adopted, copy_begun, sync_taken, sync_answered, sync_received}
+use Rattle.unit_rules.specs.Copies.{fetch_next, own_adopted, copy_begun, sync_taken, sync_answered, sync_received}
 use Rattle.unit_rules.specs.Deeds.{Keep, Send, Tell, acted}
 use Rattle.unit_rules.specs.Leads.{is_primary}
 use Rattle.unit_rules.specs.Seats.{Seat, seated}
 use Rattle.epoch_refinement.specs.Epochs.{IsEpoch}
-use Rattle.epoch_refinement.specs.Facts.{of_node, is_adopted, Has, Later}
-use Rattle.epoch_refinement.specs.Refined.{AllShown, Refined}
+use Rattle.epoch_refinement.specs.Refined.{Refined}
 use Rattle.epoch_refinement.specs.Seats.{IsNumbered, ShowsSeat}
 use Rattle.epoch_refinement.specs.Shown.{ShownSync}
-use Rattle.epoch_refinement.specs.Told.{tells_all}
+use Rattle.epoch_refinement.proofs.Adopting.{may_adopt, Adopts, adopts}
 use Rattle.epoch_refinement.proofs.Doing.{after_refined, nothing_refined, not_primary}
 use Rattle.epoch_refinement.proofs.Numbers.{real, same_not, same_epoch-true, older_self}
-use Rattle.epoch_refinement.proofs.Lasting.{deed_later, later_refl, later_trans, sync_later}
+use Rattle.epoch_refinement.proofs.Lasting.{deed_later, later_refl, sync_later}
 use Rattle.epoch_refinement.proofs.Promising.{raised_shows, shows_later, numbered_none, promise_above}
-
--- what is adopted is told to who asked, whether it is empty or not
-
-pub adoption_shown : (w : World) (p : ℕ) (me : Who) (q : ℕ) (t : Taking) (is_own : Bool) (n : ℕ) → q ≡ p → IsEpoch n t.epoch →
-    Has w (is_adopted (record { node = me.actor; epoch = n })) → AllShown w p me (adoption q t is_own)
-adoption_shown w p me q t is_own n of is h = go (t.last == 0)
-  where
-    go : (b : Bool) → AllShown w p me (if b then nothing_adopted q t else log_adopted q t is_own)
-    go true = (of, (n, is, h), tt)
-    go false = (tt, (of, (n, is, h), tt))
-
-pub adoption_tells : (node : ℕ) (log : List Entry) (q : ℕ) (t : Taking) (is_own : Bool) (before : List _) →
-    tells_all node log (adoption q t is_own) before ≡ before
-adoption_tells node log q t is_own before = go (t.last == 0)
-  where
-    go : (b : Bool) → tells_all node log (if b then nothing_adopted q t else log_adopted q t is_own) before ≡ before
-    go true = refl
-    go false = refl
 
 -- a replica that is idle now, and else as it was
 record IsIdle (r old : Replica) : Type 0 where
@@ -102,59 +82,6 @@ made_idle e r same = go (is_older e r.promised) not_older (same_epoch r.promised
       collected_is = ap (λ b. cond b [] r.collected) not_above;
       role_is = refl;
     }
-
--- the log is adopted in a world where the epoch is promised and not adopted, and the node says so
-module _ {c : Settings} {w : World} (inv : Invariant c w) (p : ℕ) (me : Who) (t : Taking) (s : Seat) (shows : ShowsSeat w p me.actor s)
-    (sync : ShownSync w t.epoch t.origin t.last) (promised : w.promised me.actor ≡ sync.plan.epoch) (before : w.joined me.actor < sync.plan.epoch) where
-  pub may_adopt : MayAdopt w me.actor sync.plan
-  may_adopt = record { synced = sync.synced; promised = promised; before = before }
-
-  -- this seat has the log
-  pub record Adopts (old : List Entry) (next : Seat) : Type 0 where
-    pub partition : next.replica.partition ≡ p
-    pub promised_is : next.replica.promised ≡ s.replica.promised
-    pub at_is : next.replica.at ≡ t.epoch
-    pub log_is : old ≡ next.replica.log
-    pub room : length next.replica.log ≤ 100000
-    pub taken_is : next.taking ≡ s.taking
-    pub numbered : IsNumbered next.replica.log
-    pub numbered_collected : IsNumbered next.replica.collected
-    pub role_is : is_primary next.replica.role ≡ false
-
-  pub adopts : (old : List Entry) (next : Seat) (is_own : Bool) → Adopts old next → Invariant c (adopting w me.actor sync.plan old) →
-      Later (of_node me.actor) w (adopting w me.actor sync.plan old) →
-      Refined c w p me (acted next (adoption next.replica.partition t is_own))
-  adopts old next is_own has after_inv later = record {
-    after = after (adopting w me.actor sync.plan old) (SaysAdopted me.actor);
-    inv = deed_keeps after_inv (SaysAdopted me.actor) (joined_now ∙ sym promised);
-    later = all;
-    shows = record {
-      partition = has.partition;
-      promised = subst (IsEpoch (w.promised me.actor)) (sym has.promised_is) shows.promised;
-      joined = subst (IsEpoch (replaced w.joined me.actor sync.plan.epoch me.actor)) (sym has.at_is) epoch_now;
-      log = put_at w.log me.actor old ∙ has.log_is;
-      room = has.room;
-      collected = λ lt. absurd (let j = joined_now in let q = promised in omega arith);
-      taken = λ u h. sync_later all (shows.taken u (sym has.taken_is ∙ h));
-      reached = λ u m h i. shows.reached u m (sym has.taken_is ∙ h) i;
-      numbered = has.numbered;
-      numbered_collected = has.numbered_collected;
-      idle = λ h. has.role_is;
-      lead = λ l h. absurd (not_primary next l has.role_is h);
-    };
-    sent = adoption_shown (after (adopting w me.actor sync.plan old) (SaysAdopted me.actor)) p me next.replica.partition t is_own
-        (replaced w.joined me.actor sync.plan.epoch me.actor) has.partition epoch_now (inl refl);
-    told = sym (adoption_tells me.actor next.replica.log next.replica.partition t is_own w.told);
-  }
-    where
-      joined_now : replaced w.joined me.actor sync.plan.epoch me.actor ≡ sync.plan.epoch
-      joined_now = put_at w.joined me.actor sync.plan.epoch
-
-      epoch_now : IsEpoch (replaced w.joined me.actor sync.plan.epoch me.actor) t.epoch
-      epoch_now = subst (λ k. IsEpoch k t.epoch) (sym joined_now) sync.epoch
-
-      all : Later (of_node me.actor) w (after (adopting w me.actor sync.plan old) (SaysAdopted me.actor))
-      all = later_trans later (deed_later (adopting w me.actor sync.plan old) (SaysAdopted me.actor))
 
 -- a Sync of the promised epoch
 module _ {c : Settings} {w : World} (inv : Invariant c w) (p : ℕ) (me : Who) (t : Taking) (s : Seat) (shows : ShowsSeat w p me.actor s)
@@ -240,7 +167,8 @@ module _ {c : Settings} {w : World} (inv : Invariant c w) (p : ℕ) (me : Who) (
           role_is = subst (λ r. is_primary r ≡ false) (sym same_role) i.role_is;
         }
 
-    adopts_own : (none whole : Bool) → (t.last == 0) ≡ none → (none ≡ false → t.origin ≡ me.actor) → Refined c w p me (own_adopted t next (call.own_adopted none whole t.epoch next.replica))
+    adopts_own : (none whole : Bool) → (t.last == 0) ≡ none → (none ≡ false → t.origin ≡ me.actor) →
+        Refined c w p me (own_adopted t next (call.own_adopted none whole t.epoch next.replica))
     adopts_own true whole h own =
         let can : Can c w (AdoptsNothing me.actor sync.plan) =
         (may_adopt inv p me t next next_shows sync number_is before, let a = eqb-true t.last 0 h in let l = sync.last_is in omega arith) in
@@ -248,8 +176,12 @@ module _ {c : Settings} {w : World} (inv : Invariant c w) (p : ℕ) (me : Who) (
         (has_log [] [] refl (omega arith) numbered_none)
         (deed_keeps inv (AdoptsNothing me.actor sync.plan) can) (deed_later w (AdoptsNothing me.actor sync.plan))
     adopts_own false true h own =
-        let can : Can c w (AdoptsOwn me.actor sync.plan) =
-        (may_adopt inv p me t next next_shows sync number_is before, sync.origin_is ∙ own refl, let a = eqb-false t.last 0 h in let l = sync.last_is in omega arith) in
+        let can : Can c w (AdoptsOwn me.actor sync.plan) = (
+          may_adopt inv p me t next next_shows sync number_is before,
+          sync.origin_is ∙ own refl,
+          let a = eqb-false t.last 0 h in let l = sync.last_is in
+              omega arith,
+        ) in
         adopts inv p me t next next_shows sync number_is before (w.log me.actor) (seated next (adopted t.epoch next.replica.log next.replica)) true
         (has_log (w.log me.actor) next.replica.log next_shows.log next_shows.room next_shows.numbered)
         (deed_keeps inv (AdoptsOwn me.actor sync.plan) can) (deed_later w (AdoptsOwn me.actor sync.plan))
@@ -276,7 +208,8 @@ module _ {c : Settings} {w : World} (inv : Invariant c w) (p : ℕ) (me : Who) (
   taken_refines = go (same_epoch s.replica.at t.epoch) refl
     where
       go : (at : Bool) → same_epoch s.replica.at t.epoch ≡ at →
-          Refined c w p me (if at then acted s (Send t.asker (body.Adopted s.replica.partition t.epoch (length s.replica.log)) ∷ []) else copy_begun me.actor t s)
+          Refined c w p me (if at then acted s (Send t.asker (body.Adopted s.replica.partition t.epoch (length s.replica.log)) ∷ [])
+          else copy_begun me.actor t s)
       go true i =
           let joined : IsEpoch (w.joined me.actor) t.epoch = subst (IsEpoch (w.joined me.actor)) (same_epoch-true s.replica.at t.epoch i) shows.joined in
           let has_adopted : w.joined me.actor ≡ w.promised me.actor =

@@ -1,5 +1,5 @@
 -- Each row of a partition is deeds of the partition's machine.
-use Rattle.std.specs.Prelude.{◌≡◌, ℕ, ◌<◌, Bool, List, Some}
+use Rattle.std.specs.Prelude.{◌≡◌, ℕ, ◌<◌, Bool, List, Some, []}
 use Rattle.fabric_lemmas.specs.Maps.{at}
 use Rattle.ring_points.specs.declared.unit.Epoch.{Epoch}
 use Rattle.replica_place.specs.declared.load.NodeLoad.{NodeLoad}
@@ -12,10 +12,15 @@ use Rattle.epoch_refinement.specs.Reconfigs.{ShowsManager, IsAnswerOf, ManagerWe
 use Rattle.ring_points.specs.declared.who.Who.{Who}
 use Rattle.fabric_terms.specs.declared.message.Body.{Body}
 use Rattle.epoch_machine.specs.Settings.{Settings}
-use Rattle.epoch_machine.specs.World.{World}
+use Rattle.epoch_machine.specs.World.{World, empty_world}
 use Rattle.epoch_machine.specs.Invariant.{Invariant}
 use Rattle.unit_rules.specs.Deeds.{acted, still}
-use Rattle.unit_rules.specs.Registers.{Register, Reply}
+use Rattle.ring_rules.specs.declared.input.Input.{Input}
+use Rattle.ring_rules.specs.Rings.{Ring}
+use Rattle.unit_rules.specs.Loads.{Site}
+use Rattle.unit_rules.specs.Steps.{Failover, failover_begun, failover_step}
+use Rattle.unit_rules.specs.Registers.{Register, Reply, Registers, question_received, registers_after}
+use Rattle.epoch_refinement.specs.Nodes.{Machines, ShowsNode, NodeRefined, Comes, ShowsArbiter, ArbiterRefined}
 use Rattle.unit_rules.specs.Seats.{Seat}
 use Rattle.unit_rules.specs.Writes.{write_commanded, seat_fired}
 use Rattle.epoch_refinement.specs.Refined.{AllShown, Refined}
@@ -65,3 +70,22 @@ CommandsAreDeeds = OfManagers (λ k p w x s. (is_manager : Bool) (kind : Kind) �
 -- what it asks again when it fires
 abbrev pub QuestionsAreShown : Type 0
 QuestionsAreShown = OfManagers (λ k p w x s. (r : Reconfig) → at p s.reconfigs ≡ Some r → AllShown w p x (reconfig_fired r))
+
+-- Each step of a whole node, and of a whole arbitrator, is deeds of the machines of all partitions.
+
+-- whatever comes to a node that shows the machines: a frame that was sent, a command, or a firing
+abbrev pub StepsAreDeeds : Type 0
+StepsAreDeeds =
+    (c : Site) (now : ℕ) (r : Ring) (k : ℕ) (m : Machines) (s : Failover) (i : Input) → ((p : ℕ) → Invariant (settings_to k) (m p)) →
+    c.ring.arbitrators ≡ k → 0 < r.me.instance → ShowsNode k m r.me s → Comes m r.me i → NodeRefined k m r.me (failover_step c now r s i)
+
+-- whatever an arbitrator is asked by a frame that was sent
+abbrev pub QuestionsAreDeeds : Type 0
+QuestionsAreDeeds =
+    (k : ℕ) (m : Machines) (me from to : Who) (b : Body) (rs : Registers) → ((p : ℕ) → Invariant (settings_to k) (m p)) → ShowsArbiter m me.actor rs →
+    Shown (m (partition_of b)) (partition_of b) from to b → ArbiterRefined k m me (question_received b from rs)
+
+-- in the world where nothing was done, a node and an arbitrator that have recorded nothing show the machines
+abbrev pub BeginningsAreShown : Type 0
+BeginningsAreShown =
+    (k : ℕ) (x : Who) → ShowsNode k (λ p. empty_world) x (failover_begun []) × ShowsArbiter (λ p. empty_world) x.actor (registers_after [] [])

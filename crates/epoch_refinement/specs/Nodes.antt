@@ -1,5 +1,5 @@
 -- A whole node, with its manager and its replicas, on the machines of all partitions.
-use Rattle.std.specs.Prelude.{◌≡◌, ℕ, ◌<◌, Bool, true, false, cond, ◌==◌, List, [], ◌∷◌, unwrap_or, ◌⊎◌}
+use Rattle.std.specs.Prelude.{◌≡◌, ℕ, Bool, true, false, cond, ◌==◌, List, [], ◌∷◌, unwrap_or, ◌⊎◌}
 use Rattle.fabric_lemmas.specs.Maps.{at, rises}
 use Rattle.ring_points.specs.declared.who.Who.{Who}
 use Rattle.fabric_terms.specs.declared.message.Message.{Message}
@@ -13,11 +13,13 @@ use Rattle.epoch_machine.specs.World as machine
 use Rattle.epoch_machine.specs.Invariant.{Invariant}
 use Rattle.unit_rules.specs.Deeds.{Deed, Keep, Send, Tell, Acted}
 use Rattle.unit_rules.specs.Manager.{Managed}
+use Rattle.unit_rules.specs.Registers.{Registers, register_of}
 use Rattle.unit_rules.specs.Seats.{Seat, first_seat}
 use Rattle.unit_rules.specs.Steps.{Failover}
 use Rattle.epoch_refinement.specs.Epochs.{IsReal, settings_to}
 use Rattle.epoch_refinement.specs.Facts.{Fact, Has, SameSeat, SameRegister}
 use Rattle.epoch_refinement.specs.Reconfigs.{ShowsManager}
+use Rattle.epoch_refinement.specs.Registers.{ShowsRegister}
 use Rattle.epoch_refinement.specs.Seats.{ShowsSeat}
 use Rattle.epoch_refinement.specs.Shown.{partition_of, Shown}
 use Rattle.epoch_refinement.specs.Told.{tells}
@@ -99,3 +101,23 @@ pub record Arrives (m : Machines) (x : Who) (f : Message) : Type 0 where
 abbrev pub Comes : Machines → Who → Input → Type 0
 Comes m x (input.Frame f) = Arrives m x f
 Comes m x _ = Unit {0}
+
+-- a whole arbitrator, by its actor's number
+abbrev pub ShowsArbiter : Machines → ℕ → Registers → Type 0
+ShowsArbiter m arbiter rs = (p : ℕ) → ShowsRegister (m p) p arbiter (register_of p rs)
+
+-- what deeds of an arbitrator leave as it was: what was done, all replicas, other registers, and what managers show
+pub record Beyond (k p arbiter : ℕ) (w v : World) : Type 0 where
+  pub inv : Invariant (settings_to k) v
+  pub keeps : (f : Fact) → Has w f → Has v f
+  pub seats : (n : ℕ) → SameSeat w v n
+  pub registers : (a : ℕ) → (arbiter ≡ a → ⊥) → SameRegister w v a
+  pub managers : (y : Who) (s : Managed) → ShowsManager w k p y s → ShowsManager v k p y s
+
+-- the machines have done what the arbitrator did
+pub record ArbiterRefined (k : ℕ) (m : Machines) (me : Who) (a : Acted Registers) : Type 0 where
+  pub after : Machines
+  pub beyond : (p : ℕ) → Beyond k p me.actor (m p) (after p)
+  pub shows : ShowsArbiter after me.actor a.state
+  pub sent : AllSent after me a.deeds
+  pub told : (p : ℕ) → (after p).told ≡ (m p).told

@@ -1,4 +1,4 @@
-ghost use Rattle.epoch_refinement.specs.Laws.{AnswersAreDeeds, CommandsAreDeeds, FiringsAreDeeds, ManagerAnswersAreDeeds, QuestionsAreShown, ReplicaFramesAreDeeds, RestartsAreDeeds, WritesAreDeeds};
+ghost use Rattle.epoch_refinement.specs.Laws.{AnswersAreDeeds, BeginningsAreShown, CommandsAreDeeds, FiringsAreDeeds, ManagerAnswersAreDeeds, QuestionsAreDeeds, QuestionsAreShown, ReplicaFramesAreDeeds, RestartsAreDeeds, StepsAreDeeds, WritesAreDeeds};
 
 /// Whatever frame comes to a replica that was sent, in whatever order and however often, what it makes of it is deeds of
 /// the machine of its partition: what it sends is sent there, and what it tells is told there.
@@ -40,4 +40,20 @@ pub fn commands_are_deeds()
 /// What a manager asks again when it fires shows what its phase has.
 pub fn questions_are_shown()
     ensures { QuestionsAreShown }
+{}
+
+/// So each step of a whole node, with a frame that was sent, a command or a firing, is deeds of the machines of all
+/// partitions, and leaves what all others show.
+pub fn each_step_is_deeds()
+    ensures { StepsAreDeeds }
+{}
+
+/// So is whatever a whole arbitrator is asked.
+pub fn each_question_is_deeds()
+    ensures { QuestionsAreDeeds }
+{}
+
+/// Where nothing was done, a node and an arbitrator that have recorded nothing show the machines.
+pub fn beginnings_are_shown()
+    ensures { BeginningsAreShown }
 {}

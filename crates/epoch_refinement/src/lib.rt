@@ -11,6 +11,7 @@
 mod laws;
 
 pub use laws::{
-    answers_are_deeds, commands_are_deeds, firings_are_deeds, frames_are_deeds,
-    manager_answers_are_deeds, questions_are_shown, restarts_are_deeds, writes_are_deeds,
+    answers_are_deeds, beginnings_are_shown, commands_are_deeds, each_question_is_deeds,
+    each_step_is_deeds, firings_are_deeds, frames_are_deeds, manager_answers_are_deeds,
+    questions_are_shown, restarts_are_deeds, writes_are_deeds,
 };
