@@ -1,5 +1,5 @@
 -- What the registers answer is in the ranges of frames, and what they record keeps them so.
-use Rattle.std.proofs.Common.{◌≡◌, ℕ, Bool, true, false, cond, ◌&&◌, ◌||◌, List, [], ◌∷◌, Option, Some, None, IsTrue, refl, ap, sym, arith}
+use Rattle.std.proofs.Common.{◌≡◌, ℕ, Bool, true, false, ◌&&◌, ◌||◌, [], Option, Some, None, IsTrue, refl, arith}
 use Rattle.std.specs.Prelude.{◌==◌, All, nat_le, length, if◌then◌else◌}
 use Rattle.std.proofs.lemmas.Bool.{and_from, and_parts, or_right}
 use Rattle.std.proofs.lemmas.Bool.Decides.{nat_tests}
@@ -8,7 +8,6 @@ use Rattle.fabric_terms.specs.declared.message.Body.{Body}
 use Rattle.fabric_terms.specs.declared.message.Body.TheVariants as body
 use Rattle.fabric_terms.specs.declared.message.Message.{Message}
 use Rattle.fabric_terms.specs.declared.record.Record.{Record}
-use Rattle.fabric_terms.specs.declared.record.Record.TheVariants.{PreparedBy, VotedFor, DoneFor}
 use Rattle.fabric_terms.specs.Fields.{has_members, is_addressee, is_arbiter, is_config, is_done, is_epoch, is_node, is_sender, is_short, is_unit, is_who, is_word, same_unit}
 use Rattle.fabric_terms.specs.Messages.{is_sound, is_sound_body}
 use Rattle.frames_fit.specs.Above.{DidInFormat}
@@ -20,7 +19,7 @@ use Rattle.ring_points.specs.declared.unit.Epoch.{Epoch}
 use Rattle.ring_points.specs.declared.who.Who.{Who}
 use Rattle.ring_points.specs.Epochs.{same_epoch}
 use Rattle.unit_rules.specs.Deeds.{did, unless}
-use Rattle.unit_rules.specs.Registers.{Register, Registers, Reply, done_received, is_above, is_below, is_newer, is_prepared_for, prepare_received, prepared_epoch, question_received, register_of, replied, reply, reply_keeping, vote_in, vote_received, vote_settled}
+use Rattle.unit_rules.specs.Registers.{Register, Registers, Reply, done_received, is_above, is_below, is_newer, is_prepared_for, prepare_received, prepared_epoch, question_received, register_of, replied, vote_in, vote_received, vote_settled}
 use Rattle.world_rules.specs.Above.{is_ring_frame, is_ring_record}
 use Rattle.fabric_fit.specs.Registers.{KeptRecord, RegisterInRange, RegistersInRange, is_vote}
 use Rattle.fabric_fit.proofs.Ranges.{register_in_range, vote_found, with_in_range}

@@ -1,19 +1,18 @@
 -- Registers stay in their ranges, whatever is recorded.
-use Rattle.std.proofs.Common.{◌≡◌, ℕ, Bool, true, false, cond, ◌&&◌, List, [], ◌∷◌, ◌++◌, Option, Some, None, IsTrue, refl, ap, sym, subst, arith}
+use Rattle.std.proofs.Common.{◌≡◌, ℕ, Bool, true, false, cond, List, [], ◌∷◌, ◌++◌, Some, IsTrue, refl, subst, arith}
 use Rattle.std.specs.Prelude.{◌==◌, All, nat_lt}
 use Rattle.std.proofs.lemmas.Bool.{and_from, and_parts, eqb-true}
 use Rattle.std.proofs.lemmas.Bool.Decides.{nat_tests}
 use Rattle.std.proofs.lemmas.List.Elements.{All-cons, All-head, All-nil, All-tail}
 use Rattle.fabric_terms.specs.declared.record.Record.{Record}
 use Rattle.fabric_terms.specs.declared.record.Record.TheVariants.{PreparedBy, VotedFor, DoneFor}
-use Rattle.fabric_terms.specs.Fields.{is_config, is_done, is_epoch, is_unit}
-use Rattle.fabric_lemmas.specs.Maps.{at, put, put_here}
-use Rattle.frames_fit.specs.Tables.{RecordInRange}
+use Rattle.fabric_terms.specs.Fields.{is_config, is_epoch}
+use Rattle.fabric_lemmas.specs.Maps.{put, put_here}
 use Rattle.ring_points.specs.declared.unit.Config.{Config}
 use Rattle.ring_points.specs.declared.unit.Epoch.{Epoch}
 use Rattle.ring_points.specs.Epochs.{same_epoch}
 use Rattle.fabric_fit.specs.Registers.{KeptRecord, RegisterInRange, RegistersInRange, is_vote}
-use Rattle.unit_rules.specs.Registers.{Register, Registers, empty_register, prepared_epoch, register_after, registers_after, register_of, vote_in}
+use Rattle.unit_rules.specs.Registers.{Register, Registers, empty_register, register_after, registers_after, register_of, vote_in}
 
 nothing_registered : (partition : ℕ) → RegisterInRange (partition, empty_register)
 nothing_registered partition = record { prepared = refl; votes = All-nil (λ vote. IsTrue (is_vote partition vote)); done = refl }

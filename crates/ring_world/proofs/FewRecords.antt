@@ -1,5 +1,5 @@
 -- What is recorded of an accusation or of a claim: one record at most, and none of a register's.
-use Rattle.std.proofs.Common.{◌≡◌, ℕ, ◌≤◌, Bool, true, false, [], ◌∷◌, Option, Some, None, refl, arith, length}
+use Rattle.std.proofs.Common.{◌≡◌, ℕ, ◌≤◌, Bool, true, false, Option, Some, None, refl, arith, length}
 use Rattle.std.specs.Prelude.{◌==◌}
 use Rattle.ring_points.specs.declared.who.Who.{Who}
 use Rattle.ring_rules.specs.Arbiters.{Table, accusation_kept, claim_kept, claimer_kept, first_accuser, first_claimer, first_kept}
