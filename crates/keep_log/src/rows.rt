@@ -1,6 +1,6 @@
 // The rows of a replica's records. Each tests the place of its record, and makes the call that the record was kept for.
 
-ghost use Rattle.std.specs.Prelude.{◌≡◌, ◌≤◌, IsTrue};
+ghost use Rattle.std.specs.Prelude.{◌≡◌, ◌≤◌, IsTrue, length};
 ghost use Rattle.replica_core.specs.Calls.{promise_call, append_call, adopt_call};
 ghost use Rattle.unit_rules.specs.Starts.{adopt_kept, past_all};
 ghost use Rattle.keep_log.specs.Items.{recorded};
@@ -39,6 +39,7 @@ fn promised(replica: &mut Replica, epoch: Epoch) -> Result<(), NotTaken>
 }
 
 fn wrote(replica: &mut Replica, epoch: Epoch, lsn: u32, text: &[u8]) -> Result<(), NotTaken>
+    requires { length text.now ≤ 512 }
     ensures { Takes (is_write epoch lsn replica.old) (append_call epoch lsn text.now replica.old).1 replica.new result }
 {
     if !is_write(replica, epoch, lsn) {
@@ -56,7 +57,8 @@ fn incoming(
     entry_epoch: Epoch,
     text: &[u8],
 ) -> Result<(), NotTaken>
-    requires { lsn ≤ 100000 }
+    requires entry { lsn ≤ 100000 }
+    requires short { length text.now ≤ 512 }
     ensures { Takes (is_piece epoch lsn replica.old) (adopt_call epoch (record { epoch = entry_epoch; lsn = lsn; bytes = text.now }) past_all replica.old).1 replica.new result }
 {
     if !is_piece(replica, epoch, lsn) {
