@@ -1,4 +1,4 @@
-ghost use Rattle.std.specs.Prelude.{◌≡◌};
+ghost use Rattle.std.specs.Prelude.{◌≡◌, ◌≤◌, length};
 
 use replica_core::{Done, Entry, EntryBytes, MOST_ENTRIES, Replica, ReplicaRefusal, Role};
 use ring_points::{Config, Epoch, Members};
@@ -14,6 +14,7 @@ fn epoch(data_loss: u32, configuration: u32) -> Epoch {
 }
 
 fn entry(rt: &impl Abort, alloc: Global, lsn: u32, bytes: &[u8]) -> Entry
+    requires { length bytes.now ≤ 512 }
     ensures { result.lsn ≡ lsn }
 {
     Entry {
