@@ -1,9 +1,13 @@
 use crate::questions::{accusation, arbitrator, node};
+use crate::rounds::restored;
 use arbiter_core::{Answer, Arbiter, Record};
 use fabric_terms::{Body, Message};
 use ring_points::{Ruling, Who};
 use std::process::Abort;
 use std::test::Fail;
+
+// Node 1 accused node 2.
+const ACCUSED: &[u8] = b"\x02\x00\x02\x00\x00\x00\x01\x00\x01\x00\x00\x00\x01";
 
 // What arbitrator 1 rules, and whom it records as the first accuser.
 fn ruled(
@@ -40,11 +44,7 @@ fn rules_the_same_after_a_restart(rt: HostRuntime) -> Result<(), Fail> {
         (Ruling::Granted, Some(node(1)))
     );
     assert_eq!(rt; arbiter.first_accuser(node(2)), Some(node(1)));
-    let records = [Record::AccusedBy {
-        victim: node(2),
-        first: node(1),
-    }];
-    let mut restored = Arbiter::restore(rt.alloc(), 1, &records)?;
+    let mut restored = restored(rt.alloc(), &[ACCUSED])?;
     assert_eq!(rt; restored.first_accuser(node(1)), None);
     for (accuser, victim, ruling) in [
         (1, 2, Ruling::Granted),

@@ -9,12 +9,6 @@ mod answers;
 #[cfg(test)]
 mod full;
 #[cfg(test)]
-mod lists_of_nodes;
-#[cfg(test)]
-mod lists_of_registers;
-#[cfg(test)]
-mod partitions;
-#[cfg(test)]
 mod questions;
 #[cfg(test)]
 mod records;

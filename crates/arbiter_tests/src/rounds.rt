@@ -1,32 +1,25 @@
 use crate::questions::{accusation, arbitrator, claim, node};
 use arbiter_core::{Answer, Arbiter, Record};
 use fabric_terms::Body;
+use keep_log::read_records;
 use ring_points::Who;
+use std::alloc::Global;
 use std::process::Abort;
 use std::test::Fail;
 
-const ACCUSED: Record = Record::AccusedBy {
-    victim: Who {
-        actor: 1,
-        instance: 1,
-    },
-    first: Who {
-        actor: 2,
-        instance: 1,
-    },
-};
+const ACCUSED: &[u8] = b"\x02\x00\x01\x00\x00\x00\x01\x00\x02\x00\x00\x00\x01";
 
-const CLAIMED: Record = Record::ClaimedBy {
-    victim: Who {
-        actor: 1,
-        instance: 1,
-    },
-    round: 2,
-    claimer: Who {
-        actor: 3,
-        instance: 1,
-    },
-};
+const CLAIMED: &[u8] = b"\x0a\x00\x01\x00\x00\x00\x01\x02\x00\x03\x00\x00\x00\x01";
+
+// The arbitrator 1 that made these records.
+pub fn restored(alloc: Global, records: &[&[u8]]) -> Result<Arbiter, Fail> {
+    let mut lists = Vec::new(alloc);
+    for bytes in records {
+        lists.push(bytes.to_vec(alloc)?)?;
+    }
+    let kept = read_records(alloc, &lists)?;
+    Ok(Arbiter::restore(alloc, 1, kept.arbiter.as_slice())?)
+}
 
 // Whom arbitrator 1 keeps of the round, and whether it records the claim.
 fn kept(
@@ -54,7 +47,7 @@ fn kept(
 
 #[test]
 fn keeps_the_first_claimer_of_a_later_round(rt: HostRuntime) -> Result<(), Fail> {
-    let mut arbiter = Arbiter::restore(rt.alloc(), 1, &[ACCUSED])?;
+    let mut arbiter = restored(rt.alloc(), &[ACCUSED])?;
     let (first, record) = kept(&rt, &mut arbiter, node(3), node(1), 1);
     assert_eq!(rt; (first, record.is_some()), (node(2), false));
     let (first, record) = kept(&rt, &mut arbiter, node(3), node(1), 2);
@@ -72,7 +65,7 @@ fn keeps_the_first_claimer_of_a_later_round(rt: HostRuntime) -> Result<(), Fail>
     assert_eq!(rt; (victim, round, claimer), (node(1), 2, node(3)));
     let (first, record) = kept(&rt, &mut arbiter, node(2), node(1), 2);
     assert_eq!(rt; (first, record.is_some()), (node(3), false));
-    let mut again = Arbiter::restore(rt.alloc(), 1, &[ACCUSED, CLAIMED])?;
+    let mut again = restored(rt.alloc(), &[ACCUSED, CLAIMED])?;
     let (first, record) = kept(&rt, &mut again, node(2), node(1), 2);
     assert_eq!(rt; (first, record.is_some()), (node(3), false));
     Ok(())
@@ -80,7 +73,7 @@ fn keeps_the_first_claimer_of_a_later_round(rt: HostRuntime) -> Result<(), Fail>
 
 #[test]
 fn keeps_nobody_where_nobody_accused(rt: HostRuntime) -> Result<(), Fail> {
-    let mut arbiter = Arbiter::restore(rt.alloc(), 1, &[ACCUSED])?;
+    let mut arbiter = restored(rt.alloc(), &[ACCUSED])?;
     for round in [1, 2] {
         let answer = arbiter.on_frame(&claim(node(3), node(4), round));
         assert!(rt; matches!(answer, Ok(Answer::Nothing)), "round {round}");
