@@ -1,16 +1,11 @@
-//! Tests of an arbitrator: its answers, its records as bytes, what a restart makes of them, and where its table is full.
+//! Tests of an arbitrator: to what it gives no answer, and what its records are as bytes.
 //!
-//! What each call answers is proved where it stands; here are worked rows from outside, and that each call answers where
-//! memory is ample. The crate has no code of its own.
+//! What each call answers is proved where it stands; here are worked rows from outside. The crate has no code of its own.
 #![tactic(auto)]
 
 #[cfg(test)]
 mod answers;
 #[cfg(test)]
-mod full;
-#[cfg(test)]
 mod questions;
 #[cfg(test)]
 mod records;
-#[cfg(test)]
-mod rounds;

@@ -23,12 +23,3 @@ pub fn accusation(accuser: Who, to: Who, victim: Who) -> Message {
         body: Body::Accuse { victim },
     }
 }
-
-/// A claim of a round, to arbitrator 1.
-pub fn claim(claimer: Who, victim: Who, round: u8) -> Message {
-    Message {
-        from: claimer,
-        to: arbitrator(1),
-        body: Body::Claim { victim, round },
-    }
-}
