@@ -59,11 +59,12 @@ impl Outbox {
         self.messages.as_slice()
     }
 
-    /// Moves what is sent behind a list that has room for it, in its order, as messages from this instance. Nothing is
-    /// sent any more.
+    /// Moves what is sent behind a list that has room for it, in its order, as messages from this instance. The room
+    /// stays, and nothing is sent any more.
     pub fn hand_over(&mut self, from: Who, frames: &mut Vec<Message>)
         requires { vec_len frames.old + length self.old ≤ vec_capacity frames.old }
         ensures frames { frames.new.items ≡ frames.old.items ++ from_all from self.old }
+        ensures room { vec_capacity frames.new ≡ vec_capacity frames.old }
         ensures emptied { self.new ≡ [] }
     {
         let sent = self.messages.as_mut_slice();

@@ -1,4 +1,4 @@
-ghost use Rattle.std.specs.Prelude.{◌≡◌, ◌+◌, IsTrue, length, map};
+ghost use Rattle.std.specs.Prelude.{◌≡◌, ◌≤◌, ◌+◌, IsTrue, length, map};
 ghost use Rattle.join_phases.specs.Phases.{bound_phase, holding_phase, is_left, is_linked, is_routing};
 ghost use Rattle.token_core.specs.Tokens.{announced};
 ghost use Rattle.ring_node.specs.Nodes.{with_phase};
@@ -9,7 +9,7 @@ use crate::reports::Reports;
 use arrayvec::ArrayVec;
 use fabric_terms::Outbox;
 use join_phases::Phase;
-use link_core::{Announced, Links16};
+use link_core::{Announced, LONGEST_TIME, Links16};
 use ring_points::{Point, Who};
 use ring_route::RouteTable;
 use std::marker::Model;
@@ -89,6 +89,22 @@ impl RingNode {
         ensures { result ≡ self.now.ring.me }
     {
         self.links.me()
+    }
+
+    /// The lease of a link that names no length, at most 1,000,000,000 ticks.
+    pub fn lease(&self) -> u64
+        ensures value { result ≡ self.now.settings.lease }
+        ensures short { result ≤ LONGEST_TIME }
+    {
+        self.links.lease()
+    }
+
+    /// How many arbitrators there are, at most nine.
+    pub fn arbitrators(&self) -> u8
+        ensures value { result ≡ self.now.settings.arbitrators }
+        ensures few { result ≤ 9 }
+    {
+        self.links.arbitrators()
     }
 
     /// How far it has come.

@@ -1,4 +1,6 @@
-ghost use Rattle.std.specs.Prelude.{◌≡◌};
+ghost use Rattle.std.specs.Prelude.{◌≡◌, ◌&&◌, IsTrue, not};
+ghost use Rattle.join_phases.specs.Phases.{is_left};
+ghost use Rattle.ring_rules.specs.Deeds.{has_numbers};
 ghost use Rattle.ring_rules.specs.Owns.{holds_point, same_fence, same_ranges};
 ghost use Rattle.ring_rules.specs.Slots.{fence_of, is_past};
 
@@ -60,6 +62,14 @@ impl RingNode {
             Some(fence) => fence <= now,
             None => false,
         }
+    }
+
+    /// Whether the node still acts at this reading: it has not left, and is not past its fence.
+    pub fn acts(&self, now: u64) -> bool
+        ensures value { result ≡ (not (is_left self.now.ring.phase) && not (is_past now (fence_of self.now.settings.answer self.now.ring.slots))) }
+        ensures numbers { IsTrue (has_numbers self.now.ring) }
+    {
+        !self.is_left() && !self.is_past(now)
     }
 
     /// Whether the node holds the point at this reading: it owns the point and is not past its fence.

@@ -53,10 +53,12 @@ impl Reports {
         self.reports.as_slice()
     }
 
-    /// Moves what is reported behind a list that has room for it, in its order. Nothing is reported any more.
+    /// Moves what is reported behind a list that has room for it, in its order. The room stays, and nothing is
+    /// reported any more.
     pub fn hand_over(&mut self, reports: &mut Vec<Report>)
         requires { vec_len reports.old + length self.old ≤ vec_capacity reports.old }
         ensures reports { reports.new.items ≡ reports.old.items ++ self.old }
+        ensures room { vec_capacity reports.new ≡ vec_capacity reports.old }
         ensures emptied { self.new ≡ [] }
     {
         let told = self.reports.as_mut_slice();

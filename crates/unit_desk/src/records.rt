@@ -51,10 +51,12 @@ impl Records {
         self.records.as_slice()
     }
 
-    /// Moves what is recorded behind a list that has room for it, in its order. Nothing is recorded any more.
+    /// Moves what is recorded behind a list that has room for it, in its order. The room stays, and nothing is
+    /// recorded any more.
     pub fn hand_over(&mut self, records: &mut Vec<Record>)
         requires { vec_len records.old + length self.old ≤ vec_capacity records.old }
         ensures records { records.new.items ≡ records.old.items ++ self.old }
+        ensures room { vec_capacity records.new ≡ vec_capacity records.old }
         ensures emptied { self.new ≡ [] }
     {
         let kept = self.records.as_mut_slice();

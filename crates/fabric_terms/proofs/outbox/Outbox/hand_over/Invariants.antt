@@ -8,3 +8,4 @@ invariant-loop-i l =
     (length l.sent ≡ length l.initial.sent)
     × (l.frames.items ++ from_all l.from (drop l.i l.sent) ≡ l.initial.frames.items ++ from_all l.from l.initial.sent)
     × (vec_len l.frames + length l.sent ≤ vec_capacity l.frames + l.i)
+    × (vec_capacity l.frames ≡ vec_capacity l.initial.frames)

@@ -7,3 +7,4 @@ invariant-loop-i l =
     (length l.told ≡ length l.initial.told)
     × (l.reports.items ++ drop l.i l.told ≡ l.initial.reports.items ++ l.initial.told)
     × (vec_len l.reports + length l.told ≤ vec_capacity l.reports + l.i)
+    × (vec_capacity l.reports ≡ vec_capacity l.initial.reports)

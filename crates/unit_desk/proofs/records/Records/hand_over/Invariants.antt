@@ -7,3 +7,4 @@ invariant-loop-i l =
     (length l.kept ≡ length l.initial.kept)
     × (l.records.items ++ drop l.i l.kept ≡ l.initial.records.items ++ l.initial.kept)
     × (vec_len l.records + length l.kept ≤ vec_capacity l.records + l.i)
+    × (vec_capacity l.records ≡ vec_capacity l.initial.records)
