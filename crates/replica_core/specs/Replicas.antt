@@ -50,6 +50,10 @@ adopted e log s = record (raised e s) { at = e; log = log }
 abbrev pub uncollected : Replica → Replica
 uncollected s = record s { collected = [] }
 
+-- the next instance begins: the role is lost, and what was collected
+abbrev pub begun_again : Replica → Replica
+begun_again s = record s { role = NoRole; collected = [] }
+
 -- what is collected becomes the log of the epoch
 abbrev pub settled : Epoch → Replica → Replica
 settled e s = record s { at = e; log = s.collected; collected = [] }

@@ -1,6 +1,6 @@
 ghost use Rattle.std.specs.Prelude.{◌≡◌, ◌≤◌, ◌∷◌, ◌++◌, [], false, length, Ok, Err};
 ghost use Rattle.ring_points.specs.Epochs.{is_older};
-ghost use Rattle.replica_core.specs.Replicas.{first_replica, raised, adopted, settled, uncollected, collected_in, collecting, IsLog, IsSound};
+ghost use Rattle.replica_core.specs.Replicas.{first_replica, raised, adopted, settled, uncollected, begun_again, collected_in, collecting, IsLog, IsSound};
 ghost use Rattle.replica_core.specs.Calls.{Answers, admission, is_gap, is_collected, promise_call, append_call, adopt_own_call, adopt_call, adopt_collected_call, idle_call, activate_call};
 
 use crate::entry::{Entry, EntryBytes};
@@ -323,6 +323,15 @@ impl Replica {
     pub fn drop_collected(&mut self)
         ensures { self.new ≡ uncollected self.old }
     {
+        self.collected.clear();
+    }
+
+    /// Begins again with the next instance of its node: the role is lost, and what was collected. The promise and the
+    /// log, which are recorded, stay.
+    pub fn begin_again(&mut self)
+        ensures { self.new ≡ begun_again self.old }
+    {
+        self.role = Role::None;
         self.collected.clear();
     }
 }
