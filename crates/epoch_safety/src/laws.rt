@@ -1,0 +1,25 @@
+ghost use Rattle.epoch_safety.specs.Laws.{AnswersAreCovered, RunsHaveNoOlder, RunsHaveOnePrimary, WritesAreKept};
+
+/// In no valid run of a sound configuration do two nodes report that they are primary of one partition in one epoch.
+pub fn runs_have_one_primary()
+    ensures { RunsHaveOnePrimary }
+{}
+
+/// No node reports that it accepted a write of an older epoch than one that it promised or accepted in before, over all
+/// its instances.
+pub fn runs_have_no_older()
+    ensures { RunsHaveNoOlder }
+{}
+
+/// Once `last` entries of a partition are reported committed, the log of each primary of a later epoch of the same data
+/// loss number begins with them when it reports itself primary, whichever of the two reports is the earlier one. A log is
+/// what the node's synced records amount to after the event of the report.
+pub fn writes_are_kept()
+    ensures { WritesAreKept }
+{}
+
+/// What a primary reports committed begins with all that was reported committed before, in epochs up to its own of the
+/// same data loss number. So whoever answers by these entries leaves out none of them.
+pub fn answers_are_covered()
+    ensures { AnswersAreCovered }
+{}

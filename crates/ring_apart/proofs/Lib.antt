@@ -1,0 +1,4 @@
+pub mod Saying
+pub mod Sessions
+pub mod Commands
+pub mod Steps
