@@ -1,0 +1,11 @@
+pub mod Places
+pub mod Asking
+pub mod Keeping
+pub mod Taking
+pub mod Answering
+pub mod Answers
+pub mod Ends
+pub mod Beginning
+pub mod Firing
+pub mod Loading
+pub mod Owning

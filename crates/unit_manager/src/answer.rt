@@ -1,0 +1,182 @@
+ghost use Rattle.std.specs.Prelude.{◌≡◌, ◌≤◌, ◌<◌, ◌+◌, true, length, is_some, IsTrue, Some};
+ghost use Rattle.fabric_lemmas.specs.Maps.{at, rises};
+ghost use Rattle.failover_units.specs.Units.{changed, noted, seen_at};
+ghost use Rattle.fabric_terms.specs.Messages.{is_sound_body};
+ghost use Rattle.ring_points.specs.declared.unit.Epoch.{Epoch as UnitEpoch};
+ghost use Rattle.reconfig_phases.specs.Answers.{answered_unit, received};
+ghost use Rattle.reconfig_phases.specs.Views.{IfFinished, reconfig_of, step_with};
+ghost use Rattle.reconfig_phases.specs.Views as phases;
+ghost use Rattle.unit_desk.specs.Desks.{Does, HasRoom};
+ghost use Rattle.unit_rules.specs.Manager.{reason_of, table_or, verb_of};
+ghost use Rattle.unit_rules.specs.Reconfigs.{task_of};
+ghost use Rattle.unit_manager.specs.Managers.{Few, IsManaged, IsOwnEnd, answer_taken, concluded, loaded, managed, manager_received, place, reconfigs_of};
+
+use crate::entries::{find, take_out};
+use crate::loads::fill;
+use crate::manager::Manager;
+use fabric_terms::{Message, Outbox, Reason, Report, Verb};
+use failover_units::{UnitRefusal, Units};
+use reconfig_phases::{Progress, Reconfig, answered_unit};
+use replica_place::NodeLoad;
+use ring_points::{Config, Epoch};
+use unit_desk::Desk;
+use unit_rules::{Kind, Task};
+
+/// The first word of the command that began a reconfiguration.
+pub(crate) fn verb_of(kind: Kind) -> Verb
+    ensures { result ≡ verb_of kind }
+{
+    match kind {
+        Kind::Create(_) => Verb::Create,
+        Kind::Swap(_) => Verb::Swap,
+        Kind::Heal(_) => Verb::Heal,
+        Kind::Lose(_) => Verb::Lose,
+    }
+}
+
+/// Why a command is refused, as it is told.
+pub(crate) fn reason_of(refusal: UnitRefusal) -> Reason
+    ensures { result ≡ reason_of refusal }
+{
+    match refusal {
+        UnitRefusal::Exists => Reason::Exists,
+        UnitRefusal::NoUnit => Reason::NoUnit,
+        UnitRefusal::Full => Reason::Full,
+        UnitRefusal::NotMember => Reason::NotMember,
+        UnitRefusal::TooFewDomains(domains) => Reason::TooFew(domains),
+        UnitRefusal::OutOfMemory => Reason::Full,
+    }
+}
+
+/// Notes an active configuration of a partition that stands, which takes no memory.
+fn note(units: &mut Units, config: &Config)
+    requires { is_some (at config.now.partition units.old) ≡ true }
+    ensures { units.new ≡ table_or units.old (changed config.now.partition (noted config.now) units.old) }
+{
+    match units.note(config) {
+        Ok(()) => {}
+        Err(_) => unreachable!(),
+    }
+}
+
+/// Sees an epoch of a partition that stands, which takes no memory.
+fn see(units: &mut Units, partition: u16, epoch: Epoch)
+    requires { is_some (at partition units.old) ≡ true }
+    ensures { units.new ≡ table_or units.old (changed partition (seen_at epoch) units.old) }
+{
+    match units.seen(partition, epoch) {
+        Ok(()) => {}
+        Err(_) => unreachable!(),
+    }
+}
+
+/// A reconfiguration takes an answer. How loaded the nodes are is read in its first phase alone.
+#[tactic(auto, using(crate::proofs::Asking::received_alike))]
+fn go_on(
+    units: &Units,
+    reconfig: &mut Reconfig,
+    answer: &Message,
+    nodes: &mut [NodeLoad],
+    out: &mut Outbox,
+) -> Progress
+    requires { length out.old + 9 ≤ 192 }
+    ensures does { phases.Does (received (loaded units.now nodes.old) answer.now (reconfig_of reconfig.old)) (step_with reconfig.new result) out.old out.new }
+    ensures task { task_of (reconfig_of reconfig.new) ≡ task_of (reconfig_of reconfig.old) }
+    ensures finished { IfFinished result ((reconfig.new ≡ reconfig.old) × (out.new ≡ out.old)) }
+{
+    if let Reconfig::Prepare(_) = reconfig {
+        fill(units, nodes);
+    }
+    reconfig.answer(answer, nodes, out)
+}
+
+/// What becomes of the reconfiguration at this place, once it has gone on so far.
+fn conclude(
+    units: &mut Units,
+    reconfigs: &mut Vec<(u16, Reconfig)>,
+    i: usize,
+    task: Task,
+    progress: Progress,
+    desk: &mut Desk,
+)
+    requires room { length desk.old.told + 2 ≤ 4 }
+    requires place { i ≡ place task.partition reconfigs.old.items }
+    requires inside { i < length reconfigs.old.items }
+    requires rise { rises (reconfigs_of reconfigs.old.items) ≡ true }
+    requires known { is_some (at task.partition units.old) ≡ true }
+    requires own { IsOwnEnd task progress }
+    ensures does { Does (concluded task (managed units.old reconfigs.old.items) progress) (managed units.new reconfigs.new.items) desk.old desk.new }
+    ensures few { Few desk.old desk.new }
+    ensures sent { desk.new.out ≡ desk.old.out }
+{
+    match progress {
+        Progress::Stays => {}
+        Progress::Finished(config) => {
+            note(units, &config);
+            take_out(reconfigs, i, task.partition);
+            desk.told
+                .tell(Report::Configured(task.partition, config.epoch));
+        }
+        Progress::Superseded(epoch) => {
+            see(units, task.partition, epoch);
+            take_out(reconfigs, i, task.partition);
+            desk.told.tell(Report::Superseded(task.partition, epoch));
+        }
+        Progress::Refused(refusal) => {
+            take_out(reconfigs, i, task.partition);
+            desk.told
+                .tell(Report::Refused(verb_of(task.kind), reason_of(refusal)));
+        }
+    }
+}
+
+/// The partition's reconfiguration, if one stands, takes an answer, and what becomes of it is known then.
+fn answered_by(
+    units: &mut Units,
+    reconfigs: &mut Vec<(u16, Reconfig)>,
+    partition: u16,
+    answer: &Message,
+    nodes: &mut [NodeLoad],
+    desk: &mut Desk,
+)
+    requires sound { IsTrue (is_sound_body answer.now.body) }
+    requires unit { (epoch : UnitEpoch) × (answered_unit answer.now.body ≡ Some (partition, epoch)) }
+    requires room { HasRoom desk.old }
+    requires whole { IsManaged (managed units.old reconfigs.old.items) }
+    ensures does { Does (answer_taken (loaded units.old nodes.old) answer.now (managed units.old reconfigs.old.items) (at partition (reconfigs_of reconfigs.old.items))) (managed units.new reconfigs.new.items) desk.old desk.new }
+    ensures whole { IsManaged (managed units.new reconfigs.new.items) }
+    ensures few { Few desk.old desk.new }
+{
+    let Some(i) = find(reconfigs, partition) else {
+        return;
+    };
+    let reconfig = &mut reconfigs[i].1;
+    let task = reconfig.task();
+    let progress = go_on(units, reconfig, answer, nodes, &mut desk.out);
+    conclude(units, reconfigs, i, task, progress, desk);
+}
+
+impl Manager {
+    /// Takes a message: an answer goes to the reconfiguration of its partition and epoch, and every other message changes
+    /// nothing. The nodes are all that are configured, as placement sees them, but for their loads, which are filled in
+    /// here where they are needed. At most nine messages are sent, and one report is told. It takes no memory: each
+    /// configuration that it comes to is of a partition that stands.
+    #[tactic(auto, using(crate::proofs::Taking::received_is))]
+    pub fn answered(&mut self, answer: &Message, nodes: &mut [NodeLoad], desk: &mut Desk)
+        requires sound { IsTrue (is_sound_body answer.now.body) }
+        requires room { HasRoom desk.old }
+        ensures does { Does (manager_received (loaded self.old.units nodes.old) answer.now self.old) self.new desk.old desk.new }
+        ensures few { Few desk.old desk.new }
+    {
+        if let Some((partition, _)) = answered_unit(&answer.body) {
+            answered_by(
+                &mut self.units,
+                &mut self.reconfigs,
+                partition,
+                answer,
+                nodes,
+                desk,
+            );
+        }
+    }
+}
