@@ -1,3 +1,10 @@
+pub mod Restarts
+pub mod Appends
+pub mod Begun
 pub mod Calls
 pub mod Confirmed
+pub mod Counts
 pub mod Activated
+pub mod Fired
+pub mod Kept
+pub mod Places

@@ -1,4 +1,5 @@
-ghost use Rattle.std.specs.Prelude.{◌≡◌, ◌≤◌, ◌∷◌, [], length};
+ghost use Rattle.std.specs.Prelude.{◌≡◌, ◌≤◌, ◌+◌, ◌∷◌, [], length, true};
+ghost use Rattle.replica_core.specs.Roles.{is_member};
 ghost use Rattle.unit_rules.specs.Activations.{activate_received, role_begun, say_activated};
 ghost use Rattle.unit_rules.specs.Seats.{last_of};
 ghost use Rattle.unit_desk.specs.Desks.{Does, HasRoom, HasRoomFor, Left};
@@ -13,7 +14,8 @@ use unit_desk::Desk;
 
 fn say_activated(asker: Who, config: &Config, desk: &mut Desk)
     requires { HasRoomFor 0 1 0 desk.old }
-    ensures { Left (say_activated asker config.now ∷ []) desk.old desk.new }
+    ensures left { Left (say_activated asker config.now ∷ []) desk.old desk.new }
+    ensures few { length desk.new.out ≤ length desk.old.out + 1 }
 {
     let body = Body::Activated {
         partition: config.partition,
@@ -33,9 +35,11 @@ fn begin_role(
     desk: &mut Desk,
 )
     requires few { length config.now.members ≤ 7 }
+    requires member { is_member me config.now ≡ true }
     requires last { last ≡ last_of seat.old.replica }
     requires room { HasRoomFor 0 1 1 desk.old }
-    ensures { Does (role_begun me asker config.now seat.old seat.old.replica role) seat.new desk.old desk.new }
+    ensures does { Does (role_begun me asker config.now seat.old seat.old.replica role) seat.new desk.old desk.new }
+    ensures few { length desk.new.out ≤ length desk.old.out + 1 }
 {
     if role == Role::Primary {
         seat.lead = Some(Lead::first(me, config, last));
@@ -52,7 +56,8 @@ fn begin_role(
 pub fn activate_received(me: u16, asker: Who, config: &Config, seat: &mut Seat, desk: &mut Desk)
     requires few { length config.now.members ≤ 7 }
     requires room { HasRoom desk.old }
-    ensures { Does (activate_received me asker config.now seat.old) seat.new desk.old desk.new }
+    ensures does { Does (activate_received me asker config.now seat.old) seat.new desk.old desk.new }
+    ensures few { length desk.new.out ≤ length desk.old.out + 1 }
 {
     let before = seat.replica.role();
     let last = last_of(&seat.replica);

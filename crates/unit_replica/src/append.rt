@@ -1,4 +1,4 @@
-ghost use Rattle.std.specs.Prelude.{◌≡◌, ◌∷◌, [], IfOk, OnErr, length};
+ghost use Rattle.std.specs.Prelude.{◌≡◌, ◌≤◌, ◌+◌, ◌∷◌, [], IfOk, OnErr, length};
 ghost use Rattle.unit_rules.specs.Writes.{accepted, append_received, say_appended};
 ghost use Rattle.unit_desk.specs.Desks.{Does, HasRoom, HasRoomFor, Left};
 
@@ -12,7 +12,8 @@ use unit_desk::Desk;
 /// A new entry is recorded, and told as accepted.
 pub(crate) fn accept(partition: u16, epoch: Epoch, lsn: u32, text: &Payload, desk: &mut Desk)
     requires { HasRoomFor 1 0 1 desk.old }
-    ensures { Left (accepted partition epoch lsn text.now) desk.old desk.new }
+    ensures left { Left (accepted partition epoch lsn text.now) desk.old desk.new }
+    ensures few { length desk.new.out ≤ length desk.old.out }
 {
     desk.records.keep(Record::Wrote {
         partition,
@@ -25,7 +26,8 @@ pub(crate) fn accept(partition: u16, epoch: Epoch, lsn: u32, text: &Payload, des
 
 fn say_appended(asker: Who, epoch: Epoch, replica: &Replica, desk: &mut Desk)
     requires { HasRoomFor 0 1 0 desk.old }
-    ensures { Left (say_appended asker epoch replica.now ∷ []) desk.old desk.new }
+    ensures left { Left (say_appended asker epoch replica.now ∷ []) desk.old desk.new }
+    ensures few { length desk.new.out ≤ length desk.old.out + 1 }
 {
     let body = Body::Appended {
         partition: replica.partition(),
@@ -48,6 +50,7 @@ pub fn append_received(
 ) -> Result<(), OutOfMemory>
     requires { HasRoom desk.old }
     ensures does { IfOk result (λ _. Does (append_received asker epoch lsn text.now seat.old) seat.new desk.old desk.new) }
+    ensures few { length desk.new.out ≤ length desk.old.out + 1 }
     ensures refused { OnErr result ((seat.new ≡ seat.old) × (desk.new ≡ desk.old)) }
 {
     let partition = seat.replica.partition();

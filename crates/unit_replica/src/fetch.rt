@@ -1,4 +1,4 @@
-ghost use Rattle.std.specs.Prelude.{◌≡◌, ◌∷◌, [], length};
+ghost use Rattle.std.specs.Prelude.{◌≡◌, ◌≤◌, ◌+◌, ◌∷◌, [], length};
 ghost use Rattle.std.specs.Option.{option_copied};
 ghost use Rattle.unit_rules.specs.Copies.{fetch_received};
 ghost use Rattle.unit_rules.specs.Seats.{entry_at};
@@ -24,7 +24,8 @@ pub(crate) fn entry_at(lsn: u64, log: &[Entry]) -> Option<&Entry>
 #[tactic(auto, unfolding(unit_rules::specs::Copies::fetch_received))]
 pub fn fetch_received(asker: Who, epoch: Epoch, lsn: u32, seat: &Seat, desk: &mut Desk)
     requires { HasRoom desk.old }
-    ensures { Does (fetch_received asker epoch lsn seat.now) seat.now desk.old desk.new }
+    ensures does { Does (fetch_received asker epoch lsn seat.now) seat.now desk.old desk.new }
+    ensures few { length desk.new.out ≤ length desk.old.out + 1 }
 {
     if seat.replica.promised() != epoch {
         return;

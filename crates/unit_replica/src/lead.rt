@@ -1,4 +1,5 @@
-ghost use Rattle.std.specs.Prelude.{◌≡◌, ◌≤◌, if◌then◌else◌, length, map, max};
+ghost use Rattle.std.specs.Prelude.{◌≡◌, ◌≤◌, if◌then◌else◌, length, map, max, true};
+ghost use Rattle.replica_core.specs.Roles.{is_member};
 ghost use Rattle.unit_rules.specs.Leads.{confirmed_by, confirmed_of, first_lead, is_confirmed, most_confirmed, peer_confirms};
 
 use arbiter_quorum::is_majority;
@@ -7,9 +8,11 @@ use ring_points::Config;
 use std::marker::Model;
 use unit_rules::Peer;
 
-/// What a primary knows: of each other member, rising, and the last committed entry.
+/// What a primary knows: of each other member, rising, and the last committed entry. A configuration has at most seven
+/// members, of which the primary is one.
 #[derive(Drop)]
 pub struct Lead {
+    /// At most six, though there is room for each member.
     peers: ArrayVec<Peer, 7>,
     committed: u32,
 }
@@ -22,7 +25,7 @@ impl Model for Lead {
 
     ghost view = { λ l. record { peers = l.peers.items; committed = l.committed } };
 
-    ghost invariant = { λ l. length l.peers.items ≤ 7 };
+    ghost invariant = { λ l. length l.peers.items ≤ 6 };
 }
 
 /// A member, once this node has its entries up to `last`: it is sent the next one. An entry that the primary has not is
@@ -47,9 +50,9 @@ fn confirmed_peer(peer: Peer, node: u16, last: u32, own: u32) -> Peer
 
 /// The members, once this node has its entries up to `last`.
 fn confirmed_peers(peers: &[Peer], node: u16, last: u32, own: u32) -> ArrayVec<Peer, 7>
-    requires { length peers.now ≤ 7 }
+    requires { length peers.now ≤ 6 }
     ensures peers { result.items ≡ map (peer_confirms node last own) peers.now }
-    ensures few { length result.items ≤ 7 }
+    ensures few { length result.items ≤ 6 }
 {
     let mut told = ArrayVec::new();
     for peer in peers {
@@ -60,7 +63,7 @@ fn confirmed_peers(peers: &[Peer], node: u16, last: u32, own: u32) -> ArrayVec<P
 
 /// Whether a majority has confirmed the entry.
 fn is_confirmed(confirmed: &[u32], lsn: u32) -> bool
-    requires { length confirmed.now ≤ 8 }
+    requires { length confirmed.now ≤ 7 }
     ensures { result ≡ is_confirmed confirmed.now lsn }
 {
     let count = confirmed.iter().filter(|last| lsn <= **last).count();
@@ -69,7 +72,7 @@ fn is_confirmed(confirmed: &[u32], lsn: u32) -> bool
 
 /// The greater of two entries, where a majority has confirmed the second.
 fn greater_confirmed(most: u32, confirmed: &[u32], lsn: u32) -> u32
-    requires { length confirmed.now ≤ 8 }
+    requires { length confirmed.now ≤ 7 }
     ensures { result ≡ (if is_confirmed confirmed.now lsn then max most lsn else most) }
 {
     if is_confirmed(confirmed, lsn) {
@@ -82,7 +85,7 @@ fn greater_confirmed(most: u32, confirmed: &[u32], lsn: u32) -> u32
 /// The greatest entry that a majority has confirmed, of what each member has confirmed.
 #[tactic(auto, using(crate::proofs::Confirmed::greatest_more))]
 pub fn most_confirmed(confirmed: &[u32]) -> u32
-    requires { length confirmed.now ≤ 8 }
+    requires { length confirmed.now ≤ 7 }
     ensures { result ≡ most_confirmed confirmed.now }
 {
     let mut most = 0;
@@ -96,7 +99,8 @@ impl Lead {
     /// At its activation a primary knows of no confirmed entry; all that it has is committed, and what comes next is
     /// sent.
     pub fn first(me: u16, config: &Config, last: u32) -> Self
-        requires { length config.now.members ≤ 7 }
+        requires few { length config.now.members ≤ 7 }
+        requires member { is_member me config.now ≡ true }
         ensures { result ≡ first_lead me config.now last }
     {
         let mut peers = ArrayVec::new();
@@ -118,7 +122,7 @@ impl Lead {
     /// The other members, rising.
     pub fn peers(&self) -> &[Peer]
         ensures peers { result.now ≡ self.now.peers }
-        ensures few { length result.now ≤ 7 }
+        ensures few { length result.now ≤ 6 }
     {
         self.peers.as_slice()
     }
@@ -148,7 +152,7 @@ impl Lead {
     pub fn most_confirmed(&self, own: u32) -> u32
         ensures { result ≡ most_confirmed (confirmed_of self.now own) }
     {
-        let mut confirmed: ArrayVec<u32, 8> = ArrayVec::new();
+        let mut confirmed: ArrayVec<u32, 7> = ArrayVec::new();
         confirmed.push(own);
         for peer in self.peers.as_slice() {
             confirmed.push(peer.confirmed);

@@ -2,27 +2,37 @@
 //!
 //! A node has at most one replica of a partition. A seat is that replica with what goes with it: the Sync that it took
 //! last, and what it knows of the other members where it is the primary. Each row of the rules of partitions is a
-//! function here that changes one seat, and leaves on a desk what it records, sends and tells. This crate promises that
-//! a row does exactly what its rule says, and that want of memory changes nothing. What a primary alone does, with writes
-//! and with what members confirm, is not here; `most_confirmed` says up to where a majority has confirmed.
+//! function here that changes one seat, and leaves on a desk what it records, sends and tells. `Seats` are all seats of
+//! a node: a frame or a write goes to the seat of its partition, and a firing to each. This crate promises that a row
+//! does exactly what its rule says, and that want of memory changes nothing.
 #![tactic(auto)]
 
 mod activate;
+mod again;
 mod append;
+mod begin;
 mod fetch;
+mod fire;
+mod frame;
+mod laws;
 mod lead;
 mod piece;
 mod promise;
 mod seat;
+mod seats;
 mod send;
 mod sync;
+mod write;
 
 pub use activate::activate_received;
 pub use append::append_received;
 pub use fetch::fetch_received;
+pub use laws::{starts_are_of_records, stops_are_taken};
 pub use lead::{Lead, most_confirmed};
 pub use piece::piece_received;
 pub use promise::promise_received;
 pub use seat::Seat;
+pub use seats::Seats;
 pub use send::seat_fired;
 pub use sync::sync_received;
+pub use write::{appended_received, write_commanded};

@@ -1,4 +1,4 @@
-ghost use Rattle.std.specs.Prelude.{◌≡◌, ◌≤◌, IfOk, OnErr};
+ghost use Rattle.std.specs.Prelude.{◌≡◌, ◌≤◌, ◌+◌, IfOk, OnErr, length};
 ghost use Rattle.replica_core.specs.Calls.{adopt_call};
 ghost use Rattle.unit_rules.specs.Copies.{copy_goes_on, is_wanted, piece_collected, piece_received};
 ghost use Rattle.unit_desk.specs.Desks.{Does, HasRoom, HasRoomFor, Left};
@@ -22,7 +22,8 @@ fn is_wanted(taking: Taking, epoch: Epoch, lsn: u32, replica: &Replica) -> bool
 /// What follows an entry that was collected: with the last one the log is adopted, else the next is asked for.
 fn go_on(taking: Taking, lsn: u32, replica: &Replica, desk: &mut Desk)
     requires { HasRoomFor 1 1 1 desk.old }
-    ensures { Left (copy_goes_on taking lsn replica.now) desk.old desk.new }
+    ensures left { Left (copy_goes_on taking lsn replica.now) desk.old desk.new }
+    ensures few { length desk.new.out ≤ length desk.old.out + 1 }
 {
     if lsn == taking.last {
         tell_adopted(replica.partition(), taking, false, desk);
@@ -41,6 +42,7 @@ fn collect(
     requires lsn { entry.now.lsn ≤ 100000 }
     requires room { HasRoomFor 2 1 1 desk.old }
     ensures does { IfOk result (λ _. Does (piece_collected taking entry.now seat.old (adopt_call taking.epoch entry.now taking.last seat.old.replica)) seat.new desk.old desk.new) }
+    ensures few { length desk.new.out ≤ length desk.old.out + 1 }
     ensures refused { OnErr result ((seat.new ≡ seat.old) × (desk.new ≡ desk.old)) }
 {
     match seat.replica.adopt(taking.epoch, entry, taking.last) {
@@ -74,6 +76,7 @@ pub fn piece_received(
 ) -> Result<(), OutOfMemory>
     requires { HasRoom desk.old }
     ensures does { IfOk result (λ _. Does (piece_received epoch (record { epoch = entry_epoch; lsn = lsn; bytes = text.now }) seat.old) seat.new desk.old desk.new) }
+    ensures few { length desk.new.out ≤ length desk.old.out + 1 }
     ensures refused { OnErr result ((seat.new ≡ seat.old) × (desk.new ≡ desk.old)) }
 {
     let Some(taking) = seat.taking else {

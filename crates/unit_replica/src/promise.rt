@@ -1,4 +1,4 @@
-ghost use Rattle.std.specs.Prelude.{◌∷◌, [], length};
+ghost use Rattle.std.specs.Prelude.{◌≤◌, ◌+◌, ◌∷◌, [], length};
 ghost use Rattle.fabric_terms.specs.declared.message.Body.TheVariants as body;
 ghost use Rattle.unit_rules.specs.Deeds.{Deed};
 ghost use Rattle.unit_rules.specs.Promises.{promise_received, raise_told, say_older};
@@ -20,7 +20,8 @@ pub(crate) fn say_older(
     desk: &mut Desk,
 )
     requires { HasRoomFor 0 1 0 desk.old }
-    ensures { Left (say_older asker partition epoch refusal) desk.old desk.new }
+    ensures left { Left (say_older asker partition epoch refusal) desk.old desk.new }
+    ensures few { length desk.new.out ≤ length desk.old.out + 1 }
 {
     if let ReplicaRefusal::Older(kept) = refusal {
         let body = Body::Older {
@@ -35,7 +36,8 @@ pub(crate) fn say_older(
 /// A promise that is raised is recorded and told.
 pub(crate) fn tell_raised(partition: u16, epoch: Epoch, done: Done, desk: &mut Desk)
     requires { HasRoomFor 1 0 1 desk.old }
-    ensures { Left (raise_told partition epoch done) desk.old desk.new }
+    ensures left { Left (raise_told partition epoch done) desk.old desk.new }
+    ensures few { length desk.new.out ≤ length desk.old.out }
 {
     if done == Done::New {
         desk.records.keep(Record::PromisedAt { partition, epoch });
@@ -46,7 +48,8 @@ pub(crate) fn tell_raised(partition: u16, epoch: Epoch, done: Done, desk: &mut D
 /// The epoch of the log and its last entry are answered.
 fn say_promised(asker: Who, epoch: Epoch, replica: &Replica, desk: &mut Desk)
     requires { HasRoomFor 0 1 0 desk.old }
-    ensures { Left (Deed.Send asker (body.Promised replica.now.partition epoch replica.now.at (last_of replica.now)) ∷ []) desk.old desk.new }
+    ensures left { Left (Deed.Send asker (body.Promised replica.now.partition epoch replica.now.at (last_of replica.now)) ∷ []) desk.old desk.new }
+    ensures few { length desk.new.out ≤ length desk.old.out + 1 }
 {
     let body = Body::Promised {
         partition: replica.partition(),
@@ -61,7 +64,8 @@ fn say_promised(asker: Who, epoch: Epoch, replica: &Replica, desk: &mut Desk)
 #[tactic(auto, unfolding(unit_rules::specs::Promises::promise_received))]
 pub fn promise_received(asker: Who, epoch: Epoch, seat: &mut Seat, desk: &mut Desk)
     requires { HasRoom desk.old }
-    ensures { Does (promise_received asker epoch seat.old) seat.new desk.old desk.new }
+    ensures does { Does (promise_received asker epoch seat.old) seat.new desk.old desk.new }
+    ensures few { length desk.new.out ≤ length desk.old.out + 1 }
 {
     let partition = seat.replica.partition();
     match seat.replica.promise(epoch) {

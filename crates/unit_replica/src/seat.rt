@@ -1,6 +1,7 @@
 ghost use Rattle.std.specs.Prelude.{◌≡◌, ◌≤◌, length};
 ghost use Rattle.replica_core.specs.Replicas.{IsSound};
 ghost use Rattle.unit_rules.specs.Seats.{first_seat, last_of};
+ghost use Rattle.unit_replica.specs.Starts.{seat_again, seat_uncollected};
 
 use crate::lead::Lead;
 use replica_core::Replica;
@@ -46,6 +47,22 @@ impl Seat {
         ensures { result.now ≡ self.now.replica }
     {
         &self.replica
+    }
+
+    /// What is collected is forgotten.
+    pub(crate) fn drop_collected(&mut self)
+        ensures { self.new ≡ seat_uncollected self.old }
+    {
+        self.replica.drop_collected();
+    }
+
+    /// Begins again with the next instance of its node: what was known as a primary is lost, and which Sync was taken.
+    pub(crate) fn begin_again(&mut self)
+        ensures { self.new ≡ seat_again self.old }
+    {
+        self.replica.begin_again();
+        self.taking = None;
+        self.lead = None;
     }
 }
 

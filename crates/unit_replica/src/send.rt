@@ -56,7 +56,8 @@ pub(crate) fn append_to_all(
 )
     requires room { length out.old + length peers.now ≤ 192 }
     requires text { length text.now ≤ 512 }
-    ensures { out.new ≡ out.old ++ frames_of (map (append_to epoch replica.now lsn text.now) peers.now) }
+    ensures sent { out.new ≡ out.old ++ frames_of (map (append_to epoch replica.now lsn text.now) peers.now) }
+    ensures few { length out.new ≤ length out.old + length peers.now }
 {
     for peer in peers {
         append_to(epoch, replica, lsn, text, peer, out);
@@ -85,18 +86,21 @@ fn send_next(replica: &Replica, peer: &Peer, out: &mut Outbox)
 #[tactic(auto, using(unit_desk::proofs::Deeds::deeds_append))]
 fn send_all_next(replica: &Replica, peers: &[Peer], out: &mut Outbox)
     requires { length out.old + length peers.now ≤ 192 }
-    ensures { out.new ≡ out.old ++ frames_of (flat_map (λ p. entry_sent replica.now p (entry_at p.next replica.now.log)) peers.now) }
+    ensures sent { out.new ≡ out.old ++ frames_of (flat_map (λ p. entry_sent replica.now p (entry_at p.next replica.now.log)) peers.now) }
+    ensures few { length out.new ≤ length out.old + length peers.now }
 {
     for peer in peers {
         send_next(replica, peer, out);
     }
 }
 
-/// A firing: the primary sends each other member the entry that is next for it, where there is one.
+/// A firing: the primary sends each other member the entry that is next for it, where there is one. These are at most six
+/// messages.
 #[tactic(auto, unfolding(unit_rules::specs::Writes::seat_fired))]
 pub fn seat_fired(seat: &Seat, out: &mut Outbox)
-    requires { length out.old + 7 ≤ 192 }
+    requires { length out.old + 6 ≤ 192 }
     ensures sent { out.new ≡ out.old ++ frames_of (seat_fired seat.now) }
+    ensures few { length out.new ≤ length out.old + 6 }
 {
     if !takes_writes(&seat.replica) {
         return;

@@ -1,4 +1,4 @@
-ghost use Rattle.std.specs.Prelude.{◌≡◌, ◌≤◌, ◌∷◌, [], Some, length};
+ghost use Rattle.std.specs.Prelude.{◌≡◌, ◌≤◌, ◌+◌, ◌∷◌, [], Some, length};
 ghost use Rattle.fabric_terms.specs.declared.message.Body.TheVariants as body;
 ghost use Rattle.replica_core.specs.Calls.{adopt_own_call};
 ghost use Rattle.unit_rules.specs.Copies.{adoption, copy_begun, fetch_next, own_adopted, sync_received};
@@ -18,7 +18,8 @@ use unit_rules::Taking;
 /// own.
 pub(crate) fn tell_adopted(partition: u16, taking: Taking, own: bool, desk: &mut Desk)
     requires { HasRoomFor 1 1 1 desk.old }
-    ensures { Left (adoption partition taking own) desk.old desk.new }
+    ensures left { Left (adoption partition taking own) desk.old desk.new }
+    ensures few { length desk.new.out ≤ length desk.old.out + 1 }
 {
     let epoch = taking.epoch;
     let last = taking.last;
@@ -36,7 +37,8 @@ pub(crate) fn tell_adopted(partition: u16, taking: Taking, own: bool, desk: &mut
 
 fn say_adopted(taking: Taking, partition: u16, last: u32, desk: &mut Desk)
     requires { HasRoomFor 0 1 0 desk.old }
-    ensures { Left (Deed.Send taking.asker (body.Adopted partition taking.epoch last) ∷ []) desk.old desk.new }
+    ensures left { Left (Deed.Send taking.asker (body.Adopted partition taking.epoch last) ∷ []) desk.old desk.new }
+    ensures few { length desk.new.out ≤ length desk.old.out + 1 }
 {
     let body = Body::Adopted {
         partition,
@@ -49,7 +51,8 @@ fn say_adopted(taking: Taking, partition: u16, last: u32, desk: &mut Desk)
 /// The next entry of the log is asked for at its origin.
 pub(crate) fn fetch_next(taking: Taking, replica: &Replica, desk: &mut Desk)
     requires { HasRoomFor 0 1 0 desk.old }
-    ensures { Left (fetch_next taking replica.now ∷ []) desk.old desk.new }
+    ensures left { Left (fetch_next taking replica.now ∷ []) desk.old desk.new }
+    ensures few { length desk.new.out ≤ length desk.old.out + 1 }
 {
     let origin = Who {
         actor: taking.origin,
@@ -66,7 +69,8 @@ pub(crate) fn fetch_next(taking: Taking, replica: &Replica, desk: &mut Desk)
 /// The own log is adopted, or none. Where the own log has another end, nothing comes of it.
 fn adopt_own(taking: Taking, seat: &mut Seat, desk: &mut Desk)
     requires { HasRoomFor 1 1 1 desk.old }
-    ensures { Does (own_adopted taking seat.old (adopt_own_call taking.epoch taking.last seat.old.replica)) seat.new desk.old desk.new }
+    ensures does { Does (own_adopted taking seat.old (adopt_own_call taking.epoch taking.last seat.old.replica)) seat.new desk.old desk.new }
+    ensures few { length desk.new.out ≤ length desk.old.out + 1 }
 {
     let partition = seat.replica.partition();
     if seat.replica.adopt_own(taking.epoch, taking.last).is_ok() {
@@ -79,7 +83,8 @@ fn adopt_own(taking: Taking, seat: &mut Seat, desk: &mut Desk)
 fn begin_copy(me: u16, taking: Taking, seat: &mut Seat, desk: &mut Desk)
     requires last { taking.last ≤ 100000 }
     requires room { HasRoomFor 1 1 1 desk.old }
-    ensures { Does (copy_begun me taking seat.old) seat.new desk.old desk.new }
+    ensures does { Does (copy_begun me taking seat.old) seat.new desk.old desk.new }
+    ensures few { length desk.new.out ≤ length desk.old.out + 1 }
 {
     let _ = seat.replica.idle(taking.epoch);
     seat.taking = Some(taking);
@@ -95,7 +100,8 @@ fn begin_copy(me: u16, taking: Taking, seat: &mut Seat, desk: &mut Desk)
 pub fn sync_received(me: u16, taking: Taking, seat: &mut Seat, desk: &mut Desk)
     requires last { taking.last ≤ 100000 }
     requires room { HasRoom desk.old }
-    ensures { Does (sync_received me taking seat.old) seat.new desk.old desk.new }
+    ensures does { Does (sync_received me taking seat.old) seat.new desk.old desk.new }
+    ensures few { length desk.new.out ≤ length desk.old.out + 1 }
 {
     let partition = seat.replica.partition();
     match seat.replica.promise(taking.epoch) {

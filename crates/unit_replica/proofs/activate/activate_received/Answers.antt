@@ -8,19 +8,19 @@ use Rattle.unit_desk.specs.Desks.{Does}
 use Rattle.unit_replica.proofs.Activated.{does_again, does_refused}
 use Rattle.unit_replica.proofs.activate.activate_received.Goals as goal
 
-pub returns-then-eq : goal.returns-then-eq
-returns-then-eq c =
+pub returns-then-eq-clause-does : goal.returns-then-eq-clause-does
+returns-then-eq-clause-does c =
     let before : Seat = record { replica = c.seat.inside.replica; taking = c.seat.inside.taking; lead = c.seat.inside.lead } in
     let called : ◌≡◌ {A = Outcome Role} (Ok c.in-Ok.role, c.activate.new.self) (activate_call c.args.me c.args.config.now c.seat.inside.replica) =
     ap (λ (r : Result Role ReplicaRefusal). (r, c.activate.new.self)) (sym c.in-Ok.is) ∙ c.activate.ensures in
     let again : c.in-Ok.role ≡ c.seat.inside.replica.role = search rules in
     subst (λ (s : Seat). Does (activate_received c.args.me c.args.asker c.args.config.now s) (seated before c.activate.new.self) c.args.desk.now c.say_activated.new.desk) c.seat.view_is
-    (does_again c.args.me c.args.asker c.args.config.now before c.activate.new.self c.in-Ok.role _ _ c.last_of-last.ensures.sound called again c.say_activated.ensures)
+    (does_again c.args.me c.args.asker c.args.config.now before c.activate.new.self c.in-Ok.role _ _ c.last_of-last.ensures.sound called again c.say_activated.ensures.left)
 
-pub returns-in-Err : goal.returns-in-Err
-returns-in-Err c =
+pub returns-in-Err-clause-does : goal.returns-in-Err-clause-does
+returns-in-Err-clause-does c =
     let before : Seat = record { replica = c.seat.inside.replica; taking = c.seat.inside.taking; lead = c.seat.inside.lead } in
     let called : ◌≡◌ {A = Outcome Role} (Err c.in-Err.refusal, c.activate.new.self) (activate_call c.args.me c.args.config.now c.seat.inside.replica) =
     ap (λ (r : Result Role ReplicaRefusal). (r, c.activate.new.self)) (sym c.in-Err.is) ∙ c.activate.ensures in
     subst (λ (s : Seat). Does (activate_received c.args.me c.args.asker c.args.config.now s) (seated before c.activate.new.self) c.args.desk.now c.say_older.new.desk) c.seat.view_is
-    (does_refused c.args.me c.args.asker c.args.config.now before c.activate.new.self c.in-Err.refusal _ _ called c.say_older.ensures)
+    (does_refused c.args.me c.args.asker c.args.config.now before c.activate.new.self c.in-Err.refusal _ _ called c.say_older.ensures.left)

@@ -1,0 +1,48 @@
+-- Seats of which some are gone rise as all of them did.
+use Rattle.std.proofs.Common.{◌≡◌, ℕ, suc, ◌+◌, ◌≤◌, Bool, true, false, cond, List, [], ◌∷◌, filter, length, map, refl, ap, ◌∙◌, arith}
+use Rattle.std.proofs.lemmas.Bool.{and_parts, and_from}
+use Rattle.std.proofs.lemmas.Bool.Decides.{nat_tests}
+use Rattle.std.specs.Prelude.{nat_le}
+use Rattle.fabric_lemmas.specs.Maps.{rises, rises_from}
+use Rattle.fabric_lemmas.proofs.Maps.{rises_from-lower}
+use Rattle.keep_log.proofs.MapEntries.{rises-mapped}
+use Rattle.unit_rules.specs.Seats.{Seat}
+use Rattle.unit_replica.specs.Starts.{is_recorded, seat_again, seats_again}
+use Rattle.unit_replica.specs.Tables.{Seats}
+
+module _ {X : Type 0} where
+  rises_from-filter : (low : ℕ) (test : ℕ × X → Bool) (es : List (ℕ × X)) → rises_from low es ≡ true → rises_from low (filter test es) ≡ true
+  rises_from-filter low test [] up = refl
+  rises_from-filter low test (e ∷ es) up =
+      let parts : (nat_le low e.0 ≡ true) × (rises_from (e.0 + 1) es ≡ true) = and_parts (nat_le low e.0) (rises_from (e.0 + 1) es) up in
+      by (test e) parts.0 (rises_from-filter (e.0 + 1) test es parts.1)
+    where
+      by : (b : Bool) → nat_le low e.0 ≡ true → rises_from (e.0 + 1) (filter test es) ≡ true → rises_from low (cond b (e ∷ filter test es) (filter test es)) ≡ true
+      by true here behind = and_from (nat_le low e.0) (rises_from (e.0 + 1) (filter test es)) here behind
+      by false here behind = rises_from-lower (e.0 + 1) low (filter test es) (grind (arith, nat_tests, here)) behind
+
+pub rises-again : (es : Seats) → rises es ≡ true → rises (seats_again es) ≡ true
+rises-again es up =
+    rises_from-filter 0 (λ e. is_recorded e.1.replica) (map (λ e. (e.0, seat_again e.1)) es) (rises-mapped seat_again 0 es ∙ up)
+
+fewer_kept : {X : Type 0} (test : X → Bool) (xs : List X) → length (filter test xs) ≤ length xs
+fewer_kept test [] = omega arith
+fewer_kept test (x ∷ xs) = by (test x) (fewer_kept test xs)
+  where
+    by : (b : Bool) → length (filter test xs) ≤ length xs → length (cond b (x ∷ filter test xs) (filter test xs)) ≤ suc (length xs)
+    by true less = omega (arith, less)
+    by false less = omega (arith, less)
+
+-- each seat begins again
+abbrev all_again : Seats → Seats
+all_again es = map (λ e. (e.0, seat_again e.1)) es
+
+as_many_again : (es : Seats) → length (all_again es) ≡ length es
+as_many_again [] = refl
+as_many_again (e ∷ es) = ap (λ (n : ℕ). suc n) (as_many_again es)
+
+pub fewer_again : (es : Seats) → length (seats_again es) ≤ length es
+fewer_again es =
+    let less = fewer_kept (λ (e : ℕ × Seat). is_recorded e.1.replica) (all_again es) in
+    let same = as_many_again es in
+    omega (arith, less, same)

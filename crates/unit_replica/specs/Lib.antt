@@ -1,0 +1,4 @@
+pub mod Laws
+pub mod Rows
+pub mod Starts
+pub mod Tables

@@ -1,0 +1,192 @@
+ghost use Rattle.std.specs.Prelude.{◌≡◌, ◌≤◌, ◌+◌, [], None, IfOk, IsTrue, OnErr, length};
+ghost use Rattle.std.specs.Option.{option_copied};
+ghost use Rattle.fabric_lemmas.specs.Maps.{at};
+ghost use Rattle.fabric_terms.specs.Messages.{is_sound_body};
+ghost use Rattle.unit_desk.specs.Desks.{Does, HasRoom};
+ghost use Rattle.unit_rules.specs.Deeds.{still};
+ghost use Rattle.unit_replica.specs.Tables.{at_seat, at_standing, frame_at, replica_at, row_of, write_at};
+
+use crate::frame::row_of;
+use crate::seat::Seat;
+use crate::write::{refuse, write_commanded};
+use fabric_terms::{Body, OutOfMemory, Payload, Reason};
+use replica_core::Replica;
+use ring_points::Who;
+use std::alloc::Global;
+use std::collections::BTreeMap;
+use std::marker::Model;
+use unit_desk::Desk;
+
+/// The most replicas of a node: one of each partition. More are refused as if memory were short, which never comes, since
+/// there are no more numbers of partitions.
+pub(crate) const MOST_REPLICAS: usize = 65_536;
+
+/// The replicas of a node. Contracts see the map from partitions, as the list that rises by partition.
+#[derive(Drop)]
+pub struct Seats {
+    pub(crate) alloc: Global,
+    pub(crate) map: BTreeMap<u16, Seat>,
+}
+
+impl Model for Seats {
+    ghost use Rattle.unit_replica.specs.Tables.{IsTable, Seats};
+
+    ghost Value = { Seats };
+
+    ghost view = { λ s. s.map.entries };
+
+    ghost invariant = { λ s. IsTable s.map.entries };
+}
+
+impl Seats {
+    /// No replicas. The map and the logs grow by this allocator.
+    pub fn new(alloc: Global) -> Self
+        ensures { result ≡ [] }
+    {
+        Seats {
+            alloc,
+            map: BTreeMap::new(alloc),
+        }
+    }
+
+    /// How many replicas there are.
+    pub fn count(&self) -> usize
+        ensures count { result ≡ length self.now }
+        ensures few { result ≤ 65536 }
+    {
+        self.map.len()
+    }
+
+    /// The partition's replica, if there is one.
+    pub fn replica(&self, partition: u16) -> Option<&Replica>
+        ensures { option_copied result ≡ replica_at partition self.now }
+    {
+        match self.map.get(&partition) {
+            Some(seat) => Some(&seat.replica),
+            None => None,
+        }
+    }
+
+    /// The row of a frame at the partition's seat, where one stands.
+    fn at_standing(
+        &mut self,
+        me: u16,
+        from: Who,
+        partition: u16,
+        body: &Body,
+        desk: &mut Desk,
+    ) -> Result<(), OutOfMemory>
+        requires sound { IsTrue (is_sound_body body.now) }
+        requires room { HasRoom desk.old }
+        ensures does { IfOk result (λ _. Does (at_standing partition (row_of me from body.now) (still self.old) self.old) self.new desk.old desk.new) }
+        ensures few { length desk.new.out ≤ length desk.old.out + 1 }
+        ensures refused { OnErr result ((self.new ≡ self.old) × (desk.new ≡ desk.old)) }
+    {
+        let Some(seat) = self.map.get_mut(&partition) else {
+            return Ok(());
+        };
+        row_of(self.alloc, me, from, body, seat, desk)
+    }
+
+    /// The row of a frame at the partition's first seat, which is made for it.
+    fn at_first(
+        &mut self,
+        me: u16,
+        from: Who,
+        partition: u16,
+        body: &Body,
+        desk: &mut Desk,
+    ) -> Result<(), OutOfMemory>
+        requires sound { IsTrue (is_sound_body body.now) }
+        requires room { HasRoom desk.old }
+        requires none { at partition self.old ≡ None }
+        ensures does { IfOk result (λ _. Does (at_seat partition (row_of me from body.now) self.old) self.new desk.old desk.new) }
+        ensures few { length desk.new.out ≤ length desk.old.out + 1 }
+        ensures refused { OnErr result ((self.new ≡ self.old) × (desk.new ≡ desk.old)) }
+    {
+        if self.map.len() >= MOST_REPLICAS {
+            return Err(OutOfMemory);
+        }
+        let seat = Seat::new(self.alloc, partition);
+        self.map.insert(partition, seat)?;
+        match self.at_standing(me, from, partition, body, desk) {
+            Ok(()) => Ok(()),
+            Err(_) => {
+                self.map.remove(&partition);
+                Err(OutOfMemory)
+            }
+        }
+    }
+
+    /// The row of a frame at the partition's seat, which is made where none stands.
+    fn at_seat(
+        &mut self,
+        me: u16,
+        from: Who,
+        partition: u16,
+        body: &Body,
+        desk: &mut Desk,
+    ) -> Result<(), OutOfMemory>
+        requires sound { IsTrue (is_sound_body body.now) }
+        requires room { HasRoom desk.old }
+        ensures does { IfOk result (λ _. Does (at_seat partition (row_of me from body.now) self.old) self.new desk.old desk.new) }
+        ensures few { length desk.new.out ≤ length desk.old.out + 1 }
+        ensures refused { OnErr result ((self.new ≡ self.old) × (desk.new ≡ desk.old)) }
+    {
+        if self.map.contains_key(&partition) {
+            self.at_standing(me, from, partition, body, desk)
+        } else {
+            self.at_first(me, from, partition, body, desk)
+        }
+    }
+
+    /// A frame to the replica of its partition. Promise, Sync, Activate and Append make the replica where none stands;
+    /// other frames do nothing then. It is an error where memory is short, and then nothing is changed.
+    pub fn frame_received(
+        &mut self,
+        me: u16,
+        from: Who,
+        body: &Body,
+        desk: &mut Desk,
+    ) -> Result<(), OutOfMemory>
+        requires sound { IsTrue (is_sound_body body.now) }
+        requires room { HasRoom desk.old }
+        ensures does { IfOk result (λ _. Does (frame_at me from body.now self.old) self.new desk.old desk.new) }
+        ensures few { length desk.new.out ≤ length desk.old.out + 1 }
+        ensures refused { OnErr result ((self.new ≡ self.old) × (desk.new ≡ desk.old)) }
+    {
+        match body {
+            Body::Promise { partition, .. }
+            | Body::Sync { partition, .. }
+            | Body::Append { partition, .. } => self.at_seat(me, from, *partition, body, desk),
+            Body::Activate { config } => self.at_seat(me, from, config.partition, body, desk),
+            Body::Fetch { partition, .. }
+            | Body::Piece { partition, .. }
+            | Body::Appended { partition, .. } => {
+                self.at_standing(me, from, *partition, body, desk)
+            }
+            _ => Ok(()),
+        }
+    }
+
+    /// Write: the partition's primary adds an entry. It is refused where the node has no replica of the partition, at a
+    /// replica that takes no writes, and where its log is full. It is an error where memory is short, and then nothing
+    /// is changed.
+    pub fn write(
+        &mut self,
+        partition: u16,
+        text: &Payload,
+        desk: &mut Desk,
+    ) -> Result<(), OutOfMemory>
+        requires { HasRoom desk.old }
+        ensures does { IfOk result (λ _. Does (write_at partition text.now self.old) self.new desk.old desk.new) }
+        ensures few { length desk.new.out ≤ length desk.old.out + 6 }
+        ensures refused { OnErr result ((self.new ≡ self.old) × (desk.new ≡ desk.old)) }
+    {
+        let Some(seat) = self.map.get_mut(&partition) else {
+            refuse(Reason::NotPrimary, desk);
+            return Ok(());
+        };
+        write_commanded(text, seat, desk)
+    }
+}
