@@ -1,94 +1,139 @@
--- A step and a start of a whole node, with nothing above its ring.
-use Rattle.std.proofs.Common.{◌≡◌, ℕ, ◌+◌, ◌==◌, Bool, true, false, not, ◌&&◌, List, [], ◌∷◌, ◌++◌, nat_le, refl, sym, ap, ◌∙◌, if◌then◌else◌}
-use Rattle.std.proofs.lemmas.List.{append-nil}
+-- A step and a start of a whole node, by its ring and what runs above it.
+use Rattle.std.proofs.Common.{◌≡◌, ℕ, Bool, true, false, not, ◌&&◌, List, ◌++◌, refl, sym, ap, ◌∙◌}
+use Rattle.std.proofs.lemmas.List.{map-append}
 use Rattle.fabric_terms.specs.declared.config.FabricConfig.{FabricConfig}
 use Rattle.fabric_terms.specs.declared.message.Body.{Body}
-use Rattle.fabric_terms.specs.declared.record.Record.{Record}
-use Rattle.fabric_terms.specs.declared.record.Record.TheVariants.{Boot}
+use Rattle.fabric_terms.specs.declared.message.Message.{Message}
 use Rattle.fabric_terms.specs.declared.report.Report.{Report}
+use Rattle.fabric_terms.specs.Sent.{from_all}
 use Rattle.join_phases.specs.Phases.{is_left}
 use Rattle.ring_node.specs.Nodes.{Node, Step, step}
-use Rattle.ring_node.specs.Steps.{acted, started}
+use Rattle.ring_node.specs.Owned.{own_since, owned_of}
+use Rattle.ring_node.specs.Steps.{taken}
 use Rattle.ring_points.specs.declared.who.Who.{Who}
-use Rattle.ring_points.specs.Whos.{node_instance}
 use Rattle.ring_rules.specs.declared.input.Input.{Input}
+use Rattle.ring_rules.specs.declared.input.Input.TheVariants as input
+use Rattle.ring_rules.specs.Deeds.{has_numbers}
+use Rattle.ring_rules.specs.Frames.{passes}
 use Rattle.ring_rules.specs.Owns.{own_after}
 use Rattle.ring_rules.specs.Rings.{Ring, Settings, Work, settings_of}
-use Rattle.ring_rules.specs.Starts.{node_started, start_first, start_if}
 use Rattle.ring_rules.specs.Steps.{ring_step}
 use Rattle.run_facts.proofs.Steps.{ring_stepped}
-use Rattle.fabric_terms.specs.Sent.{from_all}
-use Rattle.token_core.specs.Tokens.{last_number}
-use Rattle.world_rules.specs.Nodes.{NodeState, above_if, boots_of, both_did, comes_above, instance_begun, is_spent, node_begun, node_step}
+use Rattle.unit_rules.specs.Deeds.{Acted, did, frames_of, records_of, reports_of}
+use Rattle.unit_rules.specs.Loads.{Site, site_of}
+use Rattle.unit_rules.specs.Steps.{Failover, failover_step}
+use Rattle.unit_node.specs.Parts.{Part, domains_of, is_later, site_at}
+use Rattle.world_rules.specs.Nodes.{NodeState, above_acts, above_if, both_did, comes_above, node_step}
 use Rattle.fabric_above.specs.Fabric.{fabric}
-use Rattle.world_rules.specs.Uppers.{Did, idle}
+use Rattle.world_rules.specs.Uppers.{Did}
 use Rattle.node_core.specs.declared.outcome.Outcome.{Outcome}
 use Rattle.node_core.specs.Nodes.{Does, GoesBy, core_of}
+use Rattle.node_core.specs.Rows.{comes_first, comes_later, row_if}
+use Rattle.node_core.proofs.Aside.{row_first}
 
 -- the name of a node stays
-pub name_stays : (now : ℕ) (i : Input) (old new : Node) (sent : List (Who × Body)) (told : List Report) → step new sent told ≡ acted now i old → new.ring.me ≡ old.ring.me
+pub name_stays : (now : ℕ) (i : Input) (old new : Node) (sent : List (Who × Body)) (told : List Report) → step new sent told ≡ taken now i old → new.ring.me ≡ old.ring.me
 name_stays now i old new sent told e = ap (λ (s : Step). s.work.ring.me) e ∙ (ring_stepped old.settings now i old.ring).name
 
--- nothing is done above
+pub settings_stay : (now : ℕ) (i : Input) (old new : Node) (sent : List (Who × Body)) (told : List Report) → step new sent told ≡ taken now i old → new.settings ≡ old.settings
+settings_stay now i old new sent told e = ap (λ (s : Step). s.settings) e
 
-idles : (c : FabricConfig) (now : ℕ) (r : Ring) (u : Unit {0}) (i : Input) (b : Bool) → above_if fabric c now r u i b ≡ idle u
-idles c now r u i true = refl
-idles c now r u i false = refl
+-- what is owned is told last
 
--- what a whole node does in a step
-abbrev does_by : ℕ → Input → Ring → Settings → Did (NodeState fabric)
-does_by now i r s =
-    let k = ring_step s now i r in
-    record { state = record { ring = k.ring; above = tt }; records = []; sent = k.sent; told = k.told ++ own_after s r k.ring }
+own_told : (c : Settings) (old new : Node) → new.settings ≡ c → old.settings ≡ c → own_since (owned_of old) new ≡ own_after c old.ring new.ring
+own_told c old new n o = rw (n, o) refl
 
-both_idle : (c : FabricConfig) (r : Ring) (k : Work) → both_did fabric c r k (idle tt) ≡ record { state = record { ring = k.ring; above = tt }; records = []; sent = k.sent; told = k.told ++ own_after (settings_of c r.me.actor) r k.ring }
-both_idle c r k = rw (append-nil k.sent, append-nil k.told) refl
+-- what the rules say of a step whose ring made this, and above which this was done
+abbrev done : Settings → Ring → Node → List (Who × Body) → List Report → Acted Failover → Did (NodeState fabric)
+done c old new sent told a =
+    record {
+      state = record { ring = new.ring; above = a.state };
+      records = records_of a.deeds;
+      sent = sent ++ frames_of a.deeds;
+      told = told ++ reports_of a.deeds ++ own_after c old new.ring;
+    }
 
-step_is : (c : FabricConfig) (now : ℕ) (i : Input) (n : Node) → GoesBy c (core_of n) → node_step fabric c now i (core_of n).state ≡ does_by now i n.ring n.settings
+step_is : (c : FabricConfig) (now : ℕ) (i : Input) (n : Node) (p : Part) (new : Node) (sent : List (Who × Body)) (told : List Report) (a : Acted Failover) → GoesBy c (core_of n p)
+    → step new sent told ≡ taken now i n → above_acts fabric c now i (core_of n p).state new.ring ≡ did a
+    → node_step fabric c now i (core_of n p).state ≡ done (settings_of c n.ring.me.actor) n.ring new sent told a
 unfolding node_step
-step_is c now i n g =
-    let k = ring_step (settings_of c n.ring.me.actor) now i n.ring in
-    ap (both_did fabric c n.ring k) (idles c now k.ring tt i (not (is_left k.ring.phase) && comes_above (settings_of c n.ring.me.actor) n.ring i))
-    ∙ both_idle c n.ring k
-    ∙ ap (does_by now i n.ring) (sym g)
+step_is c now i n p new sent told a g e above =
+    let w : Work = record { ring = new.ring; sent = sent; told = told } in
+    let made : ring_step (settings_of c n.ring.me.actor) now i n.ring ≡ w = ap (λ (s : Settings). ring_step s now i n.ring) (sym g.settings) ∙ sym (ap (λ (s : Step). s.work) e) in
+    ap (λ (k : Work). both_did fabric c n.ring k (above_acts fabric c now i (core_of n p).state k.ring)) made
+    ∙ ap (both_did fabric c n.ring w) above
 
-pub does_step : (c : FabricConfig) (now : ℕ) (i : Input) (n new : Node) (sent : List (Who × Body)) (told : List Report) (me : Who) (o : Outcome) → GoesBy c (core_of n) → step new sent told ≡ acted now i n → me ≡ new.ring.me → o.records ≡ [] → o.frames ≡ from_all me sent → o.reports ≡ told → Does (node_step fabric c now i (core_of n).state) (core_of new) o
-does_step c now i n new sent told me o g e m r f t = rw (step_is c now i n g) (record {
-  state = ap (λ (s : Step). record { ring = s.work.ring; above = tt }) e;
-  records = r;
-  frames = f ∙ ap (λ (w : Who). from_all w sent) m ∙ ap (λ (s : Step). from_all s.work.ring.me s.work.sent) e;
-  reports = t ∙ ap (λ (s : Step). s.work.told) e;
+-- the step of a whole node, of which this is left
+pub does_step : (c : FabricConfig) (now : ℕ) (i : Input) (n : Node) (p : Part) (new : Node) (q : Part) (sent : List (Who × Body)) (told : List Report) (o : Outcome) (a : Acted Failover)
+    → GoesBy c (core_of n p) → step new sent told ≡ taken now i n → above_acts fabric c now i (core_of n p).state new.ring ≡ did a
+    → q.state ≡ a.state → o.records ≡ records_of a.deeds → o.frames ≡ from_all new.ring.me sent ++ from_all new.ring.me (frames_of a.deeds)
+    → o.reports ≡ (told ++ reports_of a.deeds) ++ own_since (owned_of n) new
+    → Does (node_step fabric c now i (core_of n p).state) (core_of new q) o
+does_step c now i n p new q sent told o a g e above state records frames reports = rw (step_is c now i n p new sent told a g e above) (record {
+  state = ap (λ (s : Failover). record { ring = new.ring; above = s }) state;
+  records = records;
+  frames = frames ∙ sym (map-append _ sent (frames_of a.deeds));
+  reports =
+      reports
+      ∙ ap (λ (rs : List Report). (told ++ reports_of a.deeds) ++ rs) (own_told (settings_of c n.ring.me.actor) n new (settings_stay now i n new sent told e ∙ g.settings) g.settings);
 })
 
--- a start
+-- What is done above.
 
-first_named : (c : FabricConfig) (me : Who) (b : Bool) → (start_first c me b).ring.me ≡ me
-first_named c me true = refl
-first_named c me false = refl
+above_row : (c : FabricConfig) (now : ℕ) (r : Ring) (s : Failover) (i : Input) (b : Bool) → above_if fabric c now r s i b ≡ did (row_if b (site_of c r.me.actor) now r s i)
+above_row c now r s i true = refl
+above_row c now r s i false = refl
 
-if_named : (c : FabricConfig) (me : Who) (spent : Bool) → (start_if c me spent).ring.me ≡ me
-if_named c me true = refl
-if_named c me false = first_named c me (me.actor == c.first && me.instance == 1)
+-- what its rows read is what the rules read of the configuration
+site_is : (c : FabricConfig) (n : Node) (p : Part) (w : Who) → GoesBy c (core_of n p) → w ≡ n.ring.me → site_of c w.actor ≡ site_at n.settings p
+site_is c n p w g e =
+    ap (λ (x : Who). site_of c x.actor) e
+    ∙ ap (λ (s : Settings). record { ring = s; domains = domains_of c }) (sym g.settings)
+    ∙ ap (λ (ds : List (ℕ × ℕ)). record { ring = n.settings; domains = ds }) (sym g.domains)
 
-named : (c : FabricConfig) (me : Who) (spent : Bool) → (node_started c me spent).ring.me ≡ me
-unfolding node_started
-named c me spent = if_named c me spent
+above_is : (c : FabricConfig) (now : ℕ) (i : Input) (n : Node) (p : Part) (r : Ring) → GoesBy c (core_of n p) → r.me ≡ n.ring.me
+    → above_acts fabric c now i (core_of n p).state r ≡ did (row_if (not (is_left r.phase) && comes_above n.settings n.ring i) (site_at n.settings p) now r p.state i)
+above_is c now i n p r g e =
+    above_row c now r p.state i (not (is_left r.phase) && comes_above (settings_of c n.ring.me.actor) n.ring i)
+    ∙ ap (λ (s : Settings). did (row_if (not (is_left r.phase) && comes_above s n.ring i) (site_of c r.me.actor) now r p.state i)) (sym g.settings)
+    ∙ ap (λ (x : Site). did (row_if (not (is_left r.phase) && comes_above n.settings n.ring i) x now r p.state i)) (site_is c n p r.me g e)
 
-pub starts_by : (c : FabricConfig) (me : Who) (spent : Bool) (new : Node) (told : List Report) → step new [] told ≡ started c me spent → GoesBy c (core_of new)
-starts_by c me spent new told e =
-    ap (λ (s : Step). s.settings) e
-    ∙ ap (λ (w : Who). settings_of c w.actor) (sym (ap (λ (s : Step). s.work.ring.me) e ∙ named c me spent))
+-- a row that comes first
+pub first_above : (c : FabricConfig) (now : ℕ) (i : Input) (n : Node) (p : Part) (new : Node) (sent : List (Who × Body)) (told : List Report) → GoesBy c (core_of n p) → step new sent told ≡ taken now i n
+    → is_later i ≡ false → has_numbers n.ring ≡ true
+    → above_acts fabric c now i (core_of n p).state new.ring ≡ did (row_if (comes_first n.settings now n.ring i) (site_at n.settings p) now n.ring p.state i)
+first_above c now i n p new sent told g e first numbers =
+    let ring : new.ring ≡ (ring_step n.settings now i n.ring).ring = ap (λ (s : Step). s.work.ring) e in
+    above_is c now i n p new.ring g (name_stays now i n new sent told e)
+    ∙ ap (λ (r : Ring). did (row_if (not (is_left r.phase) && comes_above n.settings n.ring i) (site_at n.settings p) now r p.state i)) ring
+    ∙ ap did (row_first n.settings (site_at n.settings p) now n.ring p.state i first numbers)
 
--- by what is kept
-pub does_start : (c : FabricConfig) (node : ℕ) (records : List Record) (boots instance : ℕ) (spent : Bool) (new : Node) (told : List Report) (o : Outcome) → boots_of records ≡ boots → spent ≡ nat_le last_number boots → instance ≡ (if nat_le last_number boots then boots else boots + 1) → step new [] told ≡ started c (node_instance node instance) spent → o.records ≡ (if spent then [] else Boot instance ∷ []) → o.frames ≡ [] → o.reports ≡ told → Does (node_begun fabric c node records) (core_of new) o
-unfolding node_begun
-does_start c node records boots instance spent new told o b s n e r f t =
-    let p : spent ≡ nat_le last_number (boots_of records) = s ∙ ap (nat_le last_number) (sym b) in
-    let q : instance ≡ instance_begun records = n ∙ ap (λ (k : ℕ). if nat_le last_number k then k else k + 1) (sym b) in
-    let d : step new [] told ≡ started c (node_instance node (instance_begun records)) (is_spent records) = e ∙ ap (λ (k : ℕ). started c (node_instance node k) spent) q ∙ ap (started c (node_instance node (instance_begun records))) p in
-    record {
-      state = ap (λ (x : Step). record { ring = x.work.ring; above = tt }) d;
-      records = r ∙ ap (λ (k : ℕ). if spent then [] else Boot k ∷ []) q ∙ ap (λ (x : Bool). if x then [] else Boot (instance_begun records) ∷ []) p;
-      frames = f;
-      reports = t ∙ ap (λ (x : Step). x.work.told) d;
-    }
+-- the row of an answer, which comes after the ring's
+pub answer_above : (c : FabricConfig) (now : ℕ) (m : Message) (n : Node) (p : Part) (new : Node) (sent : List (Who × Body)) (told : List Report) → GoesBy c (core_of n p) → step new sent told ≡ taken now (input.Frame m) n
+    → above_acts fabric c now (input.Frame m) (core_of n p).state new.ring ≡ did (row_if (comes_later (passes n.settings n.ring m) new.ring) (site_at new.settings p) now new.ring p.state (input.Frame m))
+answer_above c now m n p new sent told g e =
+    above_is c now (input.Frame m) n p new.ring g (name_stays now (input.Frame m) n new sent told e)
+    ∙ ap (λ (s : Settings). did (row_if (comes_later (passes n.settings n.ring m) new.ring) (site_at s p) now new.ring p.state (input.Frame m))) (sym (settings_stay now (input.Frame m) n new sent told e))
+
+-- a firing, which changes nothing above, and reads nothing of the ring
+
+fire_reads : (c d : Site) (now later : ℕ) (r q : Ring) (s : Failover) (b : Bool) → row_if b c now r s input.Fire ≡ row_if b d later q s input.Fire
+unfolding failover_step
+fire_reads c d now later r q s true = refl
+fire_reads c d now later r q s false = refl
+
+pub fire_keeps : (c : Site) (now : ℕ) (r : Ring) (s : Failover) (b : Bool) → (row_if b c now r s input.Fire).state ≡ s
+unfolding failover_step
+fire_keeps c now r s true = refl
+fire_keeps c now r s false = refl
+
+and_true : (b : Bool) → (b && true) ≡ b
+and_true true = refl
+and_true false = refl
+
+pub fire_above : (c : FabricConfig) (now : ℕ) (n : Node) (p : Part) (new : Node) (sent : List (Who × Body)) (told : List Report) (d : Site) → GoesBy c (core_of n p) → step new sent told ≡ taken now input.Fire n
+    → above_acts fabric c now input.Fire (core_of n p).state new.ring ≡ did (row_if (not (is_left new.ring.phase)) d 0 new.ring p.state input.Fire)
+fire_above c now n p new sent told d g e =
+    above_is c now input.Fire n p new.ring g (name_stays now input.Fire n new sent told e)
+    ∙ ap (λ (b : Bool). did (row_if b (site_at n.settings p) now new.ring p.state input.Fire)) (and_true (not (is_left new.ring.phase)))
+    ∙ ap did (fire_reads (site_at n.settings p) d now 0 new.ring new.ring p.state (not (is_left new.ring.phase)))

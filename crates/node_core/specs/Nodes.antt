@@ -1,5 +1,5 @@
 -- A whole node as a value, and what its calls do.
-use Rattle.std.specs.Prelude.{◌≡◌, ◌≤◌, ℕ, List, IsTrue, length}
+use Rattle.std.specs.Prelude.{◌≡◌, ℕ, ◌+◌, ◌≤◌, List, [], IsTrue, length}
 use Rattle.fabric_terms.specs.declared.config.FabricConfig.{FabricConfig}
 use Rattle.fabric_terms.specs.declared.record.Record.{Record}
 use Rattle.ring_rules.specs.declared.input.Input.{Input}
@@ -12,25 +12,35 @@ use Rattle.fabric_terms.specs.Ranges.{FitsCommand}
 use Rattle.world_rules.specs.Nodes.{NodeState, boots_of}
 use Rattle.fabric_above.specs.Fabric.{fabric}
 use Rattle.world_rules.specs.Uppers.{Did}
+use Rattle.unit_rules.specs.Seats.{Seat}
+use Rattle.unit_rules.specs.Starts.{seats_begun}
+use Rattle.unit_replica.specs.Starts.{seats_again}
+use Rattle.unit_node.specs.Parts.{Part, domains_of, most_fired}
 use Rattle.node_core.specs.declared.kept.NodeKept.{NodeKept}
 use Rattle.node_core.specs.declared.outcome.Outcome.{Outcome}
 
--- a whole node: what it goes by, its ring and what runs above it
+-- a whole node: what its ring goes by, the fault domains by which it places, its ring and what runs above it
 pub record Core : Type 0 where
   pub settings : Settings
+  pub domains : List (ℕ × ℕ)
   pub state : NodeState fabric
 
 -- the ring at the node
 abbrev pub ring_of : Core → Node
 ring_of n = record { settings = n.settings; ring = n.state.ring }
 
--- the node of this ring, above which nothing runs
-abbrev pub core_of : Node → Core
-core_of n = record { settings = n.settings; state = record { ring = n.ring; above = tt } }
+-- the node of this ring and this part above it
+abbrev pub core_of : Node → Part → Core
+core_of n p = record { settings = n.settings; domains = p.domains; state = record { ring = n.ring; above = p.state } }
+
+-- the node with these replicas
+abbrev pub with_seats : List (ℕ × Seat) → Core → Core
+with_seats seats n = record n { state = record n.state { above = record n.state.above { seats = seats } } }
 
 -- the node goes by the configuration
-abbrev pub GoesBy : FabricConfig → Core → Type 0
-GoesBy c n = n.settings ≡ settings_of c n.state.ring.me.actor
+pub record GoesBy (c : FabricConfig) (n : Core) : Type 0 where
+  pub settings : n.settings ≡ settings_of c n.state.ring.me.actor
+  pub domains : n.domains ≡ domains_of c
 
 -- The node is now as the rules say, and the outcome has what they record, send and tell.
 pub record Does (d : Did (NodeState fabric)) (new : Core) (o : Outcome) : Type 0 where
@@ -39,16 +49,17 @@ pub record Does (d : Did (NodeState fabric)) (new : Core) (o : Outcome) : Type 0
   pub frames : o.frames ≡ from_all d.state.ring.me d.sent
   pub reports : o.reports ≡ d.told
 
--- what the records of a node amount to
+-- what the records of a node amount to: how many instances have begun, and the replicas with which the next one begins
 pub record Amounts (records : List Record) (kept : NodeKept) : Type 0 where
   pub boots : boots_of records ≡ kept.boots
+  pub seats : seats_begun records ≡ kept.seats
 
 -- what the records of a running node amount to
 abbrev pub kept_in : NodeState fabric → NodeKept
-kept_in s = record { boots = s.ring.me.instance }
+kept_in s = record { boots = s.ring.me.instance; seats = seats_again s.above.seats }
 
 abbrev pub nothing_kept : NodeKept
-nothing_kept = record { boots = 0 }
+nothing_kept = record { boots = 0; seats = [] }
 
 -- the most that a step leaves
 
@@ -57,7 +68,7 @@ most_records = 4
 
 -- by what stands at the node before the step
 unfoldable pub most_frames : NodeState fabric → ℕ
-most_frames s = 201
+most_frames s = 201 + most_fired s.above
 
 -- whatever stands at it
 abbrev pub frames_limit : ℕ
@@ -69,6 +80,7 @@ most_reports = 72
 pub record IsSmall (before : NodeState fabric) (o : Outcome) : Type 0 where
   pub records : length o.records ≤ most_records
   pub frames : length o.frames ≤ most_frames before
+  pub limit : length o.frames ≤ frames_limit
   pub reports : length o.reports ≤ most_reports
 
 -- what comes is in its ranges

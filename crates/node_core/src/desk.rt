@@ -1,18 +1,23 @@
-ghost use Rattle.std.specs.Prelude.{◌≡◌, IfOk};
+ghost use Rattle.std.specs.Prelude.{◌≡◌, ◌≤◌, IfOk};
 ghost use Rattle.node_core.specs.Desks.{IsClear, IsReady};
+ghost use Rattle.node_core.specs.Nodes.{frames_limit};
 
-use fabric_terms::{Message, OUTBOX_LIMIT, OutOfMemory, Outbox, Report};
+use fabric_terms::{Message, OutOfMemory, Outbox, Record, Report};
 use ring_node::Reports;
 use std::alloc::Global;
+use unit_desk::{Desk as UnitDesk, MOST_RECORDS};
 
-/// How many reports the ring makes in a step at most.
-const MOST_TOLD: usize = 64;
+/// How many reports a step makes at most.
+const MOST_REPORTS: usize = 72;
 
-/// Where a node puts what a step sends and reports, and room for what the step leaves. It is clear between steps.
+/// Where a node puts what a step records, sends and reports, and room for what the step leaves. It is clear between steps.
 #[derive(Drop)]
 pub(crate) struct Desk {
     pub(crate) out: Outbox,
     pub(crate) told: Reports,
+    /// What is done above the ring.
+    pub(crate) units: UnitDesk,
+    pub(crate) records: Vec<Record>,
     pub(crate) frames: Vec<Message>,
     pub(crate) reports: Vec<Report>,
 }
@@ -24,6 +29,8 @@ impl Desk {
         Desk {
             out: Outbox::new(),
             told: Reports::new(),
+            units: UnitDesk::new(),
+            records: Vec::new(alloc),
             frames: Vec::new(alloc),
             reports: Vec::new(alloc),
         }
@@ -38,14 +45,16 @@ impl Desk {
         Ok(Box::new(alloc, Desk::new(alloc))?)
     }
 
-    /// Makes room for what one step leaves.
-    pub(crate) fn make_room(&mut self) -> Result<(), OutOfMemory>
-        requires { IsClear self.old }
+    /// Makes room for what one step leaves, with so many frames.
+    pub(crate) fn make_room(&mut self, frames: usize) -> Result<(), OutOfMemory>
+        requires clear { IsClear self.old }
+        requires frames { frames ≤ frames_limit }
         ensures clear { IsClear self.new }
-        ensures ready { IfOk result (λ _. IsReady self.new) }
+        ensures ready { IfOk result (λ _. IsReady frames self.new) }
     {
-        self.frames.reserve(OUTBOX_LIMIT)?;
-        self.reports.reserve(MOST_TOLD)?;
+        self.records.reserve(MOST_RECORDS)?;
+        self.frames.reserve(frames)?;
+        self.reports.reserve(MOST_REPORTS)?;
         Ok(())
     }
 }

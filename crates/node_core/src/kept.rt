@@ -1,18 +1,26 @@
 ghost use Rattle.std.specs.Prelude.{◌≡◌};
 ghost use Rattle.node_core.specs.Nodes.{nothing_kept};
 
+use std::alloc::Global;
+use unit_replica::Seats;
+
 /// What the records of a node amount to while it does not run. A start takes it from here, and a stop gives it back.
 #[derive(Drop)]
 pub struct NodeKept {
     /// How many instances of the node have begun.
     pub boots: u32,
+    /// The replicas that its records name, as the next instance begins with them.
+    pub seats: Seats,
 }
 
 impl NodeKept {
-    /// Nothing is recorded yet.
-    pub fn new() -> Self
+    /// Nothing is recorded yet. Replicas grow by this allocator.
+    pub fn new(alloc: Global) -> Self
         ensures { result ≡ nothing_kept }
     {
-        NodeKept { boots: 0 }
+        NodeKept {
+            boots: 0,
+            seats: Seats::new(alloc),
+        }
     }
 }

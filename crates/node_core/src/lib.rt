@@ -3,10 +3,12 @@
 //!
 //! What a step leaves is taken into memory before the step is done, so that a node for which memory is short is as it
 //! was, and what was kept of a node that could not start is still there. The caller syncs the records, then sends the
-//! frames, then prints the reports. This crate stands on the ring at one node; its promise is the step of a whole node in
-//! the rules of the world, with nothing above the ring yet.
+//! frames, then prints the reports. This crate stands on the ring at one node and on what runs above it, the manager of
+//! partitions and the replicas; its promise is the step of a whole node in the rules of the world. A row above the ring
+//! that may want memory is done before the ring's own, which wants none and notes only who was heard.
 #![tactic(auto)]
 
+mod above;
 mod batch;
 mod boots;
 mod desk;
@@ -14,6 +16,7 @@ mod kept;
 mod node;
 mod outcome;
 mod room;
+mod take;
 
 pub use batch::Batch;
 pub use kept::NodeKept;

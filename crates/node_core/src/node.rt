@@ -1,28 +1,38 @@
-ghost use Rattle.std.specs.Prelude.{◌≡◌, ◌≤◌, ◌^◌, ◌++◌, List, IfOk, OnOk, OnErr, true};
+ghost use Rattle.std.specs.Prelude.{◌≡◌, ◌≤◌, ◌+◌, List, IfOk, IsTrue, OnOk, OnErr, true};
+ghost use Rattle.std.specs.Option.{option_copied};
+ghost use Rattle.fabric_lemmas.specs.Maps.{rises};
 ghost use Rattle.fabric_terms.specs.Sound.{IsSound};
 ghost use Rattle.fabric_terms.specs.declared.config.FabricConfig.{FabricConfig as Configuration};
 ghost use Rattle.fabric_terms.specs.declared.record.Record.{Record};
+ghost use Rattle.keep_log.specs.Amounts.{Holds};
 ghost use Rattle.ring_rules.specs.Slots.{fence_of};
-ghost use Rattle.world_rules.specs.Nodes.{boots_of, node_begun, node_step};
+ghost use Rattle.world_rules.specs.Nodes.{node_begun, node_step};
 ghost use Rattle.fabric_above.specs.Fabric.{fabric};
 ghost use Rattle.world_rules.specs.Schedules.{is_configured_node};
 ghost use Rattle.ring_node.specs.Owned.{owned_of};
+ghost use Rattle.unit_replica.specs.Starts.{seats_of};
+ghost use Rattle.unit_replica.specs.Tables.{replica_at};
 ghost use Rattle.node_core.specs.Desks.{IsClear, IsReady};
-ghost use Rattle.node_core.specs.Nodes.{Amounts, Does, FitsInput, GoesBy, IsSmall, core_of, frames_limit, kept_in, most_frames, nothing_kept, ring_of};
+ghost use Rattle.node_core.specs.Nodes.{Amounts, Does, FitsInput, GoesBy, IsSmall, core_of, frames_limit, kept_in, most_frames, nothing_kept, ring_of, with_seats};
+ghost use Rattle.unit_node.specs.Parts.{most_fired};
 
 use crate::batch::Batch;
 use crate::boots::{boot, instance_after, is_spent};
 use crate::desk::Desk;
 use crate::kept::NodeKept;
 use crate::outcome::Outcome;
-use crate::room::give_away;
+use crate::take::step_at;
 use drift_clock::MAX_READING;
 use fabric_terms::{FabricConfig, OutOfMemory};
 use keep_log::Kept;
+use replica_core::Replica;
 use ring_node::{Input, Owned, RingNode};
 use ring_points::{RangeSet, Who};
 use std::alloc::Global;
 use std::marker::Model;
+use std::mem;
+use unit_node::UnitNode;
+use unit_replica::Seats;
 
 /// A whole node. Contracts see it as the record `Core`: what it goes by, its ring and what runs above it.
 #[derive(Drop)]
@@ -31,6 +41,8 @@ pub struct NodeCore {
     ring: RingNode,
     /// What it owns now, to tell after the next step what has changed.
     owned: Owned,
+    /// What runs above the ring.
+    units: UnitNode,
     /// From the first step on, where its steps put what they leave.
     desk: Option<Box<Desk>>,
 }
@@ -43,40 +55,18 @@ impl Model for NodeCore {
 
     ghost Value = { Core };
 
-    ghost view = { λ n. core_of n.ring };
+    ghost view = { λ n. core_of n.ring n.units };
 
     ghost invariant = { λ n. (n.owned ≡ owned_of n.ring) × IfSome n.desk (λ d. IsClear d.value) };
 }
 
-/// The step of a node's ring at a desk that is ready for it.
-#[tactic(auto, unfolding(crate::specs::Nodes::most_frames))]
-fn step_at(
-    alloc: Global,
-    ring: &mut RingNode,
-    owned: &mut Owned,
-    now: u64,
-    input: &Input,
-    desk: &mut Desk,
-) -> Outcome
-    requires now { now ≤ MAX_READING }
-    requires input { FitsInput input.now }
-    requires owned { owned.old ≡ owned_of ring.old }
-    requires ready { IsReady desk.old }
-    ensures does { (c : Configuration) → GoesBy c (core_of ring.old) → Does (node_step fabric c now input.now (core_of ring.old).state) (core_of ring.new) result }
-    ensures small { IsSmall (core_of ring.old).state result }
-    ensures settings { ring.new.settings ≡ ring.old.settings }
-    ensures me { ring.new.ring.me ≡ ring.old.ring.me }
-    ensures owned { owned.new ≡ owned_of ring.new }
-    ensures clear { IsClear desk.new }
+/// The most frames of a step with this above the ring: what the ring sends, and nine of a reconfiguration and six of a
+/// replica.
+fn most_frames_of(units: &UnitNode) -> usize
+    ensures frames { result ≡ 201 + most_fired units.now.state }
+    ensures limit { result ≤ frames_limit }
 {
-    ring.act(now, input, owned, &mut desk.out, &mut desk.told);
-    desk.out.hand_over(ring.me(), &mut desk.frames);
-    desk.told.hand_over(&mut desk.reports);
-    Outcome {
-        records: Batch::new(Vec::new(alloc)),
-        frames: Batch::new(give_away(alloc, &mut desk.frames)),
-        reports: Batch::new(give_away(alloc, &mut desk.reports)),
-    }
+    201 + 9 * units.reconfig_count() + 6 * units.replica_count()
 }
 
 impl NodeCore {
@@ -116,10 +106,11 @@ impl NodeCore {
             alloc,
             ring,
             owned,
+            units: UnitNode::new(alloc, config),
             desk: None,
         };
-        let core = Box::new(alloc, core)?;
-        *kept = NodeKept::new();
+        let mut core = Box::new(alloc, core)?;
+        core.seat(mem::replace(kept, NodeKept::new(alloc)).seats);
         let outcome = Outcome {
             records: Batch::new(records),
             frames: Batch::new(Vec::new(alloc)),
@@ -128,7 +119,15 @@ impl NodeCore {
         Ok((core, outcome))
     }
 
-    /// Starts a node as `begin` does. It is an error where memory is short, and then `kept` is dropped.
+    /// The node begins with these replicas.
+    fn seat(&mut self, seats: Seats)
+        ensures { self.new ≡ with_seats seats self.old }
+    {
+        self.units.seat(seats);
+    }
+
+    /// Starts a node as `begin` does, from what its records amount to. It is an error where memory is short, and then `kept`
+    /// is dropped.
     pub fn start(
         alloc: Global,
         config: &FabricConfig,
@@ -138,23 +137,28 @@ impl NodeCore {
     ) -> Result<(NodeCore, Outcome), OutOfMemory>
         requires sound { IsSound config.now }
         requires node { is_configured_node config.now node ≡ true }
+        requires replicas { IsTrue (rises (seats_of kept.replicas)) }
         requires now { now ≤ MAX_READING }
-        ensures begins { IfOk result (λ r. (records : List Record) → boots_of records ≡ kept.boots → Does (node_begun fabric config.now node records) r.0 r.1) }
+        ensures begins { IfOk result (λ r. (records : List Record) → Holds records kept → Does (node_begun fabric config.now node records) r.0 r.1) }
         ensures goes_by { IfOk result (λ r. GoesBy config.now r.0) }
         ensures small { IfOk result (λ r. IsSmall r.0.state r.1) }
     {
-        let mut kept = NodeKept { boots: kept.boots };
+        let mut replicas = kept.replicas.into_vec();
+        let mut kept = NodeKept {
+            boots: kept.boots,
+            seats: Seats::begun(alloc, &mut replicas)?,
+        };
         let (core, outcome) = NodeCore::begin(alloc, config, node, &mut kept, now)?;
         Ok((Box::into_inner(core), outcome))
     }
 
     /// Gives back what is kept of the node, for its next start: nothing else of a node is needed once it has stopped.
     pub fn take_kept(&mut self) -> NodeKept
-        ensures kept { result ≡ kept_in self.old.state }
-        ensures same { self.new ≡ self.old }
+        ensures { result ≡ kept_in self.old.state }
     {
         NodeKept {
             boots: self.ring.me().instance,
+            seats: self.units.take_seats(self.alloc),
         }
     }
 
@@ -170,12 +174,14 @@ impl NodeCore {
 
     /// The step of the node when this comes, at this reading of its clock, in ticks. It is an error where memory is
     /// short, and then nothing is changed.
+    #[tactic(auto, unfolding(crate::specs::Nodes::most_frames))]
     pub fn step(&mut self, now: u64, input: &Input) -> Result<Outcome, OutOfMemory>
         requires now { now ≤ MAX_READING }
         requires input { FitsInput input.now }
         ensures does { IfOk result (λ o. (c : Configuration) → GoesBy c self.old → Does (node_step fabric c now input.now self.old.state) self.new o) }
         ensures small { IfOk result (IsSmall self.old.state) }
         ensures settings { self.new.settings ≡ self.old.settings }
+        ensures domains { self.new.domains ≡ self.old.domains }
         ensures me { self.new.state.ring.me ≡ self.old.state.ring.me }
         ensures refused { OnErr result (self.new ≡ self.old) }
     {
@@ -185,16 +191,16 @@ impl NodeCore {
         let Some(desk) = &mut self.desk else {
             return Err(OutOfMemory);
         };
-        desk.make_room()?;
-        let outcome = step_at(
+        desk.make_room(most_frames_of(&self.units))?;
+        step_at(
             self.alloc,
             &mut self.ring,
             &mut self.owned,
+            &mut self.units,
             now,
             input,
             desk,
-        );
-        Ok(outcome)
+        )
     }
 
     /// How many frames the next step sends at most.
@@ -203,7 +209,14 @@ impl NodeCore {
         ensures frames { result ≡ most_frames self.now.state }
         ensures limit { result ≤ frames_limit }
     {
-        201
+        most_frames_of(&self.units)
+    }
+
+    /// The node's replica of a partition, None exactly where it has none.
+    pub fn replica(&self, partition: u16) -> Option<&Replica>
+        ensures { option_copied result ≡ replica_at partition self.now.state.above.seats }
+    {
+        self.units.replica(partition)
     }
 
     /// Which instance it is.
