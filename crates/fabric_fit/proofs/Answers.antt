@@ -3,7 +3,7 @@ use Rattle.std.proofs.Common.{◌≡◌, ℕ, Bool, true, false, ◌&&◌, ◌||
 use Rattle.std.specs.Prelude.{◌==◌, All, nat_le, length, if◌then◌else◌}
 use Rattle.std.proofs.lemmas.Bool.{and_from, and_parts, or_right}
 use Rattle.std.proofs.lemmas.Bool.Decides.{nat_tests}
-use Rattle.std.proofs.lemmas.List.Elements.{All-cons, All-nil}
+use Rattle.std.proofs.lemmas.List.Elements.{All-nil}
 use Rattle.fabric_terms.specs.declared.message.Body.{Body}
 use Rattle.fabric_terms.specs.declared.message.Body.TheVariants as body
 use Rattle.fabric_terms.specs.declared.message.Message.{Message}
@@ -21,11 +21,13 @@ use Rattle.ring_points.specs.Epochs.{same_epoch}
 use Rattle.unit_rules.specs.Deeds.{did, unless}
 use Rattle.unit_rules.specs.Registers.{Register, Registers, Reply, done_received, is_above, is_below, is_newer, is_prepared_for, prepare_received, prepared_epoch, question_received, register_of, replied, vote_in, vote_received, vote_settled}
 use Rattle.world_rules.specs.Above.{is_ring_frame, is_ring_record}
-use Rattle.fabric_fit.specs.Registers.{KeptRecord, RegisterInRange, RegistersInRange, is_vote}
+use Rattle.fabric_fit.specs.Records.{KeptRecord}
+use Rattle.fabric_fit.specs.Registers.{RegisterInRange, RegistersInRange, is_vote}
+use Rattle.fabric_fit.proofs.Deeds.{all_unless}
 use Rattle.fabric_fit.proofs.Ranges.{register_in_range, vote_found, with_in_range}
 
 -- who may send may be answered
-sender_addressed : (w : Who) → IsTrue (is_sender w) → IsTrue (is_addressee w)
+pub sender_addressed : (w : Who) → IsTrue (is_sender w) → IsTrue (is_addressee w)
 sender_addressed w h = by (is_who w) refl h
   where
     by : (b : Bool) → is_who w ≡ b → IsTrue (b || is_arbiter w) → IsTrue (is_addressee w)
@@ -105,21 +107,18 @@ module _ (config : Config) (r : Register) (sound : IsTrue (is_config config)) (f
 
 -- What is done with an answer.
 
-all_unless : {X : Type 0} (P : X → Type 0) (test : Bool) (x : X) → P x → All P (unless test x [])
-all_unless P true x h = All-nil P
-all_unless P false x h = All-cons P x [] h (All-nil P)
-
 module _ (asker : Who) (rs : Registers) (addressed : IsTrue (is_addressee asker)) (fine : RegistersInRange rs) where
   reply_in_format : (r : Reply) → ReplyFits r → DidInFormat RegistersInRange KeptRecord (did (replied asker rs (Some r)))
   reply_in_format r h = by r.kept h.kept
     where
       sent : All (λ m. IsTrue (in_format m)) (unless (is_ring_frame r.body) (asker, r.body) [])
-      sent = all_unless (λ m. IsTrue (in_format m)) (is_ring_frame r.body) (asker, r.body) (and_from (is_addressee asker) (is_sound_body r.body) addressed h.body)
+      sent = all_unless (λ m. IsTrue (in_format m)) (is_ring_frame r.body) (asker, r.body) [] (and_from (is_addressee asker) (is_sound_body r.body) addressed h.body)
+          (All-nil (λ m. IsTrue (in_format m)))
 
       by : (kept : Option Record) → KeptFits kept
           → DidInFormat RegistersInRange KeptRecord (did (replied asker rs (Some (record { kept = kept; body = r.body }))))
       by None k = record { state = fine; records = All-nil KeptRecord; sent = sent }
-      by (Some one) k = record { state = with_in_range rs one fine k; records = all_unless KeptRecord (is_ring_record one) one k; sent = sent }
+      by (Some one) k = record { state = with_in_range rs one fine k; records = all_unless KeptRecord (is_ring_record one) one [] k (All-nil KeptRecord); sent = sent }
 
   still_in_format : DidInFormat RegistersInRange KeptRecord (did (replied asker rs None))
   still_in_format = record { state = fine; records = All-nil KeptRecord; sent = All-nil (λ m. IsTrue (in_format m)) }

@@ -11,7 +11,8 @@ use Rattle.fabric_lemmas.specs.Maps.{put, put_here}
 use Rattle.ring_points.specs.declared.unit.Config.{Config}
 use Rattle.ring_points.specs.declared.unit.Epoch.{Epoch}
 use Rattle.ring_points.specs.Epochs.{same_epoch}
-use Rattle.fabric_fit.specs.Registers.{KeptRecord, RegisterInRange, RegistersInRange, is_vote}
+use Rattle.fabric_fit.specs.Records.{KeptRecord}
+use Rattle.fabric_fit.specs.Registers.{RegisterInRange, RegistersInRange, is_vote}
 use Rattle.unit_rules.specs.Registers.{Register, Registers, empty_register, register_after, registers_after, register_of, vote_in}
 
 nothing_registered : (partition : ℕ) → RegisterInRange (partition, empty_register)

@@ -1,9 +1,6 @@
 -- Registers whose epochs and configurations a frame can carry.
 use Rattle.std.specs.Prelude.{ℕ, Bool, ◌&&◌, ◌==◌, All, IsTrue}
-use Rattle.fabric_terms.specs.declared.record.Record.{Record}
-use Rattle.fabric_terms.specs.declared.record.Record.TheVariants.{PreparedBy, VotedFor, DoneFor}
-use Rattle.fabric_terms.specs.Fields.{is_config, is_done, is_epoch, is_unit}
-use Rattle.frames_fit.specs.Tables.{RecordInRange}
+use Rattle.fabric_terms.specs.Fields.{is_config, is_done, is_epoch}
 use Rattle.ring_points.specs.declared.unit.Config.{Config}
 use Rattle.unit_rules.specs.Registers.{Register, Registers, prepared_epoch}
 
@@ -19,13 +16,3 @@ pub record RegisterInRange (e : ℕ × Register) : Type 0 where
 
 abbrev pub RegistersInRange : Registers → Type 0
 RegistersInRange rs = All RegisterInRange rs
-
--- the records that make them
-abbrev pub RegisterRecord : Record → Type 0
-RegisterRecord (PreparedBy partition epoch preparer) = IsTrue (is_unit partition epoch)
-RegisterRecord (VotedFor config) = IsTrue (is_config config)
-RegisterRecord (DoneFor config) = IsTrue (is_config config)
-RegisterRecord _ = Unit {0}
-
-abbrev pub KeptRecord : Record → Type 0
-KeptRecord = RecordInRange RegisterRecord

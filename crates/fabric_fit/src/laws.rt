@@ -1,7 +1,21 @@
 ghost use Rattle.fabric_above.specs.Fabric.{fabric};
+ghost use Rattle.fabric_fit.specs.Steps.{ArbitersBeginInFormat, ArbitersStayInFormat, NodesBeginInFormat, NodesStayInFormat};
 ghost use Rattle.frames_fit.specs.Laws.{FramesAreInFormat};
 
 /// Every frame of a valid schedule, whose events are in their ranges, is in the ranges of frames.
 pub fn every_frame_is_in_format()
     ensures { FramesAreInFormat fabric }
+{}
+
+/// A node that begins from records in range, and takes inputs in range, in any order and forged frames too, stays in
+/// range; so does all that it records, and all that it sends are frames. No schedule is asked for.
+pub fn each_step_of_a_node_is_in_format()
+    ensures begins { NodesBeginInFormat }
+    ensures stays { NodesStayInFormat }
+{}
+
+/// The same of an arbitrator.
+pub fn each_step_of_an_arbitrator_is_in_format()
+    ensures begins { ArbitersBeginInFormat }
+    ensures stays { ArbitersStayInFormat }
 {}

@@ -1,9 +1,14 @@
 //! That what this fabric runs keeps to the ranges of frames.
 //!
-//! Nothing runs above the ring at a node. The registers of partitions at an arbitrator keep epochs and configurations that
-//! came in frames, and answer by them; so whatever comes in its ranges, forged or not, each answer is in its ranges too.
+//! At a node the manager keeps units and reconfigurations, and the replicas keep logs; at an arbitrator the registers of
+//! partitions keep epochs and configurations. All of that came in frames, in commands or in records. So whatever comes in
+//! its ranges, forged or not, what is kept stays in its ranges, and so does all that is said by it: no epoch is past the
+//! last number, no log has an entry too many, and what is placed are members of a configuration.
 #![tactic(auto)]
 
 mod laws;
 
-pub use laws::every_frame_is_in_format;
+pub use laws::{
+    each_step_of_a_node_is_in_format, each_step_of_an_arbitrator_is_in_format,
+    every_frame_is_in_format,
+};
