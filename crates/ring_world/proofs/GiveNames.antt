@@ -14,7 +14,7 @@ use Rattle.ring_world.specs.Answers.{IsWorld, is_frame, ruled}
 use Rattle.ring_world.specs.Stands.{Stands}
 use Rattle.ring_world.specs.Steps.{IsSoundFrame, LeavesSound}
 use Rattle.ring_world.specs.declared.world.World.{World}
-use Rattle.fabric_fit.proofs.Sends.{frames_are_in_format}
+use Rattle.fabric_fit.proofs.Units.{units_in_format}
 use Rattle.ring_world.proofs.Limits.{bound-give}
 use Rattle.ring_world.proofs.NextEvents.{own, sound_next}
 use Rattle.ring_world.proofs.Arrivals.{all_at, frame_none, frame_some}
@@ -56,5 +56,5 @@ sound_frame a number m world got =
     let o = own a world in
     let w : RuledWorld fabric = ruled a.config o.history in
     let s : Stands a w = o.stands.keeps.state in
-    let all = frames_are_in_format is_frame a.config o.history o.stands.sound o.stands.fits o.stands.valid in
+    let all = units_in_format is_frame a.config o.history o.stands.sound o.stands.fits o.stands.valid in
     all_at IsSoundFrame w.frames (length a.frames.frames - number) m all (ap (λ fs. slice_get fs (length a.frames.frames - number)) (sym s.frames.frames) ∙ (frame_some number a.frames.frames m got).1)

@@ -53,7 +53,7 @@ pub record Tells (c : FabricConfig) (run : Run) (e : Ruled) : Type 0 where
 same_holder : (c : FabricConfig) (t : ℕ) (run : Run) (r : Running) (e : Ruled) → RunsAs c t r e → Tells c run e → holder_of run e.1.node.ring.me ≡ holder_here (clock_of e, r)
 same_holder c t run r e runs tells =
     let ring : e.1.node.ring ≡ r.node.value.state.ring = sym (ap (λ (z : NodeState fabric). z.ring) runs.node) in
-    let answer : c.answer ≡ r.node.value.settings.answer = sym (ap (λ (z : Settings). z.answer) runs.goes_by) in
+    let answer : c.answer ≡ r.node.value.settings.answer = sym (ap (λ (z : Settings). z.answer) runs.goes_by.settings) in
     (λ i. record { who = e.1.node.ring.me; ranges = held_ranges (tells.reads i) (tells.own i) })
     ∙ (λ i.
     record {

@@ -15,6 +15,7 @@ pub mod Entries
 pub mod FewRecords
 pub mod RegisterReplies
 pub mod SeatChanges
+pub mod KeptReplicas
 pub mod KeptNodes
 pub mod SeatHearing
 pub mod ArbiterCalls

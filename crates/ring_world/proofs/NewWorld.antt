@@ -16,8 +16,9 @@ use Rattle.node_core.specs.Nodes.{nothing_kept}
 use Rattle.node_core.specs.declared.kept.NodeKept.{NodeKept}
 use Rattle.ring_world.specs.Seats.{AreEmpty, IsSeat, empty_seat}
 use Rattle.ring_world.specs.Seen.{Seen, seen_of}
-use Rattle.ring_world.specs.Stands.{KeptStand, SeenStands}
+use Rattle.ring_world.specs.Stands.{IsKeptFor, KeptStand, SeenStands}
 use Rattle.ring_world.specs.declared.seat.Seat.{Seat}
+use Rattle.ring_world.proofs.KeptReplicas.{none_kept}
 use Rattle.ring_world.specs.declared.world.World.{World}
 
 -- what a new world has
@@ -54,7 +55,7 @@ kept_is n kept many e = record {
   running = λ node s le h. absurd (cc);
   stopped = λ node k h g.
       let there : slice_get (replicate n nothing_kept) node ≡ Some k = ap (λ (ks : List NodeKept). slice_get ks node) (sym e) ∙ g in
-      record { boots = ap (λ (x : NodeKept). x.boots) (sym (all_same n nothing_kept node k there)) };
+      subst (λ (x : NodeKept). IsKeptFor [] x) (sym (all_same n nothing_kept node k there)) none_kept;
 }
 
 -- one more arbitrator that has recorded nothing

@@ -19,7 +19,7 @@ use Rattle.ring_world.specs.Stands.{Stands}
 use Rattle.ring_world.specs.Steps.{LeavesSound, CanStep}
 use Rattle.ring_world.specs.declared.world.Acted.{Acted}
 use Rattle.ring_world.specs.declared.world.World.{World}
-use Rattle.fabric_fit.proofs.Sends.{frames_are_in_format}
+use Rattle.fabric_fit.proofs.Units.{units_in_format}
 use Rattle.ring_world.proofs.Limits.{room_is, room_test}
 
 -- a world stands for a history of its own configuration
@@ -34,7 +34,7 @@ own a (c, h, s) = record { history = h; stands = subst (λ (k : FabricConfig). S
 pub sound_next : (a : World) (h : History) (line : ℕ) (e : Event) → StandsFor a a.config h → Fits e → is_there is_frame a.config (ruled a.config h) e ≡ true → keeps_bound a.config (ruled a.config h) e ≡ true
     → LeavesSound (world_step fabric a.config (ruled a.config h) e)
 sound_next a h line e s fits there bound =
-    frames_are_in_format is_frame a.config ((line, e) ∷ h) s.sound (All-cons (λ (x : ℕ × Event). Fits x.1) (line, e) h fits s.fits) (s.valid, record { there = there; bound = bound })
+    units_in_format is_frame a.config ((line, e) ∷ h) s.sound (All-cons (λ (x : ℕ × Event). Fits x.1) (line, e) h fits s.fits) (s.valid, record { there = there; bound = bound })
 
 -- an event at which a node takes an input
 pub record Acting (a : World) (w : RuledWorld fabric) (node : ℕ) (i : Input) (e : Event) : Type 0 where

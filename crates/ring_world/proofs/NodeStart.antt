@@ -3,19 +3,15 @@ use Rattle.std.proofs.Common.{◌≡◌, ℕ, zero, suc, ◌+◌, ◌≤◌, ◌
 use Rattle.std.specs.Prelude.{◌==◌, nat_lt, unwrap_or, slice_get, slice_set, insert, map, Vec}
 use Rattle.std.specs.Vec.{with_item}
 use Rattle.std.proofs.lemmas.Option.{slice_get_read}
-use Rattle.std.proofs.lemmas.List.{append-nil}
 use Rattle.std.proofs.lemmas.List.Edits.{length-insert}
-use Rattle.std.proofs.lemmas.List.Sums.{sum_by-cons}
 use Rattle.std.specs.declared.alloc.Global.{Global}
 use Rattle.fabric_terms.specs.declared.message.Message.{Message}
 use Rattle.drift_clock.specs.Extremes.{Kept, Stands as DriftStands}
 use Rattle.fabric_terms.specs.Runs.{Entry}
 use Rattle.fabric_terms.specs.declared.config.FabricConfig.{FabricConfig}
 use Rattle.fabric_terms.specs.declared.record.Record.{Record}
-use Rattle.fabric_terms.specs.declared.record.Record.TheVariants.{Boot}
 use Rattle.fabric_terms.specs.declared.report.Report.{Report}
 use Rattle.node_core.specs.Nodes.{Amounts, Core, Does, GoesBy, IsSmall, frames_limit, nothing_kept}
-use Rattle.node_core.proofs.Rooms.{frames_limited}
 use Rattle.node_core.specs.declared.kept.NodeKept.{NodeKept}
 use Rattle.fabric_terms.specs.Sent.{from_all}
 use Rattle.node_core.specs.declared.outcome.Outcome.{Outcome}
@@ -24,7 +20,7 @@ use Rattle.ring_points.specs.Whos.{arbiter_actor, node_instance}
 use Rattle.ring_points.specs.declared.who.Who.{Who}
 use Rattle.run_facts.proofs.Steps.{started_as}
 use Rattle.fabric_lemmas.specs.Maps.{at, put}
-use Rattle.world_rules.specs.Nodes.{NodeState, boot_kept, boots_of, instance_begun, is_boot, is_spent, node_begun}
+use Rattle.world_rules.specs.Nodes.{NodeState, instance_begun, is_spent, node_begun}
 use Rattle.fabric_above.specs.Fabric.{fabric}
 use Rattle.world_rules.specs.Uppers.{Did}
 use Rattle.world_rules.specs.Worlds.{World as RuledWorld, Running as RuledRunning, kept_of, node_acted, numbers_of}
@@ -36,7 +32,7 @@ use Rattle.ring_world.specs.Moves.{Moves, Same, placed_by}
 use Rattle.ring_world.specs.Room.{most_events, most_frames, most_time}
 use Rattle.ring_world.specs.Running.{AllRun, RunsAs, last_node}
 use Rattle.ring_world.specs.Seen.{Seen, seen_of}
-use Rattle.ring_world.specs.Stands.{SeenStands, Stands}
+use Rattle.ring_world.specs.Stands.{IsKeptAs, SeenStands, Stands}
 use Rattle.ring_world.specs.Starts.{Begins, place_for}
 use Rattle.ring_world.specs.declared.running.Running.{Running}
 use Rattle.ring_world.specs.declared.world.Acted.{Acted}
@@ -45,32 +41,15 @@ use Rattle.ring_world.proofs.FramesAfter.{frames_more}
 use Rattle.ring_world.proofs.Edits.{set_same}
 use Rattle.ring_world.proofs.Growth.{arbiters_on, from-length, kept_here, kept_there, numbers_are, posted_is}
 use Rattle.ring_world.proofs.KeptNodes.{kept_begun}
+use Rattle.ring_world.proofs.KeptReplicas.{begun_kept}
 use Rattle.ring_world.proofs.Maps.{place_in, put_new, unequal}
 use Rattle.ring_world.proofs.Nodes.{AreNumbered, Ruled, clock_of, run-length, run_insert, run_numbered}
 
--- what a start records and sends
-
-boots_append : (rs : List Record) (r : Record) → boots_of (rs ++ r ∷ []) ≡ boots_of rs + cond (is_boot r) 1 0
-boots_append [] r = let e = sum_by-cons (λ (x : Record). cond (is_boot x) 1 0) r [] in omega (arith, e)
-boots_append (q ∷ rs) r =
-    let e = sum_by-cons (λ (x : Record). cond (is_boot x) 1 0) q (rs ++ r ∷ []) in
-    let f = sum_by-cons (λ (x : Record). cond (is_boot x) 1 0) q rs in
-    let again = boots_append rs r in
-    omega (arith, e, f, again)
-
-pub boots_more : (rs : List Record) → boots_of (rs ++ boot_kept rs) ≡ instance_begun rs
-boots_more rs = by_test (is_spent rs) (boots_of rs + 1)
-  where
-    by_test : (b : Bool) (n : ℕ) → boots_of (rs ++ cond b [] (Boot (cond b (boots_of rs) n) ∷ [])) ≡ cond b (boots_of rs) (boots_of rs + 1)
-    by_test true n = ap boots_of (append-nil rs)
-    by_test false n = boots_append rs (Boot n)
+-- what a start sends, and who starts
 
 module _ (c : FabricConfig) (node : ℕ) (rs : List Record) where
   pub begun_sends : (node_begun fabric c node rs).sent ≡ []
   begun_sends = ap (λ (d : Did (NodeState fabric)). d.sent) (node_begun-is fabric c node rs)
-
-  pub begun_keeps : (node_begun fabric c node rs).records ≡ boot_kept rs
-  begun_keeps = ap (λ (d : Did (NodeState fabric)). d.records) (node_begun-is fabric c node rs)
 
   pub begun_me : (node_begun fabric c node rs).state.ring.me ≡ node_instance node (instance_begun rs)
   begun_me =
@@ -111,7 +90,7 @@ module _ (a : World) (w : RuledWorld fabric) (node reading : ℕ) (n : Core) (o 
   begun = node_begun fabric a.config node (kept_of w node)
 
   does : Does begun n o
-  does = begins.begins (kept_of w node) (st.nodes.kept.stopped node begins.kept absent begins.here)
+  does = begins.begins (kept_of w node) (st.nodes.kept.stopped node begins.kept absent begins.here).amounts
 
   me_is : begun.state.ring.me ≡ node_instance node (instance_begun (kept_of w node))
   me_is = begun_me a.config node (kept_of w node)
@@ -134,10 +113,11 @@ module _ (a : World) (w : RuledWorld fabric) (node reading : ℕ) (n : Core) (o 
   kept_other : (m : ℕ) → (node == m) ≡ false → kept_of after m ≡ kept_of w m
   kept_other m other = kept_after m ∙ kept_there w node m begun.records other
 
-  boots_node : begun.state.ring.me.instance ≡ boots_of (kept_of after node)
-  boots_node =
-      ap (λ (x : Who). x.instance) me_is
-      ∙ sym (ap boots_of (kept_after node ∙ (kept_here w node begun.records ∙ ap (λ (rs : List Record). kept_of w node ++ rs) (begun_keeps a.config node (kept_of w node)))) ∙ boots_more (kept_of w node))
+  -- what was kept of it is what it begins with
+  kept_new : IsKeptAs (kept_of after node) begun.state
+  kept_new =
+      subst (λ (rs : List Record). IsKeptAs rs begun.state) (sym (kept_after node ∙ kept_here w node begun.records))
+      (begun_kept a.config node (kept_of w node) begins.kept (st.nodes.kept.stopped node begins.kept absent begins.here))
 
   numbered : AreNumbered w.nodes
   numbered = run_numbered a.config a.time a.running.items w.nodes st.nodes.running
@@ -179,7 +159,7 @@ module _ (a : World) (w : RuledWorld fabric) (node reading : ℕ) (n : Core) (o 
   }
 
   small : length o.frames ≤ frames_limit
-  small = let limit = frames_limited n.state in omega (arith, begins.small.frames)
+  small = begins.small.limit
 
   stands_begun : a.events < most_events → a.sent < most_frames → SeenStands seen_begun after
   unfolding is_new
@@ -197,7 +177,7 @@ module _ (a : World) (w : RuledWorld fabric) (node reading : ℕ) (n : Core) (o 
       few = let within : place ≤ length w.nodes = let p = place_within node w.nodes in omega (arith, place_same) in
           let size : length after.nodes ≡ length w.nodes + 1 = ap length nodes_are ∙ length-insert w.nodes place (node, is_new) within in
           omega (arith, st.nodes.few);
-      kept = kept_begun a.kept.items w after node nothing_kept is_new st.nodes.kept refl (record { boots = sym boots_node }) kept_other;
+      kept = kept_begun a.kept.items w after node nothing_kept is_new st.nodes.kept refl kept_new kept_other;
     };
     arbiters = arbiters_on (seen_of a) seen_begun w after st.arbiters refl (λ j. kept_other (arbiter_actor j) (unequal node (arbiter_actor j) (λ e. absurd (omega arith)))) refl refl refl;
     frames = frames_more (seen_of a) w after begun.state.ring.me begun o st.frames does.frames small room
@@ -257,7 +237,7 @@ seen_entered a new clocks running kept place node k q o cs rs ks rest frames =
 pub frames_none : (a : World) (w : RuledWorld fabric) (node : ℕ) (n : Core) (o : Outcome) → Stands a w → at node w.nodes ≡ None → Begins a node n o → o.frames ≡ []
 frames_none a w node n o st absent begins =
     let d : Did (NodeState fabric) = node_begun fabric a.config node (kept_of w node) in
-    let does : Does d n o = begins.begins (kept_of w node) (st.nodes.kept.stopped node begins.kept absent begins.here) in
+    let does : Does d n o = begins.begins (kept_of w node) (st.nodes.kept.stopped node begins.kept absent begins.here).amounts in
     does.frames ∙ ap (λ ms. from_all d.state.ring.me ms) (begun_sends a.config node (kept_of w node))
 
 -- and its place is one of the running nodes'

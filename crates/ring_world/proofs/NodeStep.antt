@@ -1,6 +1,6 @@
 -- A node's step: the world stands for the world after it.
-use Rattle.std.proofs.Common.{◌≡◌, ℕ, zero, suc, ◌+◌, ◌≤◌, ◌<◌, ◌^◌, Bool, true, false, List, [], ◌∷◌, ◌++◌, Option, Some, refl, sym, ap, subst, ◌∙◌, arith, length, get_or}
-use Rattle.std.specs.Prelude.{◌&&◌, not, unwrap_or, slice_get, slice_set, map, All, Vec, Box}
+use Rattle.std.proofs.Common.{◌≡◌, ℕ, zero, suc, ◌+◌, ◌≤◌, ◌<◌, ◌^◌, false, List, [], ◌∷◌, ◌++◌, Option, Some, refl, sym, ap, subst, ◌∙◌, arith, length, get_or}
+use Rattle.std.specs.Prelude.{◌==◌, unwrap_or, slice_get, slice_set, map, All, Vec, Box}
 use Rattle.std.proofs.lemmas.List.{length-set, set-get_or}
 use Rattle.drift_clock.specs.Extremes.{Kept, Stands as DriftStands}
 use Rattle.std.specs.Box.{with_value}
@@ -9,20 +9,18 @@ use Rattle.std.specs.declared.alloc.Global.{Global}
 use Rattle.fabric_terms.specs.Runs.{Entry}
 use Rattle.fabric_terms.specs.declared.config.FabricConfig.{FabricConfig}
 use Rattle.fabric_terms.specs.declared.message.Message.{Message}
+use Rattle.fabric_terms.specs.declared.record.Record.{Record}
 use Rattle.fabric_terms.specs.declared.report.Report.{Report}
-use Rattle.node_core.specs.Nodes.{Core, Does, GoesBy, IsSmall, frames_limit}
-use Rattle.node_core.proofs.Rooms.{frames_limited}
+use Rattle.node_core.specs.Nodes.{Core, Does, FitsInput, GoesBy, IsSmall, frames_limit}
 use Rattle.node_core.specs.declared.outcome.Outcome.{Outcome}
 use Rattle.point_places.specs.Spots.{place_at}
 use Rattle.ring_points.specs.Whos.{arbiter_actor}
 use Rattle.ring_points.specs.declared.who.Who.{Who}
-use Rattle.ring_rules.specs.Rings.{Ring, settings_of}
-use Rattle.ring_rules.specs.Steps.{ring_step}
-use Rattle.join_phases.specs.Phases.{is_left}
+use Rattle.ring_rules.specs.Rings.{settings_of}
 use Rattle.ring_rules.specs.declared.input.Input.{Input}
 use Rattle.world_rules.specs.Events.{node_acts}
 use Rattle.fabric_lemmas.specs.Maps.{at, put}
-use Rattle.world_rules.specs.Nodes.{NodeState, node_step, above_if, comes_above}
+use Rattle.world_rules.specs.Nodes.{NodeState, node_step}
 use Rattle.fabric_above.specs.Fabric.{fabric}
 use Rattle.world_rules.specs.Uppers.{Did}
 use Rattle.world_rules.specs.Worlds.{World as RuledWorld, Running as RuledRunning, kept_of, numbers_of}
@@ -33,29 +31,19 @@ use Rattle.ring_world.specs.Moves.{Moves, Same, placed_by}
 use Rattle.ring_world.specs.Room.{most_events, most_frames}
 use Rattle.ring_world.specs.Running.{AllRun, RunsAs}
 use Rattle.ring_world.specs.Seen.{Seen, seen_of}
-use Rattle.ring_world.specs.Stands.{Stands, SeenStands, KeptStand, NodesStand}
+use Rattle.ring_world.specs.Stands.{IsKeptAs, KeptStand, NodesStand, SeenStands, Stands}
 use Rattle.ring_world.specs.Steps.{IsSoundFrame, LeavesSound}
 use Rattle.ring_world.specs.declared.running.Running.{Running}
 use Rattle.ring_world.specs.declared.world.Acted.{Acted}
 use Rattle.ring_world.specs.declared.world.World.{World}
-use Rattle.ring_world.proofs.Growth.{kept_same, posted_is, from-length, numbers_are, arbiters_on}
+use Rattle.ring_world.proofs.Growth.{kept_here, kept_there, posted_is, from-length, numbers_are, arbiters_on}
 use Rattle.node_core.specs.declared.kept.NodeKept.{NodeKept}
-use Rattle.ring_world.proofs.KeptNodes.{kept_follows, put_run}
-use Rattle.ring_world.proofs.Maps.{at_place, put_place}
+use Rattle.ring_world.proofs.KeptNodes.{kept_stepped}
+use Rattle.ring_world.proofs.KeptReplicas.{step_kept}
+use Rattle.ring_world.proofs.Maps.{at_place, put_place, unequal}
 use Rattle.ring_world.proofs.Nodes.{Ruled, clock_of, run_set}
 use Rattle.ring_world.proofs.FramesAfter.{frames_more, sound_sent}
 use Rattle.ring_world.proofs.NodePlaces.{Placed, placed, read_at}
-
--- nothing above a node records anything
-pub records_none : (c : FabricConfig) (now : ℕ) (i : Input) (s : NodeState fabric) → (node_step fabric c now i s).records ≡ []
-unfolding node_step
-records_none c now i s =
-    let r : Ring = (ring_step (settings_of c s.ring.me.actor) now i s.ring).ring in
-    by_test r (not (is_left r.phase) && comes_above (settings_of c s.ring.me.actor) s.ring i)
-  where
-    by_test : (r : Ring) (b : Bool) → (above_if fabric c now r s.above i b).records ≡ []
-    by_test r true = refl
-    by_test r false = refl
 
 -- a clock that shows the same leaves the clocks as they were
 pub clocks_set : (es : List Ruled) (i : ℕ) (e f : Ruled) → slice_get es i ≡ Some e → clock_of f ≡ clock_of e → map clock_of (slice_set es i f) ≡ map clock_of es
@@ -94,6 +82,7 @@ put_back a m place r old n same here inside back =
 pub record NodeDid (old : Core) (i : Input) (now : ℕ) (n : Core) (o : Outcome) : Type 0 where
   pub does : (c : FabricConfig) → GoesBy c old → Does (node_step fabric c now i old.state) n o
   pub settings : n.settings ≡ old.settings
+  pub domains : n.domains ≡ old.domains
   pub me : n.state.ring.me ≡ old.state.ring.me
   pub small : IsSmall old.state o
 
@@ -104,7 +93,7 @@ pub record IsRead (a : World) (place : ℕ) (r : Running) (clock : Who × ℕ) (
   pub inside : old ≡ r.node.value
 
 module _ (a : World) (w : RuledWorld fabric) (place node : ℕ) (s : RuledRunning fabric) (i : Input) (r : Running) (clock : Who × ℕ) (old n : Core) (o : Outcome)
-    (st : Stands a w) (here : slice_get w.nodes place ≡ Some (node, s)) (read : IsRead a place r clock old) (did : NodeDid old i clock.1 n o) where
+    (st : Stands a w) (here : slice_get w.nodes place ≡ Some (node, s)) (read : IsRead a place r clock old) (fits : FitsInput i) (did : NodeDid old i clock.1 n o) where
   -- what the rules say
   abbrev pub done : Did (NodeState fabric)
   done = node_step fabric a.config s.reading i s.node
@@ -147,10 +136,21 @@ module _ (a : World) (w : RuledWorld fabric) (place node : ℕ) (s : RuledRunnin
   abbrev after : RuledWorld fabric
   after = (node_acts fabric a.config w node i s).world
 
-  kept_on : (q : ℕ) → kept_of after q ≡ kept_of w q
-  kept_on q =
-      let none : done.records ≡ [] = records_none a.config s.reading i s.node in
-      ap (λ rs. unwrap_or (at q (put done.state.ring.me.actor (kept_of w done.state.ring.me.actor ++ rs) w.kept)) []) none ∙ kept_same w done.state.ring.me.actor q
+  actor_is : done.state.ring.me.actor ≡ node
+  actor_is = ap (λ (m : Who). m.actor) same_me ∙ runs.number
+
+  kept_after : (q : ℕ) → kept_of after q ≡ unwrap_or (at q (put node (kept_of w node ++ done.records) w.kept)) []
+  kept_after q = ap (λ (x : ℕ). unwrap_or (at q (put x (kept_of w x ++ done.records) w.kept)) []) actor_is
+
+  kept_other : (q : ℕ) → (node == q) ≡ false → kept_of after q ≡ kept_of w q
+  kept_other q other = kept_after q ∙ kept_there w node q done.records other
+
+  -- what it recorded is what its replicas became
+  kept_next : IsKeptAs (kept_of after node) done.state
+  kept_next =
+      subst (λ (rs : List Record). IsKeptAs rs done.state) (sym (kept_after node ∙ kept_here w node done.records))
+      (step_kept a.config s.reading i s.node (kept_of w node) fits
+      (st.nodes.kept.running node s runs.in_range (at_place 0 w.nodes place node s st.nodes.rise here)))
 
   is_next : RuledRunning fabric
   is_next = record { node = done.state; reading = s.reading; pairs = s.pairs }
@@ -166,12 +166,12 @@ module _ (a : World) (w : RuledWorld fabric) (place node : ℕ) (s : RuledRunnin
   unfolding is_next
   runs_next q value drift =
       let settings : n.settings ≡ settings_of a.config n.state.ring.me.actor =
-      did.settings ∙ (goes_by ∙ ap (λ (m : Who). settings_of a.config m.actor) (sym did.me)) in
+      did.settings ∙ (goes_by.settings ∙ ap (λ (m : Who). settings_of a.config m.actor) (sym did.me)) in
       record {
         number = ap (λ (m : Who). m.actor) same_me ∙ runs.number;
         in_range = runs.in_range;
         node = ap (λ (q : Core). q.state) value ∙ node_does.state;
-        goes_by = subst (λ (m : Core). GoesBy a.config m) (sym value) settings;
+        goes_by = subst (λ (m : Core). GoesBy a.config m) (sym value) (record { settings = settings; domains = did.domains ∙ goes_by.domains });
         drift = subst (λ (k : Kept). DriftStands k s.pairs) (sym drift) runs.drift;
         bound = ap (λ (k : Kept). k.bound) drift ∙ runs.bound;
         latest = subst (λ (k : Kept). k.latest.0 ≤ a.time) (sym drift) runs.latest;
@@ -193,13 +193,11 @@ module _ (a : World) (w : RuledWorld fabric) (place node : ℕ) (s : RuledRunnin
         clocks = clocks ∙ (st.nodes.clocks ∙ sym (ap (λ (es : List Ruled). map clock_of es) nodes_are ∙ clocks_set w.nodes place (node, s) (node, is_next) here (ap (λ m. (m, s.reading)) same_me)));
         few = let k : length after.nodes ≡ length w.nodes = ap length nodes_are ∙ length-set w.nodes place (node, is_next) in omega (arith, st.nodes.few);
         kept = subst (λ (ks : List NodeKept). KeptStand ks after) (sym kept)
-            (kept_follows a.kept.items w after st.nodes.kept
-            (put_run w.nodes node s is_next (at_place 0 w.nodes place node s st.nodes.rise here) (ap (λ (m : Who). m.instance) (sym same_me)))
-            (λ m le. kept_on m));
+            (kept_stepped a.kept.items w after node is_next st.nodes.kept refl kept_next kept_other);
       }
 
   few_sent : length o.frames ≤ frames_limit
-  few_sent = let limit = frames_limited old.state in omega (arith, did.small.frames)
+  few_sent = did.small.limit
 
   -- the code after it
   abbrev pub seen_next : Running → Seen
@@ -217,7 +215,7 @@ module _ (a : World) (w : RuledWorld fabric) (place node : ℕ) (s : RuledRunnin
     in_time = st.in_time;
     few_events = omega arith;
     nodes = nodes_stand (seen_next q) q value drift refl refl refl refl refl refl;
-    arbiters = arbiters_on (seen_of a) (seen_next q) w after st.arbiters refl (λ k. kept_on (arbiter_actor k)) refl refl refl;
+    arbiters = arbiters_on (seen_of a) (seen_next q) w after st.arbiters refl (λ k. kept_other (arbiter_actor k) (unequal node (arbiter_actor k) (λ e. let le = runs.in_range in absurd (omega arith)))) refl refl refl;
     frames = frames_more (seen_of a) w after done.state.ring.me done o st.frames node_does.frames few_sent room (posted_is done.state.ring.me done.sent w.frames ∙ sym (ap (λ ms. posted_all ms w.frames) node_does.frames)) refl (seen_next q) refl refl;
   }
 

@@ -1,10 +1,15 @@
 -- A world of the code stands for a world of the rules.
-use Rattle.std.specs.Prelude.{◌≡◌, ℕ, ◌+◌, ◌≤◌, ◌<◌, true, List, None, Some, length, slice_get}
+use Rattle.std.specs.Prelude.{◌≡◌, ℕ, ◌+◌, ◌≤◌, ◌<◌, true, false, List, None, Some, length, slice_get}
+use Rattle.fabric_terms.specs.declared.record.Record.{Record}
 use Rattle.fabric_terms.specs.Sound.{IsSound}
 use Rattle.fabric_lemmas.specs.Maps.{at, rises}
+use Rattle.join_phases.specs.Phases.{is_left}
+use Rattle.kept_replicas.specs.Named.{KeptAs}
 use Rattle.node_core.specs.Nodes.{Amounts, frames_limit, kept_in}
 use Rattle.node_core.specs.declared.kept.NodeKept.{NodeKept}
 use Rattle.fabric_above.specs.Fabric.{fabric}
+use Rattle.unit_rules.specs.Steps.{Failover}
+use Rattle.world_rules.specs.Nodes.{NodeState}
 use Rattle.world_rules.specs.Worlds.{World as RuledWorld, Running as RuledRunning, clocks_in, kept_of}
 use Rattle.ring_world.specs.Room.{most_events, most_frames, most_time}
 use Rattle.ring_world.specs.Running.{AllRun, last_node}
@@ -13,11 +18,25 @@ use Rattle.ring_world.specs.Seen.{Seen, seen_of}
 use Rattle.ring_world.specs.declared.seat.Seat.{Seat}
 use Rattle.ring_world.specs.declared.world.World.{World}
 
+-- what a running node recorded, and what its next start would find
+pub record IsKeptAs (records : List Record) (s : NodeState fabric) : Type 0 where
+  -- what ran above the ring when the node last did anything there
+  pub last : Failover
+  pub kept : KeptAs records last
+  pub acts : is_left s.ring.phase ≡ false → last ≡ s.above
+  pub amounts : Amounts records (kept_in s)
+
+-- the same of one that does not run, of which this is kept
+pub record IsKeptFor (records : List Record) (k : NodeKept) : Type 0 where
+  pub last : Failover
+  pub kept : KeptAs records last
+  pub amounts : Amounts records k
+
 -- what is kept of a node is what its records amount to: of one that runs the node has it, and else its place
 pub record KeptStand (kept : List NodeKept) (w : RuledWorld fabric) : Type 0 where
   pub table : length kept ≡ last_node + 1
-  pub running : (node : ℕ) (s : RuledRunning fabric) → node ≤ last_node → at node w.nodes ≡ Some s → Amounts (kept_of w node) (kept_in s.node)
-  pub stopped : (node : ℕ) (k : NodeKept) → at node w.nodes ≡ None → slice_get kept node ≡ Some k → Amounts (kept_of w node) k
+  pub running : (node : ℕ) (s : RuledRunning fabric) → node ≤ last_node → at node w.nodes ≡ Some s → IsKeptAs (kept_of w node) s.node
+  pub stopped : (node : ℕ) (k : NodeKept) → at node w.nodes ≡ None → slice_get kept node ≡ Some k → IsKeptFor (kept_of w node) k
 
 -- the running nodes rise by number, and each is known with its clock
 pub record NodesStand (a : Seen) (w : RuledWorld fabric) : Type 0 where

@@ -70,7 +70,7 @@ fn nothing_kept(alloc: Global, count: usize) -> Result<Vec<NodeKept>, OutOfMemor
 {
     let mut kept = Vec::new(alloc);
     for _ in 0..count {
-        kept.push(NodeKept::new())?;
+        kept.push(NodeKept::new(alloc))?;
     }
     Ok(kept)
 }

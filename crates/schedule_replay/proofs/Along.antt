@@ -20,6 +20,9 @@ pub record Along (c : FabricConfig) (bytes : List ℕ) (a : World) (text rest : 
   pub judged : judge_from c history number (lines_of rest) ≡ judge_from c [] 2 (lines_of bytes)
   pub bounded : number + length rest ≤ length bytes + 2
 
+not_refused : (c : FabricConfig) (new : World) (more : List ℕ) (n : ℕ) (h : History) (status : Refusal) → Follows c h n (Refused status) None new more → ⊥
+not_refused c new more n h status f = let z : None ≡ Some status = f.0 in cc
+
 -- a line that is not refused
 pub along_next : (c : FabricConfig) (bytes : List ℕ) (a new : World) (text more rest line after : List ℕ) (n : ℕ) (along : Along c bytes a text rest n) → lines_of rest ≡ line ∷ lines_of after → length after + 1 ≤ length rest → Follows c along.history n (line_verdict c (ruled c along.history) (length along.history) n line) None new more → Along c bytes new more after (n + 1)
 along_next c bytes a new text more rest line after n along cut less follows =
@@ -29,7 +32,7 @@ along_next c bytes a new text more rest line after n along cut less follows =
     by_verdict : (v : Verdict) → Follows c along.history n v None new more → judge_on c along.history n (lines_of after) v ≡ judge_from c [] 2 (lines_of bytes) → Along c bytes new more after (n + 1)
     by_verdict Ignored f j = record { history = along.history; at = f.1; judged = j; bounded = omega (arith, along.bounded) }
     by_verdict (Accepted e) f j = record { history = (n, e) ∷ along.history; at = f.1; judged = j; bounded = omega (arith, along.bounded) }
-    by_verdict (Refused status) f j = let z : None ≡ Some status = f.0 in cc
+    by_verdict (Refused status) f j = absurd (not_refused c new more n along.history status f)
 
 -- a line that is refused
 pub along_refused : (c : FabricConfig) (bytes : List ℕ) (a new : World) (text more rest line after : List ℕ) (n : ℕ) (status : Refusal) (along : Along c bytes a text rest n) → lines_of rest ≡ line ∷ lines_of after → Follows c along.history n (line_verdict c (ruled c along.history) (length along.history) n line) (Some status) new more → (last : List ℕ) → last ≡ more ++ fault_line (status_of status) → IsAnswer (judge_from c [] 2 (lines_of bytes)) (Some status) last

@@ -4,7 +4,7 @@ use Rattle.fabric_config.specs.Config.{config_of_line}
 use Rattle.fabric_config.specs.declared.error.ConfigError.{ConfigError}
 use Rattle.fabric_config.specs.declared.error.ConfigError.TheVariants.{NotJson}
 use Rattle.fabric_terms.specs.declared.command.Command.{Command}
-use Rattle.fabric_terms.specs.declared.command.Command.TheVariants.{Create, Swap, Heal, Lose, Write, Units, Resolve, Names}
+use Rattle.fabric_terms.specs.declared.command.Command.TheVariants.{Resolve, Names}
 use Rattle.fabric_terms.specs.declared.config.FabricConfig.{FabricConfig}
 use Rattle.fabric_terms.specs.declared.event.Event.{Event}
 use Rattle.fabric_terms.specs.declared.event.Event.TheVariants.{Do}
@@ -19,21 +19,15 @@ use Rattle.world_rules.specs.Worlds.{World}
 use Rattle.fabric_status.specs.declared.status.Refusal.{Refusal}
 use Rattle.fabric_status.specs.declared.status.Refusal.TheVariants.{BadConfig, BadLine, DriftBroken, NoSuch, TooLarge}
 
--- a command about a partition
-abbrev pub is_of_partition : Command → Bool
-is_of_partition (Create partition count) = true
-is_of_partition (Swap partition node) = true
-is_of_partition (Heal partition count) = true
-is_of_partition (Lose partition node) = true
-is_of_partition (Write partition text) = true
-is_of_partition (Units range) = true
-is_of_partition (Resolve partition name) = true
-is_of_partition (Names partition range) = true
-is_of_partition _ = false
+-- a command about names
+abbrev pub is_of_names : Command → Bool
+is_of_names (Resolve partition name) = true
+is_of_names (Names partition range) = true
+is_of_names _ = false
 
--- All events are run but commands about partitions.
+-- All events are run but commands about names.
 abbrev pub is_run : Event → Bool
-is_run (Do node command) = not (is_of_partition command)
+is_run (Do node command) = not (is_of_names command)
 is_run _ = true
 
 pub data Verdict : Type 0 where

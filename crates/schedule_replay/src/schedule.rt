@@ -10,7 +10,7 @@ ghost use Rattle.fabric_status.specs.Codes.{status_of};
 ghost use Rattle.schedule_replay.specs.Follows.{At, IsAlong, Follows};
 ghost use Rattle.fabric_status.specs.Faults.{fault_line};
 ghost use Rattle.schedule_replay.specs.Output.{IsAnswer};
-ghost use Rattle.schedule_replay.specs.Schedule.{is_ignored, is_of_partition, is_run, line_verdict, event_verdict, run_verdict, refusal_at, judge, judge_from};
+ghost use Rattle.schedule_replay.specs.Schedule.{is_ignored, is_of_names, is_run, line_verdict, event_verdict, run_verdict, refusal_at, judge, judge_from};
 
 use crate::ending::push_ending;
 use crate::lines::cut_line;
@@ -41,21 +41,11 @@ fn is_ignored(line: &[u8]) -> bool
     }
 }
 
-/// Whether a command is about a partition.
-fn is_of_partition(command: &Command) -> bool
-    ensures { result ≡ is_of_partition command.now }
+/// Whether a command is about names.
+fn is_of_names(command: &Command) -> bool
+    ensures { result ≡ is_of_names command.now }
 {
-    match command {
-        Command::Create(..)
-        | Command::Swap(..)
-        | Command::Heal(..)
-        | Command::Lose(..)
-        | Command::Write(..)
-        | Command::Units(_)
-        | Command::Resolve(..)
-        | Command::Names(..) => true,
-        _ => false,
-    }
+    matches!(command, Command::Resolve(..) | Command::Names(..))
 }
 
 /// Whether events of this kind are run.
@@ -63,7 +53,7 @@ fn is_run(event: &Event) -> bool
     ensures { result ≡ is_run event.now }
 {
     match event {
-        Event::Do { command, .. } => !is_of_partition(command),
+        Event::Do { command, .. } => !is_of_names(command),
         _ => true,
     }
 }

@@ -1,6 +1,5 @@
 use Rattle.std.proofs.Common.{◌≡◌, ℕ, arith, ap, refl, sym, ◌∙◌, length, get_or, Some}
 use Rattle.node_core.specs.Nodes.{Core, most_frames}
-use Rattle.node_core.proofs.Rooms.{frames_limited}
 use Rattle.ring_points.specs.declared.who.Who.{Who}
 use Rattle.std.specs.Box.{with_value}
 use Rattle.std.specs.Vec.{with_item}
@@ -44,8 +43,7 @@ step-requires-clause-now c =
 
 pub commit-requires-clause-small : goal.commit-requires-clause-small
 commit-requires-clause-small c =
-    let limit = frames_limited c.deref_mut.result.now.state in
-    rw c.make_room.ensures.rest (omega (arith, limit, c.in_ok-outcome.ensures.small.frames, c.requires.frames))
+    rw c.make_room.ensures.rest (omega (arith, c.in_ok-outcome.ensures.small.limit, c.requires.frames))
 
 pub commit-requires-clause-frames : goal.commit-requires-clause-frames
 commit-requires-clause-frames c =
@@ -68,8 +66,8 @@ commit-requires-clause-sound c =
     let node : r ≡ get_or a.running.items c.args.place r = rw c.make_room.ensures.rest at c.index_mut-running.ensures.value in
     let clock : k ≡ get_or a.clocks.items c.args.place k = rw c.make_room.ensures.rest at c.index-2.ensures in
     sends_sound a can.0 c.args.place can.2.node can.2.state c.args.input.now r k c.deref_mut.result.now c.step.new.self c.in_ok-outcome.outcome can.1 can.2.here
-    (record { is_node = node; is_clock = clock; inside = c.deref_mut.ensures.value })
-    (record { does = c.in_ok-outcome.ensures.does; settings = c.in_ok-outcome.ensures.settings; me = c.in_ok-outcome.ensures.me; small = c.in_ok-outcome.ensures.small })
+    (record { is_node = node; is_clock = clock; inside = c.deref_mut.ensures.value }) c.requires.input
+    (record { does = c.in_ok-outcome.ensures.does; settings = c.in_ok-outcome.ensures.settings; domains = c.in_ok-outcome.ensures.domains; me = c.in_ok-outcome.ensures.me; small = c.in_ok-outcome.ensures.small })
     can.2.sound
 
 pub returns-in_err-outcome : goal.returns-in_err-outcome
@@ -87,8 +85,8 @@ returns c w node s st here there =
     let is_clock : k ≡ get_or a.clocks.items c.args.place k = rw c.make_room.ensures.rest at c.index-2.ensures in
     let q : Running = record { drift = r.drift; node = with_value r.node c.step.new.self } in
     moves_next a w c.args.place node s c.args.input.now r k c.deref_mut.result.now c.step.new.self c.in_ok-outcome.outcome st here
-    (record { is_node = is_node; is_clock = is_clock; inside = c.deref_mut.ensures.value })
-    (record { does = c.in_ok-outcome.ensures.does; settings = c.in_ok-outcome.ensures.settings; me = c.in_ok-outcome.ensures.me; small = c.in_ok-outcome.ensures.small })
+    (record { is_node = is_node; is_clock = is_clock; inside = c.deref_mut.ensures.value }) c.requires.input
+    (record { does = c.in_ok-outcome.ensures.does; settings = c.in_ok-outcome.ensures.settings; domains = c.in_ok-outcome.ensures.domains; me = c.in_ok-outcome.ensures.me; small = c.in_ok-outcome.ensures.small })
     c.commit.new.self q c.args.line c.commit.result refl refl c.requires.events c.requires.frames
     (seen_committed a c.make_room.new.self c.commit.new.self (with_item c.make_room.new.self.running c.args.place q) c.args.place q c.in_ok-outcome.outcome c.make_room.ensures.same
     (ap (λ (m : World). m.running) c.make_room.ensures.rest) refl c.commit.ensures.rest c.commit.ensures.frames)
