@@ -1,17 +1,25 @@
 -- The run of what is accepted is safe, since it is the run of a valid schedule.
-use Rattle.std.proofs.Common.{◌≡◌, ℕ, zero, suc, List, [], Option, Some, None, refl, drop}
+use Rattle.std.proofs.Common.{◌≡◌, ℕ, zero, suc, List, [], ◌∷◌, Option, Some, None, Contains, refl, drop}
 use Rattle.fabric_terms.specs.declared.config.FabricConfig.{FabricConfig}
+use Rattle.fabric_terms.specs.Primaries.{NoOlder, OnePrimary}
 use Rattle.fabric_terms.specs.Runs.{Holds, RingSafe}
+use Rattle.fabric_terms.specs.declared.report.Report.{Report}
+use Rattle.fabric_terms.specs.declared.report.Report.TheVariants.{Accepted, IsPrimary}
 use Rattle.fabric_terms.specs.TakeOvers.{TakenAfterLeave}
+use Rattle.std.proofs.lemmas.List.Elements.{All-contains, All-nil}
+use Rattle.fabric_terms.specs.Reports.{told}
+use Rattle.ring_points.specs.declared.unit.Epoch.{Epoch}
 use Rattle.ring_points.specs.declared.who.Who.{Who}
 use Rattle.fabric_above.specs.Fabric.{fabric_stays, fabric}
-use Rattle.ring_safety.proofs.Safe.{ring_is_safe_lem, leaves_before_take_over_lem, places_are_kept_lem}
+use Rattle.ring_safety.proofs.Safe.{places_are_kept_lem}
+use Rattle.epoch_safety.proofs.Written.{writes_kept_lem}
+use Rattle.run_safety.proofs.Safe.{runs_are_safe_lem}
 use Rattle.ring_world.specs.Answers.{is_frame}
 use Rattle.world_rules.specs.Runs.{History}
 use Rattle.schedule_replay.specs.Laws.{IsValidHistory}
 use Rattle.schedule_replay.specs.Output.{run_judged}
 use Rattle.schedule_replay.specs.Schedule.{judge}
-use Rattle.fabric_top.specs.Top.{IsSafe, KeepsPlaces}
+use Rattle.fabric_top.specs.Top.{IsSafe, KeepsPlaces, KeepsWrites}
 use Rattle.schedule_replay.proofs.Accepted.{accepted_valid}
 
 -- before any event nobody holds anything
@@ -19,21 +27,46 @@ no_clock : (ago : ℕ) (w : Who) (p : ℕ) → Holds (drop ago []) w p → ⊥
 no_clock zero w p holds = let k = holds.runs in cc
 no_clock (suc ago) w p holds = let k = holds.runs in cc
 
-safe_from : (o : Option FabricConfig) (h : History) → ((c : FabricConfig) → o ≡ Some c → IsValidHistory c h) → RingSafe (run_judged o h) × TakenAfterLeave (run_judged o h) × KeepsPlaces o (run_judged o h)
-safe_from None h valid = (
-  record { one_holder = λ ago p v w holds_v holds_w. absurd (no_clock ago v p holds_v) },
-  record { holds_nothing = λ ago p v taken holds. no_clock ago v p holds },
-  tt,
-)
+-- nothing was told
+none_told : (newer : ℕ) (t : Who × Report) (before : List (Who × Report)) → drop newer [] ≡ t ∷ before → ⊥
+none_told zero t before e = cc
+none_told (suc newer) t before e = cc
+
+nothing_there : (v : Who) (partition : ℕ) (epoch : Epoch) → Contains (told []) (v, IsPrimary partition epoch) → ⊥
+nothing_there v partition epoch there = All-contains (λ (x : Who × Report). ⊥) [] (v, IsPrimary partition epoch) (All-nil (λ (x : Who × Report). ⊥)) there
+
+-- what is promised of a run, and of the writes in it
+record IsSafeRun (o : Option FabricConfig) (h : History) : Type 0 where
+  pub ring : RingSafe (run_judged o h)
+  pub taken : TakenAfterLeave (run_judged o h)
+  pub places : KeepsPlaces o (run_judged o h)
+  pub primaries : OnePrimary (run_judged o h)
+  pub epochs : NoOlder (run_judged o h)
+  pub writes : KeepsWrites o h
+
+safe_from : (o : Option FabricConfig) (h : History) → ((c : FabricConfig) → o ≡ Some c → IsValidHistory c h) → IsSafeRun o h
+safe_from None h valid = record {
+  ring = record { one_holder = λ ago p v w holds_v holds_w. absurd (no_clock ago v p holds_v) };
+  taken = record { holds_nothing = λ ago p v taken holds. no_clock ago v p holds };
+  places = tt;
+  primaries = record { one = λ partition epoch v w told_v told_w. absurd (nothing_there v partition epoch told_v) };
+  epochs = record { not_older = λ newer partition lsn epoch earlier v w before r e there same bound older. none_told newer (v, Accepted partition epoch lsn) before e };
+  writes = tt;
+}
 safe_from (Some c) h valid =
-    let v = valid c refl in (
-      ring_is_safe_lem fabric fabric_stays is_frame c h v.sound v.valid,
-      leaves_before_take_over_lem fabric fabric_stays is_frame c h v.sound v.valid,
-      places_are_kept_lem fabric fabric_stays is_frame c h v.sound v.valid,
-    )
+    let v = valid c refl in
+    let safe = runs_are_safe_lem is_frame c h v.sound v.valid in
+    record {
+      ring = safe.ring;
+      taken = safe.take_overs;
+      places = places_are_kept_lem fabric fabric_stays is_frame c h v.sound v.valid;
+      primaries = safe.primaries;
+      epochs = safe.epochs;
+      writes = writes_kept_lem is_frame c h v.sound v.valid;
+    }
 
 -- Whatever the bytes are, the run of the events that are accepted is safe.
 pub accepted_is_safe : (bytes : List ℕ) → IsSafe (judge bytes)
 accepted_is_safe bytes =
     let safe = safe_from (judge bytes).config (judge bytes).history (accepted_valid bytes) in
-    record { ring = safe.0; taken = safe.1; places = safe.2 }
+    record { ring = safe.ring; taken = safe.taken; places = safe.places; primaries = safe.primaries; epochs = safe.epochs; writes = safe.writes }

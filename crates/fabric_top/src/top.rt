@@ -37,7 +37,7 @@ fn usage<K: Sink>(sink: &mut K) -> Status
 /// All that the program does: the words say what.
 ///
 /// `replay` reads a schedule from the source, to its end, and writes its report to the sink. A command about
-/// a partition is no line of a schedule yet. Other words are Usage.
+/// names is no line of a schedule yet. Other words are Usage.
 pub fn fabric_main<S: Source, K: Sink>(
     alloc: Global,
     words: &[String],
