@@ -1,0 +1,11 @@
+mod Doing
+mod Acting
+mod Starting
+mod Stepping
+mod Coming
+mod Places
+mod Hearing
+mod RecordKinds
+mod Recalling
+mod Opened
+mod Causes

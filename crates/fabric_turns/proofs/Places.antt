@@ -1,0 +1,90 @@
+-- Places of a run, and the commands of a turn.
+use Rattle.std.proofs.Common.{arith, ◌≡◌, ◌<◌, ◌≤◌, ◌+◌, ℕ, zero, suc, Bool, true, false, List, [], ◌∷◌, length, drop, map, Result, refl, ap, sym, subst, ◌∙◌, ⊎_elim, nat_lt}
+use Rattle.std.specs.Prelude.{◌==◌, if◌then◌else◌, filter, slice_index_or}
+use Rattle.std.proofs.lemmas.Bool.Decides.{nat_tests, eqb_tells}
+use Rattle.std.proofs.lemmas.Bool.{eq-eqb}
+use Rattle.std.proofs.Math.Seq.{drop-cons}
+use Rattle.fabric_turns.specs.Moves.{Asks, Goes, Leads, at_place}
+use Rattle.fabric_turns.specs.Runs.{Run}
+use Rattle.outside.specs.Told.{Told}
+use Rattle.std.specs.Prelude.{Ok}
+use Rattle.turn_rules.specs.Order.{Place, Starting, Turning, Busy, Firing, arrive, coming, onward, rests, hearing}
+use Rattle.turn_rules.specs.Plans.{Plan, Setting, is_node_at, is_order_at, commands_in}
+use Rattle.turn_rules.specs.declared.order.Order.{Order}
+use Rattle.turn_rules.specs.declared.stop.Stop.{Stop}
+
+-- Places.
+
+below : (x y : ℕ) → x < y → nat_lt x y ≡ true
+below x y h = grind (arith, nat_tests)
+
+not_below : (x y : ℕ) → y ≤ x → nat_lt x y ≡ false
+not_below x y h = grind (arith, nat_tests)
+
+pub coming_at : (plan : Plan) (turn at : ℕ) → at < length plan.actors → coming plan turn at ≡ arrive plan turn at
+coming_at plan turn at h = ap (λ (b : Bool). if b then arrive plan turn at else arrive plan (turn + 1) 0) (below at (length plan.actors) h)
+
+pub coming_end : (plan : Plan) (turn at : ℕ) → length plan.actors ≤ at → coming plan turn at ≡ arrive plan (turn + 1) 0
+coming_end plan turn at h = ap (λ (b : Bool). if b then arrive plan turn at else arrive plan (turn + 1) 0) (not_below at (length plan.actors) h)
+
+no_start : (turn : ℕ) → 0 < turn → (turn == 0) ≡ false
+no_start turn h = ⊎_elim (λ (same : ((turn == 0) ≡ true) × (turn ≡ 0)). absurd (omega (arith, same.1))) (λ differ. differ.0) (eqb_tells turn 0)
+
+pub node_arrives : (plan : Plan) (turn at : ℕ) → 0 < turn → is_node_at plan at ≡ true → arrive plan turn at ≡ at_place turn at Turning
+node_arrives plan turn at h node =
+    ap (λ (b : Bool). at_place turn at (if b then Starting else if is_node_at plan at then Turning else Busy [] 0)) (no_start turn h)
+    ∙ ap (λ (b : Bool). at_place turn at (if b then Turning else Busy [] 0)) node
+
+pub arbiter_arrives : (plan : Plan) (turn at : ℕ) → 0 < turn → is_node_at plan at ≡ false → arrive plan turn at ≡ at_place turn at (Busy [] 0)
+arbiter_arrives plan turn at h arbiter =
+    ap (λ (b : Bool). at_place turn at (if b then Starting else if is_node_at plan at then Turning else Busy [] 0)) (no_start turn h)
+    ∙ ap (λ (b : Bool). at_place turn at (if b then Turning else Busy [] 0)) arbiter
+
+pub node_rests : (plan : Plan) (turn at : ℕ) → is_node_at plan at ≡ true → rests plan turn at ≡ at_place turn at Firing
+node_rests plan turn at node = ap (λ (b : Bool). if b then at_place turn at Firing else onward plan turn at) node
+
+pub arbiter_rests : (plan : Plan) (turn at : ℕ) → is_node_at plan at ≡ false → rests plan turn at ≡ onward plan turn at
+arbiter_rests plan turn at arbiter = ap (λ (b : Bool). if b then at_place turn at Firing else onward plan turn at) arbiter
+
+pub hears_on : (plan : Plan) (turn at n : ℕ) → n < 64 → hearing plan turn at n ≡ at_place turn at (Busy [] n)
+hears_on plan turn at n h = ap (λ (b : Bool). if b then at_place turn at (Busy [] n) else rests plan turn at) (below n 64 h)
+
+-- by other names of the places
+
+pub goes_as : (s : Setting) (b c : Told) (run run' : Run) (p q p' q' : Place) (r : Result (Unit {0}) Stop) → p' ≡ p → q ≡ q' → Goes s b run p c run' q r → Goes s b run p' c run' q' r
+goes_as s b c run run' p q p' q' r e f g = subst (λ (x : Place). Goes s b run x c run' q' r) (sym e) (subst (λ (y : Place). Goes s b run p c run' y r) f g)
+
+pub leads_to : (s : Setting) (b c : Told) (run run' : Run) (p q q' : Place) → q ≡ q' → Leads s b run p c run' q → Leads s b run p c run' q'
+leads_to s b c run run' p q q' f g = subst (λ (y : Place). Leads s b run p c run' y) f g
+
+-- Commands.
+
+pub command_here : (turn place : ℕ) (o : Order) (rest : List Order) → o.turn ≡ turn → o.place ≡ place → commands_in turn place (o ∷ rest) ≡ o.command ∷ commands_in turn place rest
+command_here turn place o rest e f =
+    let t : is_order_at turn place o ≡ true = rw (eq-eqb o.turn turn e, eq-eqb o.place place f) refl in
+    ap (λ (b : Bool). map (λ (x : Order). x.command) (if b then o ∷ filter (is_order_at turn place) rest else filter (is_order_at turn place) rest)) t
+
+pub dropped : (turn place : ℕ) (items orders : List Order) (i : ℕ) (d : Order) → items ≡ orders → i < length items → commands_in turn place (drop i orders) ≡ commands_in turn place (slice_index_or items i d ∷ drop (i + 1) orders)
+dropped turn place items orders i d e h =
+    let n : suc i ≡ i + 1 = omega arith in
+    ap (λ (xs : List Order). commands_in turn place (drop i xs)) (sym e)
+    ∙ ap (commands_in turn place) (drop-cons items i d h ∙ ap (λ (k : ℕ). slice_index_or items i d ∷ drop k items) n)
+    ∙ ap (λ (xs : List Order). commands_in turn place (slice_index_or items i d ∷ drop (i + 1) xs)) e
+
+pub dropped_item : (turn place : ℕ) (items orders : List Order) (i : ℕ) (o : Order) → items ≡ orders → i < length items → o ≡ slice_index_or items i o → commands_in turn place (drop i orders) ≡ commands_in turn place (o ∷ drop (i + 1) orders)
+dropped_item turn place items orders i o e h is = dropped turn place items orders i o e h ∙ ap (λ (x : Order). commands_in turn place (x ∷ drop (i + 1) orders)) (sym is)
+
+pub all_dropped : (turn place : ℕ) (orders : List Order) (i : ℕ) → length orders ≤ i → commands_in turn place (drop i orders) ≡ []
+all_dropped turn place [] zero h = refl
+all_dropped turn place [] (suc i) h = refl
+all_dropped turn place (o ∷ os) zero h = absurd (omega arith)
+all_dropped turn place (o ∷ os) (suc i) h = all_dropped turn place os i (omega arith)
+
+-- what a question was answered
+pub asks_none : (s : Setting) (b c : Told) (run run' : Run) (p more none : Place) (answer : Bool) → answer ≡ false → Asks s b run p c run' more none (Ok answer) → Leads s b run p c run' none
+asks_none s b c run run' p more none true e k = cc
+asks_none s b c run run' p more none false e k = k
+
+pub asks_more : (s : Setting) (b c : Told) (run run' : Run) (p more none : Place) (answer : Bool) → answer ≡ true → Asks s b run p c run' more none (Ok answer) → Leads s b run p c run' more
+asks_more s b c run run' p more none true e k = k
+asks_more s b c run run' p more none false e k = cc

@@ -1,0 +1,103 @@
+// What has arrived at an actor: each datagram that is a frame is one step.
+ghost use Rattle.std.specs.Prelude.{◌≡◌, ◌<◌, ◌+◌, OnOk, ◌∷◌, [], ℕ, List, length, slice_get, Some, None, true, false};
+ghost use Rattle.outside.specs.Told.{Told};
+ghost use Rattle.fabric_terms.specs.declared.record.Record.{Record};
+ghost use Rattle.fabric_turns.specs.Moves.{Reaches, Goes, Asks, at_place};
+ghost use Rattle.fabric_turns.specs.Runs.{AreKept, IsKeptAt, IsReady, IsStep, Meets, MeetsStart};
+ghost use Rattle.turn_rules.specs.Happenings.{Datagram, Hears, Happening, History};
+ghost use Rattle.turn_rules.specs.Order.{Place, Starting, Turning, Busy, Firing, arrive, coming, onward, hearing, rests};
+ghost use Rattle.turn_rules.specs.Plans.{is_node_at, orders_at, commands_in};
+ghost use Rattle.turn_rules.specs.Whole.{setting};
+
+use crate::act::act;
+use crate::plan::Plan;
+use crate::run::Run;
+use outside::Outside;
+use ring_node::Input;
+use ring_wire::decode;
+use std::alloc::Global;
+use turn_rules::Stop;
+
+/// A datagram that has come to the actor at a place. What is no frame changes nothing.
+fn take_datagram<O: Outside>(
+    outside: &mut O,
+    alloc: Global,
+    plan: &Plan,
+    run: &mut Run,
+    turn: u64,
+    place: usize,
+    bytes: &[u8],
+) -> Result<(), Stop>
+    requires place { place < length run.old.members }
+    requires ready { IsReady plan.now run.old (O.told outside.old) }
+    ensures done { (kept : List (List Record)) (a : Told) (h : History) (p : Place) →
+        Meets (setting plan.now kept) a (O.told outside.old) run.old h (record { turn = turn; place = place; comes = Hears (Datagram bytes.now) }) p →
+        Reaches (setting plan.now kept) a (O.told outside.new) run.new (record { turn = turn; place = place; comes = Hears (Datagram bytes.now) } ∷ h) p result }
+    ensures ready { IsReady plan.now run.new (O.told outside.new) }
+    ensures same { length run.new.members ≡ length run.old.members }
+{
+    match decode(bytes) {
+        Err(_) => Ok(()),
+        Ok(message) => act(
+            outside,
+            alloc,
+            plan,
+            run,
+            turn,
+            place,
+            &Input::Frame(message),
+        ),
+    }
+}
+
+/// Asks the links once what has come to the actor at a place. Says whether it was a datagram.
+fn hear_one<O: Outside>(
+    outside: &mut O,
+    alloc: Global,
+    plan: &Plan,
+    run: &mut Run,
+    turn: u64,
+    place: usize,
+    buffer: &mut [u8; 1500],
+) -> Result<bool, Stop>
+    requires place { place < length run.old.members }
+    requires ready { IsReady plan.now run.old (O.told outside.old) }
+    requires within { place < length plan.now.actors }
+    ensures done { (kept : List (List Record)) (n : ℕ) → n < 64 → Asks (setting plan.now kept) (O.told outside.old) run.old (hearing plan.now turn place n) (O.told outside.new) run.new (hearing plan.now turn place (n + 1)) (rests plan.now turn place) result }
+    ensures ready { IsReady plan.now run.new (O.told outside.new) }
+    ensures same { length run.new.members ≡ length run.old.members }
+{
+    match outside.receive(plan.actor_at(place), buffer) {
+        Err(_) => Ok(false),
+        Ok(None) => Ok(false),
+        Ok(Some(count)) => {
+            take_datagram(outside, alloc, plan, run, turn, place, &buffer[..count])?;
+            Ok(true)
+        }
+    }
+}
+
+/// Hears what has come to the actor at a place: at most 64 datagrams.
+pub(crate) fn hear<O: Outside>(
+    outside: &mut O,
+    alloc: Global,
+    plan: &Plan,
+    run: &mut Run,
+    turn: u64,
+    place: usize,
+    buffer: &mut [u8; 1500],
+) -> Result<(), Stop>
+    requires place { place < length run.old.members }
+    requires ready { IsReady plan.now run.old (O.told outside.old) }
+    requires within { place < length plan.now.actors }
+    ensures done { (kept : List (List Record)) → Goes (setting plan.now kept) (O.told outside.old) run.old (at_place turn place (Busy [] 0)) (O.told outside.new) run.new (rests plan.now turn place) result }
+    ensures ready { IsReady plan.now run.new (O.told outside.new) }
+    ensures same { length run.new.members ≡ length run.old.members }
+{
+    for _heard in 0..64u64 {
+        if !hear_one(outside, alloc, plan, run, turn, place, buffer)? {
+            return Ok(());
+        }
+    }
+    Ok(())
+}

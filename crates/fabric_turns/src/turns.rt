@@ -1,0 +1,167 @@
+// The turns of the actors.
+ghost use Rattle.std.specs.Prelude.{◌≡◌, ◌<◌, ◌+◌, OnOk, ◌∷◌, [], ℕ, List, length, slice_get, Some, None, true, false};
+ghost use Rattle.outside.specs.Told.{Told};
+ghost use Rattle.fabric_terms.specs.declared.record.Record.{Record};
+ghost use Rattle.fabric_turns.specs.Moves.{Reaches, Goes, Asks, at_place};
+ghost use Rattle.fabric_turns.specs.Runs.{AreKept, IsKeptAt, IsReady, IsStep, Meets, MeetsStart};
+ghost use Rattle.turn_rules.specs.Happenings.{Datagram, Hears, Happening, History};
+ghost use Rattle.turn_rules.specs.Order.{Place, Starting, Turning, Busy, Firing, arrive, coming, onward, hearing, rests};
+ghost use Rattle.turn_rules.specs.Plans.{is_node_at, orders_at, commands_in};
+ghost use Rattle.turn_rules.specs.Whole.{setting};
+
+use crate::act::act;
+use crate::bids::bid_all;
+use crate::clock::read_clock;
+use crate::hears::hear;
+use crate::plan::Plan;
+use crate::run::Run;
+use outside::Outside;
+use ring_node::Input;
+use std::alloc::Global;
+use turn_rules::Stop;
+
+/// The reading with which a node's turn begins.
+fn begin_turn<O: Outside>(
+    outside: &mut O,
+    plan: &Plan,
+    run: &mut Run,
+    place: usize,
+) -> Result<(), Stop>
+    requires ready { IsReady plan.now run.old (O.told outside.old) }
+    ensures done { (kept : List (List Record)) (turn : ℕ) → Goes (setting plan.now kept) (O.told outside.old) run.old (at_place turn place Turning) (O.told outside.new) run.new (at_place turn place (Busy (orders_at plan.now turn place) 0)) result }
+    ensures ready { OnOk result (IsReady plan.now run.new (O.told outside.new)) }
+    ensures same { OnOk result (length run.new.members ≡ length run.old.members) }
+{
+    match read_clock(outside, run) {
+        Err(stop) => Err(stop),
+        Ok(_) => Ok(()),
+    }
+}
+
+/// The firing of the node at a place.
+fn fire<O: Outside>(
+    outside: &mut O,
+    alloc: Global,
+    plan: &Plan,
+    run: &mut Run,
+    turn: u64,
+    place: usize,
+) -> Result<(), Stop>
+    requires place { place < length run.old.members }
+    requires ready { IsReady plan.now run.old (O.told outside.old) }
+    ensures done { (kept : List (List Record)) → Goes (setting plan.now kept) (O.told outside.old) run.old (at_place turn place Firing) (O.told outside.new) run.new (onward plan.now turn place) result }
+    ensures ready { IsReady plan.now run.new (O.told outside.new) }
+    ensures same { length run.new.members ≡ length run.old.members }
+{
+    act(outside, alloc, plan, run, turn, place, &Input::Fire)
+}
+
+/// The turn of the node at a place.
+fn node_turn<O: Outside>(
+    outside: &mut O,
+    alloc: Global,
+    plan: &Plan,
+    run: &mut Run,
+    turn: u64,
+    place: usize,
+    buffer: &mut [u8; 1500],
+) -> Result<(), Stop>
+    requires place { place < length run.old.members }
+    requires ready { IsReady plan.now run.old (O.told outside.old) }
+    requires within { place < length plan.now.actors }
+    requires node { is_node_at plan.now place ≡ true }
+    ensures done { (kept : List (List Record)) → Goes (setting plan.now kept) (O.told outside.old) run.old (at_place turn place Turning) (O.told outside.new) run.new (onward plan.now turn place) result }
+    ensures ready { OnOk result (IsReady plan.now run.new (O.told outside.new)) }
+    ensures same { OnOk result (length run.new.members ≡ length run.old.members) }
+{
+    begin_turn(outside, plan, run, place)?;
+    bid_all(outside, alloc, plan, run, turn, place)?;
+    hear(outside, alloc, plan, run, turn, place, buffer)?;
+    fire(outside, alloc, plan, run, turn, place)
+}
+
+/// The turn of the arbitrator at a place.
+fn arbiter_turn<O: Outside>(
+    outside: &mut O,
+    alloc: Global,
+    plan: &Plan,
+    run: &mut Run,
+    turn: u64,
+    place: usize,
+    buffer: &mut [u8; 1500],
+) -> Result<(), Stop>
+    requires place { place < length run.old.members }
+    requires ready { IsReady plan.now run.old (O.told outside.old) }
+    requires within { place < length plan.now.actors }
+    requires arbiter { is_node_at plan.now place ≡ false }
+    ensures done { (kept : List (List Record)) → Goes (setting plan.now kept) (O.told outside.old) run.old (at_place turn place (Busy [] 0)) (O.told outside.new) run.new (onward plan.now turn place) result }
+    ensures ready { IsReady plan.now run.new (O.told outside.new) }
+    ensures same { length run.new.members ≡ length run.old.members }
+{
+    hear(outside, alloc, plan, run, turn, place, buffer)
+}
+
+/// The turn of the actor at a place. Turns count from 1.
+fn take_turn<O: Outside>(
+    outside: &mut O,
+    alloc: Global,
+    plan: &Plan,
+    run: &mut Run,
+    turn: u64,
+    place: usize,
+    buffer: &mut [u8; 1500],
+) -> Result<(), Stop>
+    requires place { place < length run.old.members }
+    requires ready { IsReady plan.now run.old (O.told outside.old) }
+    requires within { place < length plan.now.actors }
+    requires turn { 0 < turn }
+    ensures done { (kept : List (List Record)) → Goes (setting plan.now kept) (O.told outside.old) run.old (coming plan.now turn place) (O.told outside.new) run.new (coming plan.now turn (place + 1)) result }
+    ensures ready { OnOk result (IsReady plan.now run.new (O.told outside.new)) }
+    ensures same { OnOk result (length run.new.members ≡ length run.old.members) }
+{
+    if plan.is_node_at(place) {
+        node_turn(outside, alloc, plan, run, turn, place, buffer)
+    } else {
+        arbiter_turn(outside, alloc, plan, run, turn, place, buffer)
+    }
+}
+
+/// A turn of each actor.
+fn turn_all<O: Outside>(
+    outside: &mut O,
+    alloc: Global,
+    plan: &Plan,
+    run: &mut Run,
+    turn: u64,
+    buffer: &mut [u8; 1500],
+) -> Result<(), Stop>
+    requires all { length run.old.members ≡ length plan.now.actors }
+    requires ready { IsReady plan.now run.old (O.told outside.old) }
+    requires turn { 0 < turn }
+    ensures done { (kept : List (List Record)) → Goes (setting plan.now kept) (O.told outside.old) run.old (arrive plan.now turn 0) (O.told outside.new) run.new (arrive plan.now (turn + 1) 0) result }
+    ensures ready { OnOk result (IsReady plan.now run.new (O.told outside.new)) }
+    ensures same { OnOk result (length run.new.members ≡ length run.old.members) }
+{
+    for place in 0..plan.len() {
+        take_turn(outside, alloc, plan, run, turn, place, buffer)?;
+    }
+    Ok(())
+}
+
+/// All turns.
+pub(crate) fn take_turns<O: Outside>(
+    outside: &mut O,
+    alloc: Global,
+    plan: &Plan,
+    run: &mut Run,
+) -> Result<(), Stop>
+    requires all { length run.old.members ≡ length plan.now.actors }
+    requires ready { IsReady plan.now run.old (O.told outside.old) }
+    ensures done { (kept : List (List Record)) → Goes (setting plan.now kept) (O.told outside.old) run.old (arrive plan.now 1 0) (O.told outside.new) run.new (arrive plan.now (plan.now.turns + 1) 0) result }
+{
+    let mut buffer = [0u8; 1500];
+    for turn in 0..plan.turns() {
+        turn_all(outside, alloc, plan, run, turn + 1, &mut buffer)?;
+    }
+    Ok(())
+}

@@ -1,0 +1,5 @@
+pub mod Growing
+mod Keeping
+pub mod Sending
+mod Reporting
+mod Carrying

@@ -1,0 +1,65 @@
+// The frames of a step.
+ghost use Rattle.std.specs.Prelude.{◌∷◌, [], map, All, IsTrue};
+ghost use Rattle.edge_io.specs.Arrivals.{IsListening};
+ghost use Rattle.fabric_terms.specs.Messages.{is_sound};
+ghost use Rattle.turn_effects.specs.Carried.{SendsAll};
+ghost use Rattle.turn_rules.specs.Effects.{sent_by};
+ghost use Rattle.turn_rules.specs.Works.{post_of, posts_of};
+
+use crate::address::address_of;
+use edge_io::EdgeRefusal;
+use fabric_terms::{FabricConfig, Message};
+use outside::Outside;
+use ring_wire::{FRAME_LIMIT, encode};
+use turn_rules::Stop;
+
+/// Sends bytes to an address, where the links do not fail.
+fn try_send<O: Outside>(outside: &mut O, actor: u16, at: &str, bytes: &[u8]) -> Result<(), Stop>
+    requires { IsListening actor (O.told outside.old).opened }
+    ensures { SendsAll (record { from = actor; to = at.now; bytes = bytes.now } ∷ []) (O.told outside.old) (O.told outside.new) result }
+{
+    match outside.send(actor, at, bytes) {
+        Ok(()) => Ok(()),
+        Err(EdgeRefusal::Failed) => Ok(()),
+        Err(EdgeRefusal::OutOfMemory) => Err(Stop::OutOfMemory),
+    }
+}
+
+/// Sends a frame to its addressee, if that is configured. Its bytes are made in the buffer.
+fn send_one<O: Outside>(
+    outside: &mut O,
+    config: &FabricConfig,
+    actor: u16,
+    frame: &Message,
+    buffer: &mut [u8; FRAME_LIMIT],
+) -> Result<(), Stop>
+    requires listens { IsListening actor (O.told outside.old).opened }
+    requires sound { IsTrue (is_sound frame.now) }
+    ensures { SendsAll (map (sent_by actor) (post_of config.now frame.now)) (O.told outside.old) (O.told outside.new) result }
+{
+    match address_of(config, frame.to.actor) {
+        None => Ok(()),
+        Some(at) => {
+            let length = encode(frame, buffer);
+            try_send(outside, actor, at, &buffer[..length])
+        }
+    }
+}
+
+/// Sends frames of an actor, one after another. What the links fail to send is left out.
+pub(crate) fn send_all<O: Outside>(
+    outside: &mut O,
+    config: &FabricConfig,
+    actor: u16,
+    frames: &[Message],
+) -> Result<(), Stop>
+    requires listens { IsListening actor (O.told outside.old).opened }
+    requires sound { All (λ m. IsTrue (is_sound m)) frames.now }
+    ensures { SendsAll (map (sent_by actor) (posts_of config.now frames.now)) (O.told outside.old) (O.told outside.new) result }
+{
+    let mut buffer = [0u8; FRAME_LIMIT];
+    for frame in frames {
+        send_one(outside, config, actor, frame, &mut buffer)?;
+    }
+    Ok(())
+}

@@ -1,0 +1,7 @@
+mod Own
+mod FewRecords
+mod RegisterReplies
+mod Rulings
+mod Records
+mod Lives
+mod Begins

@@ -1,0 +1,4 @@
+pub mod Lives
+pub mod Members
+pub mod Answers
+pub mod Rooms

@@ -1,0 +1,4 @@
+mod OnePlace
+mod Ended
+mod Strangers
+mod Example

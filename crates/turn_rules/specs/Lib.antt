@@ -1,0 +1,12 @@
+pub mod Happenings
+pub mod Plans
+pub mod Steps
+pub mod Process
+pub mod Order
+pub mod Works
+pub mod Effects
+pub mod Handed
+pub mod Ends
+pub mod Recalled
+pub mod Whole
+pub mod Laws

@@ -1,0 +1,40 @@
+-- What a run goes by.
+use Rattle.std.specs.Prelude.{ℕ, Bool, false, not, ◌&&◌, List, Option, Some, None, ◌==◌, filter, map, slice_get}
+use Rattle.edge_io.specs.declared.endpoint.Endpoint.{Endpoint}
+use Rattle.fabric_terms.specs.declared.command.Command.{Command}
+use Rattle.fabric_terms.specs.declared.config.FabricConfig.{FabricConfig}
+use Rattle.fabric_terms.specs.declared.record.Record.{Record}
+use Rattle.world_rules.specs.Events.{is_arbiter_actor}
+use Rattle.turn_rules.specs.declared.order.Order.{Order}
+
+-- the configuration; the actors that run, in the order of their turns, each with its endpoint; the commands; and how many
+-- turns there are
+pub record Plan : Type 0 where
+  pub config : FabricConfig
+  pub actors : List Endpoint
+  pub orders : List Order
+  pub turns : ℕ
+
+abbrev pub is_order_at : ℕ → ℕ → Order → Bool
+is_order_at turn place o = o.turn == turn && o.place == place
+
+-- those of these commands that are of this turn of this actor
+abbrev pub commands_in : ℕ → ℕ → List Order → List Command
+commands_in turn place orders = map (λ o. o.command) (filter (is_order_at turn place) orders)
+
+-- the commands of an actor's turn
+abbrev pub orders_at : Plan → ℕ → ℕ → List Command
+orders_at plan turn place = commands_in turn place plan.orders
+
+abbrev pub is_of_node : Option Endpoint → Bool
+is_of_node None = false
+is_of_node (Some e) = not (is_arbiter_actor e.actor)
+
+-- a node has this place
+abbrev pub is_node_at : Plan → ℕ → Bool
+is_node_at plan place = is_of_node (slice_get plan.actors place)
+
+-- what a run begins with: its plan, and the records that are kept of each actor, by its place
+pub record Setting : Type 0 where
+  pub plan : Plan
+  pub kept : List (List Record)

@@ -1,0 +1,21 @@
+ghost use Rattle.turn_rules.specs.Laws.{ExampleIsInOrder, NoneToStrangers, NothingAfterEnd, OnePlace};
+
+/// What has come in order leads to one place: what may come next does not depend on how the order is seen.
+pub fn what_has_come_leads_to_one_place()
+    ensures { OnePlace }
+{}
+
+/// Whatever would come after a run has ended changes nothing.
+pub fn nothing_comes_after_an_end()
+    ensures { NothingAfterEnd }
+{}
+
+/// Where no actor is configured, no frame makes a datagram.
+pub fn a_frame_to_nobody_makes_no_datagram()
+    ensures { NoneToStrangers }
+{}
+
+/// The starts and a turn of a node and an arbitrator, as an example that is computed.
+pub fn a_turn_in_order()
+    ensures { ExampleIsInOrder }
+{}

@@ -1,0 +1,20 @@
+//! The rules of a running program: `node`, `arbiter` and `cluster`.
+//!
+//! A running program has some of the configuration's actors, which take turns. What comes to them, one thing after another,
+//! is a history; the rules of the world say what each actor does then, and so what is kept, sent and written. This crate
+//! defines the order in which things come, what a history amounts to, that the devices handed it in, what its steps do to
+//! the devices, and how a run ends at each status: `IsRun` is the promise of whoever runs a plan. One definition serves all
+//! three words, since they differ only in which actors run. It stands on the rules of the world, on the formats, and on what
+//! the devices tell; it decides nothing and calls no device.
+#![tactic(auto)]
+
+mod laws;
+mod order;
+mod stop;
+
+pub use laws::{
+    a_frame_to_nobody_makes_no_datagram, a_turn_in_order, nothing_comes_after_an_end,
+    what_has_come_leads_to_one_place,
+};
+pub use order::Order;
+pub use stop::Stop;
