@@ -9,3 +9,7 @@ mod answers;
 mod questions;
 #[cfg(test)]
 mod records;
+#[cfg(test)]
+mod registers;
+#[cfg(test)]
+mod rounds;

@@ -23,3 +23,15 @@ pub fn accusation(accuser: Who, to: Who, victim: Who) -> Message {
         body: Body::Accuse { victim },
     }
 }
+
+/// A claim about 1.1.
+pub fn claim(claimer: Who, round: u8) -> Message {
+    Message {
+        from: claimer,
+        to: arbitrator(1),
+        body: Body::Claim {
+            victim: node(1),
+            round,
+        },
+    }
+}

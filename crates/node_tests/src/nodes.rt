@@ -7,7 +7,6 @@ use fabric_terms::{
     Address, Arbiters, Body, Command, FabricConfig, Message, NodeEntry, Nodes, OutOfMemory, Record,
     Report, Why,
 };
-use keep_log::{Kept, KeptError, read_records};
 use node_core::{NodeCore, NodeKept};
 use ring_node::Input;
 use ring_points::{Point, RangeSet, Who};
@@ -45,18 +44,12 @@ fn two_nodes(alloc: Global) -> Result<FabricConfig, OutOfMemory>
     })
 }
 
-/// What is kept of a node that has begun so often.
-fn kept(alloc: Global, boots: u32) -> Result<Kept, KeptError> {
-    let mut kept = read_records(alloc, &[])?;
-    kept.boots = boots;
-    Ok(kept)
-}
-
 // A command that is refused for want of memory has done nothing, and can be given again.
 #[test]
 fn the_first_node_greets_another(rt: HostRuntime) -> Result<(), Fail> {
     let config = two_nodes(rt.alloc())?;
-    let (mut node, begun) = NodeCore::start(rt.alloc(), &config, 1, kept(rt.alloc(), 0)?, 7)?;
+    let mut kept = NodeKept::new(rt.alloc());
+    let (mut node, begun) = NodeCore::begin(rt.alloc(), &config, 1, &mut kept, 7)?;
     assert!(rt; matches!(begun.records.as_slice(), [Record::Boot { instance: 1 }]));
     assert!(rt; matches!(begun.reports.as_slice(), [Report::Own(_, None)]));
     assert_eq!(rt; node.ranges().intervals(), RangeSet::whole().intervals());
@@ -80,8 +73,9 @@ fn the_first_node_greets_another(rt: HostRuntime) -> Result<(), Fail> {
 #[test]
 fn a_node_without_numbers_has_left(rt: HostRuntime) -> Result<(), Fail> {
     let config = two_nodes(rt.alloc())?;
-    let spent = kept(rt.alloc(), u32::MAX)?;
-    let (mut node, begun) = NodeCore::start(rt.alloc(), &config, 1, spent, 7)?;
+    let mut spent = NodeKept::new(rt.alloc());
+    spent.boots = u32::MAX;
+    let (mut node, begun) = NodeCore::begin(rt.alloc(), &config, 1, &mut spent, 7)?;
     assert_eq!(rt; node.me().instance, u32::MAX);
     assert!(rt; begun.records.as_slice().is_empty());
     let reports = begun.reports.as_slice();
@@ -95,7 +89,7 @@ fn a_node_without_numbers_has_left(rt: HostRuntime) -> Result<(), Fail> {
 #[test]
 fn a_node_starts_again_from_what_it_gave_back(rt: HostRuntime) -> Result<(), Fail> {
     let config = two_nodes(rt.alloc())?;
-    let mut kept = NodeKept::new();
+    let mut kept = NodeKept::new(rt.alloc());
     for instance in 1..4 {
         let (mut node, begun) = NodeCore::begin(rt.alloc(), &config, 1, &mut kept, 7)?;
         assert_eq!(rt; node.me(), Who { actor: 1, instance });

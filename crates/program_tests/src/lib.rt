@@ -15,6 +15,8 @@ mod lengths;
 #[cfg(test)]
 mod limits;
 #[cfg(test)]
+mod partitions;
+#[cfg(test)]
 mod schedules;
 #[cfg(test)]
 mod small;
