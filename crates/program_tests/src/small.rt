@@ -59,7 +59,7 @@ const SCHEDULES: [(&str, &str, u8, &str); 19] = [
     ),
     (
         ONE,
-        "start 1 0\ndo 1 create 1 1",
+        "start 1 0\ndo 1 resolve 1 a",
         6,
         "2 0 1.1 0 own 0000000000000000-ffffffffffffffff -\nfault line 3",
     ),
