@@ -16,7 +16,8 @@ use Rattle.world_rules.specs.Runs.{History}
 use Rattle.world_rules.specs.Schedules.{MayCome, is_there, keeps_bound}
 use Rattle.world_rules.specs.Worlds.{World}
 use Rattle.schedule_replay.specs.Laws.{IsValidHistory, AcceptedIsValid}
-use Rattle.schedule_replay.specs.Schedule.{Verdict, Ignored, Accepted, Refused, Judged, unless_room, unless_within, unless_there, unless_run, is_run, is_ignored, event_verdict, unless_ignored, unless_large, line_verdict, most_line, most_lines, most_first_line, judge_from, judge_rest, judge_first, judge_lines, judge}
+use Rattle.source_lines.specs.Lines.{is_ignored, most_line, most_lines, most_first_line}
+use Rattle.schedule_replay.specs.Schedule.{Verdict, Ignored, Accepted, Refused, Judged, unless_room, unless_within, unless_there, unless_run, is_run, event_verdict, unless_ignored, unless_large, line_verdict, judge_from, judge_rest, judge_first, judge_lines, judge}
 use Rattle.schedule_replay.proofs.Judging.{judge_on, judge_line}
 
 room_accepted : (n : ℕ) (e d : Event) (room : Bool) → unless_room n e room ≡ Accepted d → e ≡ d

@@ -1,5 +1,3 @@
-pub mod Positions
-pub mod Cuts
 pub mod Judging
 pub mod Accepted
 pub mod OneOutput

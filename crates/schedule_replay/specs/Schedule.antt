@@ -1,5 +1,5 @@
 -- Which lines of a schedule are accepted, and what is accepted of a schedule.
-use Rattle.std.specs.Prelude.{ℕ, ◌+◌, Bool, true, false, not, ◌||◌, ◌==◌, List, [], ◌∷◌, length, Option, Some, None, Result, Ok, Err, nat_lt}
+use Rattle.std.specs.Prelude.{ℕ, ◌+◌, Bool, true, false, not, ◌||◌, List, [], ◌∷◌, length, Option, Some, None, Result, Ok, Err, nat_lt}
 use Rattle.fabric_config.specs.Config.{config_of_line}
 use Rattle.fabric_config.specs.declared.error.ConfigError.{ConfigError}
 use Rattle.fabric_config.specs.declared.error.ConfigError.TheVariants.{NotJson}
@@ -12,6 +12,7 @@ use Rattle.ring_world.specs.Answers.{is_frame, ruled}
 use Rattle.ring_world.specs.Room.{has_room}
 use Rattle.ring_world.specs.declared.world.EventRefusal.{EventRefusal}
 use Rattle.sched_text.specs.Lines.{lines_of, event_of}
+use Rattle.source_lines.specs.Lines.{is_ignored, most_line, most_first_line, most_lines}
 use Rattle.fabric_above.specs.Fabric.{fabric}
 use Rattle.world_rules.specs.Runs.{History}
 use Rattle.world_rules.specs.Schedules.{is_there, keeps_bound}
@@ -34,21 +35,6 @@ pub data Verdict : Type 0 where
   Ignored : Verdict
   Accepted : (event : Event) → Verdict
   Refused : (refusal : Refusal) → Verdict
-
--- an empty line, or a comment
-abbrev pub is_ignored : List ℕ → Bool
-is_ignored [] = true
-is_ignored (b ∷ bs) = b == 35
-
--- the bytes that a line may have, the bytes that line 1 may have, and the lines that a schedule may have
-abbrev pub most_line : ℕ
-most_line = 4096
-
-abbrev pub most_first_line : ℕ
-most_first_line = 65536
-
-abbrev pub most_lines : ℕ
-most_lines = 2000000
 
 -- how an event at line n is refused, but for want of memory
 abbrev pub refusal_at : EventRefusal → ℕ → Option Refusal

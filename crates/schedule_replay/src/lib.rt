@@ -8,11 +8,9 @@
 
 mod ending;
 mod laws;
-mod lines;
 mod run;
 mod schedule;
 mod told;
 
 pub use laws::{accepted_is_valid, one_output};
 pub use run::replay;
-pub use schedule::{MOST_FIRST_LINE, MOST_LINE, MOST_LINES};

@@ -1,40 +1,14 @@
 // The command `replay`: a schedule is read, and its report written.
-ghost use Rattle.std.specs.Prelude.{◌≡◌, ◌≢◌, ℕ, List, [], Some, None, IfOk};
-ghost use Rattle.edge_io.specs.Edge.{HasRisen, HasCauseOf};
+ghost use Rattle.std.specs.Prelude.{◌≡◌, ◌≢◌, ℕ, List, [], Some};
+ghost use Rattle.edge_io.specs.Edge.{HasRisen};
 ghost use Rattle.schedule_replay.specs.Schedule.{judge};
 ghost use Rattle.schedule_replay.specs.Replays.{IsDone, Writes, status_after};
 
 use crate::schedule::answer_to;
 use edge_io::{EdgeRefusal, Sink, Source};
 use fabric_status::{Refusal, Status, write_last};
+use source_lines::read_all;
 use std::alloc::Global;
-
-/// How many bytes are asked of the source at once.
-const PIECE: usize = 16_384;
-
-/// Reads all that is left.
-fn read_all<S: Source>(alloc: Global, source: &mut S) -> Result<Vec<u8>, EdgeRefusal>
-    ensures bytes { IfOk result (λ v. (bytes : List ℕ) → S.left source.old ≡ Some bytes → (v.items ≡ bytes) × (S.left source.new ≡ Some [])) }
-    ensures cause { HasCauseOf EdgeRefusal.Failed (S.faults source.old) (S.faults source.new) result }
-{
-    let mut bytes = Vec::new(alloc);
-    let mut buffer = [0u8; PIECE];
-    for _ in 0..u64::MAX {
-        match source.read(&mut buffer) {
-            Err(_) => return Err(EdgeRefusal::Failed),
-            Ok(count) => {
-                if count == 0 {
-                    return Ok(bytes);
-                }
-                match bytes.extend_from_slice(&buffer[..count]) {
-                    Ok(()) => {}
-                    Err(_) => return Err(EdgeRefusal::OutOfMemory),
-                }
-            }
-        }
-    }
-    Err(EdgeRefusal::OutOfMemory)
-}
 
 /// How a replay ends that is refused so, or not at all.
 fn status_after(refused: Option<Refusal>) -> Status

@@ -10,36 +10,17 @@ ghost use Rattle.fabric_status.specs.Codes.{status_of};
 ghost use Rattle.schedule_replay.specs.Follows.{At, IsAlong, Follows};
 ghost use Rattle.fabric_status.specs.Faults.{fault_line};
 ghost use Rattle.schedule_replay.specs.Output.{IsAnswer};
-ghost use Rattle.schedule_replay.specs.Schedule.{is_ignored, is_of_names, is_run, line_verdict, event_verdict, run_verdict, refusal_at, judge, judge_from};
+ghost use Rattle.schedule_replay.specs.Schedule.{is_of_names, is_run, line_verdict, event_verdict, run_verdict, refusal_at, judge, judge_from};
 
 use crate::ending::push_ending;
-use crate::lines::cut_line;
 use crate::told::push_told;
 use fabric_config::{ConfigError, read_config};
 use fabric_status::{Refusal, push_fault};
 use fabric_terms::{Command, Event, FabricConfig, OutOfMemory};
 use ring_world::{EventRefusal, World};
 use sched_text::{TickReadings, read_event, read_tick};
+use source_lines::{MOST_FIRST_LINE, MOST_LINE, MOST_LINES, cut_line, is_ignored};
 use std::alloc::Global;
-
-/// How many bytes a line may have.
-pub const MOST_LINE: usize = 4_096;
-
-/// How many bytes line 1 may have.
-pub const MOST_FIRST_LINE: usize = 65_536;
-
-/// How many lines a schedule may have.
-pub const MOST_LINES: u64 = 2_000_000;
-
-/// Whether the line is empty, or a comment.
-fn is_ignored(line: &[u8]) -> bool
-    ensures { result ≡ is_ignored line.now }
-{
-    match line {
-        [] => true,
-        [first, ..] => *first == b'#',
-    }
-}
 
 /// Whether a command is about names.
 fn is_of_names(command: &Command) -> bool

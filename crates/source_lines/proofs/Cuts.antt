@@ -3,7 +3,7 @@ use Rattle.std.proofs.Common.{◌≡◌, ℕ, zero, suc, ◌+◌, ◌-◌, ◌<�
 use Rattle.std.specs.List.{position, position_or_len}
 use Rattle.std.proofs.lemmas.List.{take_all}
 use Rattle.sched_text.specs.Lines.{lines_of, onto_first}
-use Rattle.schedule_replay.proofs.Positions.{position_some, position_none}
+use Rattle.source_lines.proofs.Positions.{position_some, position_none}
 
 abbrev is_feed : ℕ → Bool
 is_feed b = eqb b 10

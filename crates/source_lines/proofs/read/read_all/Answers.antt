@@ -1,6 +1,6 @@
 use Rattle.std.proofs.Common.{◌≡◌, ℕ, List, [], Some, ◌++◌, take, drop, arith, ap, sym, ◌∙◌}
 use Rattle.std.proofs.lemmas.List.{append_assoc, append-nil, drop_all, take-append-drop}
-use Rattle.schedule_replay.proofs.run.read_all.Goals as goal
+use Rattle.source_lines.proofs.read.read_all.Goals as goal
 
 -- what was read goes from what is left to what is there
 read_on : (items more rest into bytes : List ℕ) (n : ℕ) → more ≡ items ++ take n into → take n into ≡ take n rest → items ++ rest ≡ bytes → more ++ drop n rest ≡ bytes

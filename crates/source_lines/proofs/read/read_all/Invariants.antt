@@ -1,5 +1,5 @@
 use Rattle.std.proofs.Common.{◌≡◌, ◌≤◌, ℕ, List, Some, ◌++◌, length}
-use Rattle.schedule_replay.proofs.run.read_all.Given as goal
+use Rattle.source_lines.proofs.read.read_all.Given as goal
 
 -- what was read and what is left are all that was left
 abbrev pub invariant-loop : goal.invariant-loop
