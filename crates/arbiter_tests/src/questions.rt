@@ -3,11 +3,11 @@ ghost use Rattle.std.specs.Prelude.{◌≤◌};
 use fabric_terms::{Body, Message};
 use ring_points::Who;
 
-pub fn node(actor: u16) -> Who {
+pub(crate) fn node(actor: u16) -> Who {
     Who { actor, instance: 1 }
 }
 
-pub fn arbitrator(number: u16) -> Who
+pub(crate) fn arbitrator(number: u16) -> Who
     requires { number ≤ 9 }
 {
     Who {
@@ -16,7 +16,7 @@ pub fn arbitrator(number: u16) -> Who
     }
 }
 
-pub fn accusation(accuser: Who, to: Who, victim: Who) -> Message {
+pub(crate) fn accusation(accuser: Who, to: Who, victim: Who) -> Message {
     Message {
         from: accuser,
         to,
@@ -25,7 +25,7 @@ pub fn accusation(accuser: Who, to: Who, victim: Who) -> Message {
 }
 
 /// A claim about 1.1.
-pub fn claim(claimer: Who, round: u8) -> Message {
+pub(crate) fn claim(claimer: Who, round: u8) -> Message {
     Message {
         from: claimer,
         to: arbitrator(1),

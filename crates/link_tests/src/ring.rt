@@ -15,11 +15,11 @@ const CONFIG: &[u8] =
     br#"{"lease":3000,"answer":1000,"drift":10,"grain":1,"near":0,"rounds":2,"nodes":[{"node":1,"point":"0000000000000000"},{"node":2,"point":"8000000000000000"},{"node":3,"point":"7000000000000000"}],"arbiters":[{"arbiter":1},{"arbiter":2},{"arbiter":3}],"first":1}"#;
 
 /// The points of nodes 2 and 3.
-pub const HIGH: u64 = 1 << 63;
+pub(crate) const HIGH: u64 = 1 << 63;
 
-pub const LOWER: u64 = 7 << 60;
+pub(crate) const LOWER: u64 = 7 << 60;
 
-pub fn instance(actor: u16) -> Who
+pub(crate) fn instance(actor: u16) -> Who
     ensures { result ≡ node_instance actor 1 }
 {
     Who { actor, instance: 1 }
@@ -44,13 +44,13 @@ fn begun(rt: &impl Abort, alloc: Global, config: &FabricConfig, me: Who) -> Ring
 }
 
 /// An instance of a node as it starts: the first of node 1 owns the ring, and every other looks for its place.
-pub fn started(rt: &impl Abort, alloc: Global, me: Who) -> RingNode {
+pub(crate) fn started(rt: &impl Abort, alloc: Global, me: Who) -> RingNode {
     let config = config(rt, alloc);
     begun(rt, alloc, &config, me)
 }
 
 /// What the node sends and tells at this reading.
-pub fn step_at(ring: &mut RingNode, now: u64, input: &Input) -> (Outbox, Reports)
+pub(crate) fn step_at(ring: &mut RingNode, now: u64, input: &Input) -> (Outbox, Reports)
     requires now { now ≤ 1_000_000_000_000_000 }
     requires sound { IsTrue (is_sound_input input.now) }
 {
@@ -60,7 +60,7 @@ pub fn step_at(ring: &mut RingNode, now: u64, input: &Input) -> (Outbox, Reports
 }
 
 /// A frame of this actor's first instance to whichever instance of this node runs.
-pub fn from(sender: Who, node: u16, body: Body) -> Input
+pub(crate) fn from(sender: Who, node: u16, body: Body) -> Input
     ensures { result ≡ Input.Frame (record { from = sender; to = node_instance node 0; body = body }) }
 {
     let to = Who {

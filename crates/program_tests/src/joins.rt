@@ -2,7 +2,7 @@ use crate::schedules::{DUO, TRIO, expect_replay, expect_text, text_of};
 use std::test::Fail;
 
 /// Node 2 asks node 1 for a link, wants points, and gets its flight: lines 2 to 20.
-pub const JOIN: [&str; 19] = [
+pub(crate) const JOIN: [&str; 19] = [
     "start 1 0",
     "start 2 0",
     "do 2 link 1",
@@ -25,7 +25,7 @@ pub const JOIN: [&str; 19] = [
 ];
 
 /// What is written of these lines, without the end.
-pub const JOINED: [&str; 22] = [
+pub(crate) const JOINED: [&str; 22] = [
     "2 0 1.1 0 own 0000000000000000-ffffffffffffffff -",
     "3 0 2.1 0 own - -",
     "4 0 2.1 0 sent 1-1",

@@ -8,27 +8,27 @@ use std::process::Abort;
 use std::test::Fail;
 
 /// One node.
-pub const ONE: &str =
+pub(crate) const ONE: &str =
     "{\"lease\":3000,\"answer\":1000,\"drift\":10,\"grain\":1,\"nodes\":[{\"node\":1,\"point\":\"0000000000000000\"}],\"arbiters\":[{\"arbiter\":1},{\"arbiter\":2},{\"arbiter\":3}],\"first\":1}";
 
 /// Two nodes, half the ring apart.
-pub const DUO: &str =
+pub(crate) const DUO: &str =
     "{\"lease\":3000,\"answer\":1000,\"drift\":10,\"grain\":1,\"nodes\":[{\"node\":1,\"point\":\"0000000000000000\"},{\"node\":2,\"point\":\"8000000000000000\"}],\"arbiters\":[{\"arbiter\":1},{\"arbiter\":2},{\"arbiter\":3}],\"first\":1}";
 
 /// The same, where node 2 is first.
-pub const DUO_OF_2: &str =
+pub(crate) const DUO_OF_2: &str =
     "{\"lease\":3000,\"answer\":1000,\"drift\":10,\"grain\":1,\"nodes\":[{\"node\":1,\"point\":\"0000000000000000\"},{\"node\":2,\"point\":\"8000000000000000\"}],\"arbiters\":[{\"arbiter\":1},{\"arbiter\":2},{\"arbiter\":3}],\"first\":2}";
 
 /// The same with a third node.
-pub const TRIO: &str =
+pub(crate) const TRIO: &str =
     "{\"lease\":3000,\"answer\":1000,\"drift\":10,\"grain\":1,\"nodes\":[{\"node\":1,\"point\":\"0000000000000000\"},{\"node\":2,\"point\":\"8000000000000000\"},{\"node\":3,\"point\":\"7000000000000000\"}],\"arbiters\":[{\"arbiter\":1},{\"arbiter\":2},{\"arbiter\":3}],\"first\":1}";
 
 /// Eight nodes, an eighth of the ring apart, with longer leases.
-pub const EIGHT: &str =
+pub(crate) const EIGHT: &str =
     "{\"lease\":30000,\"answer\":5000,\"drift\":10,\"grain\":1,\"nodes\":[{\"node\":1,\"point\":\"0000000000000000\"},{\"node\":2,\"point\":\"2000000000000000\"},{\"node\":3,\"point\":\"4000000000000000\"},{\"node\":4,\"point\":\"6000000000000000\"},{\"node\":5,\"point\":\"8000000000000000\"},{\"node\":6,\"point\":\"a000000000000000\"},{\"node\":7,\"point\":\"c000000000000000\"},{\"node\":8,\"point\":\"e000000000000000\"}],\"arbiters\":[{\"arbiter\":1},{\"arbiter\":2},{\"arbiter\":3}],\"first\":1}";
 
 /// The program's status where it is called with one word.
-pub fn called<S: Source, K: Sink>(
+pub(crate) fn called<S: Source, K: Sink>(
     alloc: Global,
     word: &str,
     source: &mut S,
@@ -40,7 +40,7 @@ pub fn called<S: Source, K: Sink>(
 }
 
 /// The lines of these lists, each with its line feed.
-pub fn text_of(alloc: Global, lists: &[&[&str]]) -> Result<Vec<u8>, Fail> {
+pub(crate) fn text_of(alloc: Global, lists: &[&[&str]]) -> Result<Vec<u8>, Fail> {
     let mut text = Vec::new(alloc);
     for lines in lists {
         for line in *lines {
@@ -52,7 +52,7 @@ pub fn text_of(alloc: Global, lists: &[&[&str]]) -> Result<Vec<u8>, Fail> {
 }
 
 /// Replays the text, and expects the status and the lines that are written.
-pub fn expect_text(
+pub(crate) fn expect_text(
     rt: &impl Abort,
     alloc: Global,
     text: Vec<u8>,
@@ -68,7 +68,7 @@ pub fn expect_text(
 }
 
 /// The same of these lines, each with its line feed.
-pub fn expect_replay(
+pub(crate) fn expect_replay(
     rt: &impl Abort,
     alloc: Global,
     events: &[&[&str]],
@@ -79,7 +79,7 @@ pub fn expect_replay(
 }
 
 /// Replays the lines, and expects that they are good and what is written last.
-pub fn expect_end(
+pub(crate) fn expect_end(
     rt: &impl Abort,
     alloc: Global,
     events: &[&[&str]],
