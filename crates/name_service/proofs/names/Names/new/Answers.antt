@@ -1,0 +1,7 @@
+use Rattle.std.proofs.Common.{[], refl, ap, ◌∙◌}
+use Rattle.std.specs.FinMap.{empty, from_sorted, entries-from_sorted, same_entries_map}
+use Rattle.name_service.proofs.Stored.{nothing_stored}
+use Rattle.name_service.proofs.names.Names.new.Goals as goal
+
+pub returns : goal.returns
+returns c = ap from_sorted c.new-2.ensures.items ∙ nothing_stored

@@ -1,0 +1,89 @@
+ghost use Rattle.std.specs.Prelude.{◌≡◌, ◌≤◌, length, IfOk, IfSome, IfNone, true, false};
+ghost use Rattle.name_service.specs.Grammar.{every, is_name, is_name_byte};
+
+use fabric_terms::OutOfMemory;
+use std::alloc::Global;
+use std::marker::Model;
+
+/// How many bytes a name may have.
+const MOST_NAME: usize = 64;
+
+/// A name: 1 to 64 visible signs of ASCII without the comma. Contracts see it as its bytes.
+#[derive(Drop)]
+pub struct Name {
+    bytes: Vec<u8>,
+}
+
+impl Model for Name {
+    ghost use Rattle.std.specs.Prelude.{◌≡◌, List, ℕ, true};
+    ghost use Rattle.name_service.specs.Grammar.{is_name};
+
+    ghost Value = { List ℕ };
+
+    ghost view = { λ a. a.bytes.items };
+
+    ghost invariant = { λ a. is_name a.bytes.items ≡ true };
+}
+
+fn is_name_byte(b: u8) -> bool
+    ensures { result ≡ is_name_byte b }
+{
+    b'!' <= b && b <= b'~' && b != b','
+}
+
+fn has_name_bytes(bytes: &[u8]) -> bool
+    ensures { result ≡ every is_name_byte bytes.now }
+{
+    for b in bytes {
+        if !is_name_byte(*b) {
+            return false;
+        }
+    }
+    true
+}
+
+/// Whether the bytes are a name.
+pub(crate) fn is_name(bytes: &[u8]) -> bool
+    ensures { result ≡ is_name bytes.now }
+{
+    1 <= bytes.len() && bytes.len() <= MOST_NAME && has_name_bytes(bytes)
+}
+
+impl Name {
+    /// A copy of these bytes; None exactly where they are no name.
+    pub fn read(alloc: Global, bytes: &[u8]) -> Result<Option<Name>, OutOfMemory>
+        ensures some { IfOk result (λ found. IfSome found (λ name. (name ≡ bytes.now) × (is_name bytes.now ≡ true))) }
+        ensures none { IfOk result (λ found. IfNone found (is_name bytes.now ≡ false)) }
+    {
+        if !is_name(bytes) {
+            return Ok(None);
+        }
+        Ok(Some(Name::of(alloc, bytes)?))
+    }
+
+    /// A copy of these bytes, which are a name.
+    pub(crate) fn of(alloc: Global, bytes: &[u8]) -> Result<Name, OutOfMemory>
+        requires { is_name bytes.now ≡ true }
+        ensures { IfOk result (λ name. name ≡ bytes.now) }
+    {
+        Ok(Name {
+            bytes: bytes.to_vec(alloc)?,
+        })
+    }
+
+    /// The same name again.
+    pub fn copy(&self, alloc: Global) -> Result<Name, OutOfMemory>
+        ensures { IfOk result (λ copy. copy ≡ self.now) }
+    {
+        Ok(Name {
+            bytes: self.bytes.as_slice().to_vec(alloc)?,
+        })
+    }
+
+    pub fn as_slice(&self) -> &[u8]
+        ensures bytes { result.now ≡ self.now }
+        ensures name { is_name result.now ≡ true }
+    {
+        self.bytes.as_slice()
+    }
+}

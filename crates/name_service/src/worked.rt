@@ -1,0 +1,11 @@
+ghost use Rattle.name_service.specs.Worked.{PointOfA, PointOfNothing, FiveChanges, NoChanges, ADeletedName, ListedInTheirOrder};
+
+/// Points, changes and lists that are computed.
+pub fn worked_names()
+    ensures point { PointOfA }
+    ensures nothing { PointOfNothing }
+    ensures changes { FiveChanges }
+    ensures none { NoChanges }
+    ensures deleted { ADeletedName }
+    ensures listed { ListedInTheirOrder }
+{}
