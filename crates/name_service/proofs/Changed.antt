@@ -1,8 +1,8 @@
 -- What a call makes of a store.
-use Rattle.std.proofs.Common.{◌≡◌, ℕ, true, false, List, Result, Ok, Err, OnOk, OnErr, drop, refl, ap, sym, subst, ◌∙◌}
+use Rattle.std.proofs.Common.{◌≡◌, ℕ, true, false, List, Result, Ok, Err, OnOk, OnErr, drop, ap, sym, subst, ◌∙◌}
 use Rattle.std.specs.List.{insert, remove, slice_index_or, slice_set}
 use Rattle.std.specs.FinMap as finite
-use Rattle.std.specs.FinMap.{entries, is_sorted}
+use Rattle.std.specs.FinMap.{is_sorted}
 use Rattle.name_service.specs.Names.{name_cmp, point_of}
 use Rattle.name_service.specs.Stores.{IsStore, Rows, count_before, is_name_at, map_of}
 use Rattle.name_service.proofs.Stored.{column, column-insert, column-remove, column-set, entries-put, inserted, left, name_there, removed, replaced, rises, rises-without, same_map, without_is}

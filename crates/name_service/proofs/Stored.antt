@@ -1,7 +1,7 @@
 -- What the calls of a store make of its rows, and that these are the map's.
 use Rattle.std.proofs.Common.{◌≡◌, ◌≢◌, ◌<◌, ◌≤◌, ℕ, zero, suc, Bool, not, true, false, cond, List, [], ◌∷◌, ◌++◌, take, drop, filter, map, length, Option, Some, None, T, arith, refl, ap, sym, subst, ◌∙◌}
 use Rattle.std.proofs.lemmas.Bool.{both_ways}
-use Rattle.std.proofs.lemmas.List.{take-append-drop, take-map, drop-map, map-append}
+use Rattle.std.proofs.lemmas.List.{take-append-drop}
 use Rattle.std.specs.List.{insert, remove, slice_index_or, slice_set}
 use Rattle.std.specs.FinMap.{entries, entries_sorted, entries-from_sorted, entries-insert, find, get-from_sorted, get-remove, is_sorted, put, same_entries_map}
 use Rattle.std.specs.FinMap as finite
@@ -12,7 +12,7 @@ use Rattle.std.specs.declared.cmp.Ordering.{Ordering}
 use Rattle.std.specs.declared.cmp.Ordering.TheVariants.{Less, Equal, Greater}
 use Rattle.ring_points.specs.declared.interval.Interval.{Interval}
 use Rattle.name_service.specs.Names.{NameMap, is_within, name_cmp, name_list, point_of}
-use Rattle.name_service.specs.Stores.{IsStore, Rows, count_before, first_names, is_name_at, map_of}
+use Rattle.name_service.specs.Stores.{Rows, count_before, first_names, is_name_at, map_of}
 use Rattle.name_service.proofs.Order.{name_total, one_name}
 use Rattle.name_service.proofs.Places.{below, all_others, others, find_at, found_here, put_at, put_here, where_at, without_here, first, second}
 

@@ -1,5 +1,5 @@
 -- The names that a log leaves, and where they are on the ring.
-use Rattle.std.specs.Prelude.{ℕ, ◌*◌, ◌%◌, ◌^◌, bit_xor, Bool, List, [], ◌∷◌, filter, map, take, Option, Some, None}
+use Rattle.std.specs.Prelude.{ℕ, ◌*◌, ◌%◌, ◌^◌, bit_xor, Bool, List, [], ◌∷◌, filter, take, Option, Some, None}
 use Rattle.std.specs.Cmp.Lexicographic.{slice_cmp}
 use Rattle.std.specs.FinMap.{FinMap, empty, insert, remove, keys}
 use Rattle.std.specs.Ordering.{nat_cmp, ordering_then}

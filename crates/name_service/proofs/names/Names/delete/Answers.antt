@@ -1,6 +1,6 @@
-use Rattle.std.proofs.Common.{◌≡◌, sym, ap, ◌∙◌}
+use Rattle.std.proofs.Common.{sym, ap, ◌∙◌}
 use Rattle.std.specs.FinMap as finite
-use Rattle.name_service.specs.Stores.{count_before, is_name_at, map_of}
+use Rattle.name_service.specs.Stores.{map_of}
 use Rattle.name_service.proofs.Changed.{Becomes, is_deleted, is_left}
 use Rattle.name_service.proofs.names.Names.delete.Goals as goal
 

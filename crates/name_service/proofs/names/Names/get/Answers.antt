@@ -1,7 +1,6 @@
-use Rattle.std.proofs.Common.{◌≡◌, Some, sym, ap, ◌∙◌}
+use Rattle.std.proofs.Common.{Some, sym, ap, ◌∙◌}
 use Rattle.std.specs.FinMap as finite
-use Rattle.name_service.specs.Stores.{count_before, is_name_at, map_of}
-use Rattle.name_service.proofs.Stored.{found_value, not_there, get_is, not_there_at}
+use Rattle.name_service.proofs.Stored.{found_value, get_is, not_there_at}
 use Rattle.name_service.proofs.names.Names.get.Goals as goal
 
 pub returns-then-is_at : goal.returns-then-is_at

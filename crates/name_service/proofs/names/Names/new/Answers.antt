@@ -1,5 +1,5 @@
-use Rattle.std.proofs.Common.{[], refl, ap, ◌∙◌}
-use Rattle.std.specs.FinMap.{empty, from_sorted, entries-from_sorted, same_entries_map}
+use Rattle.std.proofs.Common.{ap, ◌∙◌}
+use Rattle.std.specs.FinMap.{from_sorted}
 use Rattle.name_service.proofs.Stored.{nothing_stored}
 use Rattle.name_service.proofs.names.Names.new.Goals as goal
 
