@@ -1,0 +1,160 @@
+ghost use Rattle.std.specs.Prelude.{◌≡◌, ◌≤◌, IfSome, map, string_bytes};
+ghost use Rattle.command_words.specs.Forms.{arbiter_form, cluster_form, drill_form, form_of, four_words, generate_form, node_form, number_of, one_word, three_words, turns_of, two_words};
+
+use crate::form::Form;
+use text_fields::last_number;
+
+/// The greatest number of a node.
+const LAST_NODE: u64 = 999;
+
+/// The greatest number of an arbitrator.
+const LAST_ARBITER: u64 = 9;
+
+/// How many turns a run has at most.
+const MOST_TURNS: u64 = 1_000_000_000;
+
+/// How many nodes a made schedule has at most.
+const MOST_NODES: u64 = 16;
+
+/// How many rounds a made schedule has at most.
+const MOST_ROUNDS: u64 = 10_000;
+
+/// The number that the word is, where it is one of these.
+fn number_of(least: u64, greatest: u64, word: &str) -> Option<u64>
+    ensures number { result ≡ number_of least greatest word.now }
+    ensures range { IfSome result (λ n. (least ≤ n) × (n ≤ greatest)) }
+{
+    last_number(least, greatest, word.as_bytes()).ok()
+}
+
+fn turns_of(word: &str) -> Option<u64>
+    ensures { result ≡ turns_of word.now }
+{
+    number_of(1, MOST_TURNS, word)
+}
+
+fn node_form(node: &str, turns: &str) -> Option<Form>
+    ensures { result ≡ node_form node.now turns.now }
+{
+    let node = number_of(1, LAST_NODE, node)?;
+    let turns = turns_of(turns)?;
+    Some(Form::Node {
+        node: node as u16,
+        turns,
+    })
+}
+
+fn arbiter_form(arbiter: &str, turns: &str) -> Option<Form>
+    ensures { result ≡ arbiter_form arbiter.now turns.now }
+{
+    let arbiter = number_of(1, LAST_ARBITER, arbiter)?;
+    let turns = turns_of(turns)?;
+    Some(Form::Arbiter {
+        arbiter: arbiter as u8,
+        turns,
+    })
+}
+
+fn cluster_form(turns: &str) -> Option<Form>
+    ensures { result ≡ cluster_form turns.now }
+{
+    let turns = turns_of(turns)?;
+    Some(Form::Cluster { turns })
+}
+
+fn generate_form(seed: &str, nodes: &str, rounds: &str) -> Option<Form>
+    ensures { result ≡ generate_form seed.now nodes.now rounds.now }
+{
+    let seed = number_of(0, u64::MAX, seed)?;
+    let nodes = number_of(1, MOST_NODES, nodes)?;
+    let rounds = number_of(1, MOST_ROUNDS, rounds)?;
+    Some(Form::Generate {
+        seed,
+        nodes: nodes as u16,
+        rounds: rounds as u32,
+    })
+}
+
+fn drill_form(seed: &str, nodes: &str, rounds: &str) -> Option<Form>
+    ensures { result ≡ drill_form seed.now nodes.now rounds.now }
+{
+    let seed = number_of(0, u64::MAX, seed)?;
+    let nodes = number_of(1, MOST_NODES, nodes)?;
+    let rounds = number_of(1, MOST_ROUNDS, rounds)?;
+    Some(Form::Drill {
+        seed,
+        nodes: nodes as u16,
+        rounds: rounds as u32,
+    })
+}
+
+fn one_word(command: &str) -> Option<Form>
+    ensures { result ≡ one_word command.now }
+{
+    if command == "replay" {
+        Some(Form::Replay)
+    } else if command == "writes" {
+        Some(Form::Writes)
+    } else if command == "trace" {
+        Some(Form::Trace)
+    } else if command == "audit" {
+        Some(Form::Audit)
+    } else {
+        None
+    }
+}
+
+fn two_words(command: &str, turns: &str) -> Option<Form>
+    ensures { result ≡ two_words command.now turns.now }
+{
+    if command == "cluster" {
+        cluster_form(turns)
+    } else {
+        None
+    }
+}
+
+fn three_words(command: &str, number: &str, turns: &str) -> Option<Form>
+    ensures { result ≡ three_words command.now number.now turns.now }
+{
+    if command == "node" {
+        node_form(number, turns)
+    } else if command == "arbiter" {
+        arbiter_form(number, turns)
+    } else {
+        None
+    }
+}
+
+fn four_words(command: &str, seed: &str, nodes: &str, rounds: &str) -> Option<Form>
+    ensures { result ≡ four_words command.now seed.now nodes.now rounds.now }
+{
+    if command == "generate" {
+        generate_form(seed, nodes, rounds)
+    } else if command == "drill" {
+        drill_form(seed, nodes, rounds)
+    } else {
+        None
+    }
+}
+
+/// The form that the words are, without the program's name. None exactly where they are none of the forms.
+#[tactic(auto, unfolding(crate::specs::Forms::form_of))]
+pub fn read_form(words: &[String]) -> Option<Form>
+    ensures { result ≡ form_of (map string_bytes words.now) }
+{
+    match words {
+        [command] => one_word(command.as_str()),
+        [command, first] => two_words(command.as_str(), first.as_str()),
+        [command, first, second] => {
+            three_words(command.as_str(), first.as_str(), second.as_str())
+        }
+        [command, first, second, third] => four_words(
+            command.as_str(),
+            first.as_str(),
+            second.as_str(),
+            third.as_str(),
+        ),
+        _ => None,
+    }
+}
