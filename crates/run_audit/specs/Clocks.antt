@@ -1,0 +1,39 @@
+-- The clocks of a moment, as the auditor walks over them.
+use Rattle.std.specs.Prelude.{◌≡◌, ◌≢◌, ℕ, true, false, List, Option, Some, None, Contains}
+use Rattle.ring_points.specs.declared.who.Who.{Who}
+use Rattle.fabric_terms.specs.Runs.{Clocks, Owned, IsBelow, reading_of}
+use Rattle.run_audit.specs.declared.overlap.Holder.{Holder}
+use Rattle.run_audit.specs.declared.owners.Owners.{Owners}
+use Rattle.run_audit.specs.Breaches.{is_below}
+use Rattle.run_audit.specs.Owners.{own_at}
+use Rattle.run_audit.specs.Standing.{HoldsAt}
+
+-- each clock tells the reading of its instance
+abbrev pub EachIsFirst : Clocks → Type 0
+EachIsFirst clocks = (w : Who) (reading : ℕ) → Contains clocks (w, reading) → reading_of w clocks ≡ Some reading
+
+-- w comes after the last, if there is one
+abbrev pub comes_after : Option Who → Who → Type 0
+comes_after None w = Unit {0}
+comes_after (Some last) w = is_below last w ≡ true
+
+-- an instance of these clocks with its present reading, which owned this last and is below its fence
+pub record Owns (owners : Owners) (clocks : Clocks) (w : Who) : Type 0 where
+  pub reading : ℕ
+  pub runs : reading_of w clocks ≡ Some reading
+  pub owned : Owned
+  pub own : own_at w owners ≡ Some owned
+  pub below : IsBelow reading owned.fence
+
+-- h holds what its instance owned last, at the present reading
+pub record HoldsNow (owners : Owners) (clocks : Clocks) (h : Holder) : Type 0 where
+  pub reading : ℕ
+  pub runs : reading_of h.who clocks ≡ Some reading
+  pub holds : HoldsAt owners h.who reading h
+
+-- These are the holders of the walk over the first clocks. One that is not fresh is among those that lived, and is not
+-- the actor.
+pub record AreRows (owners : Owners) (clocks walked : Clocks) (lived : List Who) (actor : Option Who) (hs : List Holder) : Type 0 where
+  pub each : (h : Holder) → Contains hs h → HoldsNow owners clocks h
+  pub all : (w : Who) (reading : ℕ) → Contains walked (w, reading) → Owns owners clocks w → (h : Holder) × Contains hs h × (h.who ≡ w)
+  pub stale : (h : Holder) → Contains hs h → h.fresh ≡ false → Contains lived h.who × (actor ≢ Some h.who)

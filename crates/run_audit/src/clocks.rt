@@ -1,0 +1,40 @@
+// The clocks of a moment.
+ghost use Rattle.std.specs.Prelude.{◌≡◌};
+ghost use Rattle.std.specs.Bool.{OnTrue};
+ghost use Rattle.fabric_terms.specs.Runs.{reading_of};
+ghost use Rattle.run_audit.specs.Clocks.{comes_after, EachIsFirst};
+
+use ring_points::Who;
+
+/// The reading of an instance: that of its first clock.
+pub fn reading_of(who: Who, clocks: &[(Who, u64)]) -> Option<u64>
+    ensures { result ≡ reading_of who clocks.now }
+{
+    clocks
+        .iter()
+        .find(|clock| clock.0 == who)
+        .map(|clock| clock.1)
+}
+
+fn comes_after(last: Option<Who>, who: Who) -> bool
+    ensures { OnTrue result (comes_after last who) }
+{
+    match last {
+        Some(last) => last < who,
+        None => true,
+    }
+}
+
+/// Whether the clocks rise, so that each is the first of its instance.
+pub fn rise(clocks: &[(Who, u64)]) -> bool
+    ensures { OnTrue result (EachIsFirst clocks.now) }
+{
+    let mut last = None;
+    for clock in clocks {
+        if !comes_after(last, clock.0) {
+            return false;
+        }
+        last = Some(clock.0);
+    }
+    true
+}
