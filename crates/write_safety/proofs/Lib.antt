@@ -1,0 +1,5 @@
+pub mod Orders
+pub mod Lookups
+pub mod Finding
+pub mod Committing
+pub mod Lengthening

@@ -1,0 +1,14 @@
+//! Committed writes: the book of them, and the law that they survive.
+//!
+//! A book keeps the committed entries of each partition under each data loss number. Of two reports about the same ones it
+//! keeps the longer list, which begins with the shorter one. That two such lists always agree is a law of every valid run,
+//! which stands here on the laws of epochs; so a book that is fed with every report of a run has exactly its committed
+//! logs. It promises that of each list only what is new is copied, and that a refused call changes nothing.
+#![tactic(auto)]
+
+mod book;
+mod kept;
+mod lines;
+
+pub use book::WriteBook;
+pub use kept::KeptLog;
