@@ -5,17 +5,17 @@ use Rattle.std.proofs.lemmas.List.{take_all}
 use Rattle.sched_text.specs.Lines.{lines_of, onto_first}
 use Rattle.source_lines.proofs.Positions.{position_some, position_none}
 
-abbrev is_feed : ℕ → Bool
+abbrev pub is_feed : ℕ → Bool
 is_feed b = eqb b 10
 
-lines_cut : (b : ℕ) (bs : List ℕ) (t : Bool) → eqb b 10 ≡ t → lines_of (b ∷ bs) ≡ cond t ([] ∷ lines_of bs) (onto_first b (lines_of bs))
+pub lines_cut : (b : ℕ) (bs : List ℕ) (t : Bool) → eqb b 10 ≡ t → lines_of (b ∷ bs) ≡ cond t ([] ∷ lines_of bs) (onto_first b (lines_of bs))
 lines_cut b bs t e = ap (λ v. cond v ([] ∷ lines_of bs) (onto_first b (lines_of bs))) e
 
-feed_step : (t : Bool) (m n : ℕ) → cond (not t) (1 + m) 0 ≡ suc n → (t ≡ false) × (m ≡ n)
+pub feed_step : (t : Bool) (m n : ℕ) → cond (not t) (1 + m) 0 ≡ suc n → (t ≡ false) × (m ≡ n)
 feed_step true m n e = absurd (omega arith)
 feed_step false m n e = (refl, omega arith)
 
-feed_here : (t : Bool) (m : ℕ) → cond (not t) (1 + m) 0 ≡ 0 → t ≡ true
+pub feed_here : (t : Bool) (m : ℕ) → cond (not t) (1 + m) 0 ≡ 0 → t ≡ true
 feed_here true m e = refl
 feed_here false m e = absurd (omega arith)
 

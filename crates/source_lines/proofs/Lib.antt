@@ -1,2 +1,5 @@
 pub mod Positions
 pub mod Cuts
+pub mod Feeds
+pub mod Pieces
+pub mod Taking

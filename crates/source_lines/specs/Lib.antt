@@ -1,1 +1,4 @@
 pub mod Lines
+pub mod Feeds
+pub mod Reading
+pub mod Stops

@@ -7,9 +7,14 @@
 mod cut;
 mod ignored;
 mod limits;
+mod piece;
 mod read;
+mod reader;
+mod taken;
 
 pub use cut::cut_line;
 pub use ignored::is_ignored;
 pub use limits::{MOST_FIRST_LINE, MOST_LINE, MOST_LINES};
 pub use read::read_all;
+pub use reader::LineReader;
+pub use taken::Taken;

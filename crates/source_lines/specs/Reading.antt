@@ -1,0 +1,31 @@
+-- What a reader of lines has taken of its source, and what it takes next.
+use Rattle.std.specs.Prelude.{◌≡◌, ℕ, ◌<◌, ◌≤◌, List, [], ◌∷◌, ◌++◌, length, Option, Some, Result, Ok, Err}
+use Rattle.edge_io.specs.declared.refusal.Failed.{Failed}
+use Rattle.sched_text.specs.Lines.{lines_of}
+use Rattle.source_lines.specs.Feeds.{HasNoFeed}
+use Rattle.source_lines.specs.declared.taken.Taken.{Taken}
+use Rattle.source_lines.specs.declared.taken.Taken.TheVariants.{Line, TooLong, End}
+
+-- the bytes that were read and not yet taken, and the line that was taken last
+pub record Reading : Type 0 where
+  pub waiting : List ℕ
+  pub line : List ℕ
+
+-- the first line of these bytes is longer than so much
+pub record BeginsLonger (most : ℕ) (bytes : List ℕ) : Type 0 where
+  pub line : List ℕ
+  pub others : List (List ℕ)
+  pub cut : lines_of bytes ≡ line ∷ others
+  pub longer : most < length line
+
+-- What is taken of the bytes that were left, and what is left then: the first line, if it is no longer than so much; else
+-- nothing. The end is where nothing was left. A source that failed cost nothing: all whole lines had been taken before.
+abbrev pub Takes : Result Taken Failed → ℕ → List ℕ → Reading → List ℕ → Type 0
+Takes (Ok Line) most left new rest = (lines_of left ≡ new.line ∷ lines_of rest) × (length new.line ≤ most)
+Takes (Ok TooLong) most left new rest = BeginsLonger most left × (rest ≡ left)
+Takes (Ok End) most left new rest = (left ≡ []) × (rest ≡ [])
+Takes (Err failed) most left new rest = HasNoFeed new.waiting × (rest ≡ left)
+
+-- where the source tells: what was left is what waits and what the source has left
+abbrev pub TakesOf : Result Taken Failed → ℕ → Reading → Option (List ℕ) → Reading → Option (List ℕ) → Type 0
+TakesOf result most old before new after = (bytes : List ℕ) → before ≡ Some bytes → (rest : List ℕ) × (after ≡ Some rest) × Takes result most (old.waiting ++ bytes) new (new.waiting ++ rest)

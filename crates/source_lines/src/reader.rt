@@ -1,0 +1,137 @@
+// Lines, cut from the pieces of a source.
+ghost use Rattle.std.specs.Prelude.{◌≡◌, ◌≤◌, ◌==◌, ◌++◌, ℕ, List, [], Some, Ok, IfOk, length, position};
+ghost use Rattle.edge_io.specs.Edge.{HasCause};
+ghost use Rattle.source_lines.specs.Feeds.{HasNoFeed};
+ghost use Rattle.source_lines.specs.Reading.{TakesOf};
+ghost use Rattle.source_lines.specs.Stops.{StopsAt, TakesTo, TakesLast};
+
+use crate::piece::{Stop, first_feed, move_to_front, read_on};
+use crate::taken::Taken;
+use edge_io::{Failed, Source};
+use std::alloc::{AllocError, Global};
+use std::marker::Model;
+
+/// How many bytes of a source stand in the room at most: the longest line, and a piece.
+const ROOM: usize = 81_920;
+
+/// Reads a source line by line: pieces are read into a room that is made once, and lines are cut from it.
+#[derive(Drop)]
+pub struct LineReader {
+    room: Vec<u8>,
+    /// The line that was taken last.
+    from: usize,
+    to: usize,
+    /// What was read and not yet taken.
+    next: usize,
+    end: usize,
+}
+
+impl Model for LineReader {
+    ghost use Rattle.std.specs.Prelude.{◌≡◌, ◌≤◌, ◌-◌, take, drop, length};
+    ghost use Rattle.source_lines.specs.Reading.{Reading};
+
+    ghost Value = { Reading };
+
+    ghost view = { λ r. record { waiting = drop r.next (take r.end r.room.items); line = drop r.from (take r.to r.room.items) } };
+
+    ghost invariant = { λ r. (length r.room.items ≡ 81920) × (r.from ≤ r.to) × (r.to ≤ r.end) × (r.next ≤ r.end) × (r.end ≤ 81920) };
+}
+
+impl LineReader {
+    /// Nothing is read yet.
+    pub fn new(alloc: Global) -> Result<LineReader, AllocError>
+        ensures { IfOk result (λ r. (r.waiting ≡ []) × (r.line ≡ [])) }
+    {
+        Ok(LineReader {
+            room: vec![in alloc; 0u8; ROOM]?,
+            from: 0,
+            to: 0,
+            next: 0,
+            end: 0,
+        })
+    }
+
+    /// The line that was taken last, without its line feed.
+    pub fn line(&self) -> &[u8]
+        ensures { result.now ≡ self.now.line }
+    {
+        &self.room[self.from..self.to]
+    }
+
+    /// What was read and not yet taken.
+    fn waiting(&self) -> &[u8]
+        ensures { result.now ≡ self.now.waiting }
+    {
+        &self.room[self.next..self.end]
+    }
+
+    /// Takes the next line: it is `line` then, unless it has more bytes than `most`. Pieces of the source are read as
+    /// they are wanted. `Failed` comes only where the source's count of faults rose; what was read is not lost.
+    pub fn next<S: Source>(&mut self, source: &mut S, most: usize) -> Result<Taken, Failed>
+        requires { most ≤ 65536 }
+        ensures taken { TakesOf result most self.old (S.left source.old) self.new (S.left source.new) }
+        ensures cause { HasCause (S.faults source.old) (S.faults source.new) result }
+    {
+        match first_feed(self.waiting()) {
+            Some(i) => Ok(self.take_to(i, most)),
+            None => self.read_next(source, most),
+        }
+    }
+
+    /// Takes the line up to the first line feed.
+    fn take_to(&mut self, feed: usize, most: usize) -> Taken
+        requires { position (λ b. b == 10) self.old.waiting ≡ Some feed }
+        ensures { TakesTo result feed most self.old self.new }
+    {
+        if feed > most {
+            return Taken::TooLong;
+        }
+        self.from = self.next;
+        self.to = self.next + feed;
+        self.next = self.to + 1;
+        Taken::Line
+    }
+
+    /// Takes all that waits as the last line.
+    fn take_last(&mut self) -> Taken
+        ensures { TakesLast result self.old self.new }
+    {
+        if self.next == self.end {
+            return Taken::End;
+        }
+        self.from = self.next;
+        self.to = self.end;
+        self.next = self.end;
+        Taken::Line
+    }
+
+    /// Takes the next line where no whole line waits.
+    fn read_next<S: Source>(&mut self, source: &mut S, most: usize) -> Result<Taken, Failed>
+        requires most { most ≤ 65536 }
+        requires no_feed { HasNoFeed self.old.waiting }
+        ensures taken { TakesOf result most self.old (S.left source.old) self.new (S.left source.new) }
+        ensures cause { HasCause (S.faults source.old) (S.faults source.new) result }
+    {
+        match self.read_pieces(source, most)? {
+            Stop::Feed(i) => Ok(self.take_to(i, most)),
+            Stop::Ended => Ok(self.take_last()),
+            Stop::Full => Ok(Taken::TooLong),
+        }
+    }
+
+    /// Reads pieces behind what waits, which has no line feed.
+    fn read_pieces<S: Source>(&mut self, source: &mut S, most: usize) -> Result<Stop, Failed>
+        requires most { most ≤ 65536 }
+        requires no_feed { HasNoFeed self.old.waiting }
+        ensures bytes { (bytes : List ℕ) → S.left source.old ≡ Some bytes → (rest : List ℕ) × (S.left source.new ≡ Some rest) × (self.new.waiting ++ rest ≡ self.old.waiting ++ bytes) × (result ≡ Ok Stop.Ended → rest ≡ []) }
+        ensures stop { StopsAt result most self.new.waiting }
+        ensures cause { HasCause (S.faults source.old) (S.faults source.new) result }
+    {
+        move_to_front(self.room.as_mut_slice(), self.next, self.end);
+        self.end -= self.next;
+        self.next = 0;
+        self.from = 0;
+        self.to = 0;
+        read_on(source, self.room.as_mut_slice(), &mut self.end, most)
+    }
+}
