@@ -5,8 +5,12 @@
 #![tactic(auto)]
 
 #[cfg(test)]
-mod devices;
-#[cfg(test)]
 mod fakes;
 #[cfg(test)]
+mod folders;
+#[cfg(test)]
 mod in_memory;
+#[cfg(test)]
+mod machines;
+#[cfg(test)]
+mod sockets;

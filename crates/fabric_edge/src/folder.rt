@@ -9,8 +9,9 @@ use std::{fs, io};
 /// The name of the folder, under the current folder.
 const FOLDER: &str = "kept";
 
-/// The files of records, one for each actor. A file stays open from its first use on, and is closed where
+/// The files of records, one for each actor. A file stays open from its first append on, and is closed where
 /// an append fails: before the next it is opened anew, and what is no whole record at its end is cut off.
+/// Reading changes nothing, so a process that was started by mistake leaves the records as they are.
 #[derive(Drop)]
 pub struct Folder<'a, R: Files> {
     rt: &'a R,
@@ -31,11 +32,13 @@ impl<'a, R: Files> Folder<'a, R> {
 }
 
 impl<R: Files> Folder<'_, R> {
-    /// Opens the file of an actor, and gives its records.
-    pub fn read(&mut self, actor: u16) -> io::Result<Vec<Vec<u8>>> {
-        let (file, records) = open(self.rt, self.alloc, actor)?;
-        self.files.insert(actor, file)?;
-        Ok(records)
+    /// The records in the file of an actor; none where it has no file.
+    pub fn read(&self, actor: u16) -> io::Result<Vec<Vec<u8>>> {
+        match File::open(self.rt, path_of(self.alloc, actor)?) {
+            Ok(mut file) => Ok(records_in(self.alloc, &bytes_of(self.alloc, &mut file)?)?.0),
+            Err(error) if error.kind() == ErrorKind::NotFound => Ok(Vec::new(self.alloc)),
+            Err(error) => Err(error),
+        }
     }
 
     /// Appends a record to the file of an actor, by one write and one sync.
@@ -45,7 +48,8 @@ impl<R: Files> Folder<'_, R> {
         };
         frame(&mut self.framed, bytes, count)?;
         if !self.files.contains_key(&actor) {
-            self.read(actor)?;
+            let file = open(self.rt, self.alloc, actor)?;
+            self.files.insert(actor, file)?;
         }
         let Some(file) = self.files.get_mut(&actor) else {
             return Err(io::Error::from(ErrorKind::NotFound));
@@ -72,24 +76,35 @@ fn make_folder<R: Files>(rt: &R) -> io::Result<()> {
     }
 }
 
-/// Opens the file of an actor to append to it, and gives its records. What stands behind them is cut off.
-fn open<R: Files>(rt: &R, alloc: Global, actor: u16) -> io::Result<(R::File, Vec<Vec<u8>>)> {
+/// The path of an actor's file.
+fn path_of(alloc: Global, actor: u16) -> io::Result<String> {
+    Ok(format!(in alloc; "{FOLDER}/{actor}")?)
+}
+
+/// All bytes of a file.
+fn bytes_of<F: Read>(alloc: Global, file: &mut F) -> io::Result<Vec<u8>> {
+    let mut bytes = Vec::new(alloc);
+    file.read_to_end(&mut bytes)?;
+    Ok(bytes)
+}
+
+/// Opens the file of an actor to append to it, and makes it where it is missing. What stands behind its
+/// records is cut off.
+fn open<R: Files>(rt: &R, alloc: Global, actor: u16) -> io::Result<R::File> {
     make_folder(rt)?;
-    let path = format!(in alloc; "{FOLDER}/{actor}")?;
     let mut file = OpenOptions::new()
         .read(true)
         .append(true)
         .create(true)
-        .open(rt, path)?;
+        .open(rt, path_of(alloc, actor)?)?;
     sync_folder(rt, FOLDER)?;
-    let mut bytes = Vec::new(alloc);
-    file.read_to_end(&mut bytes)?;
-    let (records, end) = records_in(alloc, &bytes)?;
+    let bytes = bytes_of(alloc, &mut file)?;
+    let (_, end) = records_in(alloc, &bytes)?;
     if end < bytes.len() {
         file.set_len(end as u64)?;
         file.sync_data()?;
     }
-    Ok((file, records))
+    Ok(file)
 }
 
 /// Appends the bytes, and waits until they are kept for good.

@@ -7,9 +7,10 @@ use std::alloc::Global;
 use std::marker::Model;
 use std::rt::Files;
 
-/// Records in files: those of an actor in `kept/<actor>`, under the current folder, which is made where it
-/// is missing. Per record the file holds its length in two bytes, big-endian, then the record. What is no
-/// whole record at the end of a file is cut off where the list is read, since no append of it answered Ok.
+/// Records in files: those of an actor in `kept/<actor>`, under the current folder. Per record the file holds
+/// its length in two bytes, big-endian, then the record. Folder and file are made at the first append where
+/// they are missing. What is no whole record at the end of a file is left out where the list is read, and cut
+/// off before the first append, since no append of it answered Ok.
 #[derive(Drop)]
 pub struct FolderKeeper<'a, R: Files> {
     folder: Folder<'a, R>,

@@ -11,6 +11,7 @@ mod failures;
 mod folder;
 mod folder_keeper;
 mod mono_clock;
+mod pace;
 mod record_file;
 mod stdin_source;
 mod stdout_sink;

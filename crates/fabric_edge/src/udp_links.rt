@@ -2,17 +2,14 @@ ghost use Rattle.std.specs.Prelude.{◌≡◌, ◌==◌, ◌≤◌, [], length, 
 ghost use Rattle.edge_io.specs.Arrivals.{IsListening};
 
 use crate::failures::Failures;
+use crate::pace::{MOST_RESTS, Pace};
 use edge_io::{EdgeRefusal, Endpoint, Failed, Links, SocketAddress};
 use std::alloc::{AllocError, Global};
 use std::io;
 use std::io::ErrorKind;
 use std::marker::Model;
 use std::net::{Net, UdpSocket};
-use std::time::Duration;
-
-/// How long a receive waits for a datagram, in milliseconds. A machine rounds it up to its own grain, and
-/// the wait is to be 10 ms at most.
-const WAIT: u64 = 4;
+use std::rt::Clock;
 
 /// An endpoint, and the socket that is bound to it.
 #[derive(Drop)]
@@ -23,19 +20,23 @@ struct OpenSocket {
 
 /// Datagrams over UDP. An endpoint is a bound socket.
 ///
-/// A receive waits at most 10 ms, and only where each of the last receives, as many as there are endpoints,
-/// found nothing. So a process of many actors waits once in a round in which nothing arrived, and not at
-/// all in another.
+/// A receive of the first actor, whose endpoint was opened first, says that nothing has come only once 5 ms
+/// have passed since it last said so. Meanwhile it takes what comes, within about a millisecond. That of
+/// another actor answers at once. So a turn of a process lasts 5 ms, however many actors it has, unless more
+/// than a turn's datagrams come; a call lasts 10 ms at most.
+///
+/// An empty datagram is one too. Of one that is longer than the buffer only the front is kept, which is
+/// longer than any frame, so it is not taken for one.
 #[derive(Drop)]
-pub struct UdpLinks<'a, R: Net> {
+pub struct UdpLinks<'a, R: Net + Clock> {
     rt: &'a R,
     alloc: Global,
     sockets: Vec<OpenSocket>,
-    quiet: usize,
+    pace: Pace<'a, R>,
     failures: Failures,
 }
 
-impl<'a, R: Net> Model for UdpLinks<'a, R> {
+impl<'a, R: Net + Clock> Model for UdpLinks<'a, R> {
     ghost use Rattle.std.specs.Prelude.{map};
     ghost use Rattle.fabric_edge.specs.Told.{ToldByLinks};
 
@@ -44,7 +45,7 @@ impl<'a, R: Net> Model for UdpLinks<'a, R> {
     ghost view = { λ a. record { opened = map (λ o. o.endpoint) a.sockets.items; faults = a.failures } };
 }
 
-impl<'a, R: Net> UdpLinks<'a, R> {
+impl<'a, R: Net + Clock> UdpLinks<'a, R> {
     /// No endpoint is open.
     pub fn new(rt: &'a R, alloc: Global) -> Self
         ensures { result ≡ record { opened = []; faults = 0 } }
@@ -53,7 +54,7 @@ impl<'a, R: Net> UdpLinks<'a, R> {
             rt,
             alloc,
             sockets: Vec::new(alloc),
-            quiet: 0,
+            pace: Pace::new(rt),
             failures: Failures::none(),
         }
     }
@@ -62,7 +63,6 @@ impl<'a, R: Net> UdpLinks<'a, R> {
 /// A socket that is bound to the address. It does not wait.
 fn bind<R: Net>(rt: &R, at: &str) -> io::Result<UdpSocket> {
     let socket = UdpSocket::bind(rt, at)?;
-    socket.set_read_timeout(Some(Duration::from_millis(WAIT)))?;
     socket.set_nonblocking(true)?;
     Ok(socket)
 }
@@ -82,21 +82,36 @@ fn socket_of(sockets: &[OpenSocket], actor: u16) -> &UdpSocket
 }
 
 /// The next datagram of the socket; None where none is there.
-fn next_datagram(socket: &UdpSocket, into: &mut [u8], waits: bool) -> io::Result<Option<usize>>
+fn next_datagram(socket: &UdpSocket, into: &mut [u8]) -> io::Result<Option<usize>>
     ensures { IfOk result (λ answer. IfSome answer (λ n. n ≤ length into.old)) }
 {
-    if waits {
-        socket.set_nonblocking(false)?;
-    }
-    let got = socket.recv(into);
-    if waits {
-        socket.set_nonblocking(true)?;
-    }
-    match got {
+    match socket.recv(into) {
         Ok(count) => Ok(Some(count)),
         Err(error) if is_quiet(error.kind()) => Ok(None),
         Err(error) => Err(error),
     }
+}
+
+/// The next datagram of the socket that comes before the turn is over. A socket that fails is asked again,
+/// so that a broken one does not keep the machine busy.
+fn awaited<R: Clock>(
+    pace: &mut Pace<'_, R>,
+    socket: &UdpSocket,
+    into: &mut [u8],
+) -> io::Result<Option<usize>>
+    ensures { IfOk result (λ answer. IfSome answer (λ n. n ≤ length into.old)) }
+{
+    let mut found = next_datagram(socket, into);
+    for _ in 0..MOST_RESTS {
+        if matches!(found, Ok(Some(_))) || !pace.rests() {
+            break;
+        }
+        found = next_datagram(socket, into);
+    }
+    if !matches!(found, Ok(Some(_))) {
+        pace.begin();
+    }
+    found
 }
 
 /// Whether the error says that nothing arrived.
@@ -116,7 +131,7 @@ fn open_at(alloc: Global, actor: u16, at: &str, socket: UdpSocket) -> Result<Ope
     Ok(OpenSocket { endpoint, socket })
 }
 
-impl<R: Net> Links for UdpLinks<'_, R> {
+impl<R: Net + Clock> Links for UdpLinks<'_, R> {
     ghost use Rattle.std.specs.Prelude.{None};
 
     ghost opened = { λ l. l.opened };
@@ -149,20 +164,14 @@ impl<R: Net> Links for UdpLinks<'_, R> {
     }
 
     fn receive(&mut self, actor: u16, into: &mut [u8; 1500]) -> Result<Option<usize>, Failed> {
-        let waits = self.quiet >= self.sockets.len();
-        match next_datagram(socket_of(&self.sockets, actor), into, waits) {
-            Ok(Some(count)) => {
-                self.quiet = 0;
-                Ok(Some(count))
-            }
-            Ok(None) => {
-                self.quiet = if waits {
-                    1
-                } else {
-                    self.quiet.saturating_add(1)
-                };
-                Ok(None)
-            }
+        let socket = socket_of(&self.sockets, actor);
+        let found = if place_of(&self.sockets, actor) == Some(0) {
+            awaited(&mut self.pace, socket, into)
+        } else {
+            next_datagram(socket, into)
+        };
+        match found {
+            Ok(answer) => Ok(answer),
             Err(_) => {
                 self.failures.add();
                 Err(Failed)
