@@ -61,12 +61,12 @@ seen_at {a} k (e ∷ es) = by_key (e.0 == k) (seen_at k es)
     by_key false later = later
 
 -- the node that runs
-record RunsAs {a : Upper} (w : World a) (n : ℕ) (s : NodeState a) : Type 0 where
+pub record RunsAs {a : Upper} (w : World a) (n : ℕ) (s : NodeState a) : Type 0 where
   pub state : Running a
   pub here : at n w.nodes ≡ Some state
   pub same : state.node ≡ s
 
-runs_as : {a : Upper} (p : Cluster a) (w : World a) (n : ℕ) (s : NodeState a) → Mirrors {a = a} p w → at n p.nodes ≡ Some s → RunsAs {a = a} w n s
+pub runs_as : {a : Upper} (p : Cluster a) (w : World a) (n : ℕ) (s : NodeState a) → Mirrors {a = a} p w → at n p.nodes ≡ Some s → RunsAs {a = a} w n s
 runs_as {a} p w n s m h = by_state (at n w.nodes) refl
   where
     there : option_map (λ (r : Running a). r.node) (at n w.nodes) ≡ Some s
@@ -77,7 +77,7 @@ runs_as {a} p w n s m h = by_state (at n w.nodes) refl
     by_state (Some r) e = let f : Some r.node ≡ Some s = sym (ap (option_map (λ (x : Running a). x.node)) e)
         ∙ there in record { state = r; here = e; same = cc }
 
-none_runs : {a : Upper} (p : Cluster a) (w : World a) (n : ℕ) → Mirrors {a = a} p w → at n p.nodes ≡ None → is_some (at n w.nodes) ≡ false
+pub none_runs : {a : Upper} (p : Cluster a) (w : World a) (n : ℕ) → Mirrors {a = a} p w → at n p.nodes ≡ None → is_some (at n w.nodes) ≡ false
 none_runs {a} p w n m h = by_state (at n w.nodes) refl
   where
     there : option_map (λ (r : Running a). r.node) (at n w.nodes) ≡ None
@@ -171,7 +171,7 @@ tick_may {a} is_frame c p w u m h =
 
 -- What is seen after a step of each kind.
 
-kept_same : {a : Upper} (p : Cluster a) (w : World a) (n : ℕ) → Mirrors {a = a} p w → kept_of w n ≡ kept_by p n
+pub kept_same : {a : Upper} (p : Cluster a) (w : World a) (n : ℕ) → Mirrors {a = a} p w → kept_of w n ≡ kept_by p n
 kept_same p w n m = ap (λ (ks : List (ℕ × List Record)). unwrap_or (at n ks) []) m.kept
 
 pub fire_mirrors : {a : Upper} (c : FabricConfig) (p : Cluster a) (w : World a) (n : ℕ) (s : NodeState a) → Mirrors {a = a} p w → at n p.nodes ≡ Some s →
@@ -197,7 +197,7 @@ pub begin_mirrors : {a : Upper} (c : FabricConfig) (p : Cluster a) (w : World a)
     Mirrors {a = a} (comes a c p (Begins n u)) (world_step a c (world_step a c w (tick_to p u)).world (event.Start n (Some u))).world
 begin_mirrors {a} c p w n u m h = start_mirrors c (record p { time = u }) (world_step a c w (tick_to p u)).world n u (tick_mirrors c p w u m h) refl
 
-number_of : (m : ℕ) → arbiter_number (arbiter_actor m) ≡ m
+pub number_of : (m : ℕ) → arbiter_number (arbiter_actor m) ≡ m
 number_of m = omega arith
 
 pub stand_mirrors : {a : Upper} (c : FabricConfig) (p : Cluster a) (w : World a) (n : ℕ) → Mirrors {a = a} p w →
@@ -217,7 +217,7 @@ stand_mirrors {a} c p w n m = record {
 }
 
 -- a frame that comes
-frame_same : {a : Upper} (p : Cluster a) (w : World a) (k : ℕ) → Mirrors {a = a} p w → frame_in w k ≡ frame_of p k
+pub frame_same : {a : Upper} (p : Cluster a) (w : World a) (k : ℕ) → Mirrors {a = a} p w → frame_in w k ≡ frame_of p k
 frame_same p w k m = ap (λ (fs : List Message). slice_get fs (w.count - k)) m.frames ∙ ap (λ (n : ℕ). slice_get p.frames (n - k)) m.count
 
 node_hears : {a : Upper} (c : FabricConfig) (p : Cluster a) (w : World a) (f : Message) (o : Option (NodeState a)) → at f.to.actor p.nodes ≡ o →

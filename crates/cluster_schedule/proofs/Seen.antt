@@ -8,11 +8,11 @@ use Rattle.fabric_terms.specs.TakeOvers.{TakenAfterLeave, was_taken_over}
 use Rattle.cluster_schedule.specs.Steps.{is_step, steps_of}
 
 -- the moment and the rest, or the rest alone
-abbrev kept_if : Moment → Run → Bool → Run
+abbrev pub kept_if : Moment → Run → Bool → Run
 kept_if m rest true = m ∷ rest
 kept_if m rest false = rest
 
-steps_more : (m : Moment) (ms : Run) → steps_of (m ∷ ms) ≡ kept_if m (steps_of ms) (is_step m)
+pub steps_more : (m : Moment) (ms : Run) → steps_of (m ∷ ms) ≡ kept_if m (steps_of ms) (is_step m)
 steps_more m ms = by_test (is_step m)
   where
     by_test : (b : Bool) → (if b then m ∷ steps_of ms else steps_of ms) ≡ kept_if m (steps_of ms) b
@@ -31,7 +31,7 @@ told_kept : (m : Moment) (rest : Run) (o : Option Entry) → m.entry ≡ o → t
 told_kept m rest None e = sym (ap (λ (x : Option Entry). told_in x (told rest)) e)
 told_kept m rest (Some x) e = refl
 
-told_steps : (run : Run) → told (steps_of run) ≡ told run
+pub told_steps : (run : Run) → told (steps_of run) ≡ told run
 told_steps [] = refl
 told_steps (m ∷ ms) = ap told (steps_more m ms) ∙ told_kept m (steps_of ms) m.entry refl ∙ ap (told_in m.entry) (told_steps ms)
 

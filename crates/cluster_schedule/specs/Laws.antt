@@ -7,6 +7,7 @@ use Rattle.fabric_terms.specs.TakeOvers.{TakenAfterLeave}
 use Rattle.world_rules.specs.Runs.{world_after, run_of}
 use Rattle.world_rules.specs.Schedules.{Valid}
 use Rattle.world_rules.specs.Uppers.{Upper}
+use Rattle.cluster_schedule.specs.Moments.{moments}
 use Rattle.cluster_schedule.specs.Steps.{steps_of}
 use Rattle.cluster_schedule.specs.Events.{Comes, IsCluster, cluster_after, events_of}
 
@@ -19,6 +20,8 @@ pub record IsSchedule (a : Upper) (c : FabricConfig) (xs : List Comes) : Type 0 
   pub arbiters : (world_after a c (events_of a c xs)).arbiters ≡ (cluster_after a c xs).arbiters
   pub frames : (world_after a c (events_of a c xs)).frames ≡ (cluster_after a c xs).frames
   pub kept : (world_after a c (events_of a c xs)).kept ≡ (cluster_after a c xs).kept
+  -- its moments of steps are the cluster's steps, by the cluster's clock
+  pub steps : steps_of (run_of a c (events_of a c xs)) ≡ moments a c xs
   pub ring : RingSafe (run_of a c (events_of a c xs))
   pub taken : TakenAfterLeave (run_of a c (events_of a c xs))
   -- the same of the moments of steps alone
