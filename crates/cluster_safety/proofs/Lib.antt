@@ -1,0 +1,10 @@
+mod Runs
+mod Members
+mod Joined
+mod NodeSteps
+mod ArbiterSteps
+mod Starts
+mod Acts
+mod Places
+mod Whole
+mod Safe
