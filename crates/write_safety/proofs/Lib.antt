@@ -3,3 +3,9 @@ pub mod Lookups
 pub mod Finding
 pub mod Committing
 pub mod Lengthening
+pub mod Growing
+pub mod Agreeing
+pub mod Reporting
+pub mod Agreed
+pub mod Feeding
+pub mod Standing
