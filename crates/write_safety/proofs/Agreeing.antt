@@ -55,9 +55,9 @@ module _ {c : Settings} {w : World} (inv : Invariant c w) (sound : IsSound c) wh
           ⊎_elim
           (λ lt. agree_trans (later t s lt plans) (agree_sym own))
           (λ ge. ⊎_elim
-              (λ lt.
-              let base : Agree k n (whole w.written t.plan) = fewer le (later s t lt (sym plans)) in
-              agree_trans (agree_prefix k t.within t.enough) (agree_sym base))
-              (λ le. agree_trans (same t s (omega arith)) (agree_sym own))
-              (cases_lt s.plan.epoch t.plan.epoch))
+          (λ lt.
+          let base : Agree k n (whole w.written t.plan) = fewer le (later s t lt (sym plans)) in
+          agree_trans (agree_prefix k t.within t.enough) (agree_sym base))
+          (λ le. agree_trans (same t s (omega arith)) (agree_sym own))
+          (cases_lt s.plan.epoch t.plan.epoch))
           (cases_lt t.plan.epoch s.plan.epoch)

@@ -149,10 +149,10 @@ module _ (is_frame : List ℕ → Bool) (c : FabricConfig) (h : History) (sound 
         let f = feeds so_far logs book r has (agrees_with r refl) in (
           f.0,
           λ new by p d.
-          f.1 new by p d
-          ∙ ap longest
-          (append_assoc (commits_of c earlier p d) (commits_among p d (logs p) before) (commits_among p d (logs p) (r ∷ []))
-          ∙ ap (λ ks. commits_of c earlier p d ++ ks) (sym (among_join p d (logs p) before (r ∷ [])))),
+              f.1 new by p d
+              ∙ ap longest
+              (append_assoc (commits_of c earlier p d) (commits_among p d (logs p) before) (commits_among p d (logs p) (r ∷ []))
+              ∙ ap (λ ks. commits_of c earlier p d ++ ks) (sym (among_join p d (logs p) before (r ∷ [])))),
         )
 
   -- all reports of what an actor did in the last event

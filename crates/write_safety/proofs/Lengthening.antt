@@ -19,11 +19,6 @@ module _ (p d : ℕ) (committed : List Entry) (old : List KeptLog) (place : ℕ)
       at_commits p d committed old place here m (ok ∙ ap (λ (k : KeptLog). with_entries (longer committed k.entries) k) same)
   lengthened_commits (Err e) ok = ok
 
-  pub lengthened_rises : {E : Type 0} (r : Result (Unit {0}) E) → OnOk r (m ≡ with_entries (longer committed l.entries) l) → OnErr r (m ≡ l) →
-      logs_rise old ≡ true → logs_rise (set old place m) ≡ true
-  lengthened_rises (Ok x) ok err rise =
-      at_rises p d committed old place here m (ap (λ (k : KeptLog). k.partition) ok ∙ ap (λ (k : KeptLog). k.partition) same)
-      (ap (λ (k : KeptLog). k.data_loss) ok ∙ ap (λ (k : KeptLog). k.data_loss) same) rise
-  lengthened_rises (Err e) ok err rise =
-      at_rises p d committed old place here m (ap (λ (k : KeptLog). k.partition) err ∙ ap (λ (k : KeptLog). k.partition) same)
-      (ap (λ (k : KeptLog). k.data_loss) err ∙ ap (λ (k : KeptLog). k.data_loss) same) rise
+  pub lengthened_rises : m.partition ≡ l.partition → m.data_loss ≡ l.data_loss → logs_rise old ≡ true → logs_rise (set old place m) ≡ true
+  lengthened_rises same_p same_d rise =
+      at_rises p d committed old place here m (same_p ∙ ap (λ (k : KeptLog). k.partition) same) (same_d ∙ ap (λ (k : KeptLog). k.data_loss) same) rise

@@ -30,6 +30,17 @@ impl Model for WriteBook {
     ghost invariant = { λ a. IsTrue (logs_rise a.logs.items) };
 }
 
+/// The first entries of a log, so many, or all where it has fewer.
+fn front_of(log: &[Entry], lsn: u32) -> &[Entry]
+    ensures { result.now ≡ take lsn log.now }
+{
+    if (lsn as usize) < log.len() {
+        &log[..lsn as usize]
+    } else {
+        log
+    }
+}
+
 impl WriteBook {
     /// Nothing is committed yet. The book grows by this allocator.
     pub fn new(alloc: Global) -> WriteBook
@@ -76,7 +87,21 @@ impl WriteBook {
         ensures ok { OnOk result (Commits partition epoch.data_loss (take lsn log.now) self.old self.new) }
         ensures refused { OnErr result (self.new ≡ self.old) }
     {
-        let committed = &log[..lsn as usize];
+        self.offer(partition, epoch, lsn, log)
+    }
+
+    /// The same for a caller that knows of no agreement: what `commit` promises holds where the two agree.
+    pub fn offer(
+        &mut self,
+        partition: u16,
+        epoch: Epoch,
+        lsn: u32,
+        log: &[Entry],
+    ) -> Result<(), OutOfMemory>
+        ensures ok { Agree (take lsn log.now) (entries_of partition epoch.data_loss self.old) → OnOk result (Commits partition epoch.data_loss (take lsn log.now) self.old self.new) }
+        ensures refused { OnErr result (self.new ≡ self.old) }
+    {
+        let committed = front_of(log, lsn);
         match self.find(partition, epoch.data_loss) {
             Ok(place) => self.logs[place].lengthen(self.alloc, committed),
             Err(place) => self.begin(place, partition, epoch.data_loss, committed),

@@ -87,11 +87,13 @@ impl KeptLog {
         self.partition == partition && self.data_loss == data_loss
     }
 
-    /// Keeps these entries, with which the kept ones agree, where they are more: what is kept already stays where it
-    /// is, and only the further entries are copied. It is an error where memory is short, and then nothing is changed.
+    /// Keeps these entries where they are more than the kept ones: what is kept already stays where it is, and only the
+    /// further entries are copied, so that all are kept where the two agree. It is an error where memory is short, and then
+    /// nothing is changed.
     pub(crate) fn lengthen(&mut self, alloc: Global, committed: &[Entry]) -> Result<(), OutOfMemory>
-        requires { Agree committed.now self.old.entries }
-        ensures ok { OnOk result (self.new ≡ with_entries (longer committed.now self.old.entries) self.old) }
+        ensures ok { Agree committed.now self.old.entries → OnOk result (self.new ≡ with_entries (longer committed.now self.old.entries) self.old) }
+        ensures partition { self.new.partition ≡ self.old.partition }
+        ensures data_loss { self.new.data_loss ≡ self.old.data_loss }
         ensures refused { OnErr result (self.new ≡ self.old) }
     {
         let before = self.entries.len();
