@@ -1,0 +1,4 @@
+pub mod Crews
+pub mod Judging
+pub mod Planning
+pub mod Runs

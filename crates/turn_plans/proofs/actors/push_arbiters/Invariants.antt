@@ -1,0 +1,6 @@
+use Rattle.std.proofs.Common.{◌≡◌, ◌++◌}
+use Rattle.turn_plans.specs.Crews.{arbiters_to}
+use Rattle.turn_plans.proofs.actors.push_arbiters.Given as goal
+
+abbrev pub invariant-loop-number : goal.invariant-loop-number
+invariant-loop-number l = l.into.items ≡ l.fn.into.items ++ arbiters_to l.config l.number

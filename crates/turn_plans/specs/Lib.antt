@@ -1,0 +1,4 @@
+pub mod Crews
+pub mod Bids
+pub mod Verdicts
+pub mod Plans

@@ -1,0 +1,151 @@
+// The actors of a run, in the order of their turns.
+ghost use Rattle.std.specs.Prelude.{◌≡◌, ◌≤◌, ◌==◌, ◌++◌, ◌∷◌, [], IfOk, OnOk, find, option_map};
+ghost use Rattle.turn_plans.specs.Crews.{arbiter_at, arbiters_to, endpoints_of, listener, node_at, nodes_to};
+
+use crate::crew::Crew;
+use edge_io::{Endpoint, SocketAddress};
+use fabric_terms::{Address, FabricConfig, NodeEntry, OutOfMemory};
+use ring_points::{ARBITRATORS, LAST_NODE};
+use std::alloc::Global;
+
+/// The greatest number of an arbitrator.
+const LAST_ARBITER: u16 = 9;
+
+/// Adds an actor, and where it listens.
+fn push_endpoint(
+    alloc: Global,
+    actor: u16,
+    at: &str,
+    into: &mut Vec<Endpoint>,
+) -> Result<(), OutOfMemory>
+    ensures { OnOk result (into.new.items ≡ into.old.items ++ record { actor = actor; at = at.now } ∷ []) }
+{
+    let at = SocketAddress::new(String::from_str(alloc, at)?);
+    into.push(Endpoint { actor, at })?;
+    Ok(())
+}
+
+fn node_entry(nodes: &[NodeEntry], number: u16) -> Option<&NodeEntry>
+    ensures { option_map (λ e. e.now) result ≡ find (λ e. e.node == number) nodes.now }
+{
+    nodes.iter().find(|e| e.node == number)
+}
+
+fn arbiter_entry(arbiters: &[(u16, Address)], number: u16) -> Option<&(u16, Address)>
+    ensures { option_map (λ a. a.now) result ≡ find (λ a. a.0 == number) arbiters.now }
+{
+    arbiters.iter().find(|a| a.0 == number)
+}
+
+/// Where the node of a number listens, if it is configured.
+fn node_address(config: &FabricConfig, number: u16) -> Option<&str>
+    ensures { option_map (λ at. at.now) result ≡ option_map (λ e. e.at) (find (λ e. e.node == number) config.now.nodes) }
+{
+    match node_entry(config.nodes.as_slice(), number) {
+        None => None,
+        Some(entry) => Some(entry.at.as_str()),
+    }
+}
+
+/// Where the arbitrator of a number listens, if it is configured.
+fn arbiter_address(config: &FabricConfig, number: u16) -> Option<&str>
+    ensures { option_map (λ at. at.now) result ≡ option_map (λ a. a.1) (find (λ a. a.0 == number) config.now.arbiters) }
+{
+    match arbiter_entry(config.arbiters.as_slice(), number) {
+        None => None,
+        Some(entry) => Some(entry.1.as_str()),
+    }
+}
+
+/// Adds an actor where it has an address.
+fn push_listener(
+    alloc: Global,
+    actor: u16,
+    at: Option<&str>,
+    into: &mut Vec<Endpoint>,
+) -> Result<(), OutOfMemory>
+    ensures { OnOk result (into.new.items ≡ into.old.items ++ listener actor (option_map (λ at. at.now) at.entry)) }
+{
+    match at {
+        None => Ok(()),
+        Some(at) => push_endpoint(alloc, actor, at, into),
+    }
+}
+
+/// Adds the node of a number.
+fn push_node(
+    alloc: Global,
+    config: &FabricConfig,
+    number: u16,
+    into: &mut Vec<Endpoint>,
+) -> Result<(), OutOfMemory>
+    ensures { OnOk result (into.new.items ≡ into.old.items ++ node_at config.now number) }
+{
+    push_listener(alloc, number, node_address(config, number), into)
+}
+
+/// Adds the arbitrator of a number.
+fn push_arbiter(
+    alloc: Global,
+    config: &FabricConfig,
+    number: u16,
+    into: &mut Vec<Endpoint>,
+) -> Result<(), OutOfMemory>
+    requires { number ≤ 255 }
+    ensures { OnOk result (into.new.items ≡ into.old.items ++ arbiter_at config.now number) }
+{
+    push_listener(
+        alloc,
+        ARBITRATORS + number,
+        arbiter_address(config, number),
+        into,
+    )
+}
+
+/// Adds all nodes, rising.
+fn push_nodes(
+    alloc: Global,
+    config: &FabricConfig,
+    into: &mut Vec<Endpoint>,
+) -> Result<(), OutOfMemory>
+    ensures { OnOk result (into.new.items ≡ into.old.items ++ nodes_to config.now 999) }
+{
+    for number in 0..LAST_NODE {
+        push_node(alloc, config, number + 1, into)?;
+    }
+    Ok(())
+}
+
+/// Adds all arbitrators, rising.
+fn push_arbiters(
+    alloc: Global,
+    config: &FabricConfig,
+    into: &mut Vec<Endpoint>,
+) -> Result<(), OutOfMemory>
+    ensures { OnOk result (into.new.items ≡ into.old.items ++ arbiters_to config.now 9) }
+{
+    for number in 0..LAST_ARBITER {
+        push_arbiter(alloc, config, number + 1, into)?;
+    }
+    Ok(())
+}
+
+/// The actors of a crew, each with where it listens.
+pub(crate) fn endpoints_of(
+    alloc: Global,
+    config: &FabricConfig,
+    crew: Crew,
+) -> Result<Vec<Endpoint>, OutOfMemory>
+    ensures { IfOk result (λ actors. actors.items ≡ endpoints_of config.now crew) }
+{
+    let mut actors = Vec::new(alloc);
+    match crew {
+        Crew::Node(node) => push_node(alloc, config, node, &mut actors)?,
+        Crew::Arbiter(arbiter) => push_arbiter(alloc, config, u16::from(arbiter), &mut actors)?,
+        Crew::Cluster => {
+            push_nodes(alloc, config, &mut actors)?;
+            push_arbiters(alloc, config, &mut actors)?
+        }
+    }
+    Ok(actors)
+}

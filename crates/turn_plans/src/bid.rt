@@ -1,0 +1,73 @@
+// The lines of a source: which node is commanded what, in which turn.
+ghost use Rattle.std.specs.Prelude.{IfOk};
+ghost use Rattle.fabric_terms.specs.Ranges.{FitsCommand};
+ghost use Rattle.text_fields.specs.Fields.{Gives};
+ghost use Rattle.turn_plans.specs.Bids.{bid_of, cluster_bid_of, node_bid_of, run_command_of};
+
+use crate::crew::Crew;
+use fabric_terms::Command;
+use sched_text::{BadLine, read_command};
+use source_commands::is_of_names;
+use text_fields::{node_word, number_word};
+
+/// A command to a node, in a turn.
+#[derive(Drop)]
+pub struct Bid {
+    pub turn: u64,
+    pub node: u16,
+    pub command: Command,
+}
+
+/// The command that the bytes spell. A command about names is none yet.
+fn run_command_of(words: &[u8]) -> Result<Command, BadLine>
+    ensures read { Gives (λ k. k) result (run_command_of words.now) }
+    ensures fits { IfOk result FitsCommand }
+{
+    let command = read_command(words)?;
+    if is_of_names(&command) {
+        return Err(BadLine);
+    }
+    Ok(command)
+}
+
+/// A line of one node: `<turn> <command>`.
+fn node_bid_of(node: u16, least: u64, turns: u64, line: &[u8]) -> Result<Bid, BadLine>
+    ensures read { Gives (λ b. b) result (node_bid_of node least turns line.now) }
+    ensures fits { IfOk result (λ b. FitsCommand b.command) }
+{
+    let (turn, rest) = number_word(least, turns, line)?;
+    let command = run_command_of(rest)?;
+    Ok(Bid {
+        turn,
+        node,
+        command,
+    })
+}
+
+/// A line of a cluster: `<turn> <node> <command>`.
+fn cluster_bid_of(least: u64, turns: u64, line: &[u8]) -> Result<Bid, BadLine>
+    ensures read { Gives (λ b. b) result (cluster_bid_of least turns line.now) }
+    ensures fits { IfOk result (λ b. FitsCommand b.command) }
+{
+    let (turn, rest) = number_word(least, turns, line)?;
+    let (node, rest) = node_word(rest)?;
+    let command = run_command_of(rest)?;
+    Ok(Bid {
+        turn,
+        node,
+        command,
+    })
+}
+
+/// What a line bids, in one of the turns from `least` to `turns`. An arbitrator is bidden nothing.
+#[tactic(auto, unfolding(crate::specs::Bids::bid_of))]
+pub(crate) fn bid_of(crew: Crew, least: u64, turns: u64, line: &[u8]) -> Result<Bid, BadLine>
+    ensures read { Gives (λ b. b) result (bid_of crew least turns line.now) }
+    ensures fits { IfOk result (λ b. FitsCommand b.command) }
+{
+    match crew {
+        Crew::Node(node) => node_bid_of(node, least, turns, line),
+        Crew::Arbiter(_) => Err(BadLine),
+        Crew::Cluster => cluster_bid_of(least, turns, line),
+    }
+}
