@@ -23,4 +23,4 @@ pub use fabric_terms::{
 };
 pub use name::names_are_their_bytes;
 pub use refusal::LineRefusal;
-pub use report::{one_report_spelling, print_report, print_sent, read_report};
+pub use report::{head_at, one_report_spelling, print_report, print_sent, read_report};

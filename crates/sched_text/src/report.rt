@@ -13,7 +13,8 @@ mod unit;
 use crate::bad_line::BadLine;
 use crate::refusal::LineRefusal;
 use fabric_terms::{Head, OutOfMemory, Report};
-use head::{head_at, push_head};
+pub use head::head_at;
+use head::push_head;
 use list::{
     name_list_of, partitions_of, push_name_list, push_resolved, push_units, push_unresolved,
     resolved_of, unresolved_of,

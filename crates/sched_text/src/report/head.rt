@@ -21,7 +21,7 @@ fn has_its_reading(who: Who, reading: Option<u64>) -> bool
     }
 }
 
-/// A head and the blank behind it, and what follows.
+/// A head and the blank behind it, and what follows. `BadLine` exactly where the line does not begin so.
 #[tactic(auto, unfolding(crate::specs::Heads::head_at))]
 pub fn head_at(line: &[u8]) -> Result<(Head, &[u8]), BadLine>
     ensures { Gives (λ x. (x.0, x.1.now)) result (head_at line.now) }
