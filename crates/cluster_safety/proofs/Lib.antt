@@ -7,4 +7,5 @@ mod Starts
 mod Acts
 mod Places
 mod Whole
-mod Safe
+pub mod Safe
+pub mod Recalling

@@ -4,6 +4,7 @@ use Rattle.edge_io.specs.declared.endpoint.Endpoint.{Endpoint}
 use Rattle.fabric_terms.specs.declared.config.FabricConfig.{FabricConfig}
 use Rattle.fabric_terms.specs.declared.message.Message.{Message}
 use Rattle.fabric_terms.specs.declared.record.Record.{Record}
+use Rattle.outside.specs.Told.{Told}
 use Rattle.ring_wire.specs.Kinds.{message_of}
 use Rattle.turn_rules.specs.Happenings.{Comes, Datagram, Hears, History}
 use Rattle.turn_rules.specs.Plans.{Plan, Setting}
@@ -37,6 +38,10 @@ pub record IsClusterPlan (plan : Plan) : Type 0 where
 pub record KeepsNothing (s : Setting) : Type 0 where
   pub each : (place : ℕ) (records : List Record) → slice_get s.kept place ≡ Some records → records ≡ []
   pub whole : length s.kept ≡ length s.plan.actors
+
+-- the keeper tells that it holds no record of any of these actors
+abbrev pub HoldsNothing : List Endpoint → Told → Type 0
+HoldsNothing actors a = (place : ℕ) (e : Endpoint) → slice_get actors place ≡ Some e → a.kept e.actor ≡ Some []
 
 -- bytes are no frame, or equal one of these
 abbrev pub IsOneOf : List Message → Option Message → Type 0

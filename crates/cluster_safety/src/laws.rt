@@ -1,9 +1,14 @@
-ghost use Rattle.cluster_safety.specs.Laws.{ClusterIsSafe, StepsAsMoments};
+ghost use Rattle.cluster_safety.specs.Laws.{ClusterIsSafe, NothingIsRecalled, StepsAsMoments};
 
 /// The steps of a cluster in one process are safe, whatever its devices hand in: in every order that its plan allows, from
 /// empty records, where each frame that it hears equals one that it has sent before.
 pub fn a_cluster_is_safe()
     ensures { ClusterIsSafe }
+{}
+
+/// A run that begins with a keeper that holds no record of its actors begins as this law asks.
+pub fn nothing_is_recalled_from_an_empty_keeper()
+    ensures { NothingIsRecalled }
 {}
 
 /// The moments of two nodes and an arbitrator, as an example that is computed.

@@ -9,4 +9,4 @@
 
 mod laws;
 
-pub use laws::{a_cluster_is_safe, steps_as_moments};
+pub use laws::{a_cluster_is_safe, nothing_is_recalled_from_an_empty_keeper, steps_as_moments};
