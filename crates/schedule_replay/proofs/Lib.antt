@@ -1,5 +1,9 @@
 pub mod Judging
 pub mod Accepted
 pub mod OneOutput
+pub mod Fronts
+pub mod Lines
 pub mod Along
-pub mod Written
+pub mod Closing
+pub mod Words
+pub mod First

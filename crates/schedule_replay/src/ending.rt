@@ -1,9 +1,10 @@
 // The last lines of a report.
-ghost use Rattle.std.specs.Prelude.{◌≡◌, ◌++◌, OnOk};
+ghost use Rattle.std.specs.Prelude.{◌≡◌, ◌++◌, ℕ, List, OnOk};
 ghost use Rattle.fabric_terms.specs.declared.config.FabricConfig.{FabricConfig as Configuration};
 ghost use Rattle.world_rules.specs.Runs.{History};
-ghost use Rattle.schedule_replay.specs.Follows.{At, IsAlong};
-ghost use Rattle.schedule_replay.specs.Output.{IsReport, end_line};
+ghost use Rattle.ring_world.specs.Answers.{StandsFor};
+ghost use Rattle.schedule_replay.specs.Output.{end_line};
+ghost use Rattle.schedule_replay.specs.Tellings.{IsEnding};
 
 use fabric_status::push_two;
 use fabric_terms::OutOfMemory;
@@ -18,8 +19,7 @@ fn push_end(text: &mut Vec<u8>, counts: (u64, u32)) -> Result<(), OutOfMemory>
 
 /// Where the points are that nobody holds, and the end. At want of memory a front of it may be written.
 pub fn push_ending(text: &mut Vec<u8>, world: &World) -> Result<(), OutOfMemory>
-    requires { IsAlong world.now text.old.items }
-    ensures { (c : Configuration) (h : History) → At world.now text.old.items c h → OnOk result (IsReport c h text.new.items) }
+    ensures { (c : Configuration) (h : History) → StandsFor world.now c h → OnOk result ((ending : List ℕ) × IsEnding c h ending × (text.new.items ≡ text.old.items ++ ending)) }
 {
     world.place_lines(text)?;
     push_end(text, world.counts())

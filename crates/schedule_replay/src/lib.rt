@@ -6,11 +6,20 @@
 //! refusal comes exactly where the judged bytes say so, and that what is accepted is a valid schedule.
 #![tactic(auto)]
 
+mod clocks;
 mod ending;
+mod halt;
 mod laws;
+mod page;
+mod reports;
 mod run;
 mod schedule;
+mod teller;
 mod told;
+mod transcript;
 
 pub use laws::{accepted_is_valid, one_output};
-pub use run::replay;
+pub use reports::replay;
+pub use run::run_schedule;
+pub use teller::Teller;
+pub use transcript::trace;

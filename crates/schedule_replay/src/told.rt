@@ -2,6 +2,7 @@
 ghost use Rattle.std.specs.Prelude.{◌≡◌, ◌++◌, Some, OnOk};
 ghost use Rattle.ring_world.specs.Answers.{entry_of};
 ghost use Rattle.schedule_replay.specs.Output.{entry_lines, report_lines, sent_lines};
+ghost use Rattle.schedule_replay.specs.Acts.{told_lines};
 
 use fabric_terms::{Head, OutOfMemory, Report};
 use ring_world::Acted;
@@ -28,8 +29,8 @@ fn push_sent(text: &mut Vec<u8>, head: &Head, sent: (u32, u32)) -> Result<(), Ou
     }
 }
 
-/// What an actor told in a step, and last which frames it sent. At want of memory a front of it may be written.
-pub fn push_told(text: &mut Vec<u8>, acted: &Acted) -> Result<(), OutOfMemory>
+/// What this actor told in a step, and last which frames it sent.
+fn push_acted(text: &mut Vec<u8>, acted: &Acted) -> Result<(), OutOfMemory>
     ensures { OnOk result (text.new.items ≡ text.old.items ++ entry_lines acted.now.line acted.now.time (entry_of (Some acted.now))) }
 {
     let head = Head {
@@ -40,4 +41,14 @@ pub fn push_told(text: &mut Vec<u8>, acted: &Acted) -> Result<(), OutOfMemory>
     };
     push_reports(text, &head, acted.reports.as_slice())?;
     push_sent(text, &head, acted.sent)
+}
+
+/// What an actor told in a step, if one acted. At want of memory a front of it may be written.
+pub fn push_told(text: &mut Vec<u8>, acted: &Option<Acted>) -> Result<(), OutOfMemory>
+    ensures { OnOk result (text.new.items ≡ text.old.items ++ told_lines acted.now) }
+{
+    match acted {
+        None => Ok(()),
+        Some(acted) => push_acted(text, acted),
+    }
 }

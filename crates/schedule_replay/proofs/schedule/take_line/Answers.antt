@@ -6,7 +6,7 @@ use Rattle.sched_text.proofs.LineLaws.{read_is_spelled}
 use Rattle.schedule_replay.proofs.schedule.take_line.Goals as goal
 
 pub take_tick-requires-clause-fits : goal.take_tick-requires-clause-fits
-take_tick-requires-clause-fits c =
+take_tick-requires-clause-fits g c =
     let line = c.args.line.now in
     let advance = c.in-Ok-Some.advance in
     let rs = c.read_tick.new.readings.items in

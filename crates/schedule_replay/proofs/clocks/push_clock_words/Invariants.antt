@@ -1,0 +1,7 @@
+use Rattle.std.proofs.Common.{◌≡◌, ◌++◌, drop}
+use Rattle.schedule_replay.specs.Traces.{clock_words}
+use Rattle.schedule_replay.proofs.clocks.push_clock_words.Given as goal
+
+-- what is written and the words that are left are all words
+abbrev pub invariant-loop-who : goal.invariant-loop-who
+invariant-loop-who l = l.text.items ++ clock_words (drop l.who-index l.clocks) ≡ l.fn.text.items ++ clock_words l.clocks

@@ -1,0 +1,10 @@
+use Rattle.std.proofs.Common.{◌≤◌}
+use Rattle.schedule_replay.proofs.Along.{Along}
+use Rattle.schedule_replay.proofs.run.take_lines.Given as goal
+
+abbrev pub invariant-loop-number : goal.invariant-loop-number
+invariant-loop-number g l = record {
+  along : Along g.T.Teller.telling l.fn.config l.world (g.T.Teller.knows l.teller) l.number l.fn.reader.waiting (g.S.Source.left l.fn.source) l.reader.waiting (g.S.Source.left l.source) (g.K.Sink.held l.fn.sink) (g.K.Sink.held l.sink) l.text.items;
+  source : g.S.Source.faults l.fn.source ≤ g.S.Source.faults l.source;
+  sink : g.K.Sink.faults l.fn.sink ≤ g.K.Sink.faults l.sink;
+}
