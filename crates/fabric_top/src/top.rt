@@ -51,7 +51,7 @@ pub fn fabric_main<S: Source, K: Sink>(
 
     // What was read and written of a schedule, where the devices tell.
     ensures read { result ≡ Status.Ok → (bytes : List ℕ) → S.left source.old ≡ Some bytes → S.left source.new ≡ Some [] }
-    ensures written { IsReplay (map string_bytes words.now) → (bytes : List ℕ) → S.left source.old ≡ Some bytes → Writes result (judge bytes) (HasRisen (S.faults source.old) (S.faults source.new)) (K.held sink.old) (K.held sink.new) }
+    ensures written { IsReplay (map string_bytes words.now) → (bytes : List ℕ) → S.left source.old ≡ Some bytes → Writes result (judge bytes) (S.left source.new) (HasRisen (S.faults source.old) (S.faults source.new)) (K.held sink.old) (K.held sink.new) }
 
     ensures read_fault { result ≡ Status.ReadFault → HasRisen (S.faults source.old) (S.faults source.new) }
     ensures write_fault { result ≡ Status.WriteFault → HasRisen (K.faults sink.old) (K.faults sink.new) }
