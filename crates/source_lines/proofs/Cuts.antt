@@ -1,7 +1,7 @@
 -- The first line of some bytes.
 use Rattle.std.proofs.Common.{◌≡◌, ℕ, zero, suc, ◌+◌, ◌-◌, ◌<◌, Bool, true, false, cond, not, eqb, List, [], ◌∷◌, length, take, drop, Some, None, arith, refl, ap, sym, ◌∙◌, add-one, length-drop}
 use Rattle.std.specs.List.{position, position_or_len}
-use Rattle.std.proofs.lemmas.List.{take_all}
+use Rattle.std.proofs.lemmas.List.{take_all, drop_all, length-take}
 use Rattle.sched_text.specs.Lines.{lines_of, onto_first}
 use Rattle.source_lines.proofs.Positions.{position_some, position_none}
 
@@ -51,3 +51,13 @@ shorter bs i e =
     let len : length (drop (i + 1) bs) ≡ length bs - (i + 1) = length-drop (i + 1) bs in
     let same : length (take (length bs - (i + 1)) (drop (i + 1) bs)) ≡ length (drop (i + 1) bs) = ap length (rest_is bs (i + 1)) in
     omega (arith, at.1)
+
+-- what follows the line and its feed
+pub rest_at : (bs : List ℕ) (i : ℕ) → position is_feed bs ≡ Some i → take (length bs - (i + 1)) (drop (i + 1) bs) ≡ drop (length (take i bs) + 1) bs
+rest_at bs i e =
+    let at = position_some is_feed bs i e in
+    let len : length (take i bs) ≡ i = length-take i bs ∙ omega (arith, at.1) in
+    rest_is bs (i + 1) ∙ ap (λ n. drop (n + 1) bs) (sym len)
+
+pub rest_none : (bs : List ℕ) → [] ≡ drop (length bs + 1) bs
+rest_none bs = sym (drop_all (length bs + 1) bs (omega arith))

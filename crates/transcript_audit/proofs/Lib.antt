@@ -1,0 +1,9 @@
+pub mod ClockSteps
+pub mod SaidSteps
+pub mod Growing
+pub mod Placing
+pub mod Reading
+pub mod Judging
+pub mod Sorting
+pub mod Telling
+pub mod Answering

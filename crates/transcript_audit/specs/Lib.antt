@@ -1,0 +1,6 @@
+pub mod Said
+pub mod Groups
+pub mod Transcript
+pub mod Places
+pub mod Verdicts
+pub mod Audits

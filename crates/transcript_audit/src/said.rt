@@ -1,0 +1,150 @@
+// What a line of a transcript says.
+ghost use Rattle.std.specs.Prelude.{◌≡◌, [], None, option_map};
+ghost use Rattle.std.specs.Bool.{Decides};
+ghost use Rattle.text_fields.specs.Fields.{Gives, last};
+ghost use Rattle.text_fields.specs.Instances.{instance_at};
+ghost use Rattle.sched_text.specs.Readers.{Reads};
+ghost use Rattle.transcript_audit.specs.Places.{summary_of};
+ghost use Rattle.transcript_audit.specs.Said.{clock_at, clocks_on, is_above, shown_of, sent_of, section_at, span_of, said_of};
+
+use ring_points::Who;
+use sched_text::{BadLine, LineRefusal, head_at, read_report};
+use std::alloc::Global;
+use text_fields::{after_word, last_number, node_at, number_in, number_word};
+
+/// The greatest number of a node's start, and of a frame.
+const LAST_NUMBER: u64 = 4_294_967_295;
+
+/// The greatest number of a section.
+const LAST_SECTION: u64 = 999;
+
+/// How many clocks a group may have.
+const MOST_CLOCKS: usize = 64;
+
+/// What a line says, without its clocks and its report.
+#[derive(Clone, Copy)]
+pub enum Said {
+    /// A section opens.
+    Opens,
+    /// A group begins, at this LINE.
+    Shows(u64),
+    /// In the group of this LINE an instance tells something.
+    Tells(u64, Who),
+}
+
+// The section that opens.
+fn section_at(line: &[u8]) -> Result<u64, BadLine>
+    ensures { Gives (λ x. x) result (section_at line.now) }
+{
+    let rest = after_word(b"transcript ", line)?;
+    Ok(last_number(0, LAST_SECTION, rest)?)
+}
+
+// An instance of a node, and what follows it.
+fn instance_at(bytes: &[u8]) -> Result<(Who, &[u8]), BadLine>
+    ensures { Gives (λ x. (x.0, x.1.now)) result (instance_at bytes.now) }
+{
+    let (actor, rest) = node_at(bytes)?;
+    let (instance, rest) = number_in(1, LAST_NUMBER, after_word(b".", rest)?)?;
+    let instance = instance as u32;
+    Ok((Who { actor, instance }, rest))
+}
+
+// A clock behind a blank, and what follows it.
+#[tactic(auto, unfolding(crate::specs::Said::clock_at))]
+fn clock_at(bytes: &[u8]) -> Result<((Who, u64), &[u8]), BadLine>
+    ensures { Gives (λ x. (x.0, x.1.now)) result (clock_at bytes.now) }
+{
+    let (who, rest) = instance_at(after_word(b" ", bytes)?)?;
+    let (reading, rest) = number_in(0, u64::MAX, after_word(b":", rest)?)?;
+    Ok(((who, reading), rest))
+}
+
+fn is_above(above: Option<Who>, who: Who) -> bool
+    ensures { result ≡ is_above above who }
+{
+    match above {
+        None => true,
+        Some(last) => last < who,
+    }
+}
+
+// The clocks to the end of the line.
+fn fill(bytes: &[u8], clocks: &mut Vec<(Who, u64)>) -> Result<(), LineRefusal>
+    ensures { Reads (λ u. clocks.new.items) result (clocks_on 64 None [] bytes.now) }
+{
+    clocks.clear();
+    let mut rest = bytes;
+    let mut above = None;
+    while !rest.is_empty() {
+        if clocks.len() == MOST_CLOCKS {
+            return Err(LineRefusal::BadLine);
+        }
+        let (clock, after) = clock_at(rest)?;
+        if !is_above(above, clock.0) {
+            return Err(LineRefusal::BadLine);
+        }
+        clocks.push(clock)?;
+        above = Some(clock.0);
+        rest = after;
+    }
+    Ok(())
+}
+
+/// The LINE of a group's first line, whose clocks are put into the list. BadLine comes exactly where the bytes are no
+/// such line.
+#[tactic(auto, unfolding(crate::specs::Said::shown_of))]
+pub fn read_clocks(line: &[u8], clocks: &mut Vec<(Who, u64)>) -> Result<u64, LineRefusal>
+    ensures { Reads (λ n. (n, clocks.new.items)) result (shown_of line.now) }
+{
+    let (number, rest) = number_word(0, u64::MAX, line)?;
+    let rest = after_word(b"clocks", rest)?;
+    fill(rest, clocks)?;
+    Ok(number)
+}
+
+// Numbers of frames, from 1 and not falling.
+fn span_of(bytes: &[u8]) -> Result<u64, BadLine>
+    ensures { Gives (λ x. x) result (span_of bytes.now) }
+{
+    let (first, rest) = number_in(1, LAST_NUMBER, bytes)?;
+    let rest = after_word(b"-", rest)?;
+    Ok(last_number(first, LAST_NUMBER, rest)?)
+}
+
+/// The LINE and the instance of a line that tells frames that were sent. BadLine comes exactly where the bytes are no such
+/// line.
+#[tactic(auto, unfolding(crate::specs::Said::sent_of))]
+pub fn read_sent(line: &[u8]) -> Result<(u64, Who), BadLine>
+    ensures { Gives (λ x. x) result (sent_of line.now) }
+{
+    let (head, rest) = head_at(line)?;
+    let _last = span_of(after_word(b"sent ", rest)?)?;
+    Ok((head.line, head.who))
+}
+
+/// What a line says. BadLine comes exactly where it is none of a transcript. The list serves each line of clocks.
+#[tactic(auto, unfolding(crate::specs::Said::said_of))]
+pub fn read_said(
+    alloc: Global,
+    line: &[u8],
+    clocks: &mut Vec<(Who, u64)>,
+) -> Result<Said, LineRefusal>
+    ensures { Reads (λ x. x) result (option_map summary_of (said_of line.now)) }
+{
+    match read_report(alloc, line) {
+        Ok((head, _)) => return Ok(Said::Tells(head.line, head.who)),
+        Err(LineRefusal::OutOfMemory) => return Err(LineRefusal::OutOfMemory),
+        Err(LineRefusal::BadLine) => {}
+    }
+    if let Ok((number, who)) = read_sent(line) {
+        return Ok(Said::Tells(number, who));
+    }
+    match read_clocks(line, clocks) {
+        Ok(number) => return Ok(Said::Shows(number)),
+        Err(LineRefusal::OutOfMemory) => return Err(LineRefusal::OutOfMemory),
+        Err(LineRefusal::BadLine) => {}
+    }
+    let _section = section_at(line)?;
+    Ok(Said::Opens)
+}
