@@ -1,7 +1,7 @@
 //! The program: it makes the real devices, makes the top call and ends with its status.
 #![tactic(auto)]
 
-use fabric_edge::{StdinSource, StdoutSink};
+use fabric_edge::{FolderKeeper, MonoClock, StdinSource, StdoutSink, UdpLinks};
 use fabric_top::fabric_main;
 use std::process::ExitCode;
 use std::{env, io};
@@ -20,6 +20,17 @@ fn main(rt: HostRuntime) -> io::Result<ExitCode> {
     }
     let mut source = StdinSource::new(&rt);
     let mut sink = StdoutSink::new(&rt);
-    let status = fabric_main(rt.alloc(), &words, &mut source, &mut sink);
+    let mut links = UdpLinks::new(&rt, rt.alloc());
+    let mut keeps = FolderKeeper::new(&rt, rt.alloc());
+    let mut clock = MonoClock::new(&rt);
+    let status = fabric_main(
+        rt.alloc(),
+        &words,
+        &mut source,
+        &mut sink,
+        &mut links,
+        &mut keeps,
+        &mut clock,
+    );
     Ok(ExitCode::from(status.code()))
 }

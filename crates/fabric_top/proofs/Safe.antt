@@ -19,7 +19,7 @@ use Rattle.world_rules.specs.Runs.{History}
 use Rattle.schedule_replay.specs.Laws.{IsValidHistory}
 use Rattle.schedule_replay.specs.Output.{run_judged}
 use Rattle.schedule_replay.specs.Schedule.{judge}
-use Rattle.fabric_top.specs.Top.{IsSafe, KeepsPlaces, KeepsWrites}
+use Rattle.fabric_top.specs.Safe.{IsSafe, KeepsPlaces, KeepsWrites}
 use Rattle.schedule_replay.proofs.Accepted.{accepted_valid}
 
 -- before any event nobody holds anything

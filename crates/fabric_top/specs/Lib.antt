@@ -1,1 +1,4 @@
+pub mod Safe
+pub mod Using
+pub mod Replaying
 pub mod Top

@@ -1,7 +1,7 @@
 // Schedules over devices in memory: the status, and what is written. A test hands in the lines of its schedule, the
 // first of them the configuration.
 
-use edge_io::{MemSink, MemSource, Sink, Source};
+use edge_io::{MemClock, MemKeeper, MemLinks, MemSink, MemSource, Sink, Source};
 use fabric_top::fabric_main;
 use std::alloc::Global;
 use std::process::Abort;
@@ -27,8 +27,13 @@ pub(crate) const TRIO: &str =
 pub(crate) const EIGHT: &str =
     "{\"lease\":30000,\"answer\":5000,\"drift\":10,\"grain\":1,\"nodes\":[{\"node\":1,\"point\":\"0000000000000000\"},{\"node\":2,\"point\":\"2000000000000000\"},{\"node\":3,\"point\":\"4000000000000000\"},{\"node\":4,\"point\":\"6000000000000000\"},{\"node\":5,\"point\":\"8000000000000000\"},{\"node\":6,\"point\":\"a000000000000000\"},{\"node\":7,\"point\":\"c000000000000000\"},{\"node\":8,\"point\":\"e000000000000000\"}],\"arbiters\":[{\"arbiter\":1},{\"arbiter\":2},{\"arbiter\":3}],\"first\":1}";
 
+<<<<<<< HEAD
 /// The program's status where it is called with one word.
 pub(crate) fn called<S: Source, K: Sink>(
+=======
+/// The program's status where it is called with one word. A schedule uses no links, no keeper and no clock.
+pub fn called<S: Source, K: Sink>(
+>>>>>>> 30c6981 (The top call runs node, arbiter and cluster over the devices; words are its forms)
     alloc: Global,
     word: &str,
     source: &mut S,
@@ -36,7 +41,13 @@ pub(crate) fn called<S: Source, K: Sink>(
 ) -> Result<u8, Fail> {
     let mut words = Vec::new(alloc);
     words.push(String::from_str(alloc, word)?)?;
-    Ok(fabric_main(alloc, &words, source, sink).code())
+    let mut links = MemLinks::new(alloc, Vec::new(alloc), Vec::new(alloc));
+    let mut keeps = MemKeeper::new(alloc, Vec::new(alloc), Vec::new(alloc));
+    let mut clock = MemClock::new(Vec::new(alloc));
+    let status = fabric_main(
+        alloc, &words, source, sink, &mut links, &mut keeps, &mut clock,
+    );
+    Ok(status.code())
 }
 
 /// The lines of these lists, each with its line feed.

@@ -1,0 +1,42 @@
+use Rattle.std.proofs.Common.{refl}
+use Rattle.outside.specs.Told.{Loans}
+use Rattle.fabric_top.proofs.forms.run_form.Goals as goal
+
+pub returns-in-Replay-clause-does : goal.returns-in-Replay-clause-does
+returns-in-Replay-clause-does g c =
+    let loans : Loans = record { sink = c.args.sink.ghost_name; links = c.args.links.ghost_name; keeps = c.args.keeps.ghost_name; clock = c.args.clock.ghost_name } in
+    (loans, rw c.in-Replay.is (record { replays = c.replay_source.ensures; rest = refl }))
+
+pub returns-in-Node-clause-does : goal.returns-in-Node-clause-does
+returns-in-Node-clause-does g c = let runs = c.run_crew.ensures in (runs.0, rw c.in-Node.is runs.1)
+
+pub returns-in-Arbiter-clause-does : goal.returns-in-Arbiter-clause-does
+returns-in-Arbiter-clause-does g c = let runs = c.run_crew-in-Arbiter.ensures in (runs.0, rw c.in-Arbiter.is runs.1)
+
+pub returns-in-Cluster-clause-does : goal.returns-in-Cluster-clause-does
+returns-in-Cluster-clause-does g c = let runs = c.run_crew-in-Cluster.ensures in (runs.0, rw c.in-Cluster.is runs.1)
+
+pub returns-in-Writes-clause-does : goal.returns-in-Writes-clause-does
+returns-in-Writes-clause-does g c =
+    let loans : Loans = record { sink = c.args.sink.ghost_name; links = c.args.links.ghost_name; keeps = c.args.keeps.ghost_name; clock = c.args.clock.ghost_name } in
+    (loans, rw c.in-Writes.is (record { written = c.usage.ensures; rest = refl }))
+
+pub returns-in-Trace-clause-does : goal.returns-in-Trace-clause-does
+returns-in-Trace-clause-does g c =
+    let loans : Loans = record { sink = c.args.sink.ghost_name; links = c.args.links.ghost_name; keeps = c.args.keeps.ghost_name; clock = c.args.clock.ghost_name } in
+    (loans, rw c.in-Trace.is (record { written = c.usage-in-Trace.ensures; rest = refl }))
+
+pub returns-in-Audit-clause-does : goal.returns-in-Audit-clause-does
+returns-in-Audit-clause-does g c =
+    let loans : Loans = record { sink = c.args.sink.ghost_name; links = c.args.links.ghost_name; keeps = c.args.keeps.ghost_name; clock = c.args.clock.ghost_name } in
+    (loans, rw c.in-Audit.is (record { written = c.usage-in-Audit.ensures; rest = refl }))
+
+pub returns-in-Generate-clause-does : goal.returns-in-Generate-clause-does
+returns-in-Generate-clause-does g c =
+    let loans : Loans = record { sink = c.args.sink.ghost_name; links = c.args.links.ghost_name; keeps = c.args.keeps.ghost_name; clock = c.args.clock.ghost_name } in
+    (loans, rw c.in-Generate.is (record { written = c.usage-in-Generate.ensures; rest = refl }))
+
+pub returns-in-Drill-clause-does : goal.returns-in-Drill-clause-does
+returns-in-Drill-clause-does g c =
+    let loans : Loans = record { sink = c.args.sink.ghost_name; links = c.args.links.ghost_name; keeps = c.args.keeps.ghost_name; clock = c.args.clock.ghost_name } in
+    (loans, rw c.in-Drill.is (record { written = c.usage-in-Drill.ensures; rest = refl }))

@@ -1,0 +1,24 @@
+-- What `replay` does.
+use Rattle.std.specs.Prelude.{◌≡◌, ◌≢◌, ℕ, List, [], Option, Some, None}
+use Rattle.crew_runs.specs.Runs.{Seen}
+use Rattle.edge_io.specs.Edge.{HasRisen}
+use Rattle.fabric_status.specs.declared.status.Status.{Status}
+use Rattle.fabric_status.specs.declared.status.Status.TheVariants as status
+use Rattle.schedule_replay.specs.Replays.{IsDone, Writes}
+use Rattle.schedule_replay.specs.Schedule.{judge}
+
+-- by what the source has left before and after, how often it failed, and the same of the sink
+pub record Replays (ended : Status) (left left' : Option (List ℕ)) (failed failed' : ℕ) (held held' : Option (List ℕ)) (refused refused' : ℕ) : Type 0 where
+  -- what was read and written of a schedule, where the devices tell
+  pub read : ended ≡ status.Ok → (bytes : List ℕ) → left ≡ Some bytes → left' ≡ Some []
+  pub written : (bytes : List ℕ) → left ≡ Some bytes → Writes ended (judge bytes) (HasRisen failed failed') held held'
+  pub no_usage : ended ≢ status.Usage
+  pub read_fault : ended ≡ status.ReadFault → HasRisen failed failed'
+  pub write_fault : ended ≡ status.WriteFault → HasRisen refused refused'
+  -- a good schedule is done, or memory was short, where no device failed
+  pub complete : (bytes : List ℕ) → left ≡ Some bytes → (judge bytes).refused ≡ None → ¬ HasRisen failed failed' → ¬ HasRisen refused refused' → IsDone ended
+
+-- and no other device is used
+pub record IsReplay (a : Seen) (ended : Status) (c : Seen) : Type 0 where
+  pub replays : Replays ended a.left c.left a.source_faults c.source_faults a.told.held c.told.held a.told.sink_faults c.told.sink_faults
+  pub rest : c.told ≡ record a.told { held = c.told.held; sink_faults = c.told.sink_faults }

@@ -1,0 +1,83 @@
+// The command of a form.
+ghost use Rattle.std.specs.Prelude.{◌≡◌, Some, false};
+ghost use Rattle.fabric_top.specs.Top.{Does, is_built};
+ghost use Rattle.outside.specs.Told.{Loans};
+ghost use Rattle.turn_rules.specs.Whole.{told_of};
+
+use crate::replays::replay_source;
+use crate::usage::usage;
+use command_words::Form;
+use crew_runs::{Crew, run_crew};
+use edge_io::{Clock, Keeper, Links, Sink, Source};
+use fabric_status::Status;
+use std::alloc::Global;
+
+/// Runs the command of a form, where it is built; else the words are none yet.
+pub fn run_form<S: Source, K: Sink, N: Links, D: Keeper, C: Clock>(
+    alloc: Global,
+    form: Form,
+    source: &mut S,
+    sink: &mut K,
+    links: &mut N,
+    keeps: &mut D,
+    clock: &mut C,
+) -> Status
+    ensures does { (l : Loans) × Does (Some form)
+        (record {
+          left = S.left source.old;
+          source_faults = S.faults source.old;
+          told = told_of l (K.held sink.old) (K.faults sink.old) (D.kept keeps.old) (D.faults keeps.old) (N.opened links.old) (N.arrivals links.old) (N.sent links.old) (N.faults links.old) (C.readings clock.old) (C.last clock.old) (C.falls clock.old);
+        })
+        result
+        (record {
+          left = S.left source.new;
+          source_faults = S.faults source.new;
+          told = told_of l (K.held sink.new) (K.faults sink.new) (D.kept keeps.new) (D.faults keeps.new) (N.opened links.new) (N.arrivals links.new) (N.sent links.new) (N.faults links.new) (C.readings clock.new) (C.last clock.new) (C.falls clock.new);
+        }) }
+    ensures usage { result ≡ Status.Usage → is_built (Some form) ≡ false }
+{
+    match form {
+        Form::Replay => replay_source(alloc, source, sink),
+        Form::Node { node, turns } => {
+            run_crew(
+                alloc,
+                Crew::Node(node),
+                turns,
+                source,
+                sink,
+                links,
+                keeps,
+                clock,
+            )
+        }
+        Form::Arbiter { arbiter, turns } => {
+            run_crew(
+                alloc,
+                Crew::Arbiter(arbiter),
+                turns,
+                source,
+                sink,
+                links,
+                keeps,
+                clock,
+            )
+        }
+        Form::Cluster { turns } => {
+            run_crew(
+                alloc,
+                Crew::Cluster,
+                turns,
+                source,
+                sink,
+                links,
+                keeps,
+                clock,
+            )
+        }
+        Form::Writes => usage(sink),
+        Form::Trace => usage(sink),
+        Form::Audit => usage(sink),
+        Form::Generate { .. } => usage(sink),
+        Form::Drill { .. } => usage(sink),
+    }
+}
