@@ -5,7 +5,6 @@ use Rattle.replica_core.specs.declared.entry.Entry.{Entry}
 use Rattle.epoch_machine.specs.Epochs.{number_of}
 use Rattle.epoch_refinement.proofs.Losing.{settings_sound}
 use Rattle.world_rules.specs.Runs.{History}
-use Rattle.epoch_safety.specs.Reports.{log_after}
 use Rattle.epoch_safety.proofs.Followed.{followed}
 use Rattle.epoch_safety.proofs.Written.{committed_told, loss_is}
 use Rattle.write_safety.specs.Greatest.{Commit}

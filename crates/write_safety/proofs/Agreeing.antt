@@ -4,7 +4,7 @@ use Rattle.std.proofs.lemmas.Bool.{cases_lt}
 use Rattle.std.proofs.lemmas.List.{take-take}
 use Rattle.fabric_lemmas.specs.Members.{IsMember}
 use Rattle.epoch_machine.specs.Invariant.{Invariant}
-use Rattle.epoch_machine.specs.Logs.{Agree, Entry, Prefix}
+use Rattle.epoch_machine.specs.Logs.{Agree, Entry}
 use Rattle.epoch_machine.specs.Plans.{Plan}
 use Rattle.epoch_machine.specs.Settings.{Settings, IsSound}
 use Rattle.epoch_machine.specs.SoundReports.{CommittedTold}

@@ -1,5 +1,5 @@
 -- A book that is fed with the reports of a valid run has exactly its committed logs.
-use Rattle.std.proofs.Common.{◌≡◌, ℕ, ◌≤◌, Bool, true, false, cond, ◌&&◌, ◌==◌, List, [], ◌∷◌, ◌++◌, length, take, Option, None, Some, refl, sym, ap, ◌∙◌, subst, inl, inr, ⊎_elim, arith}
+use Rattle.std.proofs.Common.{◌≡◌, ℕ, ◌≤◌, Bool, true, false, cond, ◌&&◌, ◌==◌, List, [], ◌∷◌, ◌++◌, length, Option, None, Some, refl, sym, ap, ◌∙◌, subst, inl, inr, arith}
 use Rattle.std.proofs.lemmas.Bool.{and_parts, eqb-true}
 use Rattle.std.proofs.lemmas.Bool.Decides.{nat_tests}
 use Rattle.std.proofs.lemmas.List.{append-nil, append_assoc}
@@ -16,13 +16,13 @@ use Rattle.unit_rules.specs.Units.{units}
 use Rattle.world_rules.specs.Events.{world_step}
 use Rattle.world_rules.specs.Runs.{History, world_after}
 use Rattle.world_rules.specs.Schedules.{Valid}
-use Rattle.world_rules.specs.Worlds.{World, Stepped}
+use Rattle.world_rules.specs.Worlds.{World}
 use Rattle.epoch_safety.specs.Reports.{log_in}
-use Rattle.write_safety.specs.Books.{Agree, Commits, KeptLog, entries_of, longer}
-use Rattle.write_safety.specs.Committed.{commit_of, commits_among, commits_at, commits_in, commits_of}
-use Rattle.write_safety.specs.Fed.{Fed, FedBy, FedByAll, FedIn, HasCommitted, HasCommittedWith, MayFeed}
+use Rattle.write_safety.specs.Books.{Agree, KeptLog, entries_of, longer}
+use Rattle.write_safety.specs.Committed.{commit_of, commits_among, commits_in, commits_of}
+use Rattle.write_safety.specs.Fed.{FedBy, FedByAll, FedIn, HasCommitted, HasCommittedWith, MayFeed}
 use Rattle.write_safety.specs.Greatest.{Commit, entries_in, longest}
-use Rattle.write_safety.specs.Laws.{CommitsAgree, FedBooksHaveCommitted, FedReportByReport, ReportsFeedBooks}
+use Rattle.write_safety.specs.Laws.{CommitsAgree, FedBooksHaveCommitted, ReportsFeedBooks}
 use Rattle.write_safety.proofs.Agreed.{agrees, commits_agree_lem, within}
 use Rattle.write_safety.proofs.Growing.{Agrees, IsWithin, longest_agrees, longest_more}
 use Rattle.write_safety.proofs.Orders.{key_itself}

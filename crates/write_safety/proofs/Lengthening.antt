@@ -1,6 +1,6 @@
 -- What a commit makes of a book where the list that it names is kept.
 use Rattle.std.proofs.Common.{◌≡◌, ℕ, true, List, Result, Ok, Err, get_or, set, sym, ap, ◌∙◌, subst}
-use Rattle.std.specs.Result.{OnOk, OnErr}
+use Rattle.std.specs.Result.{OnOk}
 use Rattle.replica_core.specs.declared.entry.Entry.{Entry}
 use Rattle.write_safety.specs.Books.{Agree, Commits, KeptLog, entries_of, logs_rise, longer, with_entries}
 use Rattle.write_safety.specs.Places.{IsAt}

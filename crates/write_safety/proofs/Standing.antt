@@ -1,9 +1,9 @@
 -- Who reports a commit runs and has not left, so its replica has the log that its records amount to.
-use Rattle.std.proofs.Common.{◌≡◌, ℕ, Bool, true, false, cond, not, ◌&&◌, ◌==◌, List, [], ◌∷◌, ◌++◌, length, Option, None, Some, refl, sym, ap, ◌∙◌, subst}
+use Rattle.std.proofs.Common.{◌≡◌, ℕ, Bool, true, false, cond, not, ◌&&◌, List, [], ◌∷◌, length, Some, refl, sym, ap, ◌∙◌, subst}
 use Rattle.std.specs.Prelude.{Contains}
 use Rattle.std.specs.List.{list_any}
 use Rattle.std.proofs.lemmas.Bool.{and_parts, eq-eqb, not-true}
-use Rattle.fabric_lemmas.specs.Maps.{at, put}
+use Rattle.fabric_lemmas.specs.Maps.{at}
 use Rattle.fabric_lemmas.proofs.Maps.{at-put}
 use Rattle.fabric_terms.specs.declared.config.FabricConfig.{FabricConfig}
 use Rattle.fabric_terms.specs.declared.event.Event.{Event}
@@ -12,7 +12,6 @@ use Rattle.fabric_terms.specs.declared.report.Report.{Report}
 use Rattle.fabric_terms.specs.declared.report.Report.TheVariants.{Committed, Own, Stopped}
 use Rattle.fabric_terms.specs.Sound.{IsSound}
 use Rattle.join_phases.specs.Phases.{is_left}
-use Rattle.replica_core.specs.declared.entry.Entry.{Entry}
 use Rattle.replica_core.specs.Replicas.{Replica}
 use Rattle.ring_points.specs.declared.unit.Epoch.{Epoch}
 use Rattle.ring_points.specs.declared.who.Who.{Who}
@@ -25,17 +24,16 @@ use Rattle.ring_rules.specs.Steps.{ring_step}
 use Rattle.ring_apart.specs.Apart.{is_unit_report}
 use Rattle.ring_apart.proofs.Saying.{none_more}
 use Rattle.ring_apart.proofs.Steps.{starts_apart_lem}
-use Rattle.unit_rules.specs.Deeds.{reports_of}
 use Rattle.unit_rules.specs.Stays.{units_stay}
 use Rattle.unit_rules.specs.Units.{units}
-use Rattle.world_rules.specs.Arbiters.{ArbiterState, arbiter_step}
+use Rattle.world_rules.specs.Arbiters.{arbiter_step}
 use Rattle.world_rules.specs.Nodes.{NodeState, above_if, begun_as, both_did, comes_above, instance_begun, is_spent, node_begun, node_step}
 use Rattle.world_rules.specs.Runs.{History, run_of, world_after}
 use Rattle.world_rules.specs.Schedules.{Valid}
-use Rattle.world_rules.specs.Uppers.{Did, idle}
+use Rattle.world_rules.specs.Uppers.{Did}
 use Rattle.world_rules.specs.Worlds.{World, Running, Stepped, kept_of, node_acted}
 use Rattle.world_rules.proofs.Rows.{node_begun-is, node_step-is}
-use Rattle.run_facts.proofs.Happens.{CameTo, Cases, by_cases}
+use Rattle.run_facts.proofs.Happens.{Cases, by_cases}
 use Rattle.run_facts.proofs.Orderly.{orderly}
 use Rattle.epoch_refinement.specs.Nodes.{Machines, seat_at}
 use Rattle.epoch_safety.specs.Reports.{IsAmong, Reports, log_after}
@@ -46,7 +44,7 @@ use Rattle.epoch_safety.proofs.Follows.{Follows}
 use Rattle.epoch_safety.proofs.Members.{contained}
 use Rattle.epoch_safety.proofs.RuleFollows.{rules_follow}
 use Rattle.epoch_safety.proofs.Telling.{Tellings, told_of}
-use Rattle.write_safety.specs.Beside.{log_of_running, running_log}
+use Rattle.write_safety.specs.Beside.{log_of_running}
 use Rattle.write_safety.specs.Laws.{LogsStandBeside}
 
 none_among : (rs : List Report) → list_any is_unit_report rs ≡ false → (p : ℕ) (e : Epoch) (last : ℕ) → Contains rs (Committed p e last) → ⊥

@@ -11,7 +11,6 @@ use Rattle.replica_core.specs.declared.entry.Entry.{Entry}
 use Rattle.unit_rules.specs.Units.{units}
 use Rattle.world_rules.specs.Events.{world_step}
 use Rattle.world_rules.specs.Runs.{History, run_of, world_after}
-use Rattle.world_rules.specs.Worlds.{Stepped}
 use Rattle.epoch_safety.specs.Laws.{OverValidRuns}
 use Rattle.epoch_safety.specs.Reports.{Reports, log_after, log_in}
 use Rattle.write_safety.specs.Beside.{running_log}

@@ -6,3 +6,4 @@ pub mod Beside
 pub mod Committed
 pub mod Fed
 pub mod Laws
+pub mod Worked

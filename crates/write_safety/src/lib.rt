@@ -10,7 +10,9 @@ mod book;
 mod kept;
 mod laws;
 mod lines;
+mod worked;
 
 pub use book::WriteBook;
 pub use kept::KeptLog;
 pub use laws::{commits_agree, fed_books_have_committed, logs_stand_beside, reports_feed_books};
+pub use worked::worked_book;
