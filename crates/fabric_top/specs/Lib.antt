@@ -1,4 +1,6 @@
 pub mod Safe
 pub mod Using
 pub mod Replaying
+pub mod Tracing
+pub mod Auditing
 pub mod Top

@@ -11,7 +11,7 @@ use Rattle.schedule_replay.specs.Schedule.{judge}
 pub record Replays (ended : Status) (left left' : Option (List ℕ)) (failed failed' : ℕ) (held held' : Option (List ℕ)) (refused refused' : ℕ) : Type 0 where
   -- what was read and written of a schedule, where the devices tell
   pub read : ended ≡ status.Ok → (bytes : List ℕ) → left ≡ Some bytes → left' ≡ Some []
-  pub written : (bytes : List ℕ) → left ≡ Some bytes → Writes ended (judge bytes) (HasRisen failed failed') held held'
+  pub written : (bytes : List ℕ) → left ≡ Some bytes → Writes ended (judge bytes) left' (HasRisen failed failed') held held'
   pub no_usage : ended ≢ status.Usage
   pub read_fault : ended ≡ status.ReadFault → HasRisen failed failed'
   pub write_fault : ended ≡ status.WriteFault → HasRisen refused refused'

@@ -5,7 +5,9 @@ use Rattle.command_words.specs.declared.form.Form.TheVariants as form
 use Rattle.crew_runs.specs.Runs.{RunsCrew, Seen}
 use Rattle.fabric_status.specs.declared.status.Status.{Status}
 use Rattle.turn_plans.specs.declared.crew.Crew.TheVariants as crew
+use Rattle.fabric_top.specs.Auditing.{IsAudit}
 use Rattle.fabric_top.specs.Replaying.{IsReplay}
+use Rattle.fabric_top.specs.Tracing.{IsTrace}
 use Rattle.fabric_top.specs.Using.{IsUsage}
 
 -- What each command does to the devices, and how it ends. Words that are none of the forms are Usage, and so are those of
@@ -13,6 +15,8 @@ use Rattle.fabric_top.specs.Using.{IsUsage}
 abbrev pub Does : Option Form → Seen → Status → Seen → Type 0
 Does None a ended c = IsUsage a ended c
 Does (Some form.Replay) a ended c = IsReplay a ended c
+Does (Some form.Trace) a ended c = IsTrace a ended c
+Does (Some form.Audit) a ended c = IsAudit a ended c
 Does (Some (form.Node node turns)) a ended c = RunsCrew (crew.Node node) turns a ended c
 Does (Some (form.Arbiter arbiter turns)) a ended c = RunsCrew (crew.Arbiter arbiter) turns a ended c
 Does (Some (form.Cluster turns)) a ended c = RunsCrew crew.Cluster turns a ended c
@@ -22,6 +26,8 @@ Does (Some _) a ended c = IsUsage a ended c
 abbrev pub is_built : Option Form → Bool
 is_built None = false
 is_built (Some form.Replay) = true
+is_built (Some form.Trace) = true
+is_built (Some form.Audit) = true
 is_built (Some (form.Node node turns)) = true
 is_built (Some (form.Arbiter arbiter turns)) = true
 is_built (Some (form.Cluster turns)) = true

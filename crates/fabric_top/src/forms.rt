@@ -4,7 +4,9 @@ ghost use Rattle.fabric_top.specs.Top.{Does, is_built};
 ghost use Rattle.outside.specs.Told.{Loans};
 ghost use Rattle.turn_rules.specs.Whole.{told_of};
 
+use crate::audits::audit_source;
 use crate::replays::replay_source;
+use crate::traces::trace_source;
 use crate::usage::usage;
 use command_words::Form;
 use crew_runs::{Crew, run_crew};
@@ -38,6 +40,8 @@ pub fn run_form<S: Source, K: Sink, N: Links, D: Keeper, C: Clock>(
 {
     match form {
         Form::Replay => replay_source(alloc, source, sink),
+        Form::Trace => trace_source(alloc, source, sink),
+        Form::Audit => audit_source(alloc, source, sink),
         Form::Node { node, turns } => {
             run_crew(
                 alloc,
@@ -75,8 +79,6 @@ pub fn run_form<S: Source, K: Sink, N: Links, D: Keeper, C: Clock>(
             )
         }
         Form::Writes => usage(sink),
-        Form::Trace => usage(sink),
-        Form::Audit => usage(sink),
         Form::Generate { .. } => usage(sink),
         Form::Drill { .. } => usage(sink),
     }

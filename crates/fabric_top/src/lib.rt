@@ -6,9 +6,11 @@
 //! more, and every point stays where it is told to be.
 #![tactic(auto)]
 
+mod audits;
 mod forms;
 mod replays;
 mod top;
+mod traces;
 mod usage;
 
 pub use fabric_status::{Refusal, Status};

@@ -27,13 +27,8 @@ pub(crate) const TRIO: &str =
 pub(crate) const EIGHT: &str =
     "{\"lease\":30000,\"answer\":5000,\"drift\":10,\"grain\":1,\"nodes\":[{\"node\":1,\"point\":\"0000000000000000\"},{\"node\":2,\"point\":\"2000000000000000\"},{\"node\":3,\"point\":\"4000000000000000\"},{\"node\":4,\"point\":\"6000000000000000\"},{\"node\":5,\"point\":\"8000000000000000\"},{\"node\":6,\"point\":\"a000000000000000\"},{\"node\":7,\"point\":\"c000000000000000\"},{\"node\":8,\"point\":\"e000000000000000\"}],\"arbiters\":[{\"arbiter\":1},{\"arbiter\":2},{\"arbiter\":3}],\"first\":1}";
 
-<<<<<<< HEAD
-/// The program's status where it is called with one word.
-pub(crate) fn called<S: Source, K: Sink>(
-=======
 /// The program's status where it is called with one word. A schedule uses no links, no keeper and no clock.
-pub fn called<S: Source, K: Sink>(
->>>>>>> 30c6981 (The top call runs node, arbiter and cluster over the devices; words are its forms)
+pub(crate) fn called<S: Source, K: Sink>(
     alloc: Global,
     word: &str,
     source: &mut S,

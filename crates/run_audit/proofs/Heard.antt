@@ -27,6 +27,7 @@ heard_none a line time clocks e run none safe up = subst (λ (x : Option Entry).
   taken = up.taken;
   found = record { rivals = sym (sound_end run safe).primaries; lapse = sym (sound_end run safe).epochs };
 })
+
 -- an entry was heard
 pub heard_some : (old new : Auditor) (line time : ℕ) (clocks : Clocks) (e : Option Entry) (x : Entry) (run : Run) (rivals : Option Rivals) (lapse : Option Lapse)
     → e ≡ Some x → Safe run → IsUpToDate old run

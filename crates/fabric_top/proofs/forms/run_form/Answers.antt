@@ -24,12 +24,12 @@ returns-in-Writes-clause-does g c =
 pub returns-in-Trace-clause-does : goal.returns-in-Trace-clause-does
 returns-in-Trace-clause-does g c =
     let loans : Loans = record { sink = c.args.sink.ghost_name; links = c.args.links.ghost_name; keeps = c.args.keeps.ghost_name; clock = c.args.clock.ghost_name } in
-    (loans, rw c.in-Trace.is (record { written = c.usage-in-Trace.ensures; rest = refl }))
+    (loans, rw c.in-Trace.is (record { traces = c.trace_source.ensures; rest = refl }))
 
 pub returns-in-Audit-clause-does : goal.returns-in-Audit-clause-does
 returns-in-Audit-clause-does g c =
     let loans : Loans = record { sink = c.args.sink.ghost_name; links = c.args.links.ghost_name; keeps = c.args.keeps.ghost_name; clock = c.args.clock.ghost_name } in
-    (loans, rw c.in-Audit.is (record { written = c.usage-in-Audit.ensures; rest = refl }))
+    (loans, rw c.in-Audit.is (record { audits = c.audit_source.ensures; rest = refl }))
 
 pub returns-in-Generate-clause-does : goal.returns-in-Generate-clause-does
 returns-in-Generate-clause-does g c =

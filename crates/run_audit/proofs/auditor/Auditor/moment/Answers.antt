@@ -18,12 +18,12 @@ pub returns : goal.returns
 returns c = λ run stands.
     let yet = none_yet c.args.self.now.breach (sym c.if-is_some.ensures) in (
       judged c.args.self.now c.reserve.new.self c.hear-findings.new.self (record c.hear-findings.new.self { live = c.keep.new.live; breach = c.breach_at-breach.result }) c.args.moment.now c.hear-findings.result c.as_slice.result.now c.as_slice-2.result.now c.actor_of.result
-      c.holders_of-rows.result.items c.as_slice-3.result.now c.as_slice-4.result.now c.breach_at-breach.result yet c.in_ok-reserve.ensures.same c.hear-findings.ensures.heard
-      c.as_slice.ensures.value (c.as_slice-2.ensures.value ∙ ap (λ v. v.items) c.hear-findings.ensures.live) c.actor_of.ensures c.holders_of-rows.ensures.rows
-      c.as_slice-3.ensures.value c.as_slice-4.ensures.value c.breach_at-breach.ensures refl refl refl refl c.keep.ensures refl run stands,
+          c.holders_of-rows.result.items c.as_slice-3.result.now c.as_slice-4.result.now c.breach_at-breach.result yet c.in_ok-reserve.ensures.same c.hear-findings.ensures.heard
+          c.as_slice.ensures.value (c.as_slice-2.ensures.value ∙ ap (λ v. v.items) c.hear-findings.ensures.live) c.actor_of.ensures c.holders_of-rows.ensures.rows
+          c.as_slice-3.ensures.value c.as_slice-4.ensures.value c.breach_at-breach.ensures refl refl refl refl c.keep.ensures refl run stands,
       stands-on c.args.self.now c.reserve.new.self c.hear-findings.new.self (record c.hear-findings.new.self { live = c.keep.new.live; breach = c.breach_at-breach.result }) c.args.moment.now c.hear-findings.result c.as_slice.result.now c.as_slice-2.result.now c.actor_of.result
-      c.holders_of-rows.result.items c.as_slice-3.result.now c.as_slice-4.result.now c.breach_at-breach.result yet c.in_ok-reserve.ensures.same c.hear-findings.ensures.heard
-      c.as_slice.ensures.value (c.as_slice-2.ensures.value ∙ ap (λ v. v.items) c.hear-findings.ensures.live) c.actor_of.ensures c.holders_of-rows.ensures.rows
-      c.as_slice-3.ensures.value c.as_slice-4.ensures.value c.breach_at-breach.ensures refl refl refl refl c.keep.ensures refl run stands,
+          c.holders_of-rows.result.items c.as_slice-3.result.now c.as_slice-4.result.now c.breach_at-breach.result yet c.in_ok-reserve.ensures.same c.hear-findings.ensures.heard
+          c.as_slice.ensures.value (c.as_slice-2.ensures.value ∙ ap (λ v. v.items) c.hear-findings.ensures.live) c.actor_of.ensures c.holders_of-rows.ensures.rows
+          c.as_slice-3.ensures.value c.as_slice-4.ensures.value c.breach_at-breach.ensures refl refl refl refl c.keep.ensures refl run stands,
       refl,
     )
