@@ -1,14 +1,12 @@
 -- What is found at the end of a run, from its holders and its reports.
-use Rattle.std.proofs.Common.{◌≡◌, ℕ, ◌≤◌, true, false, List, ◌∷◌, Option, Some, None, Contains, refl, sym, ap, ◌∙◌, subst, arith}
+use Rattle.std.proofs.Common.{◌≡◌, ℕ, ◌≤◌, true, false, List, ◌∷◌, Option, Some, None, sym, ◌∙◌, subst, arith}
 use Rattle.std.proofs.lemmas.Bool.Decides.{nat_tests}
 use Rattle.ring_points.specs.declared.who.Who.{Who}
-use Rattle.ring_points.specs.Ranges.{in_ranges}
-use Rattle.fabric_terms.specs.Primaries.{Safe}
 use Rattle.fabric_terms.specs.Reports.{told}
 use Rattle.fabric_terms.specs.Runs.{Moment, Run, Holds}
 use Rattle.fabric_terms.specs.TakeOvers.{was_taken_over}
 use Rattle.run_audit.specs.declared.bounds.Lapse.{Lapse}
-use Rattle.run_audit.specs.declared.breach.Breach.TheVariants.{Ring, Early, Primary, Older}
+use Rattle.run_audit.specs.declared.breach.Breach.TheVariants.{Ring, Early}
 use Rattle.run_audit.specs.declared.finding.Findings.{Findings}
 use Rattle.run_audit.specs.declared.overlap.Holder.{Holder}
 use Rattle.run_audit.specs.declared.overlap.Overlap.{Overlap}
@@ -16,7 +14,7 @@ use Rattle.run_audit.specs.declared.primaries.Rivals.{Rivals}
 use Rattle.run_audit.specs.declared.taken.Taken.{Taken}
 use Rattle.run_audit.specs.declared.victim.Victim.{Victim}
 use Rattle.run_audit.specs.Breaches.{is_below, rivals_in, lapse_in, OneHolder, TakenHoldNothing, TakenHolds}
-use Rattle.run_audit.specs.Findings.{Finds, AreFindings, breach_of}
+use Rattle.run_audit.specs.Findings.{Finds, breach_of}
 use Rattle.run_audit.specs.Overlaps.{IsLeastOf, Among, AmongPairs}
 use Rattle.run_audit.specs.Owners.{taken_at}
 use Rattle.run_audit.specs.Standing.{AreHolders, IsFinding}

@@ -1,16 +1,14 @@
 -- What the auditor has heard of a run, with one more moment.
-use Rattle.std.proofs.Common.{◌≡◌, ℕ, true, false, List, ◌∷◌, Option, Some, None, refl, sym, ap, ◌∙◌, subst}
+use Rattle.std.proofs.Common.{◌≡◌, ℕ, ◌∷◌, Option, Some, None, sym, subst}
 use Rattle.std.specs.Prelude.{if◌then◌else◌}
 use Rattle.ring_points.specs.declared.who.Who.{Who}
 use Rattle.ring_points.specs.Whos.{same_who}
-use Rattle.fabric_terms.specs.declared.report.Report.{Report}
 use Rattle.fabric_terms.specs.Primaries.{Safe}
-use Rattle.fabric_terms.specs.Reports.{Told, told, told_on, told_in}
+use Rattle.fabric_terms.specs.Reports.{Told, told, told_on}
 use Rattle.fabric_terms.specs.Runs.{Clocks, Entry, Run, last_own}
 use Rattle.fabric_terms.specs.TakeOvers.{was_taken_over}
 use Rattle.run_audit.specs.declared.auditor.Auditor.{Auditor}
 use Rattle.run_audit.specs.declared.bounds.Lapse.{Lapse}
-use Rattle.run_audit.specs.declared.finding.Findings.{Findings}
 use Rattle.run_audit.specs.declared.primaries.Rivals.{Rivals}
 use Rattle.run_audit.specs.Auditing.{IsUpToDate, HasHeard}
 use Rattle.run_audit.specs.Breaches.{rivals_in, lapse_in}

@@ -1,18 +1,16 @@
 -- A run has one verdict.
-use Rattle.std.proofs.Common.{◌≡◌, ◌≢◌, ℕ, zero, suc, ◌+◌, ◌≤◌, true, false, List, [], ◌∷◌, drop, Option, Some, None, ◌⊎◌, inl, inr, refl, sym, ap, ◌∙◌, subst, arith}
+use Rattle.std.proofs.Common.{◌≡◌, ◌≢◌, ℕ, zero, suc, ◌≤◌, true, false, [], ◌∷◌, drop, Option, Some, None, ◌⊎◌, inl, inr, refl, sym, ap, ◌∙◌, subst, arith}
 use Rattle.std.proofs.lemmas.Bool.Decides.{nat_tests}
 use Rattle.std.proofs.lemmas.Option.{same_Some}
 use Rattle.ring_points.specs.declared.point.Point.{Point}
-use Rattle.ring_points.specs.declared.unit.Epoch.{Epoch}
 use Rattle.ring_points.specs.declared.who.Who.{Who}
 use Rattle.fabric_terms.specs.Primaries.{Safe}
-use Rattle.fabric_terms.specs.Reports.{told}
 use Rattle.fabric_terms.specs.Runs.{Moment, Run, Holds}
 use Rattle.run_audit.specs.declared.breach.Breach.{Breach}
 use Rattle.run_audit.specs.declared.breach.Breach.TheVariants.{Ring, Early, Primary, Older}
 use Rattle.run_audit.specs.declared.primaries.Rivals.{Rivals}
 use Rattle.run_audit.specs.declared.bounds.Lapse.{Lapse}
-use Rattle.run_audit.specs.Breaches.{is_below, rivals_in, lapse_in, OneHolder, TwoHold, TakenHoldNothing, TakenHolds, IsBreach, IsFirstBreach, IsVerdict}
+use Rattle.run_audit.specs.Breaches.{is_below, OneHolder, TwoHold, TakenHolds, IsBreach, IsVerdict}
 use Rattle.run_audit.proofs.Holding.{Order, Below, Same, Above, order_of, not_itself}
 use Rattle.run_audit.proofs.Safes.{safe_ago, sound_end}
 use Rattle.run_audit.proofs.Verdicts.{breach_is_unsafe, not_sound}

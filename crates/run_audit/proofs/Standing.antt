@@ -1,9 +1,9 @@
 -- What the auditor stands for, as a moment comes.
-use Rattle.std.proofs.Common.{◌≡◌, ◌≢◌, ℕ, ◌<◌, Bool, true, false, List, [], ◌∷◌, length, get_or, Option, Some, None, Contains, refl, sym, ap, ◌∙◌, subst}
+use Rattle.std.proofs.Common.{◌≡◌, ◌≢◌, ℕ, ◌<◌, Bool, true, false, List, ◌∷◌, length, get_or, Option, Some, None, Contains, refl, sym, ap, ◌∙◌, subst}
 use Rattle.std.proofs.lemmas.List.{get_or_default}
 use Rattle.std.proofs.lemmas.Option.{same_Some}
 use Rattle.std.specs.Global.{Vec}
-use Rattle.std.specs.Prelude.{All, option_map, is_some, if◌then◌else◌}
+use Rattle.std.specs.Prelude.{All, option_map, is_some}
 use Rattle.ring_points.specs.declared.who.Who.{Who}
 use Rattle.ring_points.specs.Ranges.{in_ranges}
 use Rattle.ring_points.specs.Whos.{same_who}
@@ -12,7 +12,6 @@ use Rattle.fabric_terms.specs.Primaries.{Safe}
 use Rattle.fabric_terms.specs.Reports.{told}
 use Rattle.fabric_terms.specs.Runs as runs
 use Rattle.fabric_terms.specs.Runs.{Clocks, Run, Entry, Owned, Holds, IsBelow, clocks_of, reading_of, own_of, own_in}
-use Rattle.fabric_terms.specs.TakeOvers.{was_taken_over}
 use Rattle.run_audit.specs.declared.auditor.Auditor.{Auditor}
 use Rattle.run_audit.specs.declared.breach.Breach.{Breach}
 use Rattle.run_audit.specs.declared.moment.Moment.{Moment}
@@ -22,12 +21,11 @@ use Rattle.run_audit.specs.declared.finding.Findings.{Findings}
 use Rattle.run_audit.specs.Auditing.{StandsFor, IsUpToDate, IsSame, HasHeard, seen, entry_of}
 use Rattle.run_audit.specs.Breaches.{IsVerdict}
 use Rattle.run_audit.specs.Findings.{Finds}
-use Rattle.run_audit.specs.Clocks.{Owns, HoldsNow, AreRows}
+use Rattle.run_audit.specs.Clocks.{HoldsNow, AreRows}
 use Rattle.run_audit.specs.Overlaps.{Rises}
 use Rattle.run_audit.specs.Owners.{own_at, taken_at}
-use Rattle.run_audit.specs.Standing.{AreHolders, IsLive, Knows}
+use Rattle.run_audit.specs.Standing.{AreHolders, IsLive}
 use Rattle.run_audit.specs.Tables.{Keeps, KeepsBounds, seat_of, replica_of}
-use Rattle.run_audit.proofs.Knowing.{holder_holds, holder_found}
 use Rattle.run_audit.proofs.Verdicts.{verdict_on, verdict_stays}
 use Rattle.run_audit.proofs.Readings.{read_there, same_who-true}
 

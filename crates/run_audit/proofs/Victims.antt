@@ -1,5 +1,5 @@
 -- The victim that is named first, of more and more holders.
-use Rattle.std.proofs.Common.{◌≡◌, ℕ, ◌+◌, ◌<◌, ◌≤◌, Bool, true, false, List, [], ◌∷◌, IsTrue, length, take, get_or, Option, Some, None, refl, ap, arith}
+use Rattle.std.proofs.Common.{◌≡◌, ℕ, ◌+◌, ◌<◌, ◌≤◌, true, false, List, [], ◌∷◌, IsTrue, length, take, get_or, Option, Some, None, refl, ap, arith}
 use Rattle.std.proofs.lemmas.Bool.{false≢true}
 use Rattle.std.proofs.lemmas.Bool.Decides.{nat_tests}
 use Rattle.ring_points.specs.declared.interval.Interval.{Interval}

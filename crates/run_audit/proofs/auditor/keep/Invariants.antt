@@ -1,4 +1,4 @@
-use Rattle.std.proofs.Common.{◌≡◌, ◌≤◌, Contains, length, take, vec_capacity}
+use Rattle.std.proofs.Common.{◌≡◌, Contains}
 use Rattle.ring_points.specs.declared.who.Who.{Who}
 use Rattle.run_audit.specs.declared.overlap.Holder.{Holder}
 use Rattle.run_audit.proofs.auditor.keep.Given as goal

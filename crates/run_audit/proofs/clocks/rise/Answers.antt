@@ -1,4 +1,3 @@
-use Rattle.std.proofs.Common.{refl}
 use Rattle.std.proofs.lemmas.List.{get_or_default}
 use Rattle.run_audit.proofs.Readings.{rise_on, rise_all}
 use Rattle.run_audit.proofs.clocks.rise.Goals as goal

@@ -1,8 +1,7 @@
-use Rattle.std.proofs.Common.{◌≡◌, ◌+◌, ◌<◌, ◌≤◌, ◌++◌, [], ◌∷◌, List, IsOk, if◌then◌else◌, is_ok, Result, Ok, Err, sym, ap, ◌∙◌, subst, arith, vec_len, vec_capacity, length, take}
+use Rattle.std.proofs.Common.{◌+◌, ◌<◌, sym, ap, ◌∙◌, subst, arith, vec_len, vec_capacity, take}
 use Rattle.std.proofs.lemmas.List.{get_or_default}
 use Rattle.run_audit.specs.Clocks.{AreRows}
-use Rattle.run_audit.specs.declared.overlap.Holder.{Holder}
-use Rattle.run_audit.proofs.Rows.{no_rows, row_none, row_some, rows_all, pushed_items}
+use Rattle.run_audit.proofs.Rows.{row_none, row_some, pushed_items}
 use Rattle.run_audit.proofs.holders.holders_of.Goals as goal
 use Rattle.run_audit.proofs.holders.holders_of.Goals.{in-Some, in_default}
 

@@ -1,5 +1,4 @@
-use Rattle.std.proofs.Common.{◌≡◌, Option, Some, None, refl, ap}
-use Rattle.fabric_terms.specs.Runs.{Entry}
+use Rattle.std.proofs.Common.{◌≡◌, Some, None, refl, ap}
 use Rattle.run_audit.specs.Auditing.{entry_of}
 use Rattle.run_audit.proofs.Heard.{heard_none, heard_some}
 use Rattle.run_audit.proofs.auditor.Auditor.hear.Goals as goal
