@@ -7,25 +7,25 @@ use std::process::Abort;
 use std::test::Fail;
 
 /// One node with its three arbitrators, and where each listens.
-pub const ONE: &str =
+pub(crate) const ONE: &str =
     "{\"lease\":3000,\"answer\":1000,\"drift\":10,\"grain\":1,\"nodes\":[{\"node\":1,\"point\":\"0000000000000000\",\"at\":\"n1\"}],\"arbiters\":[{\"arbiter\":1,\"at\":\"a1\"},{\"arbiter\":2,\"at\":\"a2\"},{\"arbiter\":3,\"at\":\"a3\"}],\"first\":1}";
 
 /// The same without the address of an arbitrator.
-pub const ONE_WITHOUT_A2: &str =
+pub(crate) const ONE_WITHOUT_A2: &str =
     "{\"lease\":3000,\"answer\":1000,\"drift\":10,\"grain\":1,\"nodes\":[{\"node\":1,\"point\":\"0000000000000000\",\"at\":\"n1\"}],\"arbiters\":[{\"arbiter\":1,\"at\":\"a1\"},{\"arbiter\":2},{\"arbiter\":3,\"at\":\"a3\"}],\"first\":1}";
 
 /// Two nodes, half the ring apart, the second of which stands first.
-pub const DUO: &str =
+pub(crate) const DUO: &str =
     "{\"lease\":3000,\"answer\":1000,\"drift\":10,\"grain\":1,\"nodes\":[{\"node\":2,\"point\":\"8000000000000000\",\"at\":\"n2\"},{\"node\":1,\"point\":\"0000000000000000\",\"at\":\"n1\"}],\"arbiters\":[{\"arbiter\":1,\"at\":\"a1\"},{\"arbiter\":2,\"at\":\"a2\"},{\"arbiter\":3,\"at\":\"a3\"}],\"first\":1}";
 
 /// What node 1 tells where it starts with the whole ring.
-pub const OWNS_ALL: &str = "0 - 1.1 0 own 0000000000000000-ffffffffffffffff -";
+pub(crate) const OWNS_ALL: &str = "0 - 1.1 0 own 0000000000000000-ffffffffffffffff -";
 
 /// The record of a node's first start.
-pub const FIRST_BOOT: &[u8] = &[1, 0, 0, 0, 1];
+pub(crate) const FIRST_BOOT: &[u8] = &[1, 0, 0, 0, 1];
 
 /// The lines, each with its line feed.
-pub fn text_of(alloc: Global, lines: &[&str]) -> Result<Vec<u8>, Fail> {
+pub(crate) fn text_of(alloc: Global, lines: &[&str]) -> Result<Vec<u8>, Fail> {
     let mut text = Vec::new(alloc);
     for line in lines {
         text.extend_from_slice(line.as_bytes())?;
@@ -36,14 +36,14 @@ pub fn text_of(alloc: Global, lines: &[&str]) -> Result<Vec<u8>, Fail> {
 
 /// The devices of a call beside its source, and the keeper, which stays from one call to the next.
 #[derive(Drop)]
-pub struct Devices {
+pub(crate) struct Devices {
     pub sink: MemSink,
     pub links: MemLinks,
     pub clock: MemClock,
 }
 
 /// Devices that do not fail: links at which nothing arrives, and a clock of these readings.
-pub fn devices(alloc: Global, readings: &[u64]) -> Result<Devices, Fail> {
+pub(crate) fn quiet_devices(alloc: Global, readings: &[u64]) -> Result<Devices, Fail> {
     Ok(Devices {
         sink: MemSink::new(alloc, Vec::new(alloc)),
         links: MemLinks::new(alloc, Vec::new(alloc), Vec::new(alloc)),
@@ -52,12 +52,12 @@ pub fn devices(alloc: Global, readings: &[u64]) -> Result<Devices, Fail> {
 }
 
 /// A keeper of no records whose calls of these numbers fail.
-pub fn keeper(alloc: Global, fail: &[u64]) -> Result<MemKeeper, Fail> {
+pub(crate) fn keeper(alloc: Global, fail: &[u64]) -> Result<MemKeeper, Fail> {
     Ok(MemKeeper::new(alloc, Vec::new(alloc), Vec::from_slice(alloc, fail)?))
 }
 
 /// The program's status at these words and lines.
-pub fn called(
+pub(crate) fn called(
     alloc: Global,
     words: &[&str],
     lines: &[&str],
@@ -82,7 +82,7 @@ pub fn called(
 }
 
 /// Expects what is written.
-pub fn expect_lines(
+pub(crate) fn expect_lines(
     rt: &impl Abort,
     alloc: Global,
     devices: &Devices,
@@ -94,7 +94,7 @@ pub fn expect_lines(
 }
 
 /// Expects the records of an actor.
-pub fn expect_records(
+pub(crate) fn expect_records(
     rt: &impl Abort,
     keeps: &mut MemKeeper,
     actor: u16,

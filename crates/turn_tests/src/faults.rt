@@ -1,5 +1,5 @@
 use crate::calls::{
-    Devices, FIRST_BOOT, ONE, OWNS_ALL, called, devices, expect_lines, expect_records, keeper,
+    Devices, FIRST_BOOT, ONE, OWNS_ALL, called, expect_lines, expect_records, keeper, quiet_devices,
 };
 use edge_io::{MemClock, MemLinks, MemSink};
 use std::alloc::Global;
@@ -18,14 +18,14 @@ fn failing(alloc: Global, sink: &[u64], links: &[u64]) -> Result<Devices, Fail> 
 fn a_keeper_that_fails_first_keeps_nothing(rt: HostRuntime) -> Result<(), Fail> {
     let alloc = rt.alloc();
     let mut keeps = keeper(alloc, &[1])?;
-    let mut first = devices(alloc, &[0, 5])?;
+    let mut first = quiet_devices(alloc, &[0, 5])?;
     assert_eq!(rt;
         called(alloc, &["node", "1", "1"], &[ONE], &mut first, &mut keeps)?,
         10
     );
     expect_lines(&rt, alloc, &first, &["fault keep"])?;
     expect_records(&rt, &mut keeps, 1, &[])?;
-    let mut again = devices(alloc, &[0, 0])?;
+    let mut again = quiet_devices(alloc, &[0, 0])?;
     assert_eq!(rt;
         called(alloc, &["node", "1", "1"], &[ONE], &mut again, &mut keeps)?,
         0
@@ -37,14 +37,14 @@ fn a_keeper_that_fails_first_keeps_nothing(rt: HostRuntime) -> Result<(), Fail> 
 fn an_append_that_fails_may_have_kept(rt: HostRuntime) -> Result<(), Fail> {
     let alloc = rt.alloc();
     let mut keeps = keeper(alloc, &[2])?;
-    let mut first = devices(alloc, &[0, 5])?;
+    let mut first = quiet_devices(alloc, &[0, 5])?;
     assert_eq!(rt;
         called(alloc, &["node", "1", "1"], &[ONE], &mut first, &mut keeps)?,
         10
     );
     expect_lines(&rt, alloc, &first, &["fault keep"])?;
     expect_records(&rt, &mut keeps, 1, &[FIRST_BOOT])?;
-    let mut again = devices(alloc, &[0, 0])?;
+    let mut again = quiet_devices(alloc, &[0, 0])?;
     assert_eq!(rt;
         called(alloc, &["node", "1", "1"], &[ONE], &mut again, &mut keeps)?,
         0
@@ -63,7 +63,7 @@ fn links_that_cannot_open_end_a_run(rt: HostRuntime) -> Result<(), Fail> {
     );
     expect_lines(&rt, alloc, &first, &["fault link"])?;
     expect_records(&rt, &mut keeps, 1, &[])?;
-    let mut again = devices(alloc, &[0, 0])?;
+    let mut again = quiet_devices(alloc, &[0, 0])?;
     assert_eq!(rt;
         called(alloc, &["node", "1", "1"], &[ONE], &mut again, &mut keeps)?,
         0
@@ -82,7 +82,7 @@ fn a_sink_that_fails_has_what_it_took(rt: HostRuntime) -> Result<(), Fail> {
     );
     expect_lines(&rt, alloc, &first, &[])?;
     expect_records(&rt, &mut keeps, 1, &[FIRST_BOOT])?;
-    let mut again = devices(alloc, &[0, 0])?;
+    let mut again = quiet_devices(alloc, &[0, 0])?;
     assert_eq!(rt;
         called(alloc, &["node", "1", "1"], &[ONE], &mut again, &mut keeps)?,
         0

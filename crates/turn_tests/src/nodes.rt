@@ -1,6 +1,6 @@
 use crate::calls::{
-    FIRST_BOOT, ONE, ONE_WITHOUT_A2, OWNS_ALL, called, devices, expect_lines, expect_records,
-    keeper,
+    FIRST_BOOT, ONE, ONE_WITHOUT_A2, OWNS_ALL, called, expect_lines, expect_records, keeper,
+    quiet_devices,
 };
 use edge_io::MemKeeper;
 use std::test::Fail;
@@ -9,7 +9,7 @@ use std::test::Fail;
 fn a_node_runs_and_runs_again(rt: HostRuntime) -> Result<(), Fail> {
     let alloc = rt.alloc();
     let mut keeps = keeper(alloc, &[])?;
-    let mut first = devices(alloc, &[0, 5])?;
+    let mut first = quiet_devices(alloc, &[0, 5])?;
     assert_eq!(rt;
         called(alloc, &["node", "1", "1"], &[ONE], &mut first, &mut keeps)?,
         0
@@ -17,7 +17,7 @@ fn a_node_runs_and_runs_again(rt: HostRuntime) -> Result<(), Fail> {
     expect_lines(&rt, alloc, &first, &[OWNS_ALL, "end 1"])?;
     expect_records(&rt, &mut keeps, 1, &[FIRST_BOOT])?;
     assert_eq!(rt; first.links.sent().len(), 0);
-    let mut again = devices(alloc, &[9, 9])?;
+    let mut again = quiet_devices(alloc, &[9, 9])?;
     assert_eq!(rt;
         called(alloc, &["node", "1", "1"], &[ONE], &mut again, &mut keeps)?,
         0
@@ -29,7 +29,7 @@ fn a_node_runs_and_runs_again(rt: HostRuntime) -> Result<(), Fail> {
 fn a_clock_that_falls_ends_a_run(rt: HostRuntime) -> Result<(), Fail> {
     let alloc = rt.alloc();
     let mut keeps = keeper(alloc, &[])?;
-    let mut falls = devices(alloc, &[5, 3])?;
+    let mut falls = quiet_devices(alloc, &[5, 3])?;
     assert_eq!(rt;
         called(alloc, &["node", "1", "1"], &[ONE], &mut falls, &mut keeps)?,
         12
@@ -49,7 +49,7 @@ fn a_clock_that_falls_ends_a_run(rt: HostRuntime) -> Result<(), Fail> {
 fn an_address_that_is_missing_is_told(rt: HostRuntime) -> Result<(), Fail> {
     let alloc = rt.alloc();
     let mut keeps = keeper(alloc, &[])?;
-    let mut none = devices(alloc, &[0])?;
+    let mut none = quiet_devices(alloc, &[0])?;
     assert_eq!(rt;
         called(
             alloc,
@@ -73,7 +73,7 @@ fn a_bad_record_is_told(rt: HostRuntime) -> Result<(), Fail> {
     let mut lists = Vec::new(alloc);
     lists.push((1, records))?;
     let mut keeps = MemKeeper::new(alloc, lists, Vec::new(alloc));
-    let mut none = devices(alloc, &[0])?;
+    let mut none = quiet_devices(alloc, &[0])?;
     assert_eq!(rt;
         called(alloc, &["node", "1", "1"], &[ONE], &mut none, &mut keeps)?,
         14

@@ -1,4 +1,4 @@
-use crate::calls::{DUO, called, devices, expect_lines, keeper};
+use crate::calls::{DUO, called, expect_lines, keeper, quiet_devices};
 use std::test::Fail;
 
 /// The words, the lines behind the configuration of two nodes, the status and what is written.
@@ -37,7 +37,7 @@ fn sources_are_refused(rt: HostRuntime) -> Result<(), Fail> {
     let alloc = rt.alloc();
     for (words, lines, code, written) in SOURCES {
         let mut keeps = keeper(alloc, &[1])?;
-        let mut none = devices(alloc, &[0])?;
+        let mut none = quiet_devices(alloc, &[0])?;
         let mut all = Vec::new(alloc);
         all.push(DUO)?;
         all.extend_from_slice(lines)?;
