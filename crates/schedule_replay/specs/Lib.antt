@@ -6,6 +6,7 @@ pub mod Replays
 pub mod Traces
 pub mod Tellings
 pub mod Acts
+pub mod Brief
 pub mod Follows
 pub mod Halts
 pub mod Laws

@@ -6,6 +6,7 @@
 //! refusal comes exactly where the judged bytes say so, and that what is accepted is a valid schedule.
 #![tactic(auto)]
 
+mod brief;
 mod clocks;
 mod ending;
 mod halt;

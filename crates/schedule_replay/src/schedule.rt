@@ -8,6 +8,7 @@ ghost use Rattle.world_rules.specs.Runs.{History};
 ghost use Rattle.schedule_replay.specs.Follows.{At, Follows};
 ghost use Rattle.schedule_replay.specs.Schedule.{is_of_names, is_run, line_verdict, event_verdict, run_verdict, refusal_at};
 
+use crate::brief::{Brief, read_brief};
 use crate::teller::Teller;
 use fabric_status::Refusal;
 use fabric_terms::{Command, Event, OutOfMemory};
@@ -88,9 +89,9 @@ fn take_tick<T: Teller>(
     }
 }
 
-/// Takes a line of another event.
+/// Takes a line of an event of any kind but a tick.
 #[tactic(auto, unfolding(crate::specs::Schedule::line_verdict))]
-fn take_other<T: Teller>(
+fn take_any<T: Teller>(
     world: &mut World,
     teller: &mut T,
     number: u64,
@@ -108,6 +109,24 @@ fn take_other<T: Teller>(
             }
             take_event(world, teller, number, &event, text)
         }
+    }
+}
+
+/// Takes a line of another event.
+fn take_other<T: Teller>(
+    world: &mut World,
+    teller: &mut T,
+    number: u64,
+    line: &[u8],
+    text: &mut Vec<u8>,
+) -> Result<Option<Refusal>, OutOfMemory>
+    requires { IsWorld world.old }
+    ensures { (c : Configuration) (h : History) → At world.old (T.knows teller.old) c h → IfOk result (λ refused. Follows T.telling c h number (event_verdict c (ruled c h) (length h) number (event_of line.now)) refused world.new (T.knows teller.new) text.old.items text.new.items) }
+{
+    match read_brief(line) {
+        Some(Brief::Fire(node)) => take_event(world, teller, number, &Event::Fire { node }, text),
+        Some(Brief::Give(frame)) => take_event(world, teller, number, &Event::Give { frame }, text),
+        None => take_any(world, teller, number, line, text),
     }
 }
 
