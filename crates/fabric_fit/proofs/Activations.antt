@@ -21,6 +21,7 @@ use Rattle.fabric_fit.proofs.Deeds.{deeds_from, does_one, one_deed, sends}
 use Rattle.fabric_fit.proofs.Leads.{first_lead_in_range}
 use Rattle.fabric_fit.proofs.Members.{config_parts}
 use Rattle.fabric_fit.proofs.Promises.{last_fits, older_in_range}
+use Rattle.fabric_fit.proofs.Telling.{unit_told}
 
 module _ (me : ℕ) (asker : Who) (addressed : IsTrue (is_addressee asker)) (config : Config) (sound : IsTrue (is_config config)) (s : Seat)
     (fine : SeatInRange s) where
@@ -34,7 +35,7 @@ module _ (me : ℕ) (asker : Who) (addressed : IsTrue (is_addressee asker)) (con
   role_in_range r h Primary = record {
     state = record { replica = h; taking = fine.taking; lead = first_lead_in_range me config (last_of r) sound (last_fits r h) };
     deeds =
-        deeds_from (Tell (report.IsPrimary config.partition config.epoch)) (say_activated asker config ∷ []) tt
+        deeds_from (Tell (report.IsPrimary config.partition config.epoch)) (say_activated asker config ∷ []) (unit_told config.partition config.epoch unit)
         (one_deed (say_activated asker config) said);
   }
   role_in_range r h role =

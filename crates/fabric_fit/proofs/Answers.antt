@@ -11,7 +11,7 @@ use Rattle.fabric_terms.specs.declared.record.Record.{Record}
 use Rattle.fabric_terms.specs.Fields.{has_members, is_addressee, is_arbiter, is_config, is_done, is_epoch, is_node, is_sender, is_short, is_unit, is_who, is_word, same_unit}
 use Rattle.fabric_terms.specs.Messages.{is_sound, is_sound_body}
 use Rattle.frames_fit.specs.Above.{DidInFormat}
-use Rattle.frames_fit.specs.Formats.{in_format}
+use Rattle.frames_fit.specs.Formats.{ReportInRange, in_format}
 use Rattle.frames_fit.proofs.Facts.{who_addressed}
 use Rattle.frames_fit.proofs.Frames.{sound_parts}
 use Rattle.ring_points.specs.declared.unit.Config.{Config}
@@ -117,11 +117,16 @@ module _ (asker : Who) (rs : Registers) (addressed : IsTrue (is_addressee asker)
 
       by : (kept : Option Record) → KeptFits kept
           → DidInFormat RegistersInRange KeptRecord (did (replied asker rs (Some (record { kept = kept; body = r.body }))))
-      by None k = record { state = fine; records = All-nil KeptRecord; sent = sent }
-      by (Some one) k = record { state = with_in_range rs one fine k; records = all_unless KeptRecord (is_ring_record one) one [] k (All-nil KeptRecord); sent = sent }
+      by None k = record { state = fine; records = All-nil KeptRecord; sent = sent; told = All-nil ReportInRange }
+      by (Some one) k = record {
+        state = with_in_range rs one fine k;
+        records = all_unless KeptRecord (is_ring_record one) one [] k (All-nil KeptRecord);
+        sent = sent;
+        told = All-nil ReportInRange;
+      }
 
   still_in_format : DidInFormat RegistersInRange KeptRecord (did (replied asker rs None))
-  still_in_format = record { state = fine; records = All-nil KeptRecord; sent = All-nil (λ m. IsTrue (in_format m)) }
+  still_in_format = record { state = fine; records = All-nil KeptRecord; sent = All-nil (λ m. IsTrue (in_format m)); told = All-nil ReportInRange }
 
   answered : (b : Body) → IsTrue (is_sound_body b) → DidInFormat RegistersInRange KeptRecord (did (question_received b asker rs))
   answered (body.Prepare partition epoch) h =

@@ -28,6 +28,7 @@ use Rattle.fabric_fit.proofs.Answers.{sender_addressed}
 use Rattle.fabric_fit.proofs.Calls.{OutcomeInRange, adopt_in_range, adopt_own_in_range, idle_in_range, promise_in_range}
 use Rattle.fabric_fit.proofs.Deeds.{deeds_from, does_after, does_one, one_deed, sends, stays_in_range}
 use Rattle.fabric_fit.proofs.Promises.{last_fits, older_in_range, raise_in_range, seated_in_range, unit_from}
+use Rattle.fabric_fit.proofs.Telling.{entry_told}
 
 pub last_word : (n : ℕ) → IsTrue (is_last n) → IsTrue (is_word n)
 last_word n h = let few = leb-true n 100000 h in word_from n (omega arith)
@@ -73,7 +74,8 @@ module _ (t : Taking) (took : TakingInRange t) where
         (λ f. deeds_from (Keep (kept.AdoptedAt r.partition t.epoch t.last false)) (Send t.asker (body.Adopted r.partition t.epoch t.last) ∷ []) unit_and_last said)
         (λ f. deeds_from (Keep (kept.AdoptedAt r.partition t.epoch t.last is_own))
         (Tell (report.Adopted r.partition t.epoch t.last) ∷ Send t.asker (body.Adopted r.partition t.epoch t.last) ∷ []) unit_and_last
-        (deeds_from (Tell (report.Adopted r.partition t.epoch t.last)) (Send t.asker (body.Adopted r.partition t.epoch t.last) ∷ []) tt said))
+        (deeds_from (Tell (report.Adopted r.partition t.epoch t.last)) (Send t.asker (body.Adopted r.partition t.epoch t.last) ∷ [])
+        (entry_told r.partition t.epoch t.last unit took.last) said))
 
     fetch_in_range : DeedInRange (fetch_next t r)
     fetch_in_range =

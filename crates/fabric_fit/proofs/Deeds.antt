@@ -7,10 +7,10 @@ use Rattle.fabric_terms.specs.declared.message.Body.{Body}
 use Rattle.fabric_terms.specs.Fields.{is_addressee}
 use Rattle.fabric_terms.specs.Messages.{is_sound_body}
 use Rattle.frames_fit.specs.Above.{DidInFormat}
-use Rattle.frames_fit.specs.Formats.{in_format}
+use Rattle.frames_fit.specs.Formats.{ReportInRange, in_format}
 use Rattle.ring_points.specs.declared.who.Who.{Who}
-use Rattle.unit_rules.specs.Deeds.{Acted, Deed, Keep, Send, Tell, after_deeds, acted, did, frames_of, records_of, send_all, still, unless}
-use Rattle.world_rules.specs.Above.{is_ring_frame, is_ring_record}
+use Rattle.unit_rules.specs.Deeds.{Acted, Deed, Keep, Send, Tell, after_deeds, acted, did, frames_of, records_of, reports_of, send_all, still, unless}
+use Rattle.world_rules.specs.Above.{is_ring_frame, is_ring_record, is_ring_report}
 use Rattle.fabric_fit.specs.Deeds.{ActedInRange, DeedInRange}
 use Rattle.fabric_fit.specs.Records.{KeptRecord}
 
@@ -67,5 +67,18 @@ frames_in_range (Send to b ∷ ds) h =
     (frames_in_range ds (All-tail DeedInRange (Send to b) ds h))
 frames_in_range (Tell r ∷ ds) h = frames_in_range ds (All-tail DeedInRange (Tell r) ds h)
 
+reports_in_range : (ds : List Deed) → All DeedInRange ds → All ReportInRange (reports_of ds)
+reports_in_range [] h = All-nil ReportInRange
+reports_in_range (Keep r ∷ ds) h = reports_in_range ds (All-tail DeedInRange (Keep r) ds h)
+reports_in_range (Send to b ∷ ds) h = reports_in_range ds (All-tail DeedInRange (Send to b) ds h)
+reports_in_range (Tell r ∷ ds) h =
+    all_unless ReportInRange (is_ring_report r) r (reports_of ds) (All-head DeedInRange (Tell r) ds h)
+    (reports_in_range ds (All-tail DeedInRange (Tell r) ds h))
+
 pub did_in_format : {S : Type 0} (InRange : S → Type 0) (a : Acted S) → ActedInRange InRange a → DidInFormat InRange KeptRecord (did a)
-did_in_format InRange a h = record { state = h.state; records = records_in_range a.deeds h.deeds; sent = frames_in_range a.deeds h.deeds }
+did_in_format InRange a h = record {
+  state = h.state;
+  records = records_in_range a.deeds h.deeds;
+  sent = frames_in_range a.deeds h.deeds;
+  told = reports_in_range a.deeds h.deeds;
+}

@@ -1,6 +1,7 @@
 pub mod Answers
 pub mod Ranges
 pub mod Deeds
+pub mod Telling
 pub mod Calls
 pub mod Promises
 pub mod Copies
@@ -16,6 +17,7 @@ pub mod Choices
 pub mod Asking
 pub mod Phases
 pub mod Transitions
+pub mod Tables
 pub mod Knowing
 pub mod Managing
 pub mod Rows

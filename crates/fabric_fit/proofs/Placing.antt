@@ -1,7 +1,7 @@
 -- What is placed among the configured nodes are members of a configuration, the first of them too.
 use Rattle.std.proofs.Common.{◌≡◌, ◌≢◌, ℕ, ◌≤◌, false, cond, List, [], ◌∷◌, length, map, IsTrue, refl, sym, ap, ◌∙◌, arith}
 use Rattle.std.specs.Prelude.{◌==◌, All, AllPairs, Contains, Err, Ok, Result, nat_le, nat_lt}
-use Rattle.std.proofs.lemmas.Bool.{and_from, cond_both, cond-false, cond-true, eq-eqb, eqb-true, false_from_ne_true, le-leb, ltb-false}
+use Rattle.std.proofs.lemmas.Bool.{and_from, cond_both, cond-false, cond-true, eq-eqb, eqb-true, false_from_ne_true, le-leb, ltb-false, ltb-true}
 use Rattle.std.proofs.lemmas.List.{length-map}
 use Rattle.std.proofs.lemmas.List.Elements.{All-cons, All-contains, All-map, All-nil, All-weaker}
 use Rattle.std.proofs.lemmas.List.Kept.{AllPairs-cons}
@@ -9,6 +9,7 @@ use Rattle.fabric_lemmas.proofs.SortedLists.{AllPairs-head, AllPairs-tail}
 use Rattle.fabric_terms.specs.declared.config.FabricConfig.{FabricConfig}
 use Rattle.fabric_terms.specs.declared.config.NodeEntry.{NodeEntry}
 use Rattle.fabric_terms.specs.Fields.{is_node, is_within, rises_above}
+use Rattle.fabric_terms.specs.Ranges.{IsByte}
 use Rattle.fabric_terms.specs.Sound.{AreApart, IsSound, IsSoundNode}
 use Rattle.failover_units.specs.Units.{Table}
 use Rattle.frames_fit.proofs.Facts.{within_from, within_parts}
@@ -74,7 +75,7 @@ pub record PlacedInRange (placed : List ℕ) : Type 0 where
   pub first : IsTrue (is_among (first_of placed) (rising placed))
 
 abbrev pub PlacementInRange : Result (List ℕ) TooFewDomains → Type 0
-PlacementInRange (Err few) = Unit {0}
+PlacementInRange (Err few) = IsByte few.0
 PlacementInRange (Ok placed) = PlacedInRange placed
 
 apart-map : (ns : List NodeLoad) → AllPairs (λ a b. a.node ≢ b.node) ns → AllPairs (λ a b. a ≢ b) (map (λ n. n.node) ns)
@@ -119,5 +120,6 @@ module _ (nodes : List NodeLoad) (fine : NodesInRange nodes) (count : ℕ) (many
 
   pub placement_in_range : PlacementInRange (placement nodes count)
   placement_in_range =
-      cond_both (nat_lt (domains_up nodes) count) (Err (too_few (domains_up nodes))) (Ok numbers) PlacementInRange (λ f. tt)
+      cond_both (nat_lt (domains_up nodes) count) (Err (too_few (domains_up nodes))) (Ok numbers) PlacementInRange
+      (λ f. let less = ltb-true (domains_up nodes) count f in let most = (within_parts 1 7 count many).1 in omega arith)
       (λ f. chosen_in_range (is_choice nodes count (ltb-false (domains_up nodes) count f)))

@@ -22,6 +22,7 @@ use Rattle.fabric_fit.specs.Deeds.{ActedInRange, DeedInRange}
 use Rattle.fabric_fit.specs.Seats.{ReplicaInRange, SeatInRange}
 use Rattle.fabric_fit.proofs.Calls.{OutcomeInRange, RefusalInRange, promise_in_range}
 use Rattle.fabric_fit.proofs.Deeds.{deeds_from, no_deeds, one_deed, sends}
+use Rattle.fabric_fit.proofs.Telling.{unit_told}
 
 pub unit_from : (partition : ℕ) (epoch : Epoch) → IsTrue (is_short partition) → IsTrue (is_epoch epoch) → IsTrue (is_unit partition epoch)
 unit_from partition epoch h k = and_from (is_short partition) (is_epoch epoch) h k
@@ -44,7 +45,7 @@ module _ (asker : Who) (addressed : IsTrue (is_addressee asker)) (partition : �
   pub raise_in_range : (done : Done) → All DeedInRange (raise_told partition epoch done)
   raise_in_range New =
       deeds_from (Keep (kept.PromisedAt partition epoch)) (Tell (report.Promised partition epoch) ∷ []) unit
-      (one_deed (Tell (report.Promised partition epoch)) tt)
+      (one_deed (Tell (report.Promised partition epoch)) (unit_told partition epoch unit))
   raise_in_range Held = no_deeds
 
 module _ (asker : Who) (addressed : IsTrue (is_addressee asker)) (epoch : Epoch) (fits : IsTrue (is_epoch epoch)) (s : Seat) (fine : SeatInRange s) where

@@ -49,6 +49,7 @@ use Rattle.fabric_fit.proofs.Answers.{sender_addressed}
 use Rattle.fabric_fit.proofs.Asking.{reconfig_fired_in_range}
 use Rattle.fabric_fit.proofs.Copies.{fetch_received_in_range, piece_received_in_range, sync_received_in_range}
 use Rattle.fabric_fit.proofs.Deeds.{does_one, no_deeds, stays_in_range}
+use Rattle.fabric_fit.proofs.Knowing.{listed_in_range}
 use Rattle.fabric_fit.proofs.Managing.{manager_answered_in_range, reconfig_commanded_in_range}
 use Rattle.fabric_fit.proofs.Members.{config_parts}
 use Rattle.fabric_fit.proofs.Placing.{loads_in_range}
@@ -160,7 +161,8 @@ module _ (s : Failover) (fine : FailoverInRange s) where
     command_in_range (command.Write partition text) h =
         at_standing_in_range partition (write_commanded text) (refuse verb.Write reason.NotPrimary s)
         (write_commanded_in_range text (le-leb (length text) 512 h.1.1)) (does_one FailoverInRange s (Tell (report.Refused verb.Write reason.NotPrimary)) fine tt)
-    command_in_range (command.Units range) h = does_one FailoverInRange s (Tell (report.UnitList (partitions_in range s.managed.units))) fine tt
+    command_in_range (command.Units range) h =
+        does_one FailoverInRange s (Tell (report.UnitList (partitions_in range s.managed.units))) fine (listed_in_range range s.managed.units fine.managed.units)
     command_in_range d h = still_in_range
 
     -- A firing.

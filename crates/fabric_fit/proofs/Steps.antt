@@ -44,6 +44,7 @@ node_did c d acts = record {
   state = λ f. let s = acts.state f in record { ring = s.ring; above = s.above };
   records = acts.acts.records;
   frames = all_sound d.state.ring.me d acts.acts;
+  reports = acts.acts.told;
 }
 
 pub nodes_begin : NodesBeginInFormat
@@ -71,4 +72,5 @@ arbiters_stay c arbiter m s sound h fine =
       state = record { table = acts.state.table; beside = acts.state.beside };
       records = acts.acts.records;
       frames = all_sound (arbiter_who arbiter) (arbiter_step units c arbiter m s) acts.acts;
+      reports = acts.acts.told;
     }

@@ -10,6 +10,7 @@ use Rattle.fabric_terms.specs.declared.message.Body.{Body}
 use Rattle.fabric_terms.specs.declared.message.Body.TheVariants as body
 use Rattle.fabric_terms.specs.Fields.{is_config, is_done, is_epoch, is_node, is_short, is_unit, rises_above}
 use Rattle.fabric_terms.specs.Messages.{is_sound_body}
+use Rattle.fabric_terms.specs.Ranges.{FitsReason}
 use Rattle.frames_fit.proofs.Facts.{within_parts}
 use Rattle.replica_place.specs.declared.load.NodeLoad.{NodeLoad}
 use Rattle.replica_place.specs.declared.placement.TooFewDomains.{TooFewDomains}
@@ -24,6 +25,7 @@ use Rattle.unit_rules.specs.declared.reconfig.Standing.{Standing}
 use Rattle.unit_rules.specs.declared.reconfig.Task.{Task}
 use Rattle.unit_rules.specs.Choices.{is_among}
 use Rattle.unit_rules.specs.Deeds.{Acted, still}
+use Rattle.unit_rules.specs.Manager.{reason_of}
 use Rattle.unit_rules.specs.Phases.{Choice, activate_ends, config_of, copy_ends, done_ends, prepare_ends, promise_ends, promised_with, swap_ends, vote_ends}
 use Rattle.unit_rules.specs.Polls.{arbiters_to, poll_of}
 use Rattle.unit_rules.specs.Reconfigs.{ActivatePhase, CopyPhase, Decide, DonePhase, Finished, Phase0, Phase1, Phase2, Phase3, Phase4, Prepare, PreparePhase, PromisePhase, Reconfig, Refused, Source, Stay, Step, Superseded, SwapPhase, VotePhase, task_of}
@@ -42,7 +44,7 @@ abbrev pub StepInRange : Step → Type 0
 StepInRange (Stay r) = ReconfigInRange r
 StepInRange (Finished config) = IsTrue (is_config config)
 StepInRange (Superseded epoch) = IsTrue (is_epoch epoch)
-StepInRange (Refused refusal) = Unit {0}
+StepInRange (Refused refusal) = FitsReason (reason_of refusal)
 
 abbrev pub StepActs : Acted Step → Type 0
 StepActs a = ActedInRange StepInRange a
@@ -50,8 +52,8 @@ StepActs a = ActedInRange StepInRange a
 stays_on : (r : Reconfig) → ReconfigInRange r → StepActs (stays r)
 stays_on r h = stays_in_range StepInRange (Stay r) h
 
-refused : (u : UnitRefusal) → StepActs (is_refused u)
-refused u = stays_in_range StepInRange (Refused u) tt
+refused : (u : UnitRefusal) → FitsReason (reason_of u) → StepActs (is_refused u)
+refused u h = stays_in_range StepInRange (Refused u) h
 
 superseded : (epoch : Epoch) → IsTrue (is_epoch epoch) → StepActs (still (Superseded epoch))
 superseded epoch h = stays_in_range StepInRange (Superseded epoch) h
@@ -88,7 +90,7 @@ module _ (t : Task) (fine : TaskInRange t) where
   -- After Prepare.
 
   created : (r : Result (List ℕ) TooFewDomains) → PlacementInRange r → StepActs (create_placed t r)
-  created (Err few) h = refused (refusal.TooFewDomains few.0)
+  created (Err few) h = refused (refusal.TooFewDomains few.0) h
   created (Ok placed) h =
       proposed (config_of t (first_of placed) (rising placed)) (record { origin = first_of placed; last = 0 })
       (config_from (config_of t (first_of placed) (rising placed)) fine.unit h.members h.first)
@@ -101,10 +103,10 @@ module _ (t : Task) (fine : TaskInRange t) where
       StepActs
       (λ f. entered (Phase0 (record { task = t; old = old; primary = node })) (record { task = fine; old = h; primary = f }) (old.primary ∷ [])
       (All-cons IsAsked old.primary [] (node_asked old.primary (member_node old.primary old.members parts.members parts.primary)) (All-nil IsAsked)))
-      (λ f. refused refusal.NotMember)
+      (λ f. refused refusal.NotMember tt)
 
   healed : (old : Config) → IsTrue (is_config old) → (r : Result (List ℕ) TooFewDomains) → PlacementInRange r → StepActs (heal_placed t old r)
-  healed old k (Err few) h = refused (refusal.TooFewDomains few.0)
+  healed old k (Err few) h = refused (refusal.TooFewDomains few.0) h
   healed old k (Ok placed) h =
       let nodes = members_nodes old.members (config_parts old k).members in
       entered (Phase1 (asks_promises t old.members (rising placed) (first_of placed)))
@@ -121,14 +123,14 @@ module _ (t : Task) (fine : TaskInRange t) where
 
   prepared : (nodes : List NodeLoad) → NodesInRange nodes → (kind : Kind) → IsTrue (is_kind kind) → (o : Option Config) → IsDone o
       → StepActs (prepared_as nodes t kind o)
-  prepared nodes see (Create count) h (Some old) k = refused refusal.Exists
+  prepared nodes see (Create count) h (Some old) k = refused refusal.Exists tt
   prepared nodes see (Create count) h None k = created (placement nodes count) (placement_in_range nodes see count h)
   prepared nodes see (Swap node) h (Some old) k = swapped old node k
   prepared nodes see (Heal count) h (Some old) k = healed old k (placement nodes count) (placement_in_range nodes see count h)
   prepared nodes see (Lose node) h (Some old) k = lost node h
-  prepared nodes see (Swap node) h None k = refused refusal.NoUnit
-  prepared nodes see (Heal count) h None k = refused refusal.NoUnit
-  prepared nodes see (Lose node) h None k = refused refusal.NoUnit
+  prepared nodes see (Swap node) h None k = refused refusal.NoUnit tt
+  prepared nodes see (Heal count) h None k = refused refusal.NoUnit tt
+  prepared nodes see (Lose node) h None k = refused refusal.NoUnit tt
 
   -- After phase 1.
 

@@ -32,13 +32,14 @@ use Rattle.fabric_fit.proofs.Copies.{found_entry, found_number, last_word}
 use Rattle.fabric_fit.proofs.Deeds.{deeds_from, does_after, does_one, no_deeds, one_deed, sends, stays_in_range}
 use Rattle.fabric_fit.proofs.Leads.{confirmed_by_in_range, lead_of_in_range, most_in_range}
 use Rattle.fabric_fit.proofs.Promises.{last_fits, older_in_range, seated_in_range, unit_from}
+use Rattle.fabric_fit.proofs.Telling.{entry_told}
 
 accepted_in_range : (partition : ℕ) (epoch : Epoch) (lsn : ℕ) (text : List ℕ) → IsTrue (is_unit partition epoch) → IsTrue (is_last lsn) → IsTrue (is_payload text)
     → All DeedInRange (accepted partition epoch lsn text)
 accepted_in_range partition epoch lsn text h k m =
     deeds_from (Keep (kept.Wrote partition epoch lsn text)) (Tell (report.Accepted partition epoch lsn) ∷ [])
     (and_from (is_unit partition epoch && is_last lsn) (is_payload text) (and_from (is_unit partition epoch) (is_last lsn) h k) m)
-    (one_deed (Tell (report.Accepted partition epoch lsn)) tt)
+    (one_deed (Tell (report.Accepted partition epoch lsn)) (entry_told partition epoch lsn h k))
 
 -- Append.
 
@@ -85,7 +86,10 @@ committed_in_range l h s fine =
         taking = fine.taking;
         lead = record { peers = h.peers; committed = most_in_range l (last_of s.replica) h (last_fits s.replica fine.replica) };
       };
-      deeds = one_deed (Tell (report.Committed s.replica.partition s.replica.at lsn)) tt;
+      deeds =
+          one_deed (Tell (report.Committed s.replica.partition s.replica.at lsn))
+          (entry_told s.replica.partition s.replica.at lsn (unit_from s.replica.partition s.replica.at fine.replica.partition fine.replica.at)
+          (most_in_range l (last_of s.replica) h (last_fits s.replica fine.replica)));
     })
     (λ f. stays_in_range SeatInRange (record s { lead = Some l }) (record { replica = fine.replica; taking = fine.taking; lead = h }))
 

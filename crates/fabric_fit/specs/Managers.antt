@@ -1,8 +1,11 @@
 -- A manager whose units and reconfigurations a frame can carry.
-use Rattle.std.specs.Prelude.{ℕ, ◌≤◌, Bool, true, ◌&&◌, List, length, nat_le, Option, Some, None, All, IsTrue}
-use Rattle.fabric_terms.specs.Fields.{is_config, is_done, is_epoch, is_last, is_node, is_unit, is_within, rises_above}
+use Rattle.std.specs.Prelude.{◌≡◌, ℕ, ◌≤◌, Bool, true, ◌&&◌, List, length, nat_le, Option, Some, None, All, IsTrue}
+use Rattle.fabric_terms.specs.Fields.{is_config, is_done, is_epoch, is_last, is_node, is_short, is_unit, is_within, rises_above}
 use Rattle.arbiter_quorum.specs.Votes.{VoteTally}
+use Rattle.fabric_lemmas.specs.Maps.{rises}
 use Rattle.failover_units.specs.declared.unit.KnownUnit.{KnownUnit}
+use Rattle.failover_units.specs.Units.{Table}
+use Rattle.frames_fit.specs.Formats.{most_units}
 use Rattle.unit_rules.specs.declared.reconfig.Kind.{Kind}
 use Rattle.unit_rules.specs.declared.reconfig.Kind.TheVariants.{Create, Swap, Heal, Lose}
 use Rattle.unit_rules.specs.declared.reconfig.Standing.{Standing}
@@ -17,6 +20,13 @@ use Rattle.unit_rules.specs.Reconfigs.{ActivatePhase, CopyPhase, Decide, DonePha
 pub record UnitInRange (u : KnownUnit) : Type 0 where
   pub config : IsTrue (is_done u.config)
   pub highest : IsTrue (is_epoch u.highest)
+
+-- few partitions, rising
+pub record UnitsInRange (units : Table) : Type 0 where
+  pub rise : rises units ≡ true
+  pub few : length units ≤ most_units
+  pub numbers : All (λ e. IsTrue (is_short e.0)) units
+  pub each : All (λ e. UnitInRange e.1) units
 
 -- The task.
 
@@ -115,5 +125,5 @@ ReconfigInRange (Phase4 p) = ActivateInRange p
 
 -- the units and the reconfigurations by partition
 pub record ManagedInRange (s : Managed) : Type 0 where
-  pub units : All (λ e. UnitInRange e.1) s.units
+  pub units : UnitsInRange s.units
   pub reconfigs : All (λ e. ReconfigInRange e.1) s.reconfigs

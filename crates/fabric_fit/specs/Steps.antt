@@ -7,7 +7,7 @@ use Rattle.fabric_terms.specs.Messages.{is_sound}
 use Rattle.fabric_terms.specs.Ranges.{IsNumber}
 use Rattle.fabric_terms.specs.Sent.{from_all}
 use Rattle.fabric_terms.specs.Sound.{IsSound}
-use Rattle.frames_fit.specs.Formats.{InputInFormat}
+use Rattle.frames_fit.specs.Formats.{InputInFormat, ReportInRange}
 use Rattle.frames_fit.specs.InRange.{IsInRange}
 use Rattle.frames_fit.specs.Tables.{TableInRange}
 use Rattle.join_phases.specs.Phases.{is_left}
@@ -23,11 +23,12 @@ use Rattle.fabric_fit.specs.Failovers.{FailoverInRange}
 use Rattle.fabric_fit.specs.Records.{KeptRecord}
 use Rattle.fabric_fit.specs.Registers.{RegistersInRange}
 
--- a step leaves a state that is in range, records what is, and each message that it sends is a frame
+-- a step leaves a state that is in range, records and tells what is, and each message that it sends is a frame
 pub record StepInFormat {S : Type 0} (InRange : S → Type 0) (who : Who) (d : Did S) : Type 0 where
   pub state : InRange d.state
   pub records : All KeptRecord d.records
   pub frames : All (λ m. IsTrue (is_sound m)) (from_all who d.sent)
+  pub reports : All ReportInRange d.told
 
 -- A node.
 

@@ -19,7 +19,7 @@ use Rattle.world_rules.specs.Arbiters.{ArbiterState, arbiter_begun, arbiter_step
 use Rattle.world_rules.specs.Uppers.{Upper, Did}
 use Rattle.world_rules.specs.Worlds.{arbiter_who}
 use Rattle.frames_fit.specs.Above.{SendsInFormat}
-use Rattle.frames_fit.specs.Formats.{in_format}
+use Rattle.frames_fit.specs.Formats.{ReportInRange, in_format}
 use Rattle.frames_fit.specs.Tables.{TableInRange}
 use Rattle.frames_fit.proofs.Facts.{high_addressed, low_sends, ruled_format, who_addressed}
 use Rattle.frames_fit.proofs.Frames.{sound_parts}
@@ -62,7 +62,7 @@ module _ (a : Upper) (p : SendsInFormat a) (c : FabricConfig) (sound : IsSound c
       ArbiterActs a p c (arbiter_who arbiter) (record { state = record s { table = table_after s.table records }; records = records; sent = sent; told = [] })
   answers e records sent kept said = record {
     state = record { table = after_in_range p.Kept s.table records fine.table kept; beside = fine.beside };
-    acts = record { records = kept; posts = λ frames k. posted_sound (arbiter_who arbiter) sent frames (by_arbiter e) said k };
+    acts = record { records = kept; posts = λ frames k. posted_sound (arbiter_who arbiter) sent frames (by_arbiter e) said k; told = All-nil ReportInRange };
   }
 
   aside : takes_frame arbiter m ≡ true → ArbiterActs a p c (arbiter_who arbiter) (beside_did a s (a.beside_step c arbiter s.beside m))
@@ -73,12 +73,13 @@ module _ (a : Upper) (p : SendsInFormat a) (c : FabricConfig) (sound : IsSound c
         acts = record {
           records = d.records;
           posts = λ frames k. posted_sound (arbiter_who arbiter) (a.beside_step c arbiter s.beside m).sent frames (by_arbiter e) d.sent k;
+          told = All-nil ReportInRange;
         };
       }
 
   taken : (b : Body) → IsTrue (is_sound_body b) → (takes : Bool) → takes_frame arbiter m ≡ takes →
       ArbiterActs a p c (arbiter_who arbiter) (arbiter_takes a c arbiter m s b takes)
-  taken b k false e = record { state = fine; acts = record { records = All-nil (KeptInRange p); posts = λ frames f. f } }
+  taken b k false e = record { state = fine; acts = record { records = All-nil (KeptInRange p); posts = λ frames f. f; told = All-nil ReportInRange } }
   taken (body.Accuse victim) k true e =
       let ruling : Ruling = accusation_ruled s.table.accusations m.from victim in
       answers e (accusation_kept s.table.accusations m.from victim) ((m.from, body.Ruled victim ruling) ∷ [])

@@ -4,7 +4,7 @@ use Rattle.std.specs.Prelude.{if◌then◌else◌, nat_le}
 use Rattle.std.proofs.lemmas.Bool.{leb-false}
 use Rattle.arbiter_quorum.specs.Tallies.{with_answer}
 use Rattle.fabric_terms.specs.declared.config.FabricConfig.{FabricConfig}
-use Rattle.fabric_terms.specs.Fields.{is_round}
+use Rattle.fabric_terms.specs.Fields.{is_round, is_stamp}
 use Rattle.heir_rounds.specs.declared.verdict.RoundVerdict.{RoundVerdict}
 use Rattle.heir_rounds.specs.declared.verdict.RoundVerdict.TheVariants as verdict
 use Rattle.heir_rounds.specs.Rounds.{RoundTally, after_split, counts_in, gone_on, has_majority, is_won, one_may_win, round_counted, round_noted, round_verdict}
@@ -63,10 +63,10 @@ noted_in_range t round a kept h =
 
 -- What is made of it.
 
-module _ (c : FabricConfig) (w : Work) (a : Going c w) (set : Settings) (fine : SettingsInRange set) (now : ℕ) where
+module _ (c : FabricConfig) (w : Work) (a : Going c w) (set : Settings) (fine : SettingsInRange set) (now : ℕ) (reads : IsTrue (is_stamp now)) where
   judges : (i : ℕ) (l : Link) (e : slot_at i w.ring.slots ≡ Some l) → is_bound l.state ≡ false → (k : Link) → (IsInRange c w.ring → LinkInRange k) →
       is_hello k.state ≡ false → (v : RoundVerdict) → Going c (rows.round_judged set now i k v w)
-  judges i l e idle k kept met verdict.Won = becomes c w a i l e idle set now k kept met
+  judges i l e idle k kept met verdict.Won = becomes c w a i l e idle set fine now reads k kept met
   judges i l e idle k kept met (verdict.Next round) =
       claims c set fine k met (put_slot i k w) (λ r. link_in_range i k (set_at w.ring.slots i l (Some k) e) r) (moves c w a i l e idle k kept)
   judges i l e idle k kept met verdict.Over = goes c w a i l e idle
@@ -87,6 +87,7 @@ module _ (c : FabricConfig) (w : Work) (a : Going c w) (set : Settings) (fine : 
         names = m.names;
         mine = m.mine;
         length = m.length;
+        until = m.until;
         held = m.held;
         got = m.got;
         flight = m.flight;

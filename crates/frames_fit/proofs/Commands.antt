@@ -5,6 +5,7 @@ use Rattle.std.proofs.lemmas.Bool.{and_parts, lt-ltb}
 use Rattle.fabric_terms.specs.declared.command.Command.{Command}
 use Rattle.fabric_terms.specs.declared.command.Command.TheVariants as command
 use Rattle.fabric_terms.specs.declared.config.FabricConfig.{FabricConfig}
+use Rattle.fabric_terms.specs.declared.report.Reason.TheVariants as reason
 use Rattle.fabric_terms.specs.declared.report.Verb.TheVariants as verb
 use Rattle.fabric_terms.specs.Sound.{IsSound}
 use Rattle.join_phases.specs.Phases.{is_routing}
@@ -19,11 +20,11 @@ use Rattle.ring_rules.specs.Renewals.{may_freeze, owns_none}
 use Rattle.ring_rules.specs.Rings.{Settings, Work}
 use Rattle.ring_rules.specs.Slots.{is_bound, is_hello, may_part, of_node, slot_at, slot_where}
 use Rattle.ring_rules.specs.Steps.{command_row}
-use Rattle.fabric_terms.specs.Fields.{is_lease, is_node}
+use Rattle.fabric_terms.specs.Fields.{is_lease, is_node, is_stamp}
 use Rattle.fabric_terms.specs.Ranges.{FitsCommand, IsLease, IsNode}
 use Rattle.frames_fit.specs.InRange.{IsInRange, holds_bound}
 use Rattle.frames_fit.proofs.Facts.{node_addressed, within_from}
-use Rattle.frames_fit.proofs.Going.{Going, freezes, puts, routes, undoes}
+use Rattle.frames_fit.proofs.Going.{Going, freezes, puts, refuses, routes, undoes}
 use Rattle.frames_fit.proofs.Greetings.{greeting_in_range, greets, least_lease}
 use Rattle.frames_fit.proofs.Places.{found_passes, is_frozen_in, parting_met, set_at}
 use Rattle.frames_fit.proofs.Renewals.{near_rises}
@@ -47,12 +48,12 @@ found_bound node None h = absurd (cc (h))
 found_bound node (Some l) h = found_state is_bound node l h
 
 module _ (c : FabricConfig) (w : Work) (a : Going c w) where
-  link_going : (set : Settings) → SettingsInRange set → (now node wire len : ℕ) → IsTrue (is_node node) → IsTrue (is_lease len) →
+  link_going : (set : Settings) → SettingsInRange set → (now : ℕ) → IsTrue (is_stamp now) → (node wire len : ℕ) → IsTrue (is_node node) → IsTrue (is_lease len) →
       Going c (link_commanded set now node wire len w)
   unfolding link_commanded
-  link_going set fine now node wire len h k =
-      greets c w a (greeting_link set now w.ring node wire len) (refuse verb.Link) refl (λ m. greeting_in_range set fine now w.ring node wire len h k m)
-      (node_addressed (node_instance node 0) h refl) (λ why. a)
+  link_going set fine now reads node wire len h k =
+      greets c w a (greeting_link set now w.ring node wire len) (refuse verb.Link) refl (λ m. greeting_in_range set fine now reads w.ring node wire len h k m)
+      (node_addressed (node_instance node 0) h refl) (λ why fits. refuses c w a verb.Link why fits)
 
   part_going : (node : ℕ) → Going c (part_commanded node w)
   unfolding part_commanded
@@ -63,13 +64,13 @@ module _ (c : FabricConfig) (w : Work) (a : Going c w) where
       parts i l e met =
           let parted : Going c (put_slot i (parting_link l) (undo_freeze i w)) = puts c (undo_freeze i w) (undoes c w a i) i (parting_link l)
           (λ r. let m = link_in_range i l e r in
-          record { names = (in_session_of l m met).names; mine = m.mine; length = m.length; held = refl; got = m.got; flight = m.flight; rounds = m.rounds })
+          record { names = (in_session_of l m met).names; mine = m.mine; length = m.length; held = refl; got = m.got; flight = m.flight; rounds = m.rounds; until = m.until })
           (λ r z. let none : is_frozen_in i (undo_freeze i w).ring.token.freeze ≡ false = undone_not_in i w.ring.token in absurd (cc (none, z))) in
           says_gone c (put_slot i (parting_link l) (undo_freeze i w)) parted (parting_link l)
           (λ r. link_in_range i (parting_link l) (set_at w.ring.slots i l (Some (parting_link l)) e) r) refl
 
       unless : (i : ℕ) (l : Link) → slot_at i w.ring.slots ≡ Some l → is_hello l.state ≡ false → (b : Bool) → Going c (rows.part_unless i l w b)
-      unless i l e met true = a
+      unless i l e met true = refuses c w a verb.Part reason.Busy tt
       unless i l e met false = parts i l e met
 
       at : (i : ℕ) (o : Option Link) → slot_at i w.ring.slots ≡ o → of_node may_part node (slot_at i w.ring.slots) ≡ true → Going c (rows.part_at i o w)
@@ -78,7 +79,7 @@ module _ (c : FabricConfig) (w : Work) (a : Going c w) where
           unless i l e (parting_met l.state (found_state may_part node l (subst (λ (o : Option Link). of_node may_part node o ≡ true) e f))) (has_flight l)
 
       seen : (o : Option ℕ) → slot_where (of_node may_part node) w.ring.slots ≡ o → Going c (rows.part_seen o w)
-      seen None e = a
+      seen None e = refuses c w a verb.Part reason.NotLinked tt
       seen (Some i) e = at i (slot_at i w.ring.slots) refl (found_passes (of_node may_part node) w.ring.slots i e)
 
   give_going : (all : Bool) (node : ℕ) → Going c (give_commanded all node w)
@@ -92,9 +93,9 @@ module _ (c : FabricConfig) (w : Work) (a : Going c w) where
       unless : (i : ℕ) (l : Link) → holds_bound (slot_at i w.ring.slots) ≡ true → (busy none fit : Bool) →
           owns_none w.ring.token (part_to_give all w.ring l) ≡ none → may_freeze w.ring.token (part_to_give all w.ring l) ≡ fit →
           Going c (rows.give_unless i (part_to_give all w.ring l) w busy none fit)
-      unless i l bound true none fit e f = a
-      unless i l bound false true fit e f = a
-      unless i l bound false false false e f = a
+      unless i l bound true none fit e f = refuses c w a verb.Give reason.Busy tt
+      unless i l bound false true fit e f = refuses c w a verb.Give reason.Empty tt
+      unless i l bound false false false e f = refuses c w a verb.Give reason.TooMany tt
       unless i l bound false false true e f = freezes c w a (part_to_give all w.ring l) i (rises all l) e f bound
 
       at : (i : ℕ) (o : Option Link) → holds_bound (slot_at i w.ring.slots) ≡ true → Going c (rows.give_at all i o w)
@@ -102,11 +103,11 @@ module _ (c : FabricConfig) (w : Work) (a : Going c w) where
       at i (Some l) bound = unless i l bound (is_some w.ring.token.freeze || has_flight l) _ _ refl refl
 
       seen : (o : Option ℕ) → slot_where (of_node is_bound node) w.ring.slots ≡ o → Going c (rows.give_seen all o w)
-      seen None e = a
+      seen None e = refuses c w a verb.Give reason.NotLinked tt
       seen (Some i) e = at i (slot_at i w.ring.slots) (found_bound node (slot_at i w.ring.slots) (found_passes (of_node is_bound node) w.ring.slots i e))
 
       if_routing : (b : Bool) → Going c (rows.give_if all node w b)
-      if_routing false = a
+      if_routing false = refuses c w a verb.Give reason.NotRouting tt
       if_routing true = seen (slot_where (of_node is_bound node) w.ring.slots) refl
 
   join_going : IsSound c → (member : ℕ) → IsTrue (is_node member) → Going c (join_commanded member w)
@@ -114,18 +115,18 @@ module _ (c : FabricConfig) (w : Work) (a : Going c w) where
   join_going sound member h = unless (is_routing w.ring.phase)
     where
       unless : (b : Bool) → Going c (rows.join_unless member w b)
-      unless true = a
+      unless true = refuses c w a verb.Join reason.Busy tt
       unless false =
           seek_place_going c (on_ring (λ r. record r { target = Some member }) w)
           (routes c w a w.ring.routes.known (Some member) (λ r. r.known) (λ r. h)) sound member h
 
-  pub command_going : IsSound c → (set : Settings) → SettingsInRange set → (now : ℕ) (d : Command) → FitsCommand d → Going c (command_row set now d w)
-  command_going sound set fine now (command.Link node) h = link_going set fine now node 1 set.lease (node_from node h) fine.lease
-  command_going sound set fine now (command.LinkFor node length) h =
-      link_going set fine now node 2 (min length set.longest) (node_from node h.0) (least_lease length set.longest (lease_from length h.1) fine.longest)
-  command_going sound set fine now (command.Part node) h = part_going node
-  command_going sound set fine now (command.GiveNear node) h = give_going false node
-  command_going sound set fine now (command.GiveAll node) h = give_going true node
-  command_going sound set fine now (command.Join node) h = join_going sound node (node_from node h)
-  command_going sound set fine now (command.Find key) h = find_going c w a key (lt-ltb key.0 18446744073709551616 h)
-  command_going sound set fine now d h = a
+  pub command_going : IsSound c → (set : Settings) → SettingsInRange set → (now : ℕ) → IsTrue (is_stamp now) → (d : Command) → FitsCommand d → Going c (command_row set now d w)
+  command_going sound set fine now reads (command.Link node) h = link_going set fine now reads node 1 set.lease (node_from node h) fine.lease
+  command_going sound set fine now reads (command.LinkFor node length) h =
+      link_going set fine now reads node 2 (min length set.longest) (node_from node h.0) (least_lease length set.longest (lease_from length h.1) fine.longest)
+  command_going sound set fine now reads (command.Part node) h = part_going node
+  command_going sound set fine now reads (command.GiveNear node) h = give_going false node
+  command_going sound set fine now reads (command.GiveAll node) h = give_going true node
+  command_going sound set fine now reads (command.Join node) h = join_going sound node (node_from node h)
+  command_going sound set fine now reads (command.Find key) h = find_going c w a key (lt-ltb key.0 18446744073709551616 h)
+  command_going sound set fine now reads d h = a

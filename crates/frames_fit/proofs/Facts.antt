@@ -11,6 +11,7 @@ use Rattle.ring_points.specs.Ranges.{is_proper}
 use Rattle.ring_points.specs.Whos.{arbiter_actor, node_instance}
 use Rattle.fabric_terms.specs.Fields.{is_addressee, is_arbiter, is_counted, is_hops, is_lease, is_long, is_node, is_part, is_round, is_sender, is_session, is_stamp, is_who, is_within, is_word}
 use Rattle.frames_fit.specs.Formats.{in_format}
+use Rattle.frames_fit.specs.InRange.{latest_end}
 
 -- Numbers.
 
@@ -30,6 +31,13 @@ counted_from n h k = and_from (nat_le 1 n) (is_word n) (le-leb 1 n h) (word_from
 
 pub counted_word : (n : ℕ) → IsTrue (is_counted n) → IsTrue (is_word n)
 counted_word n h = (and_parts (nat_le 1 n) (is_word n) h).1
+
+-- a lease that begins at a reading
+pub ends_in_time : (now len : ℕ) → IsTrue (is_stamp now) → IsTrue (is_lease len) → now + len ≤ latest_end
+ends_in_time now len h k =
+    let last = leb-true now 1000000000000000 h in
+    let long = (within_parts 10 1000000000 len k).1 in
+    omega arith
 
 -- Names.
 

@@ -27,13 +27,14 @@ use Rattle.token_core.specs.Tokens.{Freeze, can_gain, gained, given, inherited}
 use Rattle.frames_fit.specs.InRange.{FlightInRange, FreezeInRange, IsInRange, LinkInRange, TargetInRange, holds_bound, is_frozen_for_bound, names_peer}
 use Rattle.frames_fit.proofs.Asking.{asked_ring, asks, claims}
 use Rattle.frames_fit.proofs.Facts.{counted_from}
-use Rattle.frames_fit.proofs.Going.{Done, Going, accuses, counts, drops, gains, goes_on, leaves, numbers_parts, phases, puts, sends, tokens, undoes}
+use Rattle.frames_fit.proofs.Going.{Done, Going, accuses, counts, drops, gained_before, gains, goes_on, leaves, numbers_parts, phases, puts, sends, tells, tokens, undoes}
 use Rattle.frames_fit.proofs.Greetings.{greets_plainly}
 use Rattle.frames_fit.proofs.Places.{bound_met, hello_unbound, is_frozen_in, set_at}
 use Rattle.frames_fit.proofs.Routes.{NodeInRange, near_in_range}
+use Rattle.frames_fit.proofs.Reporting.{counted_fits, part_fits, peer_fits}
 use Rattle.frames_fit.proofs.Saying.{SettingsInRange, first_round, hello_said, in_session_of, link_in_range, moved_in_range, not_frozen, offer_said, renew_said, says_gone, transfer_said, unbound_at}
 use Rattle.frames_fit.proofs.Seeks.{seek_place_going}
-use Rattle.frames_fit.proofs.Tokens.{Rises, given_in_range, inherited_rises, part_rises, proper_rises, undone_not_in}
+use Rattle.frames_fit.proofs.Tokens.{Rises, given_in_range, inherited_rises, part_rises, proper_from, proper_rises, undone_not_in}
 
 -- A slot.
 
@@ -68,13 +69,17 @@ module _ (c : FabricConfig) (w : Work) (a : Going c w) (set : Settings) (fine : 
             names = m.names;
             mine = m.mine;
             length = m.length;
+            until = m.until;
             held = m.held;
             got = m.got;
             flight = m.flight;
             rounds = first_round set fine w.ring.me;
           })
           (λ r z. let none : is_frozen_in i undone.ring.token.freeze ≡ false = undone_not_in i w.ring.token in absurd (cc (none, z))) in
-          asks c set fine k refl (tell (report.Accused l.peer) (put_slot i k undone)) (λ r. link_in_range i k (set_at w.ring.slots i l (Some k) e) r) puts_it
+          let after : IsInRange c (put_slot i k undone).ring → LinkInRange k = (λ r. link_in_range i k (set_at w.ring.slots i l (Some k) e) r) in
+          let tells_it : Going c (tell (report.Accused l.peer) (put_slot i k undone)) = tells c (put_slot i k undone) puts_it (report.Accused l.peer)
+          (λ r. peer_fits k (after r) refl) in
+          asks c set fine k refl (tell (report.Accused l.peer) (put_slot i k undone)) after tells_it
 
   leased_fires : (says : Work → Work) → is_hello l.state ≡ false → Going c (says w) → Going c (rows.leased set now i l says w)
   leased_fires says met g = by_time (nat_le l.until now)
@@ -98,9 +103,9 @@ module _ (c : FabricConfig) (w : Work) (a : Going c w) (set : Settings) (fine : 
   flight_rises None h = refl
   flight_rises (Some f) h = part_rises f.part (and_parts (is_counted f.number) (is_part f.part) h).1
 
-  heir_fires : is_bound l.state ≡ false → (b : Bool) → Going c (rows.heir_due i l w b)
-  heir_fires idle false = a
-  heir_fires idle true = by_fit _ refl
+  heir_fires : is_hello l.state ≡ false → is_bound l.state ≡ false → (b : Bool) → Going c (rows.heir_due i l w b)
+  heir_fires met idle false = a
+  heir_fires met idle true = by_fit _ refl
     where
       by_fit : (b : Bool) →
           (fits (inherited w.ring.token l.held (flight_part l.flight)) && can_gain w.ring.token (inherited w.ring.token l.held (flight_part l.flight))) ≡ b →
@@ -108,12 +113,15 @@ module _ (c : FabricConfig) (w : Work) (a : Going c w) (set : Settings) (fine : 
       by_fit false f = a
       by_fit true f =
           let more : List Interval = inherited w.ring.token l.held (flight_part l.flight) in
-          let gains_it : Going c (set_token (gained w.ring.token more) w) = gains c w a more
-          (λ r. let m = link r in
-          inherited_rises w.ring.token r.token l.held (flight_part l.flight) (proper_rises l.held m.held) (flight_rises l.flight m.flight))
-          (and_parts (fits more) (can_gain w.ring.token more) f).1 in
-          let told : Work = tell (report.TookOver l.peer more) (set_token (gained w.ring.token more) w) in
-          drops c (set_phase holding_phase told) (phases c told gains_it holding_phase) i (λ r. not_frozen i (unbound_at w.ring.slots i l e idle) r)
+          let fit = and_parts (fits more) (can_gain w.ring.token more) f in
+          let rises : IsInRange c w.ring → Rises more = (λ r. let m = link r in
+          inherited_rises w.ring.token r.token l.held (flight_part l.flight) (proper_rises l.held m.held) (flight_rises l.flight m.flight)) in
+          let gained_by : Work = set_token (gained w.ring.token more) w in
+          let gains_it : Going c gained_by = gains c w a more rises fit.1 in
+          let told : Work = tell (report.TookOver l.peer more) gained_by in
+          let tells_it : Going c told = tells c gained_by gains_it (report.TookOver l.peer more)
+          (λ r. (peer_fits l (link_in_range i l e r) met, proper_from more fit.0 (rises (a (gained_before w.ring more r.numbers)).ring))) in
+          drops c (set_phase holding_phase told) (phases c told tells_it holding_phase) i (λ r. not_frozen i (unbound_at w.ring.slots i l e idle) r)
 
   flies : is_hello l.state ≡ false → (o : Option Flight) → l.flight ≡ o → (v : Work) → v.ring ≡ w.ring → Going c v → Going c (rows.transfer_again l o v)
   flies met None f v same g = g
@@ -134,7 +142,7 @@ module _ (c : FabricConfig) (w : Work) (a : Going c w) (set : Settings) (fine : 
   fires_in reads state.Parting f = leased_fires (say_gone l) (λ j. is_hello (f j)) (says_gone c w a l link (λ j. is_hello (f j)))
   fires_in reads state.Accused f = asks c set fine l (λ j. is_hello (f j)) w link a
   fires_in reads state.Discharged f = discharged_fires (λ j. is_hello (f j)) (λ j. is_bound (f j))
-  fires_in reads state.Heir f = heir_fires (λ j. is_bound (f j)) (nat_le l.ripe now)
+  fires_in reads state.Heir f = heir_fires (λ j. is_hello (f j)) (λ j. is_bound (f j)) (nat_le l.ripe now)
 
 -- The slots in their order, a freeze that is ready, and the search.
 
@@ -172,9 +180,12 @@ gives_freeze c w d = counts c w (rows.give_frozen w.ring.token.freeze w) d (froz
         let counted : IsInRange c given_by.ring → IsTrue (is_counted w.ring.token.next_flight && is_part z.part) =
         (λ r. let last = (numbers_parts given_by.ring r.numbers).flights in let one = d.ring.next_flight in
         and_from (is_counted w.ring.token.next_flight) (is_part z.part) (counted_from w.ring.token.next_flight one (omega arith)) part) in
-        let put : Work = put_slot z.slot (record l { flight = Some flight }) (tell (report.Gave l.peer w.ring.token.next_flight z.part) given_by) in
-        let puts_it : Going c put = puts c given_by gives_it z.slot (record l { flight = Some flight })
-        (λ r. record { names = m.names; mine = m.mine; length = m.length; held = m.held; got = m.got; flight = counted r; rounds = m.rounds })
+        let told : Work = tell (report.Gave l.peer w.ring.token.next_flight z.part) given_by in
+        let tells_it : Going c told = tells c given_by gives_it (report.Gave l.peer w.ring.token.next_flight z.part)
+        (λ r. (peer_fits l m met, counted_fits w.ring.token.next_flight (and_parts (is_counted w.ring.token.next_flight) (is_part z.part) (counted r)).0, part_fits z.part part)) in
+        let put : Work = put_slot z.slot (record l { flight = Some flight }) told in
+        let puts_it : Going c put = puts c told tells_it z.slot (record l { flight = Some flight })
+        (λ r. record { names = m.names; mine = m.mine; length = m.length; held = m.held; got = m.got; flight = counted r; rounds = m.rounds; until = m.until })
         (λ r k. absurd (cc (k))) in
         sends c put puts_it l.peer (transfer_body l flight)
         (λ r. transfer_said l m (in_session_of l m met) flight (counted (gives_it r.numbers).ring))
@@ -187,12 +198,13 @@ gives_freeze c w d = counts c w (rows.give_frozen w.ring.token.freeze w) d (froz
     frozen None f = λ n. d
     frozen (Some z) f = ready z f _
 
-module _ (c : FabricConfig) (sound : IsSound c) (set : Settings) (fine : SettingsInRange set) (now : ℕ) where
+module _ (c : FabricConfig) (sound : IsSound c) (set : Settings) (fine : SettingsInRange set) (now : ℕ)
+    (reads : IsTrue (is_stamp now)) where
   greets_each : (nodes : List ℕ) (w : Work) → All NodeInRange nodes → Going c w → Going c (rows.greet_all set now nodes w)
   greets_each [] w h a = a
   greets_each (node ∷ nodes) w h a =
       greets_each nodes (greet_plainly set now node w) (All-tail NodeInRange node nodes h)
-      (greets_plainly c w a set fine now node (All-head NodeInRange node nodes h))
+      (greets_plainly c w a set fine now reads node (All-head NodeInRange node nodes h))
 
   seeks : (w : Work) → Done c w → Done c (place_sought set now w)
   unfolding place_sought
@@ -207,9 +219,9 @@ module _ (c : FabricConfig) (sound : IsSound c) (set : Settings) (fine : Setting
           greets_each (near_nodes w.ring.routes set.near w.ring.accused) w (near_in_range w.ring.routes set.near w.ring.accused d.ring.known) (λ n. d)
       by_phase false = from w.ring.target d.ring.target
 
-  pub timer_done : IsTrue (is_stamp now) → (w : Work) → Done c w → Done c (timer_fired set now w)
+  pub timer_done : (w : Work) → Done c w → Done c (timer_fired set now w)
   unfolding timer_fired
-  timer_done reads w d =
+  timer_done w d =
       let slots = slots_fire c set fine now reads slot_count w d in
       let given = goes_on c freeze_given (slots_fired set now slot_count w) slots (gives_freeze c (slots_fired set now slot_count w) slots) in
       goes_on c (place_sought set now) (slots_fired set now slot_count w ▷ then_unless_left freeze_given) given

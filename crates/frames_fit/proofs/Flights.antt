@@ -23,8 +23,9 @@ use Rattle.token_core.specs.Tokens.{can_gain, gained}
 use Rattle.frames_fit.specs.Formats.{in_format}
 use Rattle.frames_fit.specs.InRange.{FlightInRange, IsInRange, holds_bound}
 use Rattle.frames_fit.proofs.Facts.{counted_word, gone_format, session_from, who_addressed}
-use Rattle.frames_fit.proofs.Going.{Going, drops, gains, phases, puts, sends, undoes}
-use Rattle.frames_fit.proofs.Places.{found_passes, hello_unbound}
+use Rattle.frames_fit.proofs.Going.{Going, drops, gains, phases, puts, sends, tells, undoes}
+use Rattle.frames_fit.proofs.Places.{set_at, found_passes, hello_unbound}
+use Rattle.frames_fit.proofs.Reporting.{counted_fits, part_fits, peer_fits}
 use Rattle.frames_fit.proofs.Saying.{answers, found, gone_said, in_session_of, link_in_range, not_frozen, says_gone, still_bound}
 use Rattle.frames_fit.proofs.Tokens.{part_rises, undone_not_in}
 
@@ -63,21 +64,25 @@ module _ (c : FabricConfig) (w : Work) (a : Going c w) where
       found c w a (rows.transfer_seen number part) (answer_unknown from theirs own) (slot_where (of_session from own theirs) w.ring.slots) inside
       (answers c w a from theirs own h s)
     where
-      taken : (i : ℕ) (l : Link) → slot_at i w.ring.slots ≡ Some l → (b : Bool) → (nat_lt l.got number && can_gain w.ring.token part) ≡ b →
+      taken : (i : ℕ) (l : Link) → slot_at i w.ring.slots ≡ Some l → is_hello l.state ≡ false → (b : Bool) → (nat_lt l.got number && can_gain w.ring.token part) ≡ b →
           Going c (rows.take_flight i l number part w b)
-      taken i l e false f = a
-      taken i l e true f =
+      taken i l e met false f = a
+      taken i l e met true f =
           let fit = and_parts (nat_lt l.got number) (can_gain w.ring.token part) f in
           let gained_by : Work = set_token (gained w.ring.token part) w in
           let gains_it : Going c gained_by = gains c w a part (λ r. part_rises part m) fit.1 in
           let puts_it : Going c (put_slot i (record l { got = number }) gained_by) = puts c gained_by gains_it i (record l { got = number })
           (λ r. let n = link_in_range i l e r in
-          record { names = n.names; mine = n.mine; length = n.length; held = n.held; got = counted_word number k; flight = n.flight; rounds = n.rounds })
+          record { names = n.names; mine = n.mine; length = n.length; held = n.held; got = counted_word number k; flight = n.flight; rounds = n.rounds; until = n.until })
           (λ r. still_bound i l e r) in
-          phases c (tell (report.Took l.peer number part) (put_slot i (record l { got = number }) gained_by)) puts_it holding_phase
+          let put : Work = put_slot i (record l { got = number }) gained_by in
+          let tells_it : Going c (tell (report.Took l.peer number part) put) = tells c put puts_it (report.Took l.peer number part)
+          (λ r. let n = link_in_range i (record l { got = number }) (set_at w.ring.slots i l (Some (record l { got = number })) e) r in
+          (peer_fits (record l { got = number }) n met, counted_fits number k, part_fits part m)) in
+          phases c (tell (report.Took l.peer number part) put) tells_it holding_phase
 
       inside : (i : ℕ) (l : Link) (st : LinkState) → slot_at i w.ring.slots ≡ Some l → l.state ≡ st → Going c (rows.transfer_seen number part i l st w)
-      inside i l state.Bound e f = taken i l e (nat_lt l.got number && can_gain w.ring.token part) refl
+      inside i l state.Bound e f = taken i l e (λ j. is_hello (f j)) (nat_lt l.got number && can_gain w.ring.token part) refl
       inside i l state.Parting e f = says_gone c w a l (λ r. link_in_range i l e r) (λ j. is_hello (f j))
       inside i l st e f = a
 
@@ -95,7 +100,11 @@ module _ (c : FabricConfig) (w : Work) (a : Going c w) where
           let gained_by : Work = set_token (gained w.ring.token z.part) w in
           let gains_it : Going c gained_by = gains c w a z.part
           (λ r. part_rises z.part (and_parts (is_counted z.number) (is_part z.part) (subst FlightInRange f (link_in_range i l e r).flight)).1) k in
-          closes c (tell (report.Returned l.peer z.number z.part) gained_by) gains_it i l bound e met
+          let tells_it : Going c (tell (report.Returned l.peer z.number z.part) gained_by) = tells c gained_by gains_it (report.Returned l.peer z.number z.part)
+          (λ r. let n = link_in_range i l e r in
+          let flown = and_parts (is_counted z.number) (is_part z.part) (subst FlightInRange f n.flight) in
+          (peer_fits l n met, counted_fits z.number flown.0, part_fits z.part flown.1)) in
+          closes c (tell (report.Returned l.peer z.number z.part) gained_by) tells_it i l bound e met
 
       settled : (i : ℕ) (l : Link) (z : Flight) → slot_at i w.ring.slots ≡ Some l → is_hello l.state ≡ false → l.flight ≡ Some z →
           (b : Bool) → Going c (rows.flight_settled i l z bound w b)

@@ -86,14 +86,14 @@ module _ (c : FabricConfig) (sound : IsSound c) where
 module _ (c : FabricConfig) (set : Settings) (fine : SettingsInRange set) (now : ℕ) (reads : IsTrue (is_stamp now)) (from : Who) (w : Work)
     (a : Going c w) where
   row : (b : Body) → (is_between_nodes b ≡ true → IsTrue (is_who from)) → IsTrue (is_sound_body b) → Going c (frame_row set now from b w)
-  row (body.Hello mine) who h = hello_going c w a set fine now from mine 1 set.lease (who refl) h fine.lease
+  row (body.Hello mine) who h = hello_going c w a set fine now reads from mine 1 set.lease (who refl) h fine.lease
   row (body.HelloFor mine length) who h =
       let p = and_parts (is_counted mine) (is_lease length) h in
-      hello_going c w a set fine now from mine 2 (min length set.longest) (who refl) p.0 (least_lease length set.longest p.1 fine.longest)
-  row (body.Offer mine yours) who h = offer_going c w a now from mine yours set.lease (who refl) h fine.lease
+      hello_going c w a set fine now reads from mine 2 (min length set.longest) (who refl) p.0 (least_lease length set.longest p.1 fine.longest)
+  row (body.Offer mine yours) who h = offer_going c w a now reads from mine yours set.lease (who refl) h fine.lease
   row (body.OfferFor mine yours length) who h =
       let p = and_parts (is_session mine yours) (is_lease length) h in
-      offer_going c w a now from mine yours length (who refl) p.0 p.1
+      offer_going c w a now reads from mine yours length (who refl) p.0 p.1
   row (body.Take mine yours) who h = take_going c w a now from mine yours reads (who refl) h
   row (body.Renew mine yours stamp version got want ranges) who h =
       let p = and_parts (((is_session mine yours && is_stamp stamp) && is_word version) && is_word got) (is_proper ranges) h in
@@ -101,7 +101,9 @@ module _ (c : FabricConfig) (set : Settings) (fine : SettingsInRange set) (now :
       let s = and_parts (is_session mine yours && is_stamp stamp) (is_word version) q.0 in
       let t = and_parts (is_session mine yours) (is_stamp stamp) s.0 in
       renew_going c w a from mine yours stamp version got want ranges (who refl) t.0 t.1 s.1 p.1
-  row (body.RenewAck mine yours stamp version) who h = ack_going c w a from mine yours stamp version
+  row (body.RenewAck mine yours stamp version) who h =
+      let p = and_parts (is_session mine yours && is_stamp stamp) (is_word version) h in
+      ack_going c w a from mine yours stamp version (and_parts (is_session mine yours) (is_stamp stamp) p.0).1
   row (body.Transfer mine yours flight ranges) who h =
       let p = and_parts (is_session mine yours && is_counted flight) (is_part ranges) h in
       let q = and_parts (is_session mine yours) (is_counted flight) p.0 in
@@ -113,9 +115,11 @@ module _ (c : FabricConfig) (set : Settings) (fine : SettingsInRange set) (now :
       let p = and_parts (is_who origin && is_long key.0) (is_hops hops) h in
       let q = and_parts (is_who origin) (is_long key.0) p.0 in
       seek_going c w a origin key hops q.0 q.1
-  row (body.Found key holder) who h = found_going c w a set fine now key holder (and_parts (is_long key.0) (is_who holder) h).1
-  row (body.Ruled victim ruling) who h = ruling_going c w a set now from victim ruling
-  row (body.Kept victim round claimer) who h = kept_going c w a set fine now from victim round claimer
+  row (body.Found key holder) who h =
+      let p = and_parts (is_long key.0) (is_who holder) h in
+      found_going c w a set fine now reads key holder p.0 p.1
+  row (body.Ruled victim ruling) who h = ruling_going c w a set fine now reads from victim ruling
+  row (body.Kept victim round claimer) who h = kept_going c w a set fine now reads from victim round claimer
   row b who h = a
 
 pub frame_done : (c : FabricConfig) → IsSound c → (set : Settings) → SettingsInRange set → (now : ℕ) → IsTrue (is_stamp now) → (m : Message) →

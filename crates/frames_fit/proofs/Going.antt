@@ -1,26 +1,32 @@
--- A step on its way: a ring in range as long as it has numbers, and what was sent in its format; and what each deed makes of it.
+-- A step on its way: a ring in range as long as it has numbers, what was sent in its format, and what was told in its ranges;
+-- and what each deed makes of it.
 use Rattle.std.proofs.Common.{◌≡◌, ℕ, ◌+◌, ◌≤◌, Bool, true, false, ◌&&◌, List, Option, Some, None, IsTrue, refl, arith}
 use Rattle.std.specs.Prelude.{◌==◌, All, nat_le, slice_set}
 use Rattle.std.proofs.lemmas.Bool.{and_parts, and_from, both_ways, leb-true, le-leb}
 use Rattle.std.proofs.lemmas.List.Elements.{All-push, All-set}
 use Rattle.fabric_terms.specs.declared.config.FabricConfig.{FabricConfig}
 use Rattle.fabric_terms.specs.declared.message.Body.{Body}
+use Rattle.fabric_terms.specs.declared.report.Reason.{Reason}
+use Rattle.fabric_terms.specs.declared.report.Report.{Report}
+use Rattle.fabric_terms.specs.declared.report.Report.TheVariants.{LeftRing, Refused}
+use Rattle.fabric_terms.specs.declared.report.Verb.{Verb}
 use Rattle.fabric_terms.specs.declared.report.Why.{Why}
 use Rattle.fabric_terms.specs.declared.report.Why.TheVariants.{Counters}
+use Rattle.fabric_terms.specs.Ranges.{FitsReason}
 use Rattle.join_phases.specs.declared.phases.Phase.{Phase}
 use Rattle.join_phases.specs.Phases.{is_left}
 use Rattle.ring_points.specs.declared.interval.Interval.{Interval}
 use Rattle.ring_points.specs.declared.who.Who.{Who}
 use Rattle.ring_route.specs.declared.known.Known.{Known}
 use Rattle.ring_rules.specs.declared.link.Link.{Link}
-use Rattle.ring_rules.specs.Deeds.{counted, counted_if, drop_slot, has_numbers, leave, put_slot, send, set_phase, set_token, then_if, then_unless_left, undo_freeze, undone_at, undone_if}
+use Rattle.ring_rules.specs.Deeds.{counted, counted_if, drop_slot, has_numbers, leave, put_slot, refuse, send, set_phase, set_token, tell, then_if, then_unless_left, undo_freeze, undone_at, undone_if}
 use Rattle.ring_rules.specs.Handshakes.{count_session}
 use Rattle.ring_rules.specs.Rings.{Ring, Work, no_slots}
 use Rattle.ring_rules.specs.Slots.{is_bound, slot_at}
 use Rattle.fabric_terms.specs.Fields.{is_counted}
 use Rattle.token_core.specs.Tokens.{Freeze, Token, frozen, gained, can_gain, last_number, unfrozen}
 use Rattle.ring_rules.specs.Renewals.{may_freeze, owns_none}
-use Rattle.frames_fit.specs.Formats.{in_format}
+use Rattle.frames_fit.specs.Formats.{ReportInRange, in_format}
 use Rattle.frames_fit.specs.InRange.{IsInRange, KnownInRange, LinkInRange, SlotInRange, TargetInRange, TokenInRange, holds_bound, is_frozen_for_bound}
 use Rattle.frames_fit.proofs.Facts.{counted_from}
 use Rattle.frames_fit.proofs.Places.{free_in_range, frozen_set, is_frozen_in}
@@ -29,13 +35,14 @@ use Rattle.frames_fit.proofs.Tokens.{Rises, frozen_in_range, gained_in_range, un
 abbrev pub AllInFormat : List (Who × Body) → Type 0
 AllInFormat sent = All (λ m. IsTrue (in_format m)) sent
 
-pub record WorkInRange (c : FabricConfig) (r : Ring) (said : List (Who × Body)) : Type 0 where
+pub record WorkInRange (c : FabricConfig) (r : Ring) (said : List (Who × Body)) (reports : List Report) : Type 0 where
   pub ring : IsInRange c r
   pub sent : AllInFormat said
+  pub told : All ReportInRange reports
 
 -- what a step leaves, and a row on its way: where a number is past the last, the row is not done
 abbrev pub Done : FabricConfig → Work → Type 0
-Done c w = WorkInRange c w.ring w.sent
+Done c w = WorkInRange c w.ring w.sent w.told
 
 abbrev pub Going : FabricConfig → Work → Type 0
 Going c w = IsTrue (has_numbers w.ring) → Done c w
@@ -76,6 +83,11 @@ numbers_before old new h n =
     let a = all.version in let b = all.sessions in let d = all.flights in
     let e = h.version in let f = h.sessions in let g = h.flights in
     numbers_from old (record { version = omega arith; sessions = omega arith; flights = omega arith })
+
+-- those before points were gained
+pub gained_before : (r : Ring) (part : List Interval) → IsTrue (has_numbers (record r { token = gained r.token part })) → IsTrue (has_numbers r)
+gained_before r part n =
+    numbers_before r (record r { token = gained r.token part }) (record { version = omega arith; sessions = omega arith; flights = omega arith }) n
 
 -- A ring of which something changed.
 
@@ -152,25 +164,31 @@ module _ (c : FabricConfig) (w : Work) (a : Going c w) where
   pub sends : (to : Who) (b : Body) → (IsInRange c w.ring → IsTrue (in_format (to, b))) → Going c (send to b w)
   sends to b fine n =
       let d = a n in
-      record { ring = d.ring; sent = All-push (λ m. IsTrue (in_format m)) w.sent (to, b) d.sent (fine d.ring) }
+      record { ring = d.ring; sent = All-push (λ m. IsTrue (in_format m)) w.sent (to, b) d.sent (fine d.ring); told = d.told }
+
+  pub tells : (r : Report) → (IsInRange c w.ring → ReportInRange r) → Going c (tell r w)
+  tells r fine n = let d = a n in record { ring = d.ring; sent = d.sent; told = All-push ReportInRange w.told r d.told (fine d.ring) }
+
+  pub refuses : (verb : Verb) (reason : Reason) → FitsReason reason → Going c (refuse verb reason w)
+  refuses verb reason fine = tells (Refused verb reason) (λ r. fine)
 
   pub phases : (next : Phase → Phase) → Going c (set_phase next w)
-  phases next n = let d = a n in record { ring = range_phased c w.ring (next w.ring.phase) w.ring.accused d.ring; sent = d.sent }
+  phases next n = let d = a n in record { ring = range_phased c w.ring (next w.ring.phase) w.ring.accused d.ring; sent = d.sent; told = d.told }
 
   pub puts : (i : ℕ) (l : Link) → (IsInRange c w.ring → LinkInRange l) →
       (IsInRange c w.ring → is_frozen_in i w.ring.token.freeze ≡ true → is_bound l.state ≡ true) → Going c (put_slot i l w)
-  puts i l fine bound n = let d = a n in record { ring = range_placed c w.ring i (Some l) d.ring (fine d.ring) (bound d.ring); sent = d.sent }
+  puts i l fine bound n = let d = a n in record { ring = range_placed c w.ring i (Some l) d.ring (fine d.ring) (bound d.ring); sent = d.sent; told = d.told }
 
   pub drops : (i : ℕ) → (IsInRange c w.ring → is_frozen_in i w.ring.token.freeze ≡ false) → Going c (drop_slot i w)
   drops i free n = let d = a n in
-      record { ring = range_placed c w.ring i None d.ring tt (λ e. absurd (both_ways _ (free d.ring) e)); sent = d.sent }
+      record { ring = range_placed c w.ring i None d.ring tt (λ e. absurd (both_ways _ (free d.ring) e)); sent = d.sent; told = d.told }
 
   pub tokens : (t : Token) → w.ring.token.version ≤ t.version → w.ring.token.next_flight ≤ t.next_flight → (IsInRange c w.ring → TokenInRange t) →
       (IsInRange c w.ring → IsTrue (is_frozen_for_bound t.freeze w.ring.slots)) → Going c (set_token t w)
   tokens t version flights fine bound n =
       let before = numbers_before w.ring (record w.ring { token = t }) (record { version = version; sessions = omega arith; flights = flights }) n in
       let d = a before in
-      record { ring = range_tokened c w.ring t d.ring n flights (fine d.ring) (bound d.ring); sent = d.sent }
+      record { ring = range_tokened c w.ring t d.ring n flights (fine d.ring) (bound d.ring); sent = d.sent; told = d.told }
 
   -- a link begins in a place, by the next number, and says so
   pub begins : (i : ℕ) (l : Link) (b : Body) → l.mine ≡ w.ring.next_session → (IsTrue (is_counted l.mine) → LinkInRange l) →
@@ -199,14 +217,15 @@ module _ (c : FabricConfig) (w : Work) (a : Going c w) where
           target = r.target;
         };
         sent = All-push (λ m. IsTrue (in_format m)) w.sent (l.peer, b) d.sent (said link);
+        told = d.told;
       }
 
   pub routes : (known : List Known) (target : Option ℕ) → (IsInRange c w.ring → All KnownInRange known) → (IsInRange c w.ring → TargetInRange target) →
       Going c (record w { ring = record w.ring { routes = record w.ring.routes { known = known }; target = target } })
-  routes known target fine to n = let d = a n in record { ring = range_routed c w.ring known target d.ring (fine d.ring) (to d.ring); sent = d.sent }
+  routes known target fine to n = let d = a n in record { ring = range_routed c w.ring known target d.ring (fine d.ring) (to d.ring); sent = d.sent; told = d.told }
 
   pub accuses : (accused : List Who) → Going c (record w { ring = record w.ring { accused = accused } })
-  accuses accused n = let d = a n in record { ring = range_phased c w.ring w.ring.phase accused d.ring; sent = d.sent }
+  accuses accused n = let d = a n in record { ring = range_phased c w.ring w.ring.phase accused d.ring; sent = d.sent; told = d.told }
 
   pub gains : (part : List Interval) → (IsInRange c w.ring → Rises part) → IsTrue (can_gain w.ring.token part) →
       Going c (set_token (gained w.ring.token part) w)
@@ -249,6 +268,7 @@ module _ (c : FabricConfig) (w : Work) (a : Going c w) where
       target = r.target;
     };
     sent = d.sent;
+    told = All-push ReportInRange w.told (LeftRing why) d.told tt;
   }
 
 -- Rows that are done, or not.

@@ -6,6 +6,7 @@ use Rattle.fabric_terms.specs.declared.config.FabricConfig.{FabricConfig}
 use Rattle.fabric_terms.specs.declared.message.Body.TheVariants as body
 use Rattle.fabric_terms.specs.declared.report.Reason.{Reason}
 use Rattle.fabric_terms.specs.declared.report.Reason.TheVariants as reason
+use Rattle.fabric_terms.specs.Ranges.{FitsReason}
 use Rattle.join_phases.specs.Phases.{bound_phase}
 use Rattle.ring_points.specs.declared.who.Who.{Who}
 use Rattle.ring_points.specs.Whos.{node_instance}
@@ -20,7 +21,7 @@ use Rattle.ring_rules.specs.Rings.{Ring, Settings, Work}
 use Rattle.ring_rules.specs.Slots.{bars_link, greets_node_by, is_free, is_hello, of_instance, of_node, of_session, slot_at, slot_where}
 use Rattle.fabric_terms.specs.Fields.{is_addressee, is_counted, is_lease, is_node, is_session, is_stamp, is_who}
 use Rattle.frames_fit.specs.InRange.{IsInRange, LinkInRange, holds_bound}
-use Rattle.frames_fit.proofs.Facts.{node_addressed, session_from, take_format, who_addressed, within_from, within_parts}
+use Rattle.frames_fit.proofs.Facts.{ends_in_time, node_addressed, session_from, take_format, who_addressed, within_from, within_parts}
 use Rattle.frames_fit.proofs.Going.{Going, begins, drops, phases, puts, sends}
 use Rattle.frames_fit.proofs.Places.{found_passes, free_unbound, hello_unbound, is_frozen_in}
 use Rattle.frames_fit.proofs.Saying.{SettingsInRange, answers, first_round, found, hello_said, in_session_of, link_in_range, moved_in_range, not_frozen, offer_said, renew_said, says_gone, take_said}
@@ -35,13 +36,14 @@ least_lease m n h k =
 
 -- links that begin
 
-module _ (set : Settings) (fine : SettingsInRange set) (now : ℕ) (r : Ring) where
+module _ (set : Settings) (fine : SettingsInRange set) (now : ℕ) (reads : IsTrue (is_stamp now)) (r : Ring) where
   pub greeting_in_range : (node wire len : ℕ) → IsTrue (is_node node) → IsTrue (is_lease len) → IsTrue (is_counted r.next_session) →
       LinkInRange (greeting_link set now r node wire len)
   greeting_in_range node wire len h k m = record {
     names = node_addressed (node_instance node 0) h refl;
     mine = m;
     length = k;
+    until = ends_in_time now len reads k;
     held = refl;
     got = refl;
     flight = tt;
@@ -54,6 +56,7 @@ module _ (set : Settings) (fine : SettingsInRange set) (now : ℕ) (r : Ring) wh
     names = and_from (is_who from) (is_counted theirs) h t;
     mine = m;
     length = k;
+    until = ends_in_time now len reads k;
     held = refl;
     got = refl;
     flight = tt;
@@ -71,21 +74,21 @@ module _ (c : FabricConfig) (w : Work) (a : Going c w) where
   free_found i e r = not_frozen i (free_unbound (slot_at i w.ring.slots) (found_passes is_free w.ring.slots i e)) r
 
   pub greets : (l : Link) (refused : Reason → Work → Work) → l.mine ≡ w.ring.next_session → (IsTrue (is_counted l.mine) → LinkInRange l) →
-      IsTrue (is_addressee l.peer) → ((why : Reason) → Going c (refused why w)) → Going c (greet l refused w)
+      IsTrue (is_addressee l.peer) → ((why : Reason) → FitsReason why → Going c (refused why w)) → Going c (greet l refused w)
   greets l refused next fine named refuses = unless (slot_where (of_node bars_link l.peer.actor) w.ring.slots)
     where
       free : (o : Option ℕ) → slot_where is_free w.ring.slots ≡ o → Going c (rows.greet_free l refused w o)
-      free None e = refuses reason.Full
+      free None e = refuses reason.Full tt
       free (Some i) e = begins c w a i l (hello_body l) next fine (λ k. hello_said l k named) (free_found i e)
 
       unless : (o : Option ℕ) → Going c (rows.greet_unless l refused w o)
-      unless (Some i) = refuses reason.Linked
+      unless (Some i) = refuses reason.Linked tt
       unless None = free (slot_where is_free w.ring.slots) refl
 
-  pub greets_plainly : (set : Settings) → SettingsInRange set → (now node : ℕ) → IsTrue (is_node node) → Going c (greet_plainly set now node w)
-  greets_plainly set fine now node h =
-      greets (greeting_link set now w.ring node 1 set.lease) (λ why v. v) refl (λ m. greeting_in_range set fine now w.ring node 1 set.lease h fine.lease m)
-      (node_addressed (node_instance node 0) h refl) (λ why. a)
+  pub greets_plainly : (set : Settings) → SettingsInRange set → (now : ℕ) → IsTrue (is_stamp now) → (node : ℕ) → IsTrue (is_node node) → Going c (greet_plainly set now node w)
+  greets_plainly set fine now reads node h =
+      greets (greeting_link set now w.ring node 1 set.lease) (λ why v. v) refl (λ m. greeting_in_range set fine now reads w.ring node 1 set.lease h fine.lease m)
+      (node_addressed (node_instance node 0) h refl) (λ why fine. a)
 
   -- a Hello is accepted by a new link
 
@@ -129,18 +132,18 @@ module _ (c : FabricConfig) (w : Work) (a : Going c w) where
       of_instance_at (Some i) = repeated i (slot_at i w.ring.slots) refl
       of_instance_at None = of_node_at (slot_where (of_node is_hello l.peer.actor) w.ring.slots) refl
 
-  pub hello_going : (set : Settings) → SettingsInRange set → (now : ℕ) (from : Who) (theirs wire len : ℕ) → IsTrue (is_who from) →
+  pub hello_going : (set : Settings) → SettingsInRange set → (now : ℕ) → IsTrue (is_stamp now) → (from : Who) (theirs wire len : ℕ) → IsTrue (is_who from) →
       IsTrue (is_counted theirs) → IsTrue (is_lease len) → Going c (hello_received set now from theirs wire len w)
   unfolding hello_received
-  hello_going set fine now from theirs wire len h t k =
-      meets (offered_link set now w.ring from theirs wire len) refl (λ m. offered_in_range set fine now w.ring from theirs wire len h t k m) refl
+  hello_going set fine now reads from theirs wire len h t k =
+      meets (offered_link set now w.ring from theirs wire len) refl (λ m. offered_in_range set fine now reads w.ring from theirs wire len h t k m) refl
 
   -- an Offer is taken
 
-  pub offer_going : (now : ℕ) (from : Who) (theirs own len : ℕ) → IsTrue (is_who from) → IsTrue (is_session theirs own) → IsTrue (is_lease len) →
+  pub offer_going : (now : ℕ) → IsTrue (is_stamp now) → (from : Who) (theirs own len : ℕ) → IsTrue (is_who from) → IsTrue (is_session theirs own) → IsTrue (is_lease len) →
       Going c (offer_received now from theirs own len w)
   unfolding offer_received
-  offer_going now from theirs own len h s k = seen (slot_where (greets_node_by from.actor own) w.ring.slots)
+  offer_going now reads from theirs own len h s k = seen (slot_where (greets_node_by from.actor own) w.ring.slots)
     where
       counted : IsTrue (is_counted theirs)
       counted = (and_parts (is_counted theirs) (is_counted own) s).0
@@ -150,6 +153,7 @@ module _ (c : FabricConfig) (w : Work) (a : Going c w) where
         names = and_from (is_who from) (is_counted theirs) h counted;
         mine = m.mine;
         length = least_lease l.len len m.length k;
+        until = ends_in_time now (min l.len len) reads (least_lease l.len len m.length k);
         held = m.held;
         got = m.got;
         flight = m.flight;

@@ -3,6 +3,7 @@ pub mod Places
 pub mod Tokens
 pub mod Going
 pub mod Saying
+pub mod Reporting
 pub mod Greetings
 pub mod Renewals
 pub mod Flights
@@ -22,4 +23,5 @@ pub mod Nodes
 pub mod Tables
 pub mod Arbiters
 pub mod Worlds
+pub mod Entries
 pub mod Valid

@@ -11,6 +11,7 @@ use Rattle.join_phases.specs.Phases.{is_left}
 use Rattle.ring_points.specs.declared.who.Who.{Who}
 use Rattle.ring_points.specs.Whos.{node_instance}
 use Rattle.ring_rules.specs.declared.input.Input.{Input}
+use Rattle.ring_rules.specs.Owns.{is_same_own, own_after, own_of_ring, own_unless}
 use Rattle.ring_rules.specs.Rings.{Settings, Work, settings_of}
 use Rattle.ring_rules.specs.Starts.{begun, node_started}
 use Rattle.ring_rules.specs.Steps.{ring_step, step_if}
@@ -21,12 +22,13 @@ use Rattle.world_rules.specs.Nodes.{NodeState, above_acts, above_if, boot_kept, 
 use Rattle.world_rules.specs.Schedules.{is_configured_node}
 use Rattle.world_rules.specs.Uppers.{Upper, Did, idle}
 use Rattle.frames_fit.specs.Above.{DidInFormat, SendsInFormat}
-use Rattle.frames_fit.specs.Formats.{InputInFormat, in_format}
+use Rattle.frames_fit.specs.Formats.{InputInFormat, ReportInRange, in_format}
 use Rattle.frames_fit.specs.InRange.{IsInRange}
 use Rattle.frames_fit.proofs.Facts.{counted_from, who_sends}
 use Rattle.frames_fit.proofs.Going.{Done}
 use Rattle.frames_fit.proofs.Posting.{ActsInFormat, KeptInRange, posted_sound}
-use Rattle.frames_fit.proofs.Steps.{ring_done, spent_left, started_in_range}
+use Rattle.frames_fit.proofs.Reporting.{own_fits, same_own}
+use Rattle.frames_fit.proofs.Steps.{ring_done, spent_left, started_in_range, started_told}
 
 pub record NodeInRange (a : Upper) (p : SendsInFormat a) (c : FabricConfig) (s : NodeState a) : Type 0 where
   pub ring : IsInRange c s.ring
@@ -62,13 +64,26 @@ module _ (a : Upper) (p : SendsInFormat a) (c : FabricConfig) (sound : IsSound c
         by_left true e = refl
         by_left false e = absurd (cc (e))
 
+    left_told : is_left s.ring.phase ≡ true → All ReportInRange (own_after (settings_of c s.ring.me.actor) s.ring s.ring)
+    left_told e = subst (λ (b : Bool). All ReportInRange (own_unless (settings_of c s.ring.me.actor) s.ring b))
+        (sym (same_own (settings_of c s.ring.me.actor) s.ring e)) (All-nil ReportInRange)
+
     left_acts : is_left s.ring.phase ≡ true → NodeActs a p c (both_did a c s.ring (begun s.ring) (idle s.above))
     left_acts e = record {
       state = λ f. absurd (cc (e, f));
-      acts = record { records = All-nil (KeptInRange p); posts = λ frames h. h };
+      acts = record { records = All-nil (KeptInRange p); posts = λ frames h. h; told = left_told e };
     }
 
     -- where it goes on
+
+    own_told : (k : Work) → IsInRange c k.ring → All ReportInRange (own_after (settings_of c s.ring.me.actor) s.ring k.ring)
+    own_told k h = by_same (is_same_own (settings_of c s.ring.me.actor) s.ring k.ring)
+      where
+        by_same : (b : Bool) → All ReportInRange (own_unless (settings_of c s.ring.me.actor) k.ring b)
+        by_same true = All-nil ReportInRange
+        by_same false =
+            All-cons ReportInRange (own_of_ring (settings_of c s.ring.me.actor) k.ring) []
+            (own_fits (settings_of c s.ring.me.actor) sound.answer.to_high k.ring h) (All-nil ReportInRange)
 
     both_acts : (k : Work) (d : Did a.Above) → Done c k → DidInFormat (p.Above c) (KeptInRange p) d → NodeActs a p c (both_did a c s.ring k d)
     both_acts k d done above = record {
@@ -77,6 +92,8 @@ module _ (a : Upper) (p : SendsInFormat a) (c : FabricConfig) (sound : IsSound c
         records = above.records;
         posts = λ frames h. posted_sound k.ring.me (k.sent ++ d.sent) frames (who_sends k.ring.me done.ring.me)
             (All-append (λ m. IsTrue (in_format m)) k.sent d.sent done.sent above.sent) h;
+        told = All-append ReportInRange (k.told ++ d.told) (own_after (settings_of c s.ring.me.actor) s.ring k.ring)
+            (All-append ReportInRange k.told d.told done.told above.told) (own_told k done.ring);
       };
     }
 
@@ -87,7 +104,7 @@ module _ (a : Upper) (p : SendsInFormat a) (c : FabricConfig) (sound : IsSound c
       where
         by_test : (b : Bool) → DidInFormat (p.Above c) (KeptInRange p) (above_if a c now k.ring s.above i b)
         by_test true = p.above_step c now k.ring s.above i sound reads done.ring r.above h
-        by_test false = record { state = r.above; records = All-nil (KeptInRange p); sent = All-nil (λ m. IsTrue (in_format m)) }
+        by_test false = record { state = r.above; records = All-nil (KeptInRange p); sent = All-nil (λ m. IsTrue (in_format m)); told = All-nil ReportInRange }
 
     pub node_acts : IsNumber now → InputInFormat i → LiveInRange a p c s → NodeActs a p c (node_step a c now i s)
     unfolding node_step
@@ -144,5 +161,9 @@ module _ (a : Upper) (p : SendsInFormat a) (c : FabricConfig) (sound : IsSound c
             ring = subst (λ (b : Bool). IsInRange c (node_started c x b).ring) (sym unspent) (started_in_range c x who listed);
             above = p.above_begun c x records sound who kept;
           };
-      acts = record { records = boot_recorded; posts = λ frames h. h };
+      acts = record {
+        records = boot_recorded;
+        posts = λ frames h. h;
+        told = started_told c sound (node_instance node (instance_begun records)) (is_spent records) (λ e. and_from (is_node node) (is_counted (instance_begun records)) named (counted e)) listed;
+      };
     }

@@ -12,7 +12,7 @@ use Rattle.fabric_terms.specs.Messages.{is_sound, is_sound_body}
 use Rattle.world_rules.specs.Uppers.{Did, Upper}
 use Rattle.world_rules.specs.Worlds.{posted}
 use Rattle.frames_fit.specs.Above.{SendsInFormat}
-use Rattle.frames_fit.specs.Formats.{in_format}
+use Rattle.frames_fit.specs.Formats.{ReportInRange, in_format}
 use Rattle.frames_fit.specs.Tables.{RecordInRange}
 use Rattle.frames_fit.proofs.Going.{AllInFormat}
 
@@ -34,7 +34,8 @@ posted_sound from (s ∷ ss) frames h k m =
 abbrev pub KeptInRange : {a : Upper} → SendsInFormat a → Record → Type 0
 KeptInRange p = RecordInRange p.Kept
 
--- What an actor does: what it records is in range, and what it sends goes on top of sound frames.
+-- What an actor does: what it records and tells is in range, and what it sends goes on top of sound frames.
 pub record ActsInFormat {S : Type 0} {a : Upper} (p : SendsInFormat a) (who : Who) (d : Did S) : Type 0 where
   pub records : All (KeptInRange p) d.records
   pub posts : (frames : List Message) → All Sound frames → All Sound (posted who d.sent frames)
+  pub told : All ReportInRange d.told

@@ -1,5 +1,5 @@
 -- Renew and RenewAck keep a ring in range.
-use Rattle.std.proofs.Common.{◌≡◌, ℕ, Bool, true, false, not, ◌&&◌, List, Option, Some, None, IsTrue, refl, sym, subst}
+use Rattle.std.proofs.Common.{◌≡◌, ℕ, Bool, true, false, not, ◌&&◌, List, Option, Some, None, IsTrue, refl, sym, subst, arith}
 use Rattle.std.specs.Prelude.{is_some, nat_le, nat_lt}
 use Rattle.std.proofs.lemmas.Bool.{and_parts, not-true}
 use Rattle.fabric_terms.specs.declared.config.FabricConfig.{FabricConfig}
@@ -21,6 +21,7 @@ use Rattle.ring_rules.specs.Rings.{Ring, Work}
 use Rattle.ring_rules.specs.Slots.{is_bound, is_hello, of_session, slot_at, slot_where}
 use Rattle.fabric_terms.specs.Fields.{is_session, is_stamp, is_who, is_word}
 use Rattle.frames_fit.specs.InRange.{FlightInRange, IsInRange, LinkInRange, holds_bound}
+use Rattle.frames_fit.proofs.Facts.{ends_in_time}
 use Rattle.frames_fit.proofs.Going.{Going, freezes, phases, puts, sends}
 use Rattle.frames_fit.proofs.Places.{set_at}
 use Rattle.frames_fit.proofs.Saying.{ack_said, answers, found, in_session_of, link_in_range, says_gone, still_bound}
@@ -45,6 +46,7 @@ renewed_in_range l version got ranges h met k = by_test (nat_lt l.held_version v
       names = (in_session_of l h met).names;
       mine = h.mine;
       length = h.length;
+      until = h.until;
       held = k;
       got = h.got;
       flight = confirmed_in_range l.flight got h.flight;
@@ -54,6 +56,7 @@ renewed_in_range l version got ranges h met k = by_test (nat_lt l.held_version v
       names = (in_session_of l h met).names;
       mine = h.mine;
       length = h.length;
+      until = h.until;
       held = h.held;
       got = h.got;
       flight = confirmed_in_range l.flight got h.flight;
@@ -114,15 +117,24 @@ module _ (c : FabricConfig) (w : Work) (a : Going c w) where
       inside i l state.Parting e f = says_gone c w a l (λ r. link_in_range i l e r) (λ j. is_hello (f j))
       inside i l st e f = a
 
-  pub ack_going : (from : Who) (theirs own stamp version : ℕ) → Going c (ack_received from theirs own stamp version w)
+  pub ack_going : (from : Who) (theirs own stamp version : ℕ) → IsTrue (is_stamp stamp) → Going c (ack_received from theirs own stamp version w)
   unfolding ack_received
-  ack_going from theirs own stamp version =
+  ack_going from theirs own stamp version k =
       found c w a (rows.ack_seen stamp version) (λ v. v) (slot_where (of_session from own theirs) w.ring.slots) inside a
     where
       later : (i : ℕ) (l : Link) → slot_at i w.ring.slots ≡ Some l → Going c (put_slot i (acknowledged l stamp version) w)
       later i l e = puts c w a i (acknowledged l stamp version)
           (λ r. let m = link_in_range i l e r in
-          record { names = m.names; mine = m.mine; length = m.length; held = m.held; got = m.got; flight = m.flight; rounds = m.rounds })
+          record {
+            names = m.names;
+            mine = m.mine;
+            length = m.length;
+            until = (let before = m.until in let now = ends_in_time stamp l.len k m.length in omega arith);
+            held = m.held;
+            got = m.got;
+            flight = m.flight;
+            rounds = m.rounds;
+          })
           (λ r. still_bound i l e r)
 
       inside : (i : ℕ) (l : Link) (st : LinkState) → slot_at i w.ring.slots ≡ Some l → l.state ≡ st → Going c (rows.ack_seen stamp version i l st w)

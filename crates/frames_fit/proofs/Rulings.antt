@@ -1,25 +1,29 @@
 -- Rulings keep a ring in range.
-use Rattle.std.proofs.Common.{◌≡◌, ℕ, ◌-◌, Bool, true, false, not, ◌||◌, Some, refl}
+use Rattle.std.proofs.Common.{◌≡◌, ℕ, ◌-◌, Bool, true, false, not, ◌||◌, Some, IsTrue, refl}
 use Rattle.arbiter_quorum.specs.declared.verdict.Verdict.{Verdict}
 use Rattle.arbiter_quorum.specs.declared.verdict.Verdict.TheVariants as verdict
 use Rattle.arbiter_quorum.specs.Tallies.{Tally, noted}
 use Rattle.fabric_terms.specs.declared.config.FabricConfig.{FabricConfig}
+use Rattle.fabric_terms.specs.declared.report.Report.TheVariants as report
 use Rattle.fabric_terms.specs.declared.report.Why.TheVariants.{Lost}
+use Rattle.fabric_terms.specs.Fields.{is_stamp}
 use Rattle.ring_points.specs.declared.who.Ruling.{Ruling}
 use Rattle.ring_points.specs.declared.who.Who.{Who}
 use Rattle.ring_points.specs.Whos.{arbiter_actor}
 use Rattle.ring_rules.specs.declared.link.Link.{Link}
 use Rattle.ring_rules.specs.declared.link.LinkState.{LinkState}
 use Rattle.ring_rules.specs.declared.link.LinkState.TheVariants as state
-use Rattle.ring_rules.specs.Deeds.{drop_slot, put_slot}
+use Rattle.ring_rules.specs.Deeds.{drop_slot, put_slot, tell}
 use Rattle.ring_rules.specs.Links.{is_bare}
 use Rattle.ring_rules.specs.Rings.{Settings, Work}
 use Rattle.ring_rules.specs.Rulings as rows
 use Rattle.ring_rules.specs.Rulings.{becomes_heir, may_succeed, ripe_at, ruling_received}
 use Rattle.ring_rules.specs.Slots.{is_bound, is_hello, of_instance, slot_at, slot_where}
 use Rattle.frames_fit.specs.InRange.{IsInRange, LinkInRange}
-use Rattle.frames_fit.proofs.Going.{Going, drops, leaves, puts}
-use Rattle.frames_fit.proofs.Saying.{found, link_in_range, moved_in_range, not_frozen, still_bound, unbound_at}
+use Rattle.frames_fit.proofs.Going.{Going, drops, leaves, puts, tells}
+use Rattle.frames_fit.proofs.Places.{set_at}
+use Rattle.frames_fit.proofs.Reporting.{peer_fits, ripe_fits}
+use Rattle.frames_fit.proofs.Saying.{SettingsInRange, found, link_in_range, moved_in_range, not_frozen, still_bound, unbound_at}
 
 module _ (c : FabricConfig) (w : Work) (a : Going c w) (i : ℕ) (l : Link) (e : slot_at i w.ring.slots ≡ Some l) (idle : is_bound l.state ≡ false) where
   -- another link takes the place of one that is not bound, or none
@@ -30,35 +34,48 @@ module _ (c : FabricConfig) (w : Work) (a : Going c w) (i : ℕ) (l : Link) (e :
   goes = drops c w a i (λ r. not_frozen i (unbound_at w.ring.slots i l e idle) r)
 
   -- it becomes heir
-  pub becomes : (set : Settings) (now : ℕ) (k : Link) → (IsInRange c w.ring → LinkInRange k) → is_hello k.state ≡ false → Going c (becomes_heir set now i k w)
-  becomes set now k fine met =
-      moves (record k { state = state.Heir; ripe = ripe_at set now k }) (λ r. moved_in_range k (fine r) met state.Heir refl (ripe_at set now k) k.tally)
+  pub becomes : (set : Settings) → SettingsInRange set → (now : ℕ) → IsTrue (is_stamp now) → (k : Link) → (IsInRange c w.ring → LinkInRange k) →
+      is_hello k.state ≡ false → Going c (becomes_heir set now i k w)
+  becomes set sound now reads k fine met =
+      let heir : Link = record k { state = state.Heir; ripe = ripe_at set now k } in
+      let put : Work = put_slot i heir w in
+      let puts_it : Going c put = moves heir (λ r. moved_in_range k (fine r) met state.Heir refl (ripe_at set now k) k.tally) in
+      tells c put puts_it (report.Heir k.peer (ripe_at set now k))
+      (λ r. let m = link_in_range i heir (set_at w.ring.slots i l (Some heir) e) r in (peer_fits heir m refl, ripe_fits set sound now reads heir m))
 
+  -- its peer is told to have discharged it
+  discharges : (k : Link) → (IsInRange c w.ring → LinkInRange k) → is_hello k.state ≡ false → Going c (tell (report.Discharged k.peer) w)
+  discharges k fine met = tells c w a (report.Discharged k.peer) (λ r. peer_fits k (fine r) met)
+
+  -- it goes, or is kept to wait for the rounds
+  keeps : (k : Link) → (IsInRange c w.ring → LinkInRange k) → is_hello k.state ≡ false → (b : Bool) → Going c (rows.kept_discharged i k w b)
+  keeps k fine met true = goes
+  keeps k fine met false = moves (record k { state = state.Discharged }) (λ r. moved_in_range k (fine r) met state.Discharged refl k.ripe k.tally)
+
+module _ (c : FabricConfig) (w : Work) (a : Going c w) (i : ℕ) (l : Link) (e : slot_at i w.ring.slots ≡ Some l) (idle : is_bound l.state ≡ false)
+    (set : Settings) (sound : SettingsInRange set) (now : ℕ) (reads : IsTrue (is_stamp now)) where
   -- what the verdict makes of it
-  judges : (set : Settings) (now : ℕ) (k : Link) (before : LinkState) → (IsInRange c w.ring → LinkInRange k) → is_hello k.state ≡ false →
-      (v : Verdict) → Going c (rows.judged set now i k before v w)
-  judges set now k before fine met verdict.Heir = heir (is_bare k)
+  judges : (k : Link) (before : LinkState) → (IsInRange c w.ring → LinkInRange k) → is_hello k.state ≡ false → (v : Verdict) →
+      Going c (rows.judged set now i k before v w)
+  judges k before fine met verdict.Heir = heir (is_bare k)
     where
       heir : (b : Bool) → Going c (rows.made_heir set now i k w b)
-      heir true = goes
-      heir false = becomes set now k fine met
-  judges set now k before fine met verdict.Discharged = told before (is_bare k || not (may_succeed set k))
+      heir true = goes c (tell (report.Discharged k.peer) w) (discharges c w a i l e idle k fine met) i l e idle
+      heir false = becomes c w a i l e idle set sound now reads k fine met
+  judges k before fine met verdict.Discharged = told before
     where
-      rests : Going c (put_slot i (record k { state = state.Discharged }) w)
-      rests = moves (record k { state = state.Discharged }) (λ r. moved_in_range k (fine r) met state.Discharged refl k.ripe k.tally)
-
-      told : (st : LinkState) (b : Bool) → Going c (rows.kept_discharged i k (rows.tell_discharge st k w) b)
-      told state.Accused true = goes
-      told state.Accused false = rests
-      told st true = goes
-      told st false = rests
-  judges set now k before fine met verdict.Lost = leaves c w a Lost
-  judges set now k before fine met verdict.Open = moves k fine
+      told : (st : LinkState) → Going c (rows.kept_discharged i k (rows.tell_discharge st k w) (is_bare k || not (may_succeed set k)))
+      told state.Accused =
+          keeps c (tell (report.Discharged k.peer) w) (discharges c w a i l e idle k fine met) i l e idle k fine met (is_bare k || not (may_succeed set k))
+      told st = keeps c w a i l e idle k fine met (is_bare k || not (may_succeed set k))
+  judges k before fine met verdict.Lost = leaves c w a Lost
+  judges k before fine met verdict.Open = moves c w a i l e idle k fine
 
 module _ (c : FabricConfig) (w : Work) (a : Going c w) where
-  pub ruling_going : (set : Settings) (now : ℕ) (from victim : Who) (ruling : Ruling) → Going c (ruling_received set now from victim ruling w)
+  pub ruling_going : (set : Settings) → SettingsInRange set → (now : ℕ) → IsTrue (is_stamp now) → (from victim : Who) (ruling : Ruling) →
+      Going c (ruling_received set now from victim ruling w)
   unfolding ruling_received
-  ruling_going set now from victim ruling =
+  ruling_going set sound now reads from victim ruling =
       found c w a (rows.ruling_seen set now (from.actor - arbiter_actor 0) ruling) (λ v. v) (slot_where (of_instance victim) w.ring.slots) inside a
     where
       tally_after : Link → Tally
@@ -67,7 +84,7 @@ module _ (c : FabricConfig) (w : Work) (a : Going c w) where
       noting : (i : ℕ) (l : Link) → slot_at i w.ring.slots ≡ Some l → is_hello l.state ≡ false → is_bound l.state ≡ false → (before : LinkState) →
           Going c (rows.ruling_noted set now i (record l { tally = tally_after l }) before w)
       noting i l e met idle before =
-          judges c w a i l e idle set now (record l { tally = tally_after l }) before
+          judges c w a i l e idle set sound now reads (record l { tally = tally_after l }) before
           (λ r. moved_in_range l (link_in_range i l e r) met l.state met l.ripe (tally_after l)) met _
 
       inside : (i : ℕ) (l : Link) (st : LinkState) → slot_at i w.ring.slots ≡ Some l → l.state ≡ st →

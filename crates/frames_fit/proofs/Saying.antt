@@ -28,6 +28,9 @@ use Rattle.frames_fit.proofs.Tokens.{announced_proper}
 pub record SettingsInRange (set : Settings) : Type 0 where
   pub lease : IsTrue (is_lease set.lease)
   pub longest : IsTrue (is_lease set.longest)
+  pub answer : set.answer ≤ 1000000000
+  pub drift : set.bound.d ≤ 100
+  pub grain : set.bound.grain ≤ 1000000
   pub arbitrators : set.arbitrators ≤ 9
   pub rounds : IsTrue (is_round set.rounds)
 
@@ -56,6 +59,7 @@ moved_in_range l h e to f ripe tally = record {
   names = subst (λ (b : Bool). IsTrue (names_peer b l.peer l.yours)) (sym f) (in_session_of l h e).names;
   mine = h.mine;
   length = h.length;
+  until = h.until;
   held = h.held;
   got = h.got;
   flight = h.flight;

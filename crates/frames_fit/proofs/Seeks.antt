@@ -18,12 +18,13 @@ use Rattle.ring_rules.specs.Deeds.{on_ring, tell}
 use Rattle.ring_rules.specs.Rings.{Settings, Work, hop_limit}
 use Rattle.ring_rules.specs.Seeks as rows
 use Rattle.ring_rules.specs.Seeks.{find_commanded, found_received, hop_from, seek_received, seeks_own}
-use Rattle.fabric_terms.specs.Fields.{is_long, is_node, is_who}
+use Rattle.fabric_terms.specs.Fields.{is_long, is_node, is_stamp, is_who}
 use Rattle.frames_fit.specs.InRange.{IsInRange}
 use Rattle.frames_fit.proofs.Facts.{found_format, node_addressed, seek_format, who_addressed, who_parts}
-use Rattle.frames_fit.proofs.Going.{Going, routes, sends}
+use Rattle.frames_fit.proofs.Going.{Going, routes, sends, tells}
 use Rattle.frames_fit.proofs.Greetings.{greets_plainly}
 use Rattle.frames_fit.proofs.Routes.{HopInRange, next_hop_in_range}
+use Rattle.frames_fit.proofs.Reporting.{long_fits, who_fits}
 use Rattle.frames_fit.proofs.Saying.{SettingsInRange}
 use Rattle.frames_fit.proofs.Settled.{point_long}
 
@@ -38,10 +39,10 @@ module _ (c : FabricConfig) (w : Work) (a : Going c w) where
   find_going key long = by_hop (hop_from w.ring key None) refl
     where
       by_hop : (h : Hop) → hop_from w.ring key None ≡ h → Going c (rows.find_by key h w)
-      by_hop hop.Here e = a
+      by_hop hop.Here e = tells c w a (report.Found key w.ring.me) (λ r. (long_fits key.0 long, who_fits w.ring.me r.me))
       by_hop (hop.To next) e = sends c w a next (body.Seek w.ring.me key 1)
           (λ r. seek_format next (who_addressed next (hop_in_range key None (hop.To next) e r)) w.ring.me key 1 r.me long refl)
-      by_hop hop.Nowhere e = a
+      by_hop hop.Nowhere e = tells c w a (report.Nowhere key) (λ r. long_fits key.0 long)
 
   pub seek_going : (origin : Who) (key : Point) (hops : ℕ) → IsTrue (is_who origin) → IsTrue (is_long key.0) → Going c (seek_received origin key hops w)
   unfolding seek_received
@@ -55,21 +56,24 @@ module _ (c : FabricConfig) (w : Work) (a : Going c w) where
           (λ r. seek_format next (who_addressed next (hop_in_range key (Some origin.actor) (hop.To next) e r)) origin key (hops + 1) named long
           (le-leb (hops + 1) 64 (omega arith)))
       by_hop (hop.To next) e false f = a
-      by_hop hop.Nowhere e true f = a
+      by_hop hop.Nowhere e true f = tells c w a (report.Nowhere key) (λ r. long_fits key.0 long)
       by_hop hop.Nowhere e false f = a
 
-  pub found_going : (set : Settings) → SettingsInRange set → (now : ℕ) (key : Point) (holder : Who) → IsTrue (is_who holder) →
-      Going c (found_received set now key holder w)
+  pub found_going : (set : Settings) → SettingsInRange set → (now : ℕ) → IsTrue (is_stamp now) → (key : Point) (holder : Who) → IsTrue (is_long key.0) →
+      IsTrue (is_who holder) → Going c (found_received set now key holder w)
   unfolding found_received
-  found_going set fine now key holder named = holds (seeks_own w.ring key)
+  found_going set fine now reads key holder long named = holds (seeks_own w.ring key)
     where
+      told : Going c (tell (report.Found key holder) w)
+      told = tells c w a (report.Found key holder) (λ r. (long_fits key.0 long, who_fits holder named))
+
       over : Going c (on_ring (λ r. record r { target = None }) (tell (report.Found key holder) w))
-      over = routes c w a w.ring.routes.known None (λ r. r.known) (λ r. tt)
+      over = routes c (tell (report.Found key holder) w) told w.ring.routes.known None (λ r. r.known) (λ r. tt)
 
       holds : (b : Bool) → Going c (rows.greet_holder set now holder (tell (report.Found key holder) w) b)
-      holds true = greets_plainly c (on_ring (λ r. record r { target = None }) (tell (report.Found key holder) w)) over set fine now holder.actor
+      holds true = greets_plainly c (on_ring (λ r. record r { target = None }) (tell (report.Found key holder) w)) over set fine now reads holder.actor
           (who_parts holder named).node
-      holds false = a
+      holds false = told
 
   pub seek_place_going : IsSound c → (member : ℕ) → IsTrue (is_node member) → Going c (seek_place member w)
   seek_place_going sound member h =

@@ -52,6 +52,9 @@ module _ (c : FabricConfig) (sound : IsSound c) where
   settings_in_range node h = record {
     lease = within_of 10 1000000000 c.lease sound.lease;
     longest = longest_in_range c.nodes node sound.nodes h;
+    answer = sound.answer.to_high;
+    drift = sound.drift.to_high;
+    grain = sound.grain.to_high;
     arbitrators = sound.arbiters_count.to_high;
     rounds = within_of 1 8 c.rounds sound.rounds;
   }

@@ -1,10 +1,12 @@
 -- Each step of a ring, and its start, keeps it in range and sends frames in their format.
-use Rattle.std.proofs.Common.{◌≡◌, ℕ, Bool, true, false, ◌&&◌, ◌==◌, List, [], IsTrue, refl, arith}
+use Rattle.std.proofs.Common.{◌≡◌, ℕ, Bool, true, false, ◌&&◌, ◌==◌, List, [], ◌∷◌, ◌++◌, None, IsTrue, refl, arith}
+use Rattle.std.specs.Prelude.{All}
 use Rattle.std.proofs.lemmas.Bool.{le-leb}
-use Rattle.std.proofs.lemmas.List.Elements.{All-nil}
+use Rattle.std.proofs.lemmas.List.Elements.{All-cons, All-nil}
 use Rattle.fabric_terms.specs.declared.command.Command.{Command}
 use Rattle.fabric_terms.specs.declared.config.FabricConfig.{FabricConfig}
-use Rattle.fabric_terms.specs.declared.report.Why.TheVariants.{Fence}
+use Rattle.fabric_terms.specs.declared.report.Report.TheVariants.{LeftRing, Own}
+use Rattle.fabric_terms.specs.declared.report.Why.TheVariants.{Counters, Fence}
 use Rattle.fabric_terms.specs.Sound.{IsSound}
 use Rattle.join_phases.specs.declared.phases.Phase.{Phase}
 use Rattle.join_phases.specs.Phases.{is_left, routing, seeking}
@@ -14,6 +16,7 @@ use Rattle.ring_points.specs.Ranges.{fits, is_proper, whole_ring}
 use Rattle.ring_rules.specs.declared.input.Input.{Input}
 use Rattle.ring_rules.specs.declared.input.Input.TheVariants as input
 use Rattle.ring_rules.specs.Frames.{passes}
+use Rattle.ring_rules.specs.Owns.{own_of_ring}
 use Rattle.ring_rules.specs.Rings.{Ring, Settings, Work, no_slots, settings_of}
 use Rattle.ring_rules.specs.Slots.{fence_of, is_past}
 use Rattle.ring_rules.specs.Starts.{begun, new_ring, node_started, start_first}
@@ -22,24 +25,25 @@ use Rattle.ring_rules.specs.Steps.{command_received, command_row, ring_step}
 use Rattle.fabric_terms.specs.Fields.{is_stamp, is_who}
 use Rattle.fabric_terms.specs.Ranges.{FitsCommand, IsNumber}
 use Rattle.world_rules.specs.Schedules.{is_configured_node}
-use Rattle.frames_fit.specs.Formats.{InputInFormat, in_format}
+use Rattle.frames_fit.specs.Formats.{InputInFormat, ReportInRange, in_format}
 use Rattle.frames_fit.specs.InRange.{IsInRange, KnownInRange}
 use Rattle.frames_fit.proofs.Commands.{command_going}
 use Rattle.frames_fit.proofs.Firing.{timer_done}
 use Rattle.frames_fit.proofs.Frames.{frame_done}
 use Rattle.frames_fit.proofs.Going.{Done, counts, leaves}
 use Rattle.frames_fit.proofs.Places.{free_in_range}
+use Rattle.frames_fit.proofs.Reporting.{own_fits}
 use Rattle.frames_fit.proofs.Saying.{SettingsInRange}
 use Rattle.frames_fit.proofs.Settled.{settings_in_range}
 
 -- nothing sent yet
 begins : (c : FabricConfig) (r : Ring) → IsInRange c r → Done c (begun r)
-begins c r h = record { ring = h; sent = All-nil (λ m. IsTrue (in_format m)) }
+begins c r h = record { ring = h; sent = All-nil (λ m. IsTrue (in_format m)); told = All-nil ReportInRange }
 
 module _ (c : FabricConfig) (sound : IsSound c) (set : Settings) (fine : SettingsInRange set) (now : ℕ) (reads : IsTrue (is_stamp now)) where
   command_done : (o : Command) → FitsCommand o → (w : Work) → Done c w → Done c (command_received set now o w)
   unfolding command_received
-  command_done o h w d = counts c w (command_row set now o w) d (command_going c w (λ n. d) sound set fine now o h)
+  command_done o h w d = counts c w (command_row set now o w) d (command_going c w (λ n. d) sound set fine now reads o h)
 
   input_done : (i : Input) → InputInFormat i → (w : Work) → Done c w → Done c (rows.input_taken set now i w)
   input_done input.Fire h w d = timer_done c sound set fine now reads w d
@@ -101,3 +105,20 @@ started_in_range c me h k = by_first (me.actor == c.first && me.instance == 1)
 pub spent_left : (c : FabricConfig) (me : Who) → is_left (node_started c me true).ring.phase ≡ true
 unfolding node_started
 spent_left c me = refl
+
+-- what is told at a start
+pub started_told : (c : FabricConfig) → IsSound c → (me : Who) (spent : Bool) → (spent ≡ false → IsTrue (is_who me)) →
+    is_configured_node c me.actor ≡ true →
+    All ReportInRange ((node_started c me spent).told ++ own_of_ring (settings_of c me.actor) (node_started c me spent).ring ∷ [])
+unfolding node_started
+started_told c sound me true h k =
+    All-cons ReportInRange (LeftRing Counters) (Own [] None ∷ []) tt (All-cons ReportInRange (Own [] None) [] (refl, tt) (All-nil ReportInRange))
+started_told c sound me false h k = by_first (me.actor == c.first && me.instance == 1)
+  where
+    one : (r : Ring) → IsInRange c r → All ReportInRange (own_of_ring (settings_of c me.actor) r ∷ [])
+    one r m =
+        All-cons ReportInRange (own_of_ring (settings_of c me.actor) r) [] (own_fits (settings_of c me.actor) sound.answer.to_high r m) (All-nil ReportInRange)
+
+    by_first : (b : Bool) → All ReportInRange ((start_first c me b).told ++ own_of_ring (settings_of c me.actor) (start_first c me b).ring ∷ [])
+    by_first true = one (new_ring c me routing whole_ring) (new_in_range c me routing whole_ring (h refl) k refl refl)
+    by_first false = one (new_ring c me seeking []) (new_in_range c me seeking [] (h refl) k refl refl)

@@ -21,7 +21,7 @@ Rises is = IsTrue (rises_from 0 is)
 
 -- Lists.
 
-proper_from : (is : List Interval) → IsTrue (fits is) → Rises is → IsTrue (is_proper is)
+pub proper_from : (is : List Interval) → IsTrue (fits is) → Rises is → IsTrue (is_proper is)
 proper_from is h k = and_from (fits is) (rises_from 0 is) h k
 
 pub proper_rises : (is : List Interval) → IsTrue (is_proper is) → Rises is

@@ -55,7 +55,7 @@ module _ (a : Upper) (p : SendsInFormat a) (c : FabricConfig) (sound : IsSound c
 
   -- records of an actor, and with more of them
 
-  kept_in_range : (actor : ℕ) → All (KeptInRange p) (kept_of w actor)
+  pub kept_in_range : (actor : ℕ) → All (KeptInRange p) (kept_of w actor)
   kept_in_range actor = found (at actor w.kept) refl
     where
       found : (o : Option (List Record)) → at actor w.kept ≡ o → All (KeptInRange p) (unwrap_or o [])

@@ -11,15 +11,16 @@ use Rattle.fabric_terms.specs.Fields.{is_who}
 use Rattle.fabric_terms.specs.Messages.{is_sound}
 use Rattle.fabric_terms.specs.Ranges.{IsNumber}
 use Rattle.world_rules.specs.Uppers.{Upper, Did}
-use Rattle.frames_fit.specs.Formats.{InputInFormat, in_format}
+use Rattle.frames_fit.specs.Formats.{InputInFormat, ReportInRange, in_format}
 use Rattle.frames_fit.specs.InRange.{IsInRange}
 use Rattle.frames_fit.specs.Tables.{RecordInRange}
 
--- a step leaves a state that is in range, records what is, and sends only frames in their format
+-- a step leaves a state that is in range, records and tells what is, and sends only frames in their format
 pub record DidInFormat {S : Type 0} (InRange : S → Type 0) (Kept : Record → Type 0) (d : Did S) : Type 0 where
   pub state : InRange d.state
   pub records : All Kept d.records
   pub sent : All (λ m. IsTrue (in_format m)) d.sent
+  pub told : All ReportInRange d.told
 
 -- The states above and beside that are in range, and the records that they keep; each state begins in range, and each
 -- step that is given what is in range keeps it so.

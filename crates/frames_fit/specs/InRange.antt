@@ -30,11 +30,16 @@ pub record RoundsInRange (t : RoundTally) : Type 0 where
   pub round : IsTrue (is_round t.round)
   pub limit : IsTrue (is_round t.limit)
 
--- what a link's frames carry, and the record that its heir would take over
+-- the end of the latest lease: the longest lease from the last reading
+abbrev pub latest_end : ℕ
+latest_end = 1000001000000000
+
+-- what a link's frames carry, its end, and the record that its heir would take over
 pub record LinkInRange (l : Link) : Type 0 where
   pub names : IsTrue (names_peer (is_hello l.state) l.peer l.yours)
   pub mine : IsTrue (is_counted l.mine)
   pub length : IsTrue (is_lease l.len)
+  pub until : l.until ≤ latest_end
   pub held : IsTrue (is_proper l.held)
   pub got : IsTrue (is_word l.got)
   pub flight : FlightInRange l.flight

@@ -4,12 +4,12 @@ use Rattle.std.specs.Prelude.{IsTrue}
 use Rattle.world_rules.specs.Nothing.{nothing}
 use Rattle.world_rules.specs.Uppers.{idle}
 use Rattle.frames_fit.specs.Above.{DidInFormat, SendsInFormat}
-use Rattle.frames_fit.specs.Formats.{in_format}
+use Rattle.frames_fit.specs.Formats.{ReportInRange, in_format}
 use Rattle.frames_fit.specs.Tables.{RecordInRange}
 
 -- of an actor that does nothing, all that it does is in its format
 idle_in_format : DidInFormat {S = Unit {0}} (λ s. Unit {0}) (RecordInRange (λ r. Unit {0})) (idle tt)
-idle_in_format = record { state = tt; records = All-nil (RecordInRange (λ r. Unit {0})); sent = All-nil (λ m. IsTrue (in_format m)) }
+idle_in_format = record { state = tt; records = All-nil (RecordInRange (λ r. Unit {0})); sent = All-nil (λ m. IsTrue (in_format m)); told = All-nil ReportInRange }
 
 pub nothing_sends : SendsInFormat nothing
 nothing_sends = record {

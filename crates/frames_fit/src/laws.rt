@@ -1,4 +1,4 @@
-ghost use Rattle.frames_fit.specs.Laws.{FramesAreInFormat};
+ghost use Rattle.frames_fit.specs.Laws.{FramesAreInFormat, ReportsAreInRange};
 ghost use Rattle.world_rules.specs.Nothing.{nothing};
 
 use crate::above::InFormat;
@@ -8,6 +8,11 @@ use world_rules::Nothing;
 /// in the ranges of frames.
 pub fn frames_are_in_format<A: InFormat>()
     ensures { FramesAreInFormat A.upper }
+{}
+
+/// Every report of the run of such a schedule is in the ranges of reports, so each has a line and is read back from it.
+pub fn reports_are_in_range<A: InFormat>()
+    ensures { ReportsAreInRange A.upper }
 {}
 
 /// Every frame is in the ranges of frames where nothing runs above the ring.
