@@ -3,6 +3,7 @@ use Rattle.std.specs.Prelude.{◌≡◌, ℕ, List, [], ◌∷◌, ◌++◌, len
 use Rattle.fabric_terms.specs.Runs.{Moment, Run}
 use Rattle.fabric_terms.specs.declared.config.FabricConfig.{FabricConfig}
 use Rattle.fabric_above.specs.Fabric.{fabric}
+use Rattle.fabric_terms.specs.Ranges.{IsWord}
 use Rattle.ring_world.specs.Answers.{ruled}
 use Rattle.world_rules.specs.Runs.{History, run_of}
 use Rattle.schedule_replay.specs.Output.{IsPlaces, end_line, entry_lines}
@@ -29,10 +30,15 @@ replay_telling = record {
   ends = IsEnding;
 }
 
+-- nothing more is told; and the number of each frame that was sent has four bytes
+pub record IsTraceEnding (c : FabricConfig) (h : History) (text : List ℕ) : Type 0 where
+  pub nothing : text ≡ []
+  pub few : IsWord (ruled c h).count
+
 -- `trace`: the clocks and the reports of each event
 abbrev pub trace_telling : Telling
 trace_telling = record {
   heading = transcript;
   told = λ c h. newest group (run_of fabric c h);
-  ends = λ c h text. text ≡ [];
+  ends = IsTraceEnding;
 }

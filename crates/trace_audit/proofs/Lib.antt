@@ -1,0 +1,15 @@
+pub mod Lines
+pub mod Taking
+pub mod Saying
+pub mod Telling
+pub mod Pieces
+pub mod ReportPieces
+pub mod Reading
+pub mod Ordering
+pub mod Hearing
+pub mod Verdicts
+pub mod Few
+pub mod Worlds
+pub mod Seeing
+pub mod Recorded
+pub mod Traced
