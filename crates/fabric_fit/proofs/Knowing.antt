@@ -118,6 +118,8 @@ listed_in_range range units h =
     let second = count_by-le-length (λ (p : ℕ). is_in range (point_of p)) parted in
     let kept = length-filter (λ (e : ℕ × KnownUnit). is_some e.1.config) units in
     let mapped = length-map known (λ (e : ℕ × KnownUnit). e.0) in
-    let last = length-filter (λ (p : ℕ). is_in range (point_of p)) parted in
-    (All-filter (λ p. is_in range (point_of p)) IsPartition parted
-    (All-map IsPartition (λ (e : ℕ × KnownUnit). e.0) known (All-filter (λ (e : ℕ × KnownUnit). is_some e.1.config) (λ e. IsPartition e.0) units told)), omega arith)
+    let last = length-filter (λ (p : ℕ). is_in range (point_of p)) parted in (
+      All-filter (λ p. is_in range (point_of p)) IsPartition parted
+          (All-map IsPartition (λ (e : ℕ × KnownUnit). e.0) known (All-filter (λ (e : ℕ × KnownUnit). is_some e.1.config) (λ e. IsPartition e.0) units told)),
+      omega arith,
+    )

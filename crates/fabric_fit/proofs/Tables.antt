@@ -1,5 +1,5 @@
 -- Maps with one value more: what holds of each entry, and how many there are.
-use Rattle.std.proofs.Common.{◌≡◌, ℕ, ◌+◌, ◌≤◌, Bool, true, false, cond, List, [], ◌∷◌, length, Some, None, refl, sym, ap, arith}
+use Rattle.std.proofs.Common.{◌≡◌, ℕ, ◌+◌, ◌≤◌, Bool, true, false, cond, List, [], ◌∷◌, length, Some, refl, sym, arith}
 use Rattle.std.specs.Prelude.{◌==◌, All, nat_le, nat_lt}
 use Rattle.std.proofs.lemmas.Bool.{and_from, and_parts, eq-eqb, eqb-true, le-leb, ltb-true}
 use Rattle.std.proofs.lemmas.List.Elements.{All-cons, All-head, All-tail}

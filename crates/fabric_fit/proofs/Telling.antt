@@ -1,5 +1,5 @@
 -- Numbers that a frame or a record can carry a line can too.
-use Rattle.std.proofs.Common.{ℕ, ◌&&◌, IsTrue, arith}
+use Rattle.std.proofs.Common.{ℕ, IsTrue, arith}
 use Rattle.std.proofs.lemmas.Bool.{and_parts, leb-true, ltb-true}
 use Rattle.fabric_terms.specs.Fields.{is_epoch, is_last, is_short, is_unit, is_word}
 use Rattle.fabric_terms.specs.Ranges.{IsEpoch, IsPartition, IsWord}

@@ -1,5 +1,5 @@
 -- What an actor tells at an event is in the ranges of reports.
-use Rattle.std.proofs.Common.{◌≡◌, ℕ, ◌+◌, ◌-◌, Bool, true, false, not, ◌||◌, List, [], ◌∷◌, Option, Some, None, IsTrue, refl, subst}
+use Rattle.std.proofs.Common.{◌≡◌, ℕ, ◌-◌, Bool, true, false, not, ◌||◌, List, [], ◌∷◌, Option, Some, None, IsTrue, refl, subst}
 use Rattle.std.specs.Prelude.{◌==◌, All}
 use Rattle.std.proofs.lemmas.Bool.{and_parts}
 use Rattle.std.proofs.lemmas.List.Elements.{All-cons, All-nil}
@@ -13,9 +13,8 @@ use Rattle.fabric_terms.specs.Sound.{IsSound}
 use Rattle.fabric_lemmas.specs.Maps.{at}
 use Rattle.ring_rules.specs.declared.input.Input.{Input}
 use Rattle.ring_rules.specs.declared.input.Input.TheVariants as input
-use Rattle.world_rules.specs.Arbiters.{ArbiterState, arbiter_step}
+use Rattle.world_rules.specs.Arbiters.{ArbiterState}
 use Rattle.world_rules.specs.Events.{acts_at, arbiter_number, arbiter_stops, arrives, arrives_at, arrives_at_arbiter, arrives_at_node, arrives_if, is_arbiter_actor, node_stops, starts, stops, world_step}
-use Rattle.world_rules.specs.Nodes.{node_begun, node_step}
 use Rattle.world_rules.specs.Schedules.{MayCome, is_configured_node, may_start, node_runs}
 use Rattle.world_rules.specs.Uppers.{Upper}
 use Rattle.world_rules.specs.Worlds.{Running, World, frame_in, kept_of}

@@ -1,15 +1,13 @@
 -- What a ring in range tells is in the ranges of reports.
 use Rattle.std.proofs.Common.{◌≡◌, ℕ, ◌+◌, ◌*◌, ◌-◌, ◌≤◌, ◌<◌, ◌^◌, Bool, true, false, List, [], ◌∷◌, Option, Some, None, IsTrue, inl, refl, arith}
-use Rattle.std.specs.Prelude.{All, min, nat_le}
+use Rattle.std.specs.Prelude.{All, nat_le}
 use Rattle.std.specs.Int.{div_ceil}
 use Rattle.std.proofs.lemmas.Bool.{and_parts, eq-eqb, leb-true, ltb-true}
 use Rattle.std.proofs.lemmas.List.Elements.{All-head, All-tail}
 use Rattle.std.proofs.lemmas.Nat.{mul-le}
 use Rattle.std.proofs.Math.Nat.{div-le_self}
-use Rattle.drift_clock.specs.declared.bound.Bound.{Bound}
-use Rattle.drift_clock.specs.Wait.{heir_wait}
 use Rattle.fabric_terms.specs.declared.config.FabricConfig.{FabricConfig}
-use Rattle.fabric_terms.specs.Fields.{is_counted, is_lease, is_long, is_node, is_part, is_stamp, is_who, is_word}
+use Rattle.fabric_terms.specs.Fields.{is_counted, is_long, is_node, is_part, is_stamp, is_who, is_word}
 use Rattle.fabric_terms.specs.Ranges.{AreRanges, IsLong, IsOptional, IsWho, IsWord}
 use Rattle.ring_points.specs.declared.interval.Interval.{Interval}
 use Rattle.ring_points.specs.declared.who.Who.{Who}
@@ -19,11 +17,11 @@ use Rattle.join_phases.specs.Phases.{is_left}
 use Rattle.ring_rules.specs.Owns.{is_same_own, own_of_ring, same_fence, same_ranges}
 use Rattle.ring_rules.specs.Rings.{Ring, Settings, Slots}
 use Rattle.ring_rules.specs.Rulings.{ripe_at}
-use Rattle.ring_rules.specs.Slots.{fence_if, fence_of, fence_with, guards, is_hello}
+use Rattle.ring_rules.specs.Slots.{fence_if, fence_of, guards, is_hello}
 use Rattle.frames_fit.specs.Formats.{ReportInRange}
-use Rattle.frames_fit.specs.InRange.{IsInRange, LinkInRange, SlotInRange, latest_end}
+use Rattle.frames_fit.specs.InRange.{IsInRange, LinkInRange, SlotInRange}
 use Rattle.frames_fit.proofs.Facts.{within_parts}
-use Rattle.frames_fit.proofs.Saying.{InSession, SettingsInRange, in_session_of}
+use Rattle.frames_fit.proofs.Saying.{SettingsInRange, in_session_of}
 
 -- Names, numbers and ranges, as frames and as reports have them.
 

@@ -46,12 +46,7 @@ const CALLS: [(&str, &str, u8, &str); 8] = [
         6,
         "fault line 4",
     ),
-    (
-        "trace",
-        ONE,
-        0,
-        "transcript 0",
-    ),
+    ("trace", ONE, 0, "transcript 0"),
 ];
 
 #[test]
@@ -71,7 +66,10 @@ fn transcripts_are_judged(rt: HostRuntime) -> Result<(), Fail> {
 #[test]
 fn a_traced_schedule_is_safe(rt: HostRuntime) -> Result<(), Fail> {
     let alloc = rt.alloc();
-    let schedule = text_of(alloc, &[&[ONE, "start 1 0", "fire 1", "do 1 find 00000000000000ff"]])?;
+    let schedule = text_of(
+        alloc,
+        &[&[ONE, "start 1 0", "fire 1", "do 1 find 00000000000000ff"]],
+    )?;
     let mut source = MemSource::new(schedule, Vec::new(alloc));
     let mut sink = MemSink::new(alloc, Vec::new(alloc));
     let transcript = text_of(

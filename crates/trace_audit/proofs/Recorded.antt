@@ -190,10 +190,13 @@ clocks_rise c sound low above (n ∷ ns) rise seen reads over =
     let first = node.0 in let last = node.1 in
     let from_one = one.from_one in
     let counted = one.counted in
-    let number : n.1.reading ≤ 10 ^ 15 = All-head (λ n. IsNumber n.1.reading) n ns reads in
-    (over n.1.node.ring.me (omega arith), ((omega arith, omega arith), from_one, omega arith), omega arith,
-    clocks_rise c sound (n.0 + 1) (Some n.1.node.ring.me) ns parts.1 (All-tail (NodeSeen c) n ns seen) (All-tail (λ n. IsNumber n.1.reading) n ns reads)
-    (λ w later. below_next n.1.node.ring.me w (omega arith)))
+    let number : n.1.reading ≤ 10 ^ 15 = All-head (λ n. IsNumber n.1.reading) n ns reads in (
+      over n.1.node.ring.me (omega arith),
+      ((omega arith, omega arith), from_one, omega arith),
+      omega arith,
+      clocks_rise c sound (n.0 + 1) (Some n.1.node.ring.me) ns parts.1 (All-tail (NodeSeen c) n ns seen) (All-tail (λ n. IsNumber n.1.reading) n ns reads)
+          (λ w later. below_next n.1.node.ring.me w (omega arith)),
+    )
 
 abbrev clock_of : ℕ × Running fabric → Who × ℕ
 clock_of n = (n.1.node.ring.me, n.1.reading)
