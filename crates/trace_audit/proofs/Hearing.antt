@@ -1,12 +1,12 @@
 -- What is heard of a run is safe exactly as the run is.
-use Rattle.std.proofs.Common.{◌≡◌, ℕ, Bool, true, false, cond, List, [], ◌∷◌, drop, map, Option, Some, None, refl, sym, ap, subst, ◌∙◌}
+use Rattle.std.proofs.Common.{◌≡◌, ℕ, Bool, true, false, cond, List, [], ◌∷◌, drop, Option, Some, None, refl, sym, ap, subst, ◌∙◌}
 use Rattle.std.specs.Prelude.{Contains}
 use Rattle.std.proofs.lemmas.List.{drop-map}
 use Rattle.fabric_terms.specs.declared.report.Report.{Report}
 use Rattle.fabric_terms.specs.declared.report.Report.TheVariants.{IsPrimary}
 use Rattle.fabric_terms.specs.Primaries.{Safe}
 use Rattle.fabric_terms.specs.Reports.{Told, told, told_in}
-use Rattle.fabric_terms.specs.Runs.{Clocks, Entry, Holds, Moment, Owned, Run, clocks_of, own_in, own_of, reading_of}
+use Rattle.fabric_terms.specs.Runs.{Clocks, Entry, Holds, Owned, Run, clocks_of, own_in, own_of, reading_of}
 use Rattle.fabric_terms.specs.TakeOvers.{was_taken_over}
 use Rattle.ring_points.specs.declared.who.Who.{Who}
 use Rattle.ring_points.specs.Whos.{same_who}

@@ -1,13 +1,13 @@
 -- The LINEs of the groups of a run, and the run along them.
-use Rattle.std.proofs.Common.{◌≡◌, ℕ, suc, zero, ◌+◌, ◌≤◌, ◌<◌, Bool, true, false, cond, List, [], ◌∷◌, ◌++◌, length, map, Option, Some, None, ⊎_elim, inl, inr, ◌⊎◌, arith, refl, sym, ap, subst, ◌∙◌}
-use Rattle.std.specs.Prelude.{All, Contains, IsSome, find, is_some, nat_eq, option_map, reverse, slice_index}
+use Rattle.std.proofs.Common.{◌≡◌, ℕ, suc, ◌+◌, ◌≤◌, ◌<◌, Bool, true, false, cond, List, [], ◌∷◌, ◌++◌, length, map, Some, ⊎_elim, inl, inr, ◌⊎◌, arith, refl, sym, ap, subst, ◌∙◌}
+use Rattle.std.specs.Prelude.{All, Contains, IsSome, nat_eq, option_map, reverse, slice_index}
 use Rattle.std.proofs.lemmas.Bool.{eq-eqb, eqb-true}
 use Rattle.std.proofs.lemmas.Bool.Decides.{nat_tests}
 use Rattle.std.proofs.lemmas.List.{length-append, reverse-append}
-use Rattle.std.proofs.lemmas.List.Elements.{All-contains, All-head, All-tail, Contains-append_left, Contains-push, Contains-push_cases}
+use Rattle.std.proofs.lemmas.List.Elements.{All-head, All-tail, Contains-append_left, Contains-push, Contains-push_cases}
 use Rattle.fabric_terms.specs.Runs.{Moment, Run}
 use Rattle.run_audit.proofs.Members.{Contains-cases, Contains-empty, Contains-first, Contains-rest}
-use Rattle.transcript_audit.specs.Groups.{AreLines, Group, Rise, group_at, moment_of, onto, run_along}
+use Rattle.transcript_audit.specs.Groups.{AreLines, Rise, group_at, moment_of, onto, run_along}
 use Rattle.trace_audit.specs.Recordings.{LinesRise, group_of_moment, groups_of_run}
 
 -- Rising lists are the same where their elements are.

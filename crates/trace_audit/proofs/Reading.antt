@@ -1,33 +1,30 @@
 -- The transcript of a run is read back as its groups.
-use Rattle.std.proofs.Common.{◌≡◌, ℕ, ◌+◌, ◌≤◌, Bool, true, false, cond, List, [], ◌∷◌, ◌++◌, length, map, Option, Some, None, Ok, Result, arith, refl, sym, ap, subst, ◌∙◌}
+use Rattle.std.proofs.Common.{◌≡◌, ℕ, ◌≤◌, Bool, true, false, cond, List, [], ◌∷◌, ◌++◌, length, map, Option, Some, None, Ok, arith, refl, ap, subst, ◌∙◌}
 use Rattle.std.specs.Prelude.{All, codes, decimal, nat_lt}
-use Rattle.std.proofs.lemmas.Bool.{ltb-true}
 use Rattle.std.proofs.lemmas.List.{append_assoc}
 use Rattle.std.proofs.lemmas.List.Elements.{All-append, All-cons, All-head, All-nil, All-tail}
-use Rattle.fabric_status.specs.declared.status.Refusal.{Refusal}
 use Rattle.fabric_terms.specs.declared.report.Head.{Head}
 use Rattle.fabric_terms.specs.declared.report.Report.{Report}
 use Rattle.fabric_terms.specs.Ranges.{FitsHead}
 use Rattle.fabric_terms.specs.Runs.{Clocks, Entry, Moment, Run}
 use Rattle.frames_fit.specs.Formats.{ReportInRange}
 use Rattle.schedule_replay.specs.Output.{entry_lines, head_of, report_lines, sent_lines}
-use Rattle.schedule_replay.specs.Traces.{clock_words, clocks_line, group, transcript}
+use Rattle.schedule_replay.specs.Traces.{clock_words, clocks_line, group}
 use Rattle.sched_text.specs.Lines.{lines_of}
 use Rattle.sched_text.specs.Reports.{report_line, report_words, sent_line}
 use Rattle.source_lines.specs.Lines.{most_lines}
 use Rattle.text_fields.specs.Fields.{◌>>=◌}
 use Rattle.transcript_audit.specs.Groups.{Group}
 use Rattle.transcript_audit.specs.Said.{Opens}
-use Rattle.transcript_audit.specs.Transcript.{Reading, groups_if, groups_of, most_line, nothing_read, read_from, transcript_of}
+use Rattle.transcript_audit.specs.Transcript.{groups_if, most_line, nothing_read, read_from, transcript_of}
 use Rattle.trace_audit.specs.Laws.{RecordingsAreRead}
-use Rattle.trace_audit.specs.Recordings.{HasLines, IsRecordable, IsRecording, LinesRise, SentFits, groups_of_run, trace_of}
-use Rattle.trace_audit.specs.Traced.{WithinLimits}
+use Rattle.trace_audit.specs.Recordings.{HasLines, IsRecordable, LinesRise, SentFits, trace_of}
 use Rattle.trace_audit.proofs.Lines.{IsLines, all_lines, more_lines, no_lines, one_line}
 use Rattle.trace_audit.proofs.Pieces.{Piece}
 use Rattle.trace_audit.proofs.ReportPieces.{clocks_line_piece, report_line_piece, sent_line_piece}
 use Rattle.trace_audit.proofs.Saying.{clocks_text, heading_said, sent_words}
 use Rattle.trace_audit.proofs.Taking.{read_taken, taken, taken_more}
-use Rattle.trace_audit.proofs.Telling.{entry_list, group_list, group_taken, groups_are, one_taken, reading_of, sent_list, told_list}
+use Rattle.trace_audit.proofs.Telling.{entry_list, group_list, group_taken, groups_are, one_taken, reading_of, sent_list}
 
 -- The lines of a text.
 

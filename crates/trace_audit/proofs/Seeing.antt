@@ -1,30 +1,27 @@
 -- What is seen of an event has lines.
-use Rattle.std.proofs.Common.{◌≡◌, inl, inr, ℕ, ◌+◌, ◌≤◌, Bool, true, false, ◌||◌, List, [], ◌∷◌, length, Option, Some, None, arith, refl, sym, ap, subst, ◌∙◌}
+use Rattle.std.proofs.Common.{◌≡◌, inl, inr, ℕ, ◌+◌, ◌≤◌, Bool, true, false, ◌||◌, List, [], ◌∷◌, length, Option, Some, None, arith, refl, sym, subst}
 use Rattle.std.specs.Prelude.{◌==◌, All}
 use Rattle.std.specs.List.{list_any}
 use Rattle.std.proofs.lemmas.Bool.{eqb-true}
-use Rattle.std.proofs.lemmas.List.Elements.{All-cons, All-head, All-nil, All-tail}
+use Rattle.std.proofs.lemmas.List.Elements.{All-head, All-tail}
 use Rattle.fabric_above.specs.Fabric.{fabric, fabric_stays}
 use Rattle.fabric_lemmas.specs.Maps.{at}
 use Rattle.fabric_terms.specs.declared.config.FabricConfig.{FabricConfig}
 use Rattle.fabric_terms.specs.declared.event.Event.{Event}
-use Rattle.fabric_terms.specs.declared.event.Event.TheVariants.{Start}
 use Rattle.fabric_terms.specs.declared.message.Body.{Body}
-use Rattle.fabric_terms.specs.declared.message.Message.{Message}
 use Rattle.fabric_terms.specs.Ranges.{Fits, FitsReading, IsInstance, IsNode, IsNumber, IsWho}
-use Rattle.fabric_terms.specs.Runs.{Clocks, Entry}
+use Rattle.fabric_terms.specs.Runs.{Entry}
 use Rattle.fabric_terms.specs.Sound.{IsSound, IsSoundNode}
 use Rattle.fabric_terms.specs.declared.config.NodeEntry.{NodeEntry}
 use Rattle.ring_points.specs.declared.who.Who.{Who}
-use Rattle.ring_rules.specs.declared.input.Input.{Input}
 use Rattle.run_facts.proofs.Happens.{Cases, by_cases}
 use Rattle.run_facts.proofs.Steps.{begun_positive, node_acted-told, node_begun-told}
-use Rattle.world_rules.specs.Arbiters.{ArbiterState, arbiter_step}
+use Rattle.world_rules.specs.Arbiters.{arbiter_step}
 use Rattle.world_rules.specs.Events.{arbiter_number, world_step}
 use Rattle.world_rules.specs.Nodes.{NodeState, node_begun, node_step}
 use Rattle.world_rules.specs.Schedules.{MayCome, is_configured_node}
 use Rattle.world_rules.specs.Uppers.{Did}
-use Rattle.world_rules.specs.Worlds.{Running, Stepped, World, arbiter_who, kept_of, numbers_of}
+use Rattle.world_rules.specs.Worlds.{Running, World, arbiter_who, kept_of, numbers_of}
 use Rattle.trace_audit.proofs.Worlds.{ArbiterSeen, NodeSeen, Seen, at_all, begun_counted, starts_arbiter, starts_configured}
 
 -- who did something, its reading, and the numbers of its frames

@@ -1,9 +1,8 @@
 -- What is read of lines that keep to the limits.
-use Rattle.std.proofs.Common.{◌≡◌, ℕ, ◌+◌, ◌≤◌, Bool, true, false, ◌||◌, List, [], ◌∷◌, ◌++◌, length, Option, Some, None, Result, Ok, arith, refl, sym, ap, ◌∙◌}
-use Rattle.std.specs.Prelude.{All, min, nat_lt}
+use Rattle.std.proofs.Common.{◌≡◌, ℕ, ◌+◌, ◌≤◌, Bool, true, false, List, [], ◌∷◌, ◌++◌, length, Option, Some, Ok, arith, refl, ap, ◌∙◌}
+use Rattle.std.specs.Prelude.{All, nat_lt}
 use Rattle.std.proofs.lemmas.Bool.Decides.{nat_tests}
 use Rattle.std.proofs.lemmas.List.Elements.{All-head, All-tail}
-use Rattle.fabric_status.specs.declared.status.Refusal.{Refusal}
 use Rattle.source_lines.specs.Lines.{is_ignored, most_lines}
 use Rattle.text_fields.specs.Fields.{◌>>=◌}
 use Rattle.text_fields.proofs.FieldLaws.{bind_some}

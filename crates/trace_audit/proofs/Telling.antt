@@ -1,6 +1,6 @@
 -- A group of a transcript, as `trace` writes it, is read as its moment.
-use Rattle.std.proofs.Common.{◌≡◌, ℕ, ◌≤◌, ◌<◌, ◌^◌, Bool, true, false, not, ◌&&◌, cond, List, [], ◌∷◌, ◌++◌, length, map, Option, Some, None, arith, refl, sym, ap, ◌∙◌}
-use Rattle.std.specs.Prelude.{All, codes, find, is_some, nat_eq, nat_lt}
+use Rattle.std.proofs.Common.{◌≡◌, ℕ, ◌≤◌, ◌<◌, ◌^◌, Bool, true, false, not, ◌&&◌, cond, List, [], ◌∷◌, ◌++◌, map, Option, Some, None, arith, refl, sym, ap, ◌∙◌}
+use Rattle.std.specs.Prelude.{All, is_some, nat_eq, nat_lt}
 use Rattle.std.proofs.lemmas.Bool.{ltb-true, lt-ltb}
 use Rattle.std.proofs.lemmas.Bool.Decides.{nat_tests}
 use Rattle.std.proofs.lemmas.List.{append_assoc, append-nil}
@@ -12,7 +12,6 @@ use Rattle.fabric_terms.specs.Ranges.{FitsHead, FitsReport}
 use Rattle.fabric_terms.specs.Runs.{Clocks, Entry, Moment, Run}
 use Rattle.frames_fit.specs.Formats.{ReportInRange}
 use Rattle.ring_points.specs.declared.who.Who.{Who}
-use Rattle.ring_points.specs.Whos.{same_who}
 use Rattle.ring_points.proofs.Whos.{same_who-refl}
 use Rattle.schedule_replay.specs.Output.{head_of}
 use Rattle.sched_text.specs.Reports.{report_words}

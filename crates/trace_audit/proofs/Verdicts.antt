@@ -15,8 +15,8 @@ use Rattle.transcript_audit.specs.Groups.{Group, run_along}
 use Rattle.transcript_audit.specs.Transcript.{transcript_of}
 use Rattle.transcript_audit.specs.Verdicts.{verdict_line}
 use Rattle.trace_audit.specs.Laws.{SafeRecordingsAreSafe}
-use Rattle.trace_audit.specs.Recordings.{IsRecording, LinesRise, groups_of_run, trace_of}
-use Rattle.trace_audit.specs.Traced.{IsAnsweredSafe, WithinLimits, WritesSafe, WritesSafeFront}
+use Rattle.trace_audit.specs.Recordings.{LinesRise, groups_of_run, trace_of}
+use Rattle.trace_audit.specs.Traced.{IsAnsweredSafe, WritesSafe, WritesSafeFront}
 use Rattle.trace_audit.proofs.Hearing.{safe_heard}
 use Rattle.trace_audit.proofs.Ordering.{heard, one_order, run_heard}
 use Rattle.trace_audit.proofs.Reading.{recordings_are_read}

@@ -1,23 +1,19 @@
 -- Who runs in a valid schedule, and what is seen of an event, has a line.
-use Rattle.std.proofs.Common.{◌≡◌, ◌⊎◌, inl, inr, ℕ, ◌+◌, ◌-◌, ◌≤◌, ◌<◌, ◌^◌, Bool, true, false, cond, not, ◌&&◌, List, [], ◌∷◌, ◌++◌, length, map, Option, Some, None, IsTrue, arith, refl, sym, ap, subst, ◌∙◌}
+use Rattle.std.proofs.Common.{◌≡◌, ℕ, ◌+◌, ◌≤◌, Bool, true, false, cond, not, List, [], ◌∷◌, ◌++◌, length, Some, None, IsTrue, arith, refl, sym, ap, subst, ◌∙◌}
 use Rattle.std.specs.Prelude.{◌==◌, All, nat_le, nat_lt}
 use Rattle.std.proofs.lemmas.Bool.{and_parts, eqb-true, leb-false, leb-true, ltb-true}
-use Rattle.std.proofs.lemmas.List.Elements.{All-cons, All-filter, All-head, All-map, All-nil, All-tail, All-weaker}
+use Rattle.std.proofs.lemmas.List.Elements.{All-filter, All-head, All-map, All-nil, All-tail, All-weaker}
 use Rattle.fabric_above.specs.Fabric.{fabric, fabric_stays}
 use Rattle.fabric_fit.proofs.Tables.{put_all}
 use Rattle.fabric_lemmas.specs.Maps.{at}
 use Rattle.fabric_terms.specs.declared.config.FabricConfig.{FabricConfig}
 use Rattle.fabric_terms.specs.declared.event.Event.{Event}
 use Rattle.fabric_terms.specs.declared.event.Event.TheVariants.{Start}
-use Rattle.fabric_terms.specs.declared.message.Body.{Body}
-use Rattle.fabric_terms.specs.declared.message.Message.{Message}
 use Rattle.fabric_terms.specs.declared.record.Record.{Record}
-use Rattle.fabric_terms.specs.Ranges.{Fits, FitsReading, IsArbiter, IsNode, IsNumber, IsWho}
-use Rattle.fabric_terms.specs.Runs.{Entry}
+use Rattle.fabric_terms.specs.Ranges.{Fits}
 use Rattle.fabric_terms.specs.Sound.{IsSound}
 use Rattle.ring_points.specs.declared.who.Who.{Who}
 use Rattle.ring_points.specs.Whos.{arbiter_actor}
-use Rattle.ring_rules.specs.declared.input.Input.{Input}
 use Rattle.run_facts.proofs.ArbiterSteps.{arbiter_stepped}
 use Rattle.run_facts.proofs.Happens.{Cases, by_cases}
 use Rattle.run_facts.proofs.Kept.{boots_append, boots_still, kept_here, kept_there, no_boots}
@@ -27,7 +23,7 @@ use Rattle.world_rules.specs.Events.{arbiter_number, ticked, world_step}
 use Rattle.world_rules.specs.Nodes.{NodeState, boots_of, instance_begun, is_spent, node_begun, node_step}
 use Rattle.world_rules.specs.Schedules.{MayCome, arbiter_runs, is_configured_arbiter, is_configured_node, may_start, node_runs}
 use Rattle.world_rules.specs.Uppers.{Did}
-use Rattle.world_rules.specs.Worlds.{Running, Stepped, World, arbiter_who, kept_of, node_acted, numbers_of}
+use Rattle.world_rules.specs.Worlds.{Running, World, arbiter_who, kept_of, node_acted}
 use Rattle.world_rules.proofs.Rows.{is_there-start}
 
 -- what stands at a number
