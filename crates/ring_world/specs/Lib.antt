@@ -2,6 +2,7 @@ pub mod Room
 pub mod Drifts
 pub mod Holders
 pub mod Running
+pub mod Replicas
 pub mod Seen
 pub mod Finds
 pub mod Seats

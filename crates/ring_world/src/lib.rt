@@ -12,6 +12,7 @@ mod command;
 mod commit;
 mod delivery;
 mod events;
+mod replica;
 mod room;
 mod ruling;
 mod running;
