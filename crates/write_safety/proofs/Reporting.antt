@@ -25,7 +25,7 @@ member_join [] ys x m = inr m
 member_join (y ∷ xs) ys x (inl e) = inl (inl e)
 member_join (y ∷ xs) ys x (inr m) = ⊎_elim (λ a. inl (inr a)) (λ b. inr b) (member_join xs ys x m)
 
-contains_first : {A : Type 0} (x : A) (xs : List A) → Contains (x ∷ xs) x
+pub contains_first : {A : Type 0} (x : A) (xs : List A) → Contains (x ∷ xs) x
 contains_first x xs = (0, omega arith, refl)
 
 contains_later : {A : Type 0} (x y : A) (xs : List A) → Contains xs x → Contains (y ∷ xs) x

@@ -1,5 +1,5 @@
-ghost use Rattle.std.specs.Prelude.{◌≡◌, ◌++◌, ◌≤◌, [], length, take, OnOk, OnErr};
-ghost use Rattle.write_safety.specs.Books.{Agree, Commits, entries_of};
+ghost use Rattle.std.specs.Prelude.{◌≡◌, ◌++◌, ◌≤◌, [], length, take, true, OnOk, OnErr};
+ghost use Rattle.write_safety.specs.Books.{Agree, Commits, entries_of, logs_rise};
 ghost use Rattle.write_safety.specs.Lines.{kept_lines};
 ghost use Rattle.write_safety.specs.Places.{Finds, IsGap, Parts};
 
@@ -147,6 +147,7 @@ impl WriteBook {
     pub fn print(&self, into: &mut Vec<u8>) -> Result<(), OutOfMemory>
         ensures ok { OnOk result (into.new.items ≡ into.old.items ++ kept_lines self.now) }
         ensures refused { OnErr result (into.new.items ≡ into.old.items) }
+        ensures rising { logs_rise self.now ≡ true }
     {
         print_logs(&self.logs, into)
     }
