@@ -5,5 +5,6 @@ pub mod Fronts
 pub mod Lines
 pub mod Along
 pub mod Closing
+pub mod Endings
 pub mod Words
 pub mod First

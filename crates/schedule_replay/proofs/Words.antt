@@ -1,12 +1,10 @@
 -- What the words tell, and what a report is.
-use Rattle.std.proofs.Common.{◌≡◌, ℕ, List, [], ◌∷◌, ◌++◌, Option, Some, None, refl, ap, subst, ◌∙◌, append_assoc}
-use Rattle.edge_io.specs.Edge.{GrewByFront}
+use Rattle.std.proofs.Common.{◌≡◌, ℕ, List, [], ◌∷◌, ◌++◌, Option, Some, None, refl, ap, ◌∙◌, append_assoc}
 use Rattle.fabric_above.specs.Fabric.{fabric}
 use Rattle.fabric_terms.specs.declared.config.FabricConfig.{FabricConfig}
 use Rattle.fabric_terms.specs.declared.event.Event.{Event}
 use Rattle.fabric_status.specs.declared.status.Refusal.{Refusal}
 use Rattle.fabric_status.specs.declared.status.Status.{Status}
-use Rattle.fabric_status.specs.declared.status.Status.TheVariants as status
 use Rattle.fabric_status.specs.Codes.{status_of}
 use Rattle.fabric_status.specs.Faults.{fault_line}
 use Rattle.ring_world.specs.Answers.{Takes, entry_of, ruled}
@@ -15,7 +13,7 @@ use Rattle.ring_world.specs.declared.world.World.{World}
 use Rattle.world_rules.specs.Events.{world_step}
 use Rattle.world_rules.specs.Runs.{History, run_of, moment_of}
 use Rattle.schedule_replay.specs.Acts.{told_lines}
-use Rattle.schedule_replay.specs.Endings.{EndsSo, WritesText, WritesFront, accepted, whole, stopped, StoppedText}
+use Rattle.schedule_replay.specs.Endings.{EndsSo}
 use Rattle.schedule_replay.specs.Output.{IsOutput, IsOutputAt, IsWhole, entry_lines, lines_of_run}
 use Rattle.schedule_replay.specs.Replays.{run_lines, Writes}
 use Rattle.schedule_replay.specs.Schedule.{Judged}
@@ -23,6 +21,7 @@ use Rattle.schedule_replay.specs.Telling.{IsTold, IsToldAt, IsToldWhole, lines_t
 use Rattle.schedule_replay.specs.Tellings.{moment_lines, newest, replay_telling}
 use Rattle.schedule_replay.specs.Traces.{clocks_line, group}
 use Rattle.fabric_terms.specs.Runs.{Clocks, clocks_of}
+use Rattle.schedule_replay.proofs.Endings.{ends_as}
 
 -- what an actor told is what stands in the moment of the event
 pub told_seen : (a : World) (c : FabricConfig) (h : History) (line : ℕ) (e : Event) (acted : Option Acted) → Takes a c h line e acted → told_lines acted ≡ moment_lines (moment_of {a = fabric} line (world_step fabric c (ruled c h) e))
@@ -54,35 +53,10 @@ output_at j (Some refusal) text told = told ∙ ap (λ l. l ++ fault_line (statu
 output_of : (j : Judged) (text : List ℕ) → IsTold replay_telling j text → IsOutput j text
 output_of j text told = output_at j j.refused text told
 
-text_of : (j : Judged) (refusal : Option Refusal) (old new : Option (List ℕ)) → WritesText (IsTold replay_telling) j refusal old new → WritesText IsOutput j refusal old new
-text_of j refusal old new w = record { refused = w.refused; text = w.text; output = output_of j w.text w.output; grew = w.grew }
-
-stopped_of : (j : Judged) (left : Option (List ℕ)) (text : List ℕ) → StoppedText (lines_judged replay_telling) j left text → StoppedText run_lines j left text
-stopped_of j left text s = (s.0, s.1, s.2, s.3 ∙ ap (λ l. l ++ fault_line status.ReadFault) (same_judged s.0 s.1))
-
-front_of : (j : Judged) (left : Option (List ℕ)) (failed : Type 0) (old new : Option (List ℕ)) → WritesFront (IsTold replay_telling) (lines_judged replay_telling) j left failed old new → WritesFront IsOutput run_lines j left failed old new
-front_of j left failed old new (accepted grew) = accepted (subst (λ l. GrewByFront old new l) (same_judged j.config j.history) grew)
-front_of j left failed old new (whole text told grew) = whole text (output_of j text told) grew
-front_of j left failed old new (stopped text cause output grew) = stopped text cause (stopped_of j left text output) grew
-
 -- what the reports' teller writes is what `replay` writes
 pub replay_writes : (ended : Status) (j : Judged) (left : Option (List ℕ)) (failed : Type 0) (old new : Option (List ℕ)) → EndsSo (IsTold replay_telling) (lines_judged replay_telling) ended j left failed old new → Writes ended j left failed old new
-replay_writes status.Ok j left failed old new w = text_of j None old new w
-replay_writes status.OutOfMemory j left failed old new w = front_of j left failed old new w
-replay_writes status.ReadFault j left failed old new w = record { text = w.text; output = stopped_of j left w.text w.output; grew = w.grew }
-replay_writes status.WriteFault j left failed old new w = front_of j left failed old new w
-replay_writes (status.BadConfig e) j left failed old new w = text_of j _ old new w
-replay_writes (status.BadLine n) j left failed old new w = text_of j _ old new w
-replay_writes (status.DriftBroken n) j left failed old new w = text_of j _ old new w
-replay_writes (status.NoSuch n) j left failed old new w = text_of j _ old new w
-replay_writes (status.TooLarge n) j left failed old new w = text_of j _ old new w
-replay_writes status.Usage j left failed old new w = absurd w
-replay_writes status.KeepFault j left failed old new w = absurd w
-replay_writes status.LinkFault j left failed old new w = absurd w
-replay_writes (status.ClockBack former latter) j left failed old new w = absurd w
-replay_writes (status.Left why) j left failed old new w = absurd w
-replay_writes (status.BadKeep i) j left failed old new w = absurd w
-replay_writes status.TableFull j left failed old new w = absurd w
+replay_writes ended j left failed old new w =
+    ends_as (IsTold replay_telling) IsOutput (lines_judged replay_telling) run_lines j (output_of j) same_judged ended left failed old new w
 
 -- the group of an event: its clocks, and what was told
 pub traced : (a : World) (c : FabricConfig) (h : History) (line : ℕ) (e : Event) (acted : Option Acted) (clocks : Clocks) (old mid new : List ℕ) → Takes a c h line e acted → clocks ≡ clocks_of (run_of fabric c ((line, e) ∷ h)) → mid ≡ old ++ clocks_line line clocks → new ≡ mid ++ told_lines acted → new ≡ old ++ newest group (run_of fabric c ((line, e) ∷ h))

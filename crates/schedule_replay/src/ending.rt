@@ -10,8 +10,8 @@ use fabric_status::push_two;
 use fabric_terms::OutOfMemory;
 use ring_world::World;
 
-/// How many events there were, and how many frames were sent.
-fn push_end(text: &mut Vec<u8>, counts: (u64, u32)) -> Result<(), OutOfMemory>
+/// How many events there were, and how many frames were sent. At want of memory a front of it may be written.
+pub fn push_end(text: &mut Vec<u8>, counts: (u64, u32)) -> Result<(), OutOfMemory>
     ensures { OnOk result (text.new.items ≡ text.old.items ++ end_line counts.0 counts.1) }
 {
     push_two(text, b"end ", counts.0, u64::from(counts.1))

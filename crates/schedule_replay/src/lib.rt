@@ -19,6 +19,7 @@ mod teller;
 mod told;
 mod transcript;
 
+pub use ending::push_end;
 pub use laws::{accepted_is_valid, one_output};
 pub use reports::replay;
 pub use run::run_schedule;
