@@ -3,4 +3,5 @@ pub mod Using
 pub mod Replaying
 pub mod Tracing
 pub mod Auditing
+pub mod Writing
 pub mod Top

@@ -9,6 +9,7 @@ use Rattle.fabric_top.specs.Auditing.{IsAudit}
 use Rattle.fabric_top.specs.Replaying.{IsReplay}
 use Rattle.fabric_top.specs.Tracing.{IsTrace}
 use Rattle.fabric_top.specs.Using.{IsUsage}
+use Rattle.fabric_top.specs.Writing.{IsWrites}
 
 -- What each command does to the devices, and how it ends. Words that are none of the forms are Usage, and so are those of
 -- a command that is not built yet.
@@ -17,6 +18,7 @@ Does None a ended c = IsUsage a ended c
 Does (Some form.Replay) a ended c = IsReplay a ended c
 Does (Some form.Trace) a ended c = IsTrace a ended c
 Does (Some form.Audit) a ended c = IsAudit a ended c
+Does (Some form.Writes) a ended c = IsWrites a ended c
 Does (Some (form.Node node turns)) a ended c = RunsCrew (crew.Node node) turns a ended c
 Does (Some (form.Arbiter arbiter turns)) a ended c = RunsCrew (crew.Arbiter arbiter) turns a ended c
 Does (Some (form.Cluster turns)) a ended c = RunsCrew crew.Cluster turns a ended c
@@ -28,6 +30,7 @@ is_built None = false
 is_built (Some form.Replay) = true
 is_built (Some form.Trace) = true
 is_built (Some form.Audit) = true
+is_built (Some form.Writes) = true
 is_built (Some (form.Node node turns)) = true
 is_built (Some (form.Arbiter arbiter turns)) = true
 is_built (Some (form.Cluster turns)) = true

@@ -8,6 +8,7 @@ use crate::audits::audit_source;
 use crate::replays::replay_source;
 use crate::traces::trace_source;
 use crate::usage::usage;
+use crate::writes::writes_source;
 use command_words::Form;
 use crew_runs::{Crew, run_crew};
 use edge_io::{Clock, Keeper, Links, Sink, Source};
@@ -42,6 +43,7 @@ pub fn run_form<S: Source, K: Sink, N: Links, D: Keeper, C: Clock>(
         Form::Replay => replay_source(alloc, source, sink),
         Form::Trace => trace_source(alloc, source, sink),
         Form::Audit => audit_source(alloc, source, sink),
+        Form::Writes => writes_source(alloc, source, sink),
         Form::Node { node, turns } => {
             run_crew(
                 alloc,
@@ -78,7 +80,6 @@ pub fn run_form<S: Source, K: Sink, N: Links, D: Keeper, C: Clock>(
                 clock,
             )
         }
-        Form::Writes => usage(sink),
         Form::Generate { .. } => usage(sink),
         Form::Drill { .. } => usage(sink),
     }

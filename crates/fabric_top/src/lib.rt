@@ -12,6 +12,7 @@ mod replays;
 mod top;
 mod traces;
 mod usage;
+mod writes;
 
 pub use fabric_status::{Refusal, Status};
 pub use schedule_replay::{accepted_is_valid, one_output};

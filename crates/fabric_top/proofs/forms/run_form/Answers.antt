@@ -16,11 +16,6 @@ returns-in-Arbiter-clause-does g c = let runs = c.run_crew-in-Arbiter.ensures in
 pub returns-in-Cluster-clause-does : goal.returns-in-Cluster-clause-does
 returns-in-Cluster-clause-does g c = let runs = c.run_crew-in-Cluster.ensures in (runs.0, rw c.in-Cluster.is runs.1)
 
-pub returns-in-Writes-clause-does : goal.returns-in-Writes-clause-does
-returns-in-Writes-clause-does g c =
-    let loans : Loans = record { sink = c.args.sink.ghost_name; links = c.args.links.ghost_name; keeps = c.args.keeps.ghost_name; clock = c.args.clock.ghost_name } in
-    (loans, rw c.in-Writes.is (record { written = c.usage.ensures; rest = refl }))
-
 pub returns-in-Trace-clause-does : goal.returns-in-Trace-clause-does
 returns-in-Trace-clause-does g c =
     let loans : Loans = record { sink = c.args.sink.ghost_name; links = c.args.links.ghost_name; keeps = c.args.keeps.ghost_name; clock = c.args.clock.ghost_name } in
@@ -31,10 +26,15 @@ returns-in-Audit-clause-does g c =
     let loans : Loans = record { sink = c.args.sink.ghost_name; links = c.args.links.ghost_name; keeps = c.args.keeps.ghost_name; clock = c.args.clock.ghost_name } in
     (loans, rw c.in-Audit.is (record { audits = c.audit_source.ensures; rest = refl }))
 
+pub returns-in-Writes-clause-does : goal.returns-in-Writes-clause-does
+returns-in-Writes-clause-does g c =
+    let loans : Loans = record { sink = c.args.sink.ghost_name; links = c.args.links.ghost_name; keeps = c.args.keeps.ghost_name; clock = c.args.clock.ghost_name } in
+    (loans, rw c.in-Writes.is (record { writes = c.writes_source.ensures; rest = refl }))
+
 pub returns-in-Generate-clause-does : goal.returns-in-Generate-clause-does
 returns-in-Generate-clause-does g c =
     let loans : Loans = record { sink = c.args.sink.ghost_name; links = c.args.links.ghost_name; keeps = c.args.keeps.ghost_name; clock = c.args.clock.ghost_name } in
-    (loans, rw c.in-Generate.is (record { written = c.usage-in-Generate.ensures; rest = refl }))
+    (loans, rw c.in-Generate.is (record { written = c.usage.ensures; rest = refl }))
 
 pub returns-in-Drill-clause-does : goal.returns-in-Drill-clause-does
 returns-in-Drill-clause-does g c =
