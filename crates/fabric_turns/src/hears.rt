@@ -12,11 +12,26 @@ ghost use Rattle.turn_rules.specs.Whole.{setting};
 use crate::act::act;
 use crate::plan::Plan;
 use crate::run::Run;
+use fabric_terms::{Body, Message};
 use outside::Outside;
 use ring_node::Input;
-use ring_wire::decode;
+use ring_points::Who;
+use ring_wire::decode_into;
 use std::alloc::Global;
 use turn_rules::Stop;
+
+/// A place that a frame is read into.
+fn empty_place() -> Message {
+    let nobody = Who {
+        actor: 0,
+        instance: 0,
+    };
+    Message {
+        from: nobody,
+        to: nobody,
+        body: Body::Hello { mine: 0 },
+    }
+}
 
 /// A datagram that has come to the actor at a place. What is no frame changes nothing.
 fn take_datagram<O: Outside>(
@@ -36,9 +51,10 @@ fn take_datagram<O: Outside>(
     ensures ready { IsReady plan.now run.new (O.told outside.new) }
     ensures same { length run.new.members ≡ length run.old.members }
 {
-    match decode(bytes) {
+    let mut message = empty_place();
+    match decode_into(bytes, &mut message) {
         Err(_) => Ok(()),
-        Ok(message) => act(
+        Ok(()) => act(
             outside,
             alloc,
             plan,

@@ -13,4 +13,4 @@ pub returns-in-Ok-clause-done : goal.returns-in-Ok-clause-done
 returns-in-Ok-clause-done g c = λ kept a h p m.
     c.act.ensures.done kept a h _ p m
     (ap (λ (o : Option Message). hears_frame (setting c.args.plan.now kept) c.args.turn (after (setting c.args.plan.now kept) h) c.args.place o)
-    (frame_read c.args.bytes.now c.in-Ok.message c.in-Ok.ensures.0 c.in-Ok.ensures.1))
+    (frame_read c.args.bytes.now c.decode_into.new.message c.in-Ok.ensures.0 c.in-Ok.ensures.1))
