@@ -24,12 +24,12 @@ judge g = judge_from g.crew g.config g.actors g.turns
 abbrev pub verdict : Given → ℕ → ℕ → List ℕ → Verdict
 verdict g = line_verdict g.crew g.config g.actors g.turns
 
-abbrev judge_on : Given → List Order → ℕ → ℕ → List (List ℕ) → Verdict → Result (List Order) Refusal
+abbrev pub judge_on : Given → List Order → ℕ → ℕ → List (List ℕ) → Verdict → Result (List Order) Refusal
 judge_on g orders least n ls Ignored = judge g orders least (n + 1) ls
 judge_on g orders least n ls (Ordered o) = judge g (orders ++ o ∷ []) o.turn (n + 1) ls
 judge_on g orders least n ls (Refused refusal) = Err refusal
 
-judge_line : (g : Given) (orders : List Order) (least n : ℕ) (l : List ℕ) (ls : List (List ℕ)) → judge g orders least n (l ∷ ls) ≡ judge_on g orders least n ls (verdict g least n l)
+pub judge_line : (g : Given) (orders : List Order) (least n : ℕ) (l : List ℕ) (ls : List (List ℕ)) → judge g orders least n (l ∷ ls) ≡ judge_on g orders least n ls (verdict g least n l)
 judge_line g orders least n l ls = by_verdict (verdict g least n l)
   where
     by_verdict : (v : Verdict) → (elim v [ Ignored ↦ judge g orders least (n + 1) ls | Ordered o ↦ judge g (orders ++ o ∷ []) o.turn (n + 1) ls | Refused refusal ↦ Err refusal ]) ≡ judge_on g orders least n ls v

@@ -2,3 +2,6 @@ pub mod Crews
 pub mod Judging
 pub mod Planning
 pub mod Runs
+mod Rising
+mod Named
+pub mod Clusters

@@ -21,7 +21,7 @@ use Rattle.turn_plans.specs.declared.crew.Crew.TheVariants.{Node, Arbiter, Clust
 
 -- who is listed is found, and who is found is listed
 
-found : {X : Type 0} (p : X → Bool) (xs : List X) → list_any p xs ≡ true → (x : X) × (find p xs ≡ Some x)
+pub found : {X : Type 0} (p : X → Bool) (xs : List X) → list_any p xs ≡ true → (x : X) × (find p xs ≡ Some x)
 found p [] e = cc
 found {X} p (x ∷ xs) e = by_test (p x) (found p xs) e
   where
@@ -29,7 +29,7 @@ found {X} p (x ∷ xs) e = by_test (p x) (found p xs) e
     by_test true later f = (x, refl)
     by_test false later f = later f
 
-listed : {X : Type 0} (p : X → Bool) (xs : List X) (y : X) → find p xs ≡ Some y → list_any p xs ≡ true
+pub listed : {X : Type 0} (p : X → Bool) (xs : List X) (y : X) → find p xs ≡ Some y → list_any p xs ≡ true
 listed p [] y e = cc
 listed p (x ∷ xs) y e = by_test (p x) (listed p xs y) e
   where
