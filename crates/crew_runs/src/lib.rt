@@ -2,7 +2,7 @@
 //!
 //! Nothing is opened, kept or sent before the whole source is read and found good; where it is not, the fault line is all
 //! that is written. The crate stands on the reader of plans and on the run of actors in turn. It promises at every status
-//! what was read, and that what was done is the run of the plan that the source defines, or nothing.
+//! what was read, that what was done is the run of the plan that the source defines, or nothing, and why the status comes.
 #![tactic(auto)]
 
 mod run;

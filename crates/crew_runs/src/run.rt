@@ -1,5 +1,6 @@
 // A crew's command: from its source to its last line.
-ghost use Rattle.crew_runs.specs.Runs.{RunsBytes, RunsCrew};
+ghost use Rattle.crew_runs.specs.Causes.{IsCrewRun};
+ghost use Rattle.crew_runs.specs.Runs.{RunsBytes};
 ghost use Rattle.fabric_status.specs.Codes.{status_of};
 ghost use Rattle.fabric_status.specs.Faults.{fault_line};
 ghost use Rattle.fabric_status.specs.Writes.{Wrote};
@@ -59,7 +60,7 @@ pub fn run_crew<S: Source, K: Sink, N: Links, D: Keeper, C: Clock>(
     keeps: &mut D,
     clock: &mut C,
 ) -> Status
-    ensures { (l : Loans) × RunsCrew crew turns
+    ensures { (l : Loans) × IsCrewRun crew turns
         (record {
           left = S.left source.old;
           source_faults = S.faults source.old;

@@ -4,4 +4,5 @@ pub mod Replaying
 pub mod Tracing
 pub mod Auditing
 pub mod Writing
+pub mod Clusters
 pub mod Top

@@ -2,10 +2,12 @@
 use Rattle.std.specs.Prelude.{Bool, true, false, Option, Some, None}
 use Rattle.command_words.specs.declared.form.Form.{Form}
 use Rattle.command_words.specs.declared.form.Form.TheVariants as form
-use Rattle.crew_runs.specs.Runs.{RunsCrew, Seen}
+use Rattle.crew_runs.specs.Causes.{IsCrewRun}
+use Rattle.crew_runs.specs.Runs.{Seen}
 use Rattle.fabric_status.specs.declared.status.Status.{Status}
 use Rattle.turn_plans.specs.declared.crew.Crew.TheVariants as crew
 use Rattle.fabric_top.specs.Auditing.{IsAudit}
+use Rattle.fabric_top.specs.Clusters.{RunsCluster}
 use Rattle.fabric_top.specs.Replaying.{IsReplay}
 use Rattle.fabric_top.specs.Tracing.{IsTrace}
 use Rattle.fabric_top.specs.Using.{IsUsage}
@@ -19,9 +21,9 @@ Does (Some form.Replay) a ended c = IsReplay a ended c
 Does (Some form.Trace) a ended c = IsTrace a ended c
 Does (Some form.Audit) a ended c = IsAudit a ended c
 Does (Some form.Writes) a ended c = IsWrites a ended c
-Does (Some (form.Node node turns)) a ended c = RunsCrew (crew.Node node) turns a ended c
-Does (Some (form.Arbiter arbiter turns)) a ended c = RunsCrew (crew.Arbiter arbiter) turns a ended c
-Does (Some (form.Cluster turns)) a ended c = RunsCrew crew.Cluster turns a ended c
+Does (Some (form.Node node turns)) a ended c = IsCrewRun (crew.Node node) turns a ended c
+Does (Some (form.Arbiter arbiter turns)) a ended c = IsCrewRun (crew.Arbiter arbiter) turns a ended c
+Does (Some (form.Cluster turns)) a ended c = RunsCluster turns a ended c
 Does (Some _) a ended c = IsUsage a ended c
 
 -- the words are a form whose command is built

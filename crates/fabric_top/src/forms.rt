@@ -5,12 +5,13 @@ ghost use Rattle.outside.specs.Told.{Loans};
 ghost use Rattle.turn_rules.specs.Whole.{told_of};
 
 use crate::audits::audit_source;
+use crate::crews::run_actors;
 use crate::replays::replay_source;
 use crate::traces::trace_source;
 use crate::usage::usage;
 use crate::writes::writes_source;
 use command_words::Form;
-use crew_runs::{Crew, run_crew};
+use crew_runs::Crew;
 use edge_io::{Clock, Keeper, Links, Sink, Source};
 use fabric_status::Status;
 use std::alloc::Global;
@@ -45,7 +46,7 @@ pub fn run_form<S: Source, K: Sink, N: Links, D: Keeper, C: Clock>(
         Form::Audit => audit_source(alloc, source, sink),
         Form::Writes => writes_source(alloc, source, sink),
         Form::Node { node, turns } => {
-            run_crew(
+            run_actors(
                 alloc,
                 Crew::Node(node),
                 turns,
@@ -57,7 +58,7 @@ pub fn run_form<S: Source, K: Sink, N: Links, D: Keeper, C: Clock>(
             )
         }
         Form::Arbiter { arbiter, turns } => {
-            run_crew(
+            run_actors(
                 alloc,
                 Crew::Arbiter(arbiter),
                 turns,
@@ -69,7 +70,7 @@ pub fn run_form<S: Source, K: Sink, N: Links, D: Keeper, C: Clock>(
             )
         }
         Form::Cluster { turns } => {
-            run_crew(
+            run_actors(
                 alloc,
                 Crew::Cluster,
                 turns,

@@ -1,5 +1,6 @@
 use Rattle.std.proofs.Common.{refl}
 use Rattle.outside.specs.Told.{Loans}
+use Rattle.fabric_top.proofs.Clusters.{cluster_runs}
 use Rattle.fabric_top.proofs.forms.run_form.Goals as goal
 
 pub returns-in-Replay-clause-does : goal.returns-in-Replay-clause-does
@@ -8,13 +9,13 @@ returns-in-Replay-clause-does g c =
     (loans, rw c.in-Replay.is (record { replays = c.replay_source.ensures; rest = refl }))
 
 pub returns-in-Node-clause-does : goal.returns-in-Node-clause-does
-returns-in-Node-clause-does g c = let runs = c.run_crew.ensures in (runs.0, rw c.in-Node.is runs.1)
+returns-in-Node-clause-does g c = let runs = c.run_actors.ensures in (runs.0, rw c.in-Node.is runs.1)
 
 pub returns-in-Arbiter-clause-does : goal.returns-in-Arbiter-clause-does
-returns-in-Arbiter-clause-does g c = let runs = c.run_crew-in-Arbiter.ensures in (runs.0, rw c.in-Arbiter.is runs.1)
+returns-in-Arbiter-clause-does g c = let runs = c.run_actors-in-Arbiter.ensures in (runs.0, rw c.in-Arbiter.is runs.1)
 
 pub returns-in-Cluster-clause-does : goal.returns-in-Cluster-clause-does
-returns-in-Cluster-clause-does g c = let runs = c.run_crew-in-Cluster.ensures in (runs.0, rw c.in-Cluster.is runs.1)
+returns-in-Cluster-clause-does g c = let runs = c.run_actors-in-Cluster.ensures in (runs.0, rw c.in-Cluster.is (cluster_runs _ _ _ _ runs.1))
 
 pub returns-in-Trace-clause-does : goal.returns-in-Trace-clause-does
 returns-in-Trace-clause-does g c =

@@ -1,0 +1,96 @@
+-- Why the status of a crew's command comes.
+use Rattle.std.proofs.Common.{◌≡◌, ℕ, List, [], Option, Some, Result, Ok, Err, refl, ap, sym, subst, ◌∙◌, inl, inr, ⊎_elim}
+use Rattle.std.specs.Prelude.{◌⊎◌}
+use Rattle.edge_io.specs.Edge.{HasRisen}
+use Rattle.fabric_status.specs.Codes.{status_of}
+use Rattle.fabric_status.specs.Writes.{Wrote}
+use Rattle.fabric_status.specs.declared.status.Refusal.{Refusal}
+use Rattle.fabric_status.specs.declared.status.Refusal.TheVariants as refusal
+use Rattle.fabric_status.specs.declared.status.Status.{Status}
+use Rattle.fabric_status.specs.declared.status.Status.TheVariants as status
+use Rattle.turn_plans.specs.Plans.{judge_plan}
+use Rattle.turn_plans.specs.declared.crew.Crew.{Crew}
+use Rattle.turn_rules.specs.Plans.{Plan}
+use Rattle.turn_rules.specs.Whole.{Cause, Completes}
+use Rattle.crew_runs.specs.Causes.{AreJudged, CrewCause, EndsAs, IsCrewRun}
+use Rattle.crew_runs.specs.Runs.{IsReadWhole, RunsCrew, RunsJudged, Seen, failed, read, short}
+
+-- what holds of the wanted status, of want of memory, and of a fault of the sink, holds of the one that a last line ends with
+by_wrote : (P : Status → Type 0) (wanted ended : Status) (text : List ℕ) (old new : Option (List ℕ)) (before now : ℕ) → P wanted → P status.OutOfMemory → (HasRisen before now → P status.WriteFault) → Wrote wanted text ended old new before now → P ended
+by_wrote P wanted ended text old new before now whole memory sink (inl k) = subst P (sym k.0) whole
+by_wrote P wanted ended text old new before now whole memory sink (inr (inl k)) = subst P (sym k.0) memory
+by_wrote P wanted ended text old new before now whole memory sink (inr (inr k)) = subst P (sym k.0) (sink k.2)
+
+module _ (crew : Crew) (turns : ℕ) (a : Seen) (ended : Status) (c : Seen) where
+  abbrev Why : Status → Type 0
+  Why s = CrewCause crew turns a s c
+
+  -- the bytes that were read are those that the source tells
+  judged : (bytes : List ℕ) (r : Result Plan Refusal) → IsReadWhole bytes a.left c.left → judge_plan crew turns bytes ≡ r → AreJudged crew turns a.left r
+  judged bytes r whole is = λ all told. ap (judge_plan crew turns) (sym (whole all told).0) ∙ is
+
+  run_cause : (plan : Plan) (s : Status) → AreJudged crew turns a.left (Ok plan) → Cause plan a.told s c.told → Why s
+  run_cause plan status.OutOfMemory is k = tt
+  run_cause plan status.Usage is k = absurd k
+  run_cause plan status.ReadFault is k = absurd k
+  run_cause plan status.WriteFault is k = k
+  run_cause plan (status.BadConfig e) is k = absurd k
+  run_cause plan (status.BadLine n) is k = absurd k
+  run_cause plan (status.DriftBroken n) is k = absurd k
+  run_cause plan (status.NoSuch n) is k = absurd k
+  run_cause plan (status.TooLarge n) is k = absurd k
+  run_cause plan status.Ok is k = (plan, (is, k))
+  run_cause plan status.KeepFault is k = (plan, (is, k))
+  run_cause plan status.LinkFault is k = (plan, (is, k))
+  run_cause plan (status.ClockBack former latter) is k = (plan, (is, k))
+  run_cause plan (status.Left why) is k = (plan, (is, k))
+  run_cause plan (status.BadKeep i) is k = (plan, (is, k))
+  run_cause plan status.TableFull is k = (plan, (is, k))
+
+  refused_cause : (r : Refusal) → AreJudged crew turns a.left (Err r) → Why (status_of r)
+  refused_cause (refusal.BadConfig e) is = is
+  refused_cause (refusal.BadLine n) is = is
+  refused_cause (refusal.DriftBroken n) is = is
+  refused_cause (refusal.NoSuch n) is = is
+  refused_cause (refusal.TooLarge n) is = is
+
+  judged_cause : (r : Result Plan Refusal) → AreJudged crew turns a.left r → RunsJudged r a.told ended c.told → Why ended
+  judged_cause (Ok plan) is k = run_cause plan ended is k.cause
+  judged_cause (Err r) is k = by_wrote Why (status_of r) ended _ _ _ _ _ (refused_cause r is) tt (λ risen. risen) k.wrote
+
+  cause_of : RunsCrew crew turns a ended c → Why ended
+  cause_of (failed risen ends) = by_wrote Why status.ReadFault ended _ _ _ _ _ risen tt (λ sink. sink) ends.wrote
+  cause_of (short is same) = subst Why (sym is) tt
+  cause_of (read bytes whole k) =
+      ⊎_elim (λ memory. subst Why (sym memory.0) tt) (λ done. judged_cause (judge_plan crew turns bytes) (judged bytes (judge_plan crew turns bytes) whole refl) done) k
+
+  -- where all is done, all was read
+  read_whole : RunsCrew crew turns a ended c → ended ≡ status.Ok → (bytes : List ℕ) → a.left ≡ Some bytes → c.left ≡ Some []
+  read_whole (failed risen ends) ok bytes told =
+      absurd (by_wrote (λ (s : Status). s ≡ status.Ok → ⊥) status.ReadFault ended _ _ _ _ _ (λ e. cc) (λ e. cc) (λ sink e. cc) ends.wrote ok)
+  read_whole (short is same) ok bytes told = let no : status.OutOfMemory ≡ status.Ok = sym is ∙ ok in cc
+  read_whole (read all whole k) ok bytes told = (whole bytes told).1
+
+  refused_so : RunsCrew crew turns a ended c → (bytes : List ℕ) (r : Refusal) → a.left ≡ Some bytes → judge_plan crew turns bytes ≡ Err r →
+      ¬ HasRisen a.source_faults c.source_faults → ¬ HasRisen a.told.sink_faults c.told.sink_faults → EndsAs (status_of r) ended
+  refused_so (failed risen ends) bytes r told is source sink = absurd (source risen)
+  refused_so (short memory same) bytes r told is source sink = inr memory
+  refused_so (read all whole k) bytes r told is source sink =
+      let same : judge_plan crew turns all ≡ Err r = ap (judge_plan crew turns) (whole bytes told).0 ∙ is in
+      ⊎_elim (λ memory. inr memory.0)
+      (λ done.
+      by_wrote (EndsAs (status_of r)) (status_of r) ended _ _ _ _ _ (inl refl) (inr refl) (λ risen. absurd (sink risen))
+      (subst (λ (j : Result Plan Refusal). RunsJudged j a.told ended c.told) same done).wrote)
+      k
+
+  run_complete : RunsCrew crew turns a ended c → (bytes : List ℕ) (plan : Plan) → a.left ≡ Some bytes → judge_plan crew turns bytes ≡ Ok plan →
+      ¬ HasRisen a.source_faults c.source_faults → Completes plan a.told ended c.told
+  run_complete (failed risen ends) bytes plan told is source = absurd (source risen)
+  run_complete (short memory same) bytes plan told is source = subst (λ (s : Status). Completes plan a.told s c.told) (sym memory) (λ none links good. tt)
+  run_complete (read all whole k) bytes plan told is source =
+      let same : judge_plan crew turns all ≡ Ok plan = ap (judge_plan crew turns) (whole bytes told).0 ∙ is in
+      ⊎_elim (λ memory. subst (λ (s : Status). Completes plan a.told s c.told) (sym memory.0) (λ none links good. tt))
+      (λ done. (subst (λ (j : Result Plan Refusal). RunsJudged j a.told ended c.told) same done).complete) k
+
+  pub crew_run : RunsCrew crew turns a ended c → IsCrewRun crew turns a ended c
+  crew_run runs = record { runs = runs; cause = cause_of runs; read = read_whole runs; refused = refused_so runs; complete = run_complete runs }
