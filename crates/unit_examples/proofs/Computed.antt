@@ -21,6 +21,10 @@ use Rattle.unit_rules.specs.Promises.{promise_received}
 use Rattle.unit_rules.specs.Copies.{sync_received, fetch_received, piece_received}
 use Rattle.unit_rules.specs.Activations.{activate_received}
 use Rattle.unit_rules.specs.Writes.{append_received, appended_received, write_commanded, seat_fired}
+use Rattle.unit_rules.specs.Answers.{resolve_commanded, names_commanded}
+use Rattle.text_fields.specs.Fields.{after_word}
+use Rattle.name_service.specs.Grammar.{change_of}
+use Rattle.name_service.specs.Names.{point_of}
 use Rattle.unit_rules.specs.Questions.{reconfig_fired}
 use Rattle.unit_rules.specs.Phases.{prepare_ends, swap_ends, promise_ends, vote_ends, copy_ends, done_ends, activate_ends}
 use Rattle.unit_rules.specs.Transitions.{answer_received}
@@ -35,8 +39,8 @@ use Rattle.unit_examples.specs.Runs.{CreatesAndWrites, ListsUnits, RefusesMore, 
 use Rattle.unit_examples.specs.Writes.{Appends, Refusals as ReplicaRefusals, Writes, Confirmations, FiringOfAPrimary}
 
 -- every rule, opened
-all_rules : Unit {0}
-unfolding peer_accused discharged_fired slot_fired slots_fired freeze_given place_sought timer_fired hello_received offer_received take_received renew_received ack_received transfer_received gone_received ruling_received kept_received link_commanded part_commanded give_commanded join_commanded find_commanded seek_received found_received accusation_ruled accusation_kept claim_settled claim_kept node_started frame_received command_received ring_step node_begun node_step arbiter_begun arbiter_step world_step least_nodes domains_up prepare_received vote_received done_received promise_received sync_received fetch_received piece_received activate_received append_received appended_received write_commanded seat_fired reconfig_fired prepare_ends swap_ends promise_ends vote_ends copy_ends done_ends activate_ends answer_received reconfig_commanded manager_answered failover_step
+unfoldable pub all_rules : Unit {0}
+unfolding peer_accused discharged_fired slot_fired slots_fired freeze_given place_sought timer_fired hello_received offer_received take_received renew_received ack_received transfer_received gone_received ruling_received kept_received link_commanded part_commanded give_commanded join_commanded find_commanded seek_received found_received accusation_ruled accusation_kept claim_settled claim_kept node_started frame_received command_received ring_step node_begun node_step arbiter_begun arbiter_step world_step least_nodes domains_up prepare_received vote_received done_received promise_received sync_received fetch_received piece_received activate_received append_received appended_received write_commanded resolve_commanded names_commanded after_word change_of point_of seat_fired reconfig_fired prepare_ends swap_ends promise_ends vote_ends copy_ends done_ends activate_ends answer_received reconfig_commanded manager_answered failover_step
 all_rules = tt
 
 pub an_arbitrator_answers_in_order : AnswersInOrder

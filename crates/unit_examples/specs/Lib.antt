@@ -6,3 +6,4 @@ pub mod Phases
 pub mod Managers
 pub mod Runs
 pub mod Moves
+pub mod Names

@@ -9,7 +9,7 @@ use Rattle.unit_rules.specs.Deeds.{Keep, Send, Tell, acted, still}
 use Rattle.unit_rules.specs.Promises.{promise_received}
 use Rattle.unit_rules.specs.Copies.{sync_received, fetch_received, piece_received}
 use Rattle.unit_rules.specs.Activations.{activate_received}
-use Rattle.unit_examples.specs.Values.{e1, e2, e3, asker, entry, replica, seat, peer, leading, taking, collecting, config}
+use Rattle.unit_examples.specs.Values.{e1, e2, e3, asker, entry, replica, seat, peer, leading, begun_with, taking, collecting, config}
 
 pub record Promises : Type 0 where
   -- a promise that is raised is recorded and told, and takes a primary's role
@@ -85,7 +85,7 @@ pub record Activations : Type 0 where
   -- a primary begins with all that it has committed, and with nothing confirmed
   pub primary :
       activate_received 1 asker (config e1 1 (1 ∷ 2 ∷ [])) (seat e1 e1 IdleSecondary)
-      ≡ acted (leading (peer 2 0 3 ∷ []) 2) (Tell (report.IsPrimary 1 e1) ∷ Send asker (body.Activated 1 e1) ∷ [])
+      ≡ acted (begun_with (peer 2 0 3 ∷ []) 2) (Tell (report.IsPrimary 1 e1) ∷ Send asker (body.Activated 1 e1) ∷ [])
   -- another member only answers
   pub secondary :
       activate_received 2 asker (config e1 1 (1 ∷ 2 ∷ [])) (seat e1 e1 IdleSecondary)
@@ -97,7 +97,7 @@ pub record Activations : Type 0 where
   -- after a restart it has no role, so it says again that it is primary
   pub restarted :
       activate_received 1 asker (config e1 1 (1 ∷ 2 ∷ [])) (seat e1 e1 NoRole)
-      ≡ acted (leading (peer 2 0 3 ∷ []) 2) (Tell (report.IsPrimary 1 e1) ∷ Send asker (body.Activated 1 e1) ∷ [])
+      ≡ acted (begun_with (peer 2 0 3 ∷ []) 2) (Tell (report.IsPrimary 1 e1) ∷ Send asker (body.Activated 1 e1) ∷ [])
   -- a greater promised epoch is named; that it is no member, or has no log of the epoch, is not answered
   pub older :
       activate_received 1 asker (config e1 1 (1 ∷ [])) (seat e2 e1 Primary)

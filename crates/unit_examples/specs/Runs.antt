@@ -43,17 +43,16 @@ hello = 104 ∷ 101 ∷ 108 ∷ 108 ∷ 111 ∷ []
 abbrev pub again : List ℕ
 again = 97 ∷ 103 ∷ 97 ∷ 105 ∷ 110 ∷ []
 
--- partition 1 is created with one replica, and written: lines 2 to 15
-abbrev pub create_events : List Event
-create_events =
+-- partition 1 is created with one replica: lines 2 to 14
+abbrev pub created_events : List Event
+created_events =
     start_node 1 0 ∷ start_arbiter 1 ∷ Do 1 (command.Create 1 1)
     ∷ Give 1 ∷ Give 2 ∷ Give 3 ∷ Give 4 ∷ Give 5 ∷ Give 6 ∷ Give 7 ∷ Give 8 ∷ Give 9 ∷ Give 10
-    ∷ Do 1 (command.Write 1 hello)
     ∷ []
 
 -- Prepare, Vote, Sync, DoneAsk, Activate: frames 1, 3, 5, 7, 9, each with its answer
-abbrev pub create_lines : List Line
-create_lines =
+abbrev pub created_lines : List Line
+created_lines =
     tells 2 (report.Own whole_ring None ∷ []) (0, 0)
     ∷ tells 4 [] (1, 1) ∷ arbiter_sends 5 2
     ∷ tells 6 [] (3, 3) ∷ arbiter_sends 7 4
@@ -61,8 +60,19 @@ create_lines =
     ∷ tells 10 [] (7, 7) ∷ arbiter_sends 11 8
     ∷ tells 12 [] (9, 9) ∷ tells 13 (report.IsPrimary 1 e1 ∷ []) (10, 10)
     ∷ tells 14 (report.Configured 1 e1 ∷ []) (0, 0)
-    ∷ tells 15 (report.Accepted 1 e1 1 ∷ report.Committed 1 e1 1 ∷ []) (0, 0)
     ∷ []
+
+-- the first entry is committed at once
+abbrev pub first_committed : Line
+first_committed = tells 15 (report.Accepted 1 e1 1 ∷ report.Committed 1 e1 1 ∷ []) (0, 0)
+
+-- and it is written
+
+abbrev pub create_events : List Event
+create_events = created_events ++ Do 1 (command.Write 1 hello) ∷ []
+
+abbrev pub create_lines : List Line
+create_lines = created_lines ++ first_committed ∷ []
 
 abbrev pub CreatesAndWrites : Type 0
 CreatesAndWrites = print_of create_events ≡ create_lines

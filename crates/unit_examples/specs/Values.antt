@@ -48,13 +48,17 @@ seat promised at role = record { replica = replica promised at role []; taking =
 abbrev pub peer : ℕ → ℕ → ℕ → Peer
 peer node confirmed next = record { node = node; confirmed = confirmed; next = next }
 
--- what it knows of these members, with its entries committed up to this one
+-- what it knows of these members, with its entries committed up to this one; at its activation it had none
 abbrev pub lead : List Peer → ℕ → Option Lead
-lead peers committed = Some (record { peers = peers; committed = committed })
+lead peers committed = Some (record { peers = peers; begun = 0; committed = committed })
 
 -- the primary of the first epoch, which knows this
 abbrev pub leading : List Peer → ℕ → Seat
 leading peers committed = record (seat e1 e1 Primary) { lead = lead peers committed }
+
+-- the same, which had its entries up to this one at its activation, and has reported none committed since
+abbrev pub begun_with : List Peer → ℕ → Seat
+begun_with peers last = record (seat e1 e1 Primary) { lead = Some (record { peers = peers; begun = last; committed = last }) }
 
 -- a Sync of an epoch, to the log of the origin up to its last entry
 abbrev pub taking : Epoch → ℕ → ℕ → Taking

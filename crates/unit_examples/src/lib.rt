@@ -8,6 +8,7 @@
 ghost use Rattle.unit_examples.specs.Arbiters.{AnswersInOrder, Dones, Prepares, Votes};
 ghost use Rattle.unit_examples.specs.Managers.{Epochs, FiringInOrder, Managers, Memory, Refusals as ManagerRefusals, Starts, Ups};
 ghost use Rattle.unit_examples.specs.Moves.{MovesThePrimary};
+ghost use Rattle.unit_examples.specs.Names.{AsksTooEarly, NamesAnswered, SetsAName};
 ghost use Rattle.unit_examples.specs.Phases.{AfterPrepare, Choices, Copies, Decisions, Moves, Preparations, Supersessions};
 ghost use Rattle.unit_examples.specs.Replicas.{Activations, Fetches, Pieces, Promises, Syncs};
 ghost use Rattle.unit_examples.specs.Runs.{CreatesAndWrites, ListsUnits, LosesAndGoesOn, RefusesMore};
@@ -168,4 +169,19 @@ pub fn loses_and_goes_on()
 /// A partition of two nodes is created and written, and its primary moves.
 pub fn moves_the_primary()
     ensures { MovesThePrimary }
+{}
+
+/// What is answered about names.
+pub fn a_primary_answers_about_names()
+    ensures { NamesAnswered }
+{}
+
+/// No name is answered before the first commit.
+pub fn asks_too_early()
+    ensures { AsksTooEarly }
+{}
+
+/// A name is set, looked up and listed.
+pub fn sets_a_name()
+    ensures { SetsAName }
 {}

@@ -1,5 +1,5 @@
 -- What a primary knows of the other members.
-use Rattle.std.specs.Prelude.{ℕ, ◌+◌, Bool, true, false, not, ◌&&◌, ◌==◌, List, [], ◌∷◌, length, map, filter, count_by, max, Option, None, nat_le, if◌then◌else◌}
+use Rattle.std.specs.Prelude.{ℕ, ◌+◌, Bool, true, false, not, ◌&&◌, ◌==◌, List, [], ◌∷◌, length, map, filter, count_by, max, Option, None, nat_le, nat_lt, if◌then◌else◌}
 use Rattle.ring_points.specs.declared.unit.Config.{Config}
 use Rattle.ring_points.specs.Epochs.{is_older}
 use Rattle.arbiter_quorum.specs.Tallies.{is_majority}
@@ -17,8 +17,14 @@ abbrev pub first_lead : ℕ → Config → ℕ → Lead
 first_lead me config last =
     record {
       peers = map (first_peer last) (filter (λ n. not (n == me)) config.members);
+      begun = last;
       committed = last;
     }
+
+-- the last entry that it reported committed since its activation, 0 where it reported none: each such report is of more
+-- than was committed before
+abbrev pub reported_of : Lead → ℕ
+reported_of l = if nat_lt l.begun l.committed then l.committed else 0
 
 abbrev pub is_primary : Role → Bool
 is_primary Primary = true

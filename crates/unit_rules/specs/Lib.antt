@@ -7,6 +7,7 @@ pub mod Promises
 pub mod Copies
 pub mod Activations
 pub mod Writes
+pub mod Answers
 pub mod Polls
 pub mod Reconfigs
 pub mod Questions

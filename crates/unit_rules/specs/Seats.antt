@@ -5,9 +5,11 @@ use Rattle.replica_core.specs.Replicas.{Replica, first_replica}
 use Rattle.unit_rules.specs.declared.lead.Peer.{Peer}
 use Rattle.unit_rules.specs.declared.lead.Taking.{Taking}
 
--- what a primary knows: of each other member, rising, and the last committed entry
+-- what a primary knows: of each other member, rising, the last entry that it had at its activation, and the last committed
+-- one
 pub record Lead : Type 0 where
   pub peers : List Peer
+  pub begun : ℕ
   pub committed : ℕ
 
 -- the replica, the Sync that it took last, and what it knows as a primary

@@ -28,6 +28,7 @@ use Rattle.unit_rules.specs.Promises.{promise_received}
 use Rattle.unit_rules.specs.Copies.{sync_received, fetch_received, piece_received}
 use Rattle.unit_rules.specs.Activations.{activate_received}
 use Rattle.unit_rules.specs.Writes.{append_received, appended_received, write_commanded, seat_fired}
+use Rattle.unit_rules.specs.Answers.{resolve_commanded, names_commanded}
 use Rattle.unit_rules.specs.Starts.{seats_begun}
 
 -- the manager, and the replicas by partition
@@ -96,6 +97,14 @@ manage c now r partition kind s = by_manager s (reconfig_commanded (holds_point 
 abbrev pub write : ℕ → List ℕ → Failover → Acted Failover
 write partition text s = at_standing partition (write_commanded text) (refuse verb.Write reason.NotPrimary s) s
 
+-- resolve and names: at a node without a replica of the partition they are refused
+
+abbrev pub resolve : ℕ → List ℕ → Failover → Acted Failover
+resolve partition name s = at_standing partition (resolve_commanded name) (refuse verb.Resolve reason.NotPrimary s) s
+
+abbrev pub list_names : ℕ → Interval → Failover → Acted Failover
+list_names partition range s = at_standing partition (names_commanded range) (refuse verb.Names reason.NotPrimary s) s
+
 -- units: the partitions in the range whose configurations are known
 abbrev pub list_units : Interval → Failover → Acted Failover
 list_units range s = acted s (Tell (report.UnitList (partitions_in range s.managed.units)) ∷ [])
@@ -108,6 +117,8 @@ command_row c now r (command.Heal partition count) s = manage c now r partition 
 command_row c now r (command.Lose partition node) s = manage c now r partition (Lose node) s
 command_row c now r (command.Write partition text) s = write partition text s
 command_row c now r (command.Units range) s = list_units range s
+command_row c now r (command.Resolve partition name) s = resolve partition name s
+command_row c now r (command.Names partition range) s = list_names partition range s
 command_row c now r _ s = still s
 
 -- a firing: the reconfigurations, then the replicas, each by rising partition

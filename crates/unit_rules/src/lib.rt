@@ -15,7 +15,7 @@ mod reconfig;
 mod register;
 
 pub use above::Failover;
-pub use laws::registers_are_recorded;
+pub use laws::{questions_only_tell, registers_are_recorded};
 pub use lead::{Peer, Taking};
 pub use reconfig::{Kind, Next, Standing, Task};
 pub use register::Preparation;
