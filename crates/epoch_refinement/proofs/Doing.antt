@@ -1,5 +1,5 @@
 -- Deeds one after another, and what comes after them.
-use Rattle.std.proofs.Common.{◌≡◌, ℕ, Bool, true, false, ◌&&◌, List, [], ◌∷◌, ◌++◌, Option, None, Some, refl, sym, ◌∙◌}
+use Rattle.std.proofs.Common.{◌≡◌, ℕ, Bool, true, false, ◌&&◌, List, [], ◌∷◌, ◌++◌, Option, None, Some, refl, sym, subst, ◌∙◌}
 use Rattle.std.proofs.lemmas.Bool.{and_left}
 use Rattle.std.specs.Prelude.{if◌then◌else◌, not}
 use Rattle.ring_points.specs.declared.who.Who.{Who}
@@ -9,13 +9,16 @@ use Rattle.epoch_machine.specs.Settings.{Settings}
 use Rattle.epoch_machine.specs.World.{World}
 use Rattle.epoch_machine.specs.World as machine
 use Rattle.epoch_machine.specs.Invariant.{Invariant}
+use Rattle.fabric_terms.specs.declared.report.Report.{Report}
+use Rattle.fabric_terms.specs.declared.report.Report.TheVariants as report
+use Rattle.unit_rules.specs.Answers.{OnlyAnswers, is_answer}
 use Rattle.unit_rules.specs.Deeds.{Deed, Keep, Send, Tell, Acted, after_deeds, still}
 use Rattle.unit_rules.specs.Leads.{is_primary, lead_of}
 use Rattle.unit_rules.specs.Seats.{Lead, Seat}
 use Rattle.epoch_refinement.specs.Facts.{of_node, Later}
 use Rattle.epoch_refinement.specs.Refined.{AllShown, Refined}
 use Rattle.epoch_refinement.specs.Seats.{ShowsSeat}
-use Rattle.epoch_refinement.specs.Told.{tells_all, tells}
+use Rattle.epoch_refinement.specs.Told.{tells_all, tells, IsOf}
 use Rattle.epoch_refinement.proofs.Lasting.{later_refl, later_trans, all_shown_later}
 
 pub shown_append : (w : World) (p : ℕ) (me : Who) (ds es : List Deed) → AllShown w p me ds → AllShown w p me es → AllShown w p me (ds ++ es)
@@ -49,6 +52,33 @@ after_refined {w = w} {v = v} {p = p} {me = me} {a = a} later before shown told 
 -- nothing is done
 pub nothing_refined : {c : Settings} {w : World} {p : ℕ} {me : Who} {s : Seat} → Invariant c w → ShowsSeat w p me.actor s → Refined c w p me (still s)
 nothing_refined {w = w} inv shows = record { after = w; inv = inv; later = later_refl w; shows = shows; sent = tt; told = refl }
+
+-- An answer about names tells the machine nothing.
+
+answer_of : (p : ℕ) (r : Report) → is_answer r ≡ true → IsOf p r
+answer_of p (report.Promised q e) h = absurd (cc (h))
+answer_of p (report.Accepted q e lsn) h = absurd (cc (h))
+answer_of p (report.IsPrimary q e) h = absurd (cc (h))
+answer_of p (report.Committed q e lsn) h = absurd (cc (h))
+answer_of p r h = tt
+
+answer_tells : (node : ℕ) (log : List Entry) (r : Report) → is_answer r ≡ true → (before : List machine.Report) → tells node log r before ≡ before
+answer_tells node log (report.Promised q e) h before = absurd (cc (h))
+answer_tells node log (report.Accepted q e lsn) h before = absurd (cc (h))
+answer_tells node log (report.IsPrimary q e) h before = absurd (cc (h))
+answer_tells node log (report.Committed q e lsn) h before = absurd (cc (h))
+answer_tells node log r h before = refl
+
+pub answer_refined : {c : Settings} {w : World} {p : ℕ} {me : Who} {s : Seat} → Invariant c w → ShowsSeat w p me.actor s → (a : Acted Seat) → OnlyAnswers s a →
+    Refined c w p me a
+answer_refined {c = c} {w = w} {p = p} {me = me} {s = s} inv shows a h = subst (Refined c w p me) (sym h.is) (record {
+  after = w;
+  inv = inv;
+  later = later_refl w;
+  shows = shows;
+  sent = (answer_of p h.told h.answers, tt);
+  told = sym (answer_tells me.actor s.replica.log h.told h.answers w.told);
+})
 
 -- who is no primary, or has promised more, does not lead
 

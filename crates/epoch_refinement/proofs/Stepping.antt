@@ -19,6 +19,7 @@ use Rattle.epoch_machine.specs.Invariant.{Invariant}
 use Rattle.unit_rules.specs.declared.reconfig.Kind.{Kind}
 use Rattle.unit_rules.specs.declared.reconfig.Kind.TheVariants.{Create, Swap, Heal, Lose}
 use Rattle.unit_rules.specs.Activations.{activate_received}
+use Rattle.unit_rules.specs.Answers.{names_commanded, resolve_commanded}
 use Rattle.unit_rules.specs.Copies.{sync_received, fetch_received, piece_received}
 use Rattle.unit_rules.specs.Deeds.{Acted, still, refuse}
 use Rattle.unit_rules.specs.Loads.{Site, loads}
@@ -26,6 +27,7 @@ use Rattle.unit_rules.specs.Manager.{reconfig_commanded}
 use Rattle.unit_rules.specs.Seats.{Seat, first_seat}
 use Rattle.unit_rules.specs.Steps.{Failover, by_manager, at_seat, at_found, at_standing, answer, frame_row, manage, command_row, failover_step}
 use Rattle.unit_rules.specs.Writes.{appended_received, write_commanded}
+use Rattle.unit_rules.proofs.Answered.{names_only_answer, resolve_only_answers}
 use Rattle.epoch_refinement.specs.Epochs.{settings_to}
 use Rattle.epoch_refinement.specs.Laws.{StepsAreDeeds}
 use Rattle.epoch_refinement.specs.Nodes.{Machines, seat_at, ShowsNode, NodeRefined, Arrives}
@@ -33,6 +35,7 @@ use Rattle.epoch_refinement.specs.Reconfigs.{IsAnswerOf}
 use Rattle.epoch_refinement.specs.Refined.{Refined}
 use Rattle.epoch_refinement.specs.Rows.{seat_received}
 use Rattle.epoch_refinement.specs.Shown.{partition_of, Shown, ShownPrepared}
+use Rattle.epoch_refinement.proofs.Doing.{answer_refined}
 use Rattle.epoch_refinement.proofs.Firing.{fired_step}
 use Rattle.epoch_refinement.proofs.Managers.{answered_step, commanded_step}
 use Rattle.epoch_refinement.proofs.Parts.{between_none, seat_step}
@@ -122,6 +125,14 @@ module _ {k : ℕ} {m : Machines} {x : Who} {s : Failover} (inv : (p : ℕ) → 
         (writes_are_deeds_lem (settings_to k) (m q) q x (seat_at q s) (inv q) (shows.seats q) text)
     command_step same (command.Units range) =
         record { after = m; between = λ p. between_none (inv p); shows = shows; sent = tt; told = λ p. refl; real = (tt, tt) }
+    command_step same (command.Resolve q name) =
+        standing q (resolve_commanded name) (refuse verb.Resolve reason.NotPrimary s)
+        (record { after = m; between = λ p. between_none (inv p); shows = shows; sent = tt; told = λ p. refl; real = (tt, tt) })
+        (answer_refined (inv q) (shows.seats q) (resolve_commanded name (seat_at q s)) (resolve_only_answers name (seat_at q s)))
+    command_step same (command.Names q range) =
+        standing q (names_commanded range) (refuse verb.Names reason.NotPrimary s)
+        (record { after = m; between = λ p. between_none (inv p); shows = shows; sent = tt; told = λ p. refl; real = (tt, tt) })
+        (answer_refined (inv q) (shows.seats q) (names_commanded range (seat_at q s)) (names_only_answer range (seat_at q s)))
     command_step same d = nothing
 
 pub steps_lem : StepsAreDeeds

@@ -1,5 +1,5 @@
 -- Who reports an entry committed is the primary that holds it committed then.
-use Rattle.std.proofs.Common.{◌≡◌, ℕ, ◌+◌, Bool, true, false, not, ◌&&◌, ◌||◌, ◌==◌, List, [], ◌∷◌, ◌++◌, length, Option, None, Some, Ok, Err, refl, ap, ◌∙◌}
+use Rattle.std.proofs.Common.{◌≡◌, ℕ, ◌+◌, Bool, true, false, not, ◌&&◌, ◌||◌, ◌==◌, List, [], ◌∷◌, ◌++◌, length, Option, None, Some, Ok, Err, refl, sym, ap, subst, ◌∙◌}
 use Rattle.std.specs.Prelude.{map, nat_lt, if◌then◌else◌}
 use Rattle.std.specs.List.{flat_map}
 use Rattle.fabric_terms.specs.declared.report.Report.{Report}
@@ -20,6 +20,7 @@ use Rattle.replica_core.specs.Replicas.{Replica, written}
 use Rattle.unit_rules.specs.declared.lead.Peer.{Peer}
 use Rattle.unit_rules.specs.declared.lead.Taking.{Taking}
 use Rattle.unit_rules.specs.Activations.{activate_answered, activate_received, role_begun, same_role}
+use Rattle.unit_rules.specs.Answers.{OnlyAnswers, is_answer}
 use Rattle.unit_rules.specs.Copies.{adoption, entry_given, fetch_received, is_wanted, log_taken, own_adopted, piece_collected, piece_for, piece_received, sync_answered, sync_received, sync_taken}
 use Rattle.unit_rules.specs.Deeds.{Deed, Keep, Send, Tell, Acted, still}
 use Rattle.unit_rules.specs.Leads.{confirmed_by, confirmed_of, is_primary, lead_of, most_confirmed}
@@ -183,6 +184,15 @@ fired_none s = go (lead_of s)
     go : (o : Option Lead) → NoCommits (lead_fired s.replica o)
     go None = tt
     go (Some l) = all l.peers
+
+-- an answer about names is no commit
+
+is_no_commit : (r : Report) → is_answer r ≡ true → IsNoCommit r
+is_no_commit (report.Committed p e last) h = absurd (cc (h))
+is_no_commit r h = tt
+
+pub answer_none : (s : Seat) (a : Acted Seat) → OnlyAnswers s a → NoCommits a.deeds
+answer_none s a h = subst (λ (b : Acted Seat). NoCommits b.deeds) (sym h.is) (is_no_commit h.told h.answers, tt)
 
 -- What is committed is what the primary holds committed.
 

@@ -18,3 +18,4 @@ pub mod Tracks
 pub mod Primaries
 pub mod Written
 pub mod Answers
+pub mod Naming

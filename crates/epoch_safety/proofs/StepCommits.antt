@@ -27,6 +27,7 @@ use Rattle.replica_place.specs.declared.load.NodeLoad.{NodeLoad}
 use Rattle.unit_rules.specs.declared.reconfig.Kind.{Kind}
 use Rattle.unit_rules.specs.declared.reconfig.Kind.TheVariants.{Create, Swap, Heal, Lose}
 use Rattle.unit_rules.specs.declared.reconfig.Task.{Task}
+use Rattle.unit_rules.specs.Answers.{names_commanded, resolve_commanded}
 use Rattle.unit_rules.specs.Copies.{fetch_received, piece_received}
 use Rattle.unit_rules.specs.Deeds.{Deed, Keep, Send, Tell, Acted, acted, still, refuse, reports_of}
 use Rattle.unit_rules.specs.Epochs.{is_past_end}
@@ -43,7 +44,8 @@ use Rattle.world_rules.specs.Above.{is_ring_report}
 use Rattle.epoch_refinement.specs.Nodes.{seat_at}
 use Rattle.epoch_refinement.specs.Told.{tells_all}
 use Rattle.epoch_refinement.proofs.Quiet.{Quiet, answer_quiet, asks_quiet, stands_quiet}
-use Rattle.epoch_safety.proofs.Committing.{LeadsAt, CommitsOf, IsCommitOf, NoCommits, IsNoCommit, none_join, promise_none, sync_none, fetch_none, piece_none, activate_none, append_none, fired_none, appended_commits, write_commits}
+use Rattle.unit_rules.proofs.Answered.{names_only_answer, resolve_only_answers}
+use Rattle.epoch_safety.proofs.Committing.{LeadsAt, CommitsOf, IsCommitOf, NoCommits, IsNoCommit, none_join, promise_none, sync_none, fetch_none, piece_none, activate_none, append_none, fired_none, answer_none, appended_commits, write_commits}
 
 -- a commit is reported by its partition's primary at this node
 abbrev pub IsCommitIn : Failover → Report → Type 0
@@ -221,6 +223,12 @@ module _ (s : Failover) (of : (p : ℕ) → (seat_at p s).replica.partition ≡ 
     command_commits (command.Write q text) =
         standing q (write_commanded text) (refuse verb.Write reason.NotPrimary s) (tt, tt) (write_commits q text (seat_at q s) (of q))
     command_commits (command.Units range) = (tt, tt)
+    command_commits (command.Resolve q name) =
+        standing_none q (resolve_commanded name) (refuse verb.Resolve reason.NotPrimary s) (tt, tt)
+        (λ z. answer_none z (resolve_commanded name z) (resolve_only_answers name z))
+    command_commits (command.Names q range) =
+        standing_none q (names_commanded range) (refuse verb.Names reason.NotPrimary s) (tt, tt)
+        (λ z. answer_none z (names_commanded range z) (names_only_answer range z))
     command_commits d = tt
 
   fire_commits : Fine (acted s (fired s))

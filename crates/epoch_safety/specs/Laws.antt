@@ -1,5 +1,6 @@
 -- The laws of primaries, epochs and writes, over every valid run.
-use Rattle.std.specs.Prelude.{◌≡◌, ℕ, ◌≤◌, Bool, true, false, List, drop, length, take}
+use Rattle.std.specs.Prelude.{◌≡◌, ℕ, ◌≤◌, Bool, true, false, List, Some, Ok, drop, length, take}
+use Rattle.fabric_lemmas.specs.Maps.{at}
 use Rattle.ring_points.specs.declared.unit.Epoch.{Epoch}
 use Rattle.ring_points.specs.declared.who.Who.{Who}
 use Rattle.ring_points.specs.Epochs.{is_older}
@@ -7,9 +8,14 @@ use Rattle.fabric_terms.specs.declared.config.FabricConfig.{FabricConfig}
 use Rattle.fabric_terms.specs.declared.report.Report.TheVariants.{IsPrimary, Committed}
 use Rattle.fabric_terms.specs.Primaries.{OnePrimary, NoOlder}
 use Rattle.fabric_terms.specs.Sound.{IsSound}
+use Rattle.join_phases.specs.Phases.{is_left}
+use Rattle.unit_rules.specs.Answers.{ready}
+use Rattle.unit_rules.specs.Leads.{lead_of}
 use Rattle.unit_rules.specs.Units.{units}
-use Rattle.world_rules.specs.Runs.{History, run_of}
+use Rattle.world_rules.specs.Runs.{History, run_of, world_after}
 use Rattle.world_rules.specs.Schedules.{Valid}
+use Rattle.world_rules.specs.Worlds.{Running}
+use Rattle.epoch_refinement.specs.Nodes.{seat_at}
 use Rattle.epoch_safety.specs.Reports.{Reports, log_after}
 
 -- it holds of every valid history of every sound configuration
@@ -51,3 +57,18 @@ AnswersCovered c h =
 
 abbrev pub AnswersAreCovered : Type 0
 AnswersAreCovered = OverValidRuns AnswersCovered
+
+-- Whoever may answer about names at some moment answers by so many entries of its log. They begin with all that was reported
+-- committed before, in epochs up to its own of the same data loss number, by whichever node and instance.
+abbrev pub NamesCovered : FabricConfig → History → Type 0
+NamesCovered c h =
+    (node partition count i last : ℕ) (e : Epoch) (x : Who) (s : Running units) →
+    at node (world_after units c h).nodes ≡ Some s → is_left s.node.ring.phase ≡ false →
+    let seat = seat_at partition s.node.above in
+    ready (lead_of seat) ≡ Ok count →
+    Reports (run_of units c (drop i h)) x (Committed partition e last) →
+    is_older seat.replica.at e ≡ false → e.data_loss ≡ seat.replica.at.data_loss →
+    (last ≤ count) × (take last (take count seat.replica.log) ≡ take last (log_after c (drop i h) x.actor partition))
+
+abbrev pub NamesAreCovered : Type 0
+NamesAreCovered = OverValidRuns NamesCovered

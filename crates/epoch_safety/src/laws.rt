@@ -1,4 +1,4 @@
-ghost use Rattle.epoch_safety.specs.Laws.{AnswersAreCovered, RunsHaveNoOlder, RunsHaveOnePrimary, WritesAreKept};
+ghost use Rattle.epoch_safety.specs.Laws.{AnswersAreCovered, NamesAreCovered, RunsHaveNoOlder, RunsHaveOnePrimary, WritesAreKept};
 
 /// In no valid run of a sound configuration do two nodes report that they are primary of one partition in one epoch.
 pub fn runs_have_one_primary()
@@ -22,4 +22,10 @@ pub fn writes_are_kept()
 /// same data loss number. So whoever answers by these entries leaves out none of them.
 pub fn answers_are_covered()
     ensures { AnswersAreCovered }
+{}
+
+/// Whoever may answer about names answers by entries that begin with all that was reported committed before, in epochs up
+/// to its own of the same data loss number. So no answer leaves out a name that a committed write has set.
+pub fn names_are_covered()
+    ensures { NamesAreCovered }
 {}

@@ -1,5 +1,5 @@
 -- Each row of a manager and of replicas keeps what runs above the ring in range.
-use Rattle.std.proofs.Common.{◌≡◌, ℕ, ◌&&◌, List, [], ◌∷◌, length, Option, Some, None, IsTrue, refl, arith}
+use Rattle.std.proofs.Common.{◌≡◌, ℕ, ◌&&◌, List, [], ◌∷◌, length, Option, Some, None, IsTrue, refl, sym, subst, arith}
 use Rattle.std.specs.Prelude.{All, flat_map, unwrap_or}
 use Rattle.std.proofs.lemmas.Bool.{and_parts, le-leb, lt-ltb}
 use Rattle.std.proofs.lemmas.List.Elements.{All-append, All-head, All-tail}
@@ -30,6 +30,7 @@ use Rattle.ring_rules.specs.Rings.{Ring, settings_of}
 use Rattle.unit_rules.specs.declared.reconfig.Kind.{Kind}
 use Rattle.unit_rules.specs.declared.reconfig.Kind.TheVariants.{Create, Swap, Heal, Lose}
 use Rattle.unit_rules.specs.Activations.{activate_received}
+use Rattle.unit_rules.specs.Answers.{OnlyAnswers, names_commanded, resolve_commanded}
 use Rattle.unit_rules.specs.Copies.{fetch_received, piece_received, sync_received}
 use Rattle.unit_rules.specs.Deeds.{Acted, Tell, refuse, still}
 use Rattle.unit_rules.specs.Loads.{Site, loads, site_of}
@@ -40,6 +41,7 @@ use Rattle.unit_rules.specs.Reconfigs.{Reconfig}
 use Rattle.unit_rules.specs.Seats.{Seat, first_seat}
 use Rattle.unit_rules.specs.Steps.{Failover, answer, at_found, at_seat, at_standing, by_manager, by_seat, command_row, failover_step, fired, frame_row, manage}
 use Rattle.unit_rules.specs.Writes.{append_received, appended_received, seat_fired, write_commanded}
+use Rattle.unit_rules.proofs.Answered.{names_only_answer, resolve_only_answers}
 use Rattle.fabric_fit.specs.Deeds.{ActedInRange, DeedInRange}
 use Rattle.fabric_fit.specs.Failovers.{FailoverInRange}
 use Rattle.fabric_fit.specs.Managers.{ManagedInRange, ReconfigInRange, is_kind}
@@ -59,6 +61,10 @@ use Rattle.fabric_fit.proofs.Writes.{append_received_in_range, appended_received
 
 abbrev pub Acts : Acted Failover → Type 0
 Acts a = ActedInRange FailoverInRange a
+
+-- a replica that only answers stays in range, and so does what it does
+answer_only_in_range : (t : Seat) → SeatInRange t → (a : Acted Seat) → OnlyAnswers t a → ActedInRange SeatInRange a
+answer_only_in_range t k a h = subst (ActedInRange SeatInRange) (sym h.is) (does_one SeatInRange t (Tell h.told) k tt)
 
 module _ (s : Failover) (fine : FailoverInRange s) where
   still_in_range : Acts (still s)
@@ -163,6 +169,14 @@ module _ (s : Failover) (fine : FailoverInRange s) where
         (write_commanded_in_range text (le-leb (length text) 512 h.1.1)) (does_one FailoverInRange s (Tell (report.Refused verb.Write reason.NotPrimary)) fine tt)
     command_in_range (command.Units range) h =
         does_one FailoverInRange s (Tell (report.UnitList (partitions_in range s.managed.units))) fine (listed_in_range range s.managed.units fine.managed.units)
+    command_in_range (command.Resolve partition name) h =
+        at_standing_in_range partition (resolve_commanded name) (refuse verb.Resolve reason.NotPrimary s)
+        (λ t k. answer_only_in_range t k (resolve_commanded name t) (resolve_only_answers name t))
+        (does_one FailoverInRange s (Tell (report.Refused verb.Resolve reason.NotPrimary)) fine tt)
+    command_in_range (command.Names partition range) h =
+        at_standing_in_range partition (names_commanded range) (refuse verb.Names reason.NotPrimary s)
+        (λ t k. answer_only_in_range t k (names_commanded range t) (names_only_answer range t))
+        (does_one FailoverInRange s (Tell (report.Refused verb.Names reason.NotPrimary)) fine tt)
     command_in_range d h = still_in_range
 
     -- A firing.

@@ -24,6 +24,7 @@ use Rattle.replica_core.specs.Replicas.{first_replica}
 use Rattle.unit_rules.specs.declared.lead.Taking.{Taking}
 use Rattle.unit_rules.specs.declared.reconfig.Kind.{Kind}
 use Rattle.unit_rules.specs.declared.reconfig.Kind.TheVariants.{Create, Swap, Heal, Lose}
+use Rattle.unit_rules.specs.Answers.{names_commanded, resolve_commanded}
 use Rattle.unit_rules.specs.Copies.{fetch_received, piece_received}
 use Rattle.unit_rules.specs.Deeds.{Acted, acted, still, refuse, records_of}
 use Rattle.unit_rules.specs.Loads.{Site, loads}
@@ -32,6 +33,7 @@ use Rattle.unit_rules.specs.Starts.{Replicas, replica_of, replicas_after_all}
 use Rattle.unit_rules.specs.Steps.{Failover, by_seat, at_found, at_standing, answer, frame_row, manage, command_row, fired, failover_step}
 use Rattle.unit_rules.specs.Writes.{appended_received, write_commanded}
 use Rattle.epoch_refinement.specs.Nodes.{seat_at}
+use Rattle.unit_rules.proofs.Answered.{names_only_answer, resolve_only_answers}
 use Rattle.kept_replicas.specs.Kept.{without_role, IsFit}
 use Rattle.kept_replicas.specs.Named.{is_named, KeptAs, FitsFrame}
 use Rattle.kept_replicas.proofs.Copying.{piece_recorded}
@@ -41,11 +43,11 @@ use Rattle.kept_replicas.proofs.Folding.{replica_after_all, all_here, at_there, 
 use Rattle.kept_replicas.proofs.Named.{shown, Full, named_full, full_of, kept_as}
 use Rattle.kept_replicas.proofs.Promising.{promise_recorded, sync_recorded, fetch_recorded, activate_recorded}
 use Rattle.kept_replicas.proofs.Recorded.{Recorded}
-use Rattle.kept_replicas.proofs.Rows.{Stood, promise_stood, fetch_stood, piece_stood, activate_stood, append_stood, appended_stood, write_stood}
+use Rattle.kept_replicas.proofs.Rows.{Stood, promise_stood, fetch_stood, piece_stood, activate_stood, append_stood, appended_stood, write_stood, answer_stood}
 use Rattle.kept_replicas.proofs.Silent.{Silent, answered_silent, commanded_silent}
 use Rattle.kept_replicas.proofs.Stepping.{fired_quiet, steps_lem}
 use Rattle.kept_replicas.proofs.Syncs.{sync_stood}
-use Rattle.kept_replicas.proofs.Writing.{append_recorded, appended_recorded, write_recorded}
+use Rattle.kept_replicas.proofs.Writing.{append_recorded, appended_recorded, write_recorded, answer_recorded}
 
 -- what a step leaves of the replicas: each is fit, they rise, and records name each replica that they amount to
 record Leaves (records : List Record) (a : Acted Failover) : Type 0 where
@@ -182,6 +184,14 @@ module _ (records : List Record) (s : Failover) (k : KeptAs records s) where
         standing q (write_commanded text) (refuse verb.Write reason.NotPrimary s) (quiet (refuse verb.Write reason.NotPrimary s) refl refl)
         (write_recorded q (seat_at q s) (k.fit q).partition text) (write_stood (seat_at q s) (k.fit q).room text)
     command_leaves (command.Units range) = quiet (command_row c now r (command.Units range) s) refl refl
+    command_leaves (command.Resolve q name) =
+        let h = resolve_only_answers name (seat_at q s) in
+        standing q (resolve_commanded name) (refuse verb.Resolve reason.NotPrimary s) (quiet (refuse verb.Resolve reason.NotPrimary s) refl refl)
+        (answer_recorded q (seat_at q s) (resolve_commanded name (seat_at q s)) h) (answer_stood (seat_at q s) (k.fit q).room (resolve_commanded name (seat_at q s)) h)
+    command_leaves (command.Names q range) =
+        let h = names_only_answer range (seat_at q s) in
+        standing q (names_commanded range) (refuse verb.Names reason.NotPrimary s) (quiet (refuse verb.Names reason.NotPrimary s) refl refl)
+        (answer_recorded q (seat_at q s) (names_commanded range (seat_at q s)) h) (answer_stood (seat_at q s) (k.fit q).room (names_commanded range (seat_at q s)) h)
     command_leaves d = nothing
 
 step_leaves : (c : Site) (now : ℕ) (r : Ring) (s : Failover) (i : Input) (records : List Record) → FitsFrame i → KeptAs records s →

@@ -19,6 +19,7 @@ use Rattle.replica_core.specs.Laws.{IsNotAhead}
 use Rattle.replica_core.specs.Replicas.{Replica, raised}
 use Rattle.replica_core.proofs.Orders.{same_is}
 use Rattle.unit_rules.specs.declared.lead.Taking.{Taking}
+use Rattle.unit_rules.specs.Answers.{OnlyAnswers}
 use Rattle.unit_rules.specs.Activations.{same_role, say_activated, role_begun, activate_answered, activate_received}
 use Rattle.unit_rules.specs.Copies.{entry_given, fetch_received, is_wanted, piece_collected, piece_for, piece_received}
 use Rattle.unit_rules.specs.Deeds.{Acted, acted, still, records_of}
@@ -176,3 +177,6 @@ module _ (s : Seat) (room : HasRoom s) where
       go : (o : Option Lead) → Stood (write_to text s o)
       go None = quiet _ refl refl
       go (Some l) = by l (append_call s.replica.at (last_of s.replica + 1) text s.replica) refl
+
+  pub answer_stood : (a : Acted Seat) → OnlyAnswers s a → Stood a
+  answer_stood a h = subst Stood (sym h.is) (quiet _ refl refl)

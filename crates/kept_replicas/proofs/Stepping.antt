@@ -19,6 +19,7 @@ use Rattle.ring_rules.specs.Owns.{holds_point}
 use Rattle.ring_rules.specs.Rings.{Ring}
 use Rattle.unit_rules.specs.declared.reconfig.Kind.{Kind}
 use Rattle.unit_rules.specs.declared.reconfig.Kind.TheVariants.{Create, Swap, Heal, Lose}
+use Rattle.unit_rules.specs.Answers.{names_commanded, resolve_commanded}
 use Rattle.unit_rules.specs.Copies.{fetch_received, piece_received}
 use Rattle.unit_rules.specs.Deeds.{Acted, acted, still, refuse, records_of}
 use Rattle.unit_rules.specs.Loads.{Site, loads}
@@ -29,13 +30,14 @@ use Rattle.unit_rules.specs.Starts.{replica_of, replicas_after_all}
 use Rattle.unit_rules.specs.Steps.{Failover, by_seat, at_found, at_standing, answer, frame_row, manage, command_row, fired, failover_step}
 use Rattle.unit_rules.specs.Writes.{appended_received, write_commanded, seat_fired}
 use Rattle.epoch_refinement.specs.Nodes.{seat_at}
+use Rattle.unit_rules.proofs.Answered.{names_only_answer, resolve_only_answers}
 use Rattle.kept_replicas.specs.Kept.{without_role, AreKept, IsFit}
 use Rattle.kept_replicas.specs.Laws.{StepsAreKept}
 use Rattle.kept_replicas.proofs.Folding.{replica_after_all, all_here, all_there, after_join}
 use Rattle.kept_replicas.proofs.Recorded.{Recorded, silent_join}
 use Rattle.kept_replicas.proofs.Promising.{promise_recorded, sync_recorded, fetch_recorded, activate_recorded}
 use Rattle.kept_replicas.proofs.Copying.{piece_recorded}
-use Rattle.kept_replicas.proofs.Writing.{append_recorded, appended_recorded, write_recorded, fired_silent}
+use Rattle.kept_replicas.proofs.Writing.{append_recorded, appended_recorded, write_recorded, answer_recorded, fired_silent}
 use Rattle.kept_replicas.proofs.Silent.{Silent, answered_silent, commanded_silent, asked_silent}
 
 -- a firing records nothing
@@ -151,6 +153,12 @@ module _ (records : List Record) (s : Failover) (fit : (p : ℕ) → IsFit p (se
         standing q (write_commanded text) (refuse verb.Write reason.NotPrimary s) (silent (refuse verb.Write reason.NotPrimary s) refl refl)
         (write_recorded q (seat_at q s) (fit q).partition text)
     command_keeps (command.Units range) = silent (command_row c now r (command.Units range) s) refl refl
+    command_keeps (command.Resolve q name) =
+        standing q (resolve_commanded name) (refuse verb.Resolve reason.NotPrimary s) (silent (refuse verb.Resolve reason.NotPrimary s) refl refl)
+        (answer_recorded q (seat_at q s) (resolve_commanded name (seat_at q s)) (resolve_only_answers name (seat_at q s)))
+    command_keeps (command.Names q range) =
+        standing q (names_commanded range) (refuse verb.Names reason.NotPrimary s) (silent (refuse verb.Names reason.NotPrimary s) refl refl)
+        (answer_recorded q (seat_at q s) (names_commanded range (seat_at q s)) (names_only_answer range (seat_at q s)))
     command_keeps d = nothing
 
   fire_keeps : Keeps records (acted s (fired s))

@@ -13,6 +13,7 @@ use Rattle.replica_core.specs.declared.refusal.ReplicaRefusal.TheVariants.{Older
 use Rattle.replica_core.specs.Replicas.{Replica, written}
 use Rattle.replica_core.specs.Calls.{Outcome, unless, held_if, is_ahead, append_call}
 use Rattle.unit_rules.specs.declared.lead.Peer.{Peer}
+use Rattle.unit_rules.specs.Answers.{OnlyAnswers}
 use Rattle.unit_rules.specs.Deeds.{Acted, acted, still, records_of}
 use Rattle.unit_rules.specs.Leads.{lead_of, confirmed_by, confirmed_of, most_confirmed}
 use Rattle.unit_rules.specs.Seats.{Lead, Seat, seated, last_of, entry_at}
@@ -131,6 +132,10 @@ module _ (p : ℕ) (s : Seat) where
       go : (o : Option Lead) → Recorded p s (write_to text s o)
       go None = record { of = tt; folds = refl }
       go (Some l) = by l (append_call s.replica.at (last_of s.replica + 1) text s.replica) refl
+
+-- nor does an answer about names
+pub answer_recorded : (p : ℕ) (s : Seat) (a : Acted Seat) → OnlyAnswers s a → Recorded p s a
+answer_recorded p s a h = subst (Recorded p s) (sym h.is) (record { of = tt; folds = refl })
 
 -- a replica's firing records nothing
 pub fired_silent : (s : Seat) → records_of (seat_fired s) ≡ []
