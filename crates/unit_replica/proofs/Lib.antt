@@ -8,3 +8,4 @@ pub mod Activated
 pub mod Fired
 pub mod Kept
 pub mod Places
+pub mod Naming

@@ -1,4 +1,5 @@
 pub mod Laws
+pub mod Names
 pub mod Rows
 pub mod Starts
 pub mod Tables

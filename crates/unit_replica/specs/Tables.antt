@@ -5,6 +5,7 @@ use Rattle.fabric_terms.specs.declared.message.Body.{Body}
 use Rattle.fabric_terms.specs.declared.message.Body.TheVariants as body
 use Rattle.fabric_terms.specs.declared.report.Reason.TheVariants as reason
 use Rattle.fabric_terms.specs.declared.report.Verb.TheVariants as verb
+use Rattle.ring_points.specs.declared.interval.Interval.{Interval}
 use Rattle.ring_points.specs.declared.who.Who.{Who}
 use Rattle.unit_rules.specs.Deeds.{Deed, Acted, acted, refuse, still}
 use Rattle.replica_core.specs.Replicas.{Replica}
@@ -12,6 +13,7 @@ use Rattle.unit_rules.specs.Seats.{Seat, first_seat}
 use Rattle.unit_rules.specs.Promises.{promise_received}
 use Rattle.unit_rules.specs.Copies.{fetch_received, piece_received, sync_received}
 use Rattle.unit_rules.specs.Activations.{activate_received}
+use Rattle.unit_rules.specs.Answers.{names_commanded, resolve_commanded}
 use Rattle.unit_rules.specs.Writes.{append_received, appended_received, seat_fired, write_commanded}
 
 -- by partition, rising
@@ -73,6 +75,14 @@ frame_at me x _ seats = still seats
 -- a write at the seat of a partition; where none stands it is refused
 abbrev pub write_at : ℕ → List ℕ → Seats → Acted Seats
 write_at partition text seats = at_standing partition (write_commanded text) (refuse verb.Write reason.NotPrimary seats) seats
+
+-- questions about names at the seat of a partition
+
+abbrev pub resolve_at : ℕ → List ℕ → Seats → Acted Seats
+resolve_at partition name seats = at_standing partition (resolve_commanded name) (refuse verb.Resolve reason.NotPrimary seats) seats
+
+abbrev pub list_at : ℕ → Interval → Seats → Acted Seats
+list_at partition range seats = at_standing partition (names_commanded range) (refuse verb.Names reason.NotPrimary seats) seats
 
 -- a firing: the replicas by rising partition
 abbrev pub fired : Seats → List Deed

@@ -1,12 +1,12 @@
 ghost use Rattle.std.specs.Prelude.{◌≡◌};
 ghost use Rattle.unit_replica.specs.Starts.{is_recorded, seats_again};
 
+use crate::named::NamedReplica;
 use crate::seats::Seats;
-use replica_core::Replica;
 use ring_points::Epoch;
 
 /// Whether the records of a node say anything of this replica. It is so once it has promised an epoch, or has an entry.
-fn is_recorded(replica: &Replica) -> bool
+fn is_recorded(replica: &NamedReplica) -> bool
     ensures { result ≡ is_recorded replica.now }
 {
     let first = Epoch {

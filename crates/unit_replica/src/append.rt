@@ -2,10 +2,11 @@ ghost use Rattle.std.specs.Prelude.{◌≡◌, ◌≤◌, ◌+◌, ◌∷◌, []
 ghost use Rattle.unit_rules.specs.Writes.{accepted, append_received, say_appended};
 ghost use Rattle.unit_desk.specs.Desks.{Does, HasRoom, HasRoomFor, Left};
 
+use crate::named::NamedReplica;
 use crate::promise::say_older;
 use crate::seat::{Seat, last_of};
 use fabric_terms::{Body, OutOfMemory, Payload, Record, Report};
-use replica_core::{Done, Replica, ReplicaRefusal};
+use replica_core::{Done, ReplicaRefusal};
 use ring_points::{Epoch, Who};
 use unit_desk::Desk;
 
@@ -24,7 +25,7 @@ pub(crate) fn accept(partition: u16, epoch: Epoch, lsn: u32, text: &Payload, des
     desk.told.tell(Report::Accepted(partition, epoch, lsn));
 }
 
-fn say_appended(asker: Who, epoch: Epoch, replica: &Replica, desk: &mut Desk)
+fn say_appended(asker: Who, epoch: Epoch, replica: &NamedReplica, desk: &mut Desk)
     requires { HasRoomFor 0 1 0 desk.old }
     ensures left { Left (say_appended asker epoch replica.now ∷ []) desk.old desk.new }
     ensures few { length desk.new.out ≤ length desk.old.out + 1 }

@@ -2,6 +2,7 @@ ghost use Rattle.std.specs.Prelude.{◌≡◌, ◌+◌, ◌≤◌, ◌++◌, [],
 ghost use Rattle.fabric_lemmas.specs.Maps.{rises};
 ghost use Rattle.unit_replica.specs.Starts.{replicas_in, seats_from, seats_of, seats_uncollected, with_replica};
 
+use crate::named::NamedReplica;
 use crate::seat::Seat;
 use crate::seats::{MOST_REPLICAS, Seats};
 use fabric_terms::OutOfMemory;
@@ -17,13 +18,13 @@ fn seat_one(map: &mut BTreeMap<u16, Seat>, replica: Replica) -> Result<(), Repli
 {
     let partition = replica.partition();
     let seat = Seat {
-        replica,
+        replica: NamedReplica::of(replica),
         taking: None,
         lead: None,
     };
     match map.insert(partition, seat) {
         Ok(_) => Ok(()),
-        Err(refused) => Err(refused.value.1.replica),
+        Err(refused) => Err(refused.value.1.replica.into_replica()),
     }
 }
 
@@ -50,7 +51,7 @@ fn give_back(map: BTreeMap<u16, Seat>, replicas: &mut Vec<Replica>)
     ensures { replicas.new.items ≡ replicas.old.items ++ replicas_in map.entries }
 {
     for seat in map.into_values() {
-        replicas.push_reserved(seat.replica);
+        replicas.push_reserved(seat.replica.into_replica());
     }
 }
 

@@ -1,6 +1,6 @@
 ghost use Rattle.std.specs.Prelude.{◌≡◌, ◌≤◌, if◌then◌else◌, length, map, max, true};
 ghost use Rattle.replica_core.specs.Roles.{is_member};
-ghost use Rattle.unit_rules.specs.Leads.{confirmed_by, confirmed_of, first_lead, is_confirmed, most_confirmed, peer_confirms};
+ghost use Rattle.unit_rules.specs.Leads.{confirmed_by, confirmed_of, first_lead, is_confirmed, most_confirmed, peer_confirms, reported_of};
 
 use arbiter_quorum::is_majority;
 use arrayvec::ArrayVec;
@@ -8,12 +8,13 @@ use ring_points::Config;
 use std::marker::Model;
 use unit_rules::Peer;
 
-/// What a primary knows: of each other member, rising, and the last committed entry. A configuration has at most seven
-/// members, of which the primary is one.
+/// What a primary knows: of each other member, rising, the last entry that it had at its activation, and the last
+/// committed one. A configuration has at most seven members, of which the primary is one.
 #[derive(Drop)]
 pub struct Lead {
     /// At most six, though there is room for each member.
     peers: ArrayVec<Peer, 7>,
+    begun: u32,
     committed: u32,
 }
 
@@ -23,7 +24,7 @@ impl Model for Lead {
 
     ghost Value = { Lead };
 
-    ghost view = { λ l. record { peers = l.peers.items; committed = l.committed } };
+    ghost view = { λ l. record { peers = l.peers.items; begun = l.begun; committed = l.committed } };
 
     ghost invariant = { λ l. length l.peers.items ≤ 6 };
 }
@@ -115,6 +116,7 @@ impl Lead {
         }
         Lead {
             peers,
+            begun: last,
             committed: last,
         }
     }
@@ -132,6 +134,17 @@ impl Lead {
         ensures { result ≡ self.now.committed }
     {
         self.committed
+    }
+
+    /// The last entry that it reported committed since its activation, 0 where it reported none.
+    pub fn reported(&self) -> u32
+        ensures { result ≡ reported_of self.now }
+    {
+        if self.begun < self.committed {
+            self.committed
+        } else {
+            0
+        }
     }
 
     /// A member says that it has its entries up to `last`; `own` is the primary's last entry.

@@ -3,24 +3,25 @@ ghost use Rattle.replica_core.specs.Calls.{adopt_call};
 ghost use Rattle.unit_rules.specs.Copies.{copy_goes_on, is_wanted, piece_collected, piece_received};
 ghost use Rattle.unit_desk.specs.Desks.{Does, HasRoom, HasRoomFor, Left};
 
+use crate::named::NamedReplica;
 use crate::seat::Seat;
 use crate::sync::{fetch_next, tell_adopted};
 use fabric_terms::{OutOfMemory, Payload, Record};
-use replica_core::{Entry, EntryBytes, Replica, ReplicaRefusal};
+use replica_core::{Entry, EntryBytes, ReplicaRefusal};
 use ring_points::Epoch;
 use std::alloc::Global;
 use unit_desk::Desk;
 use unit_rules::Taking;
 
 /// Whether an entry of this epoch and number is one of the Sync's log, which is not taken yet.
-fn is_wanted(taking: Taking, epoch: Epoch, lsn: u32, replica: &Replica) -> bool
+fn is_wanted(taking: Taking, epoch: Epoch, lsn: u32, replica: &NamedReplica) -> bool
     ensures { result ≡ is_wanted taking epoch lsn replica.now }
 {
     taking.epoch == epoch && replica.at() != epoch && 1 <= lsn && lsn <= taking.last
 }
 
 /// What follows an entry that was collected: with the last one the log is adopted, else the next is asked for.
-fn go_on(taking: Taking, lsn: u32, replica: &Replica, desk: &mut Desk)
+fn go_on(taking: Taking, lsn: u32, replica: &NamedReplica, desk: &mut Desk)
     requires { HasRoomFor 1 1 1 desk.old }
     ensures left { Left (copy_goes_on taking lsn replica.now) desk.old desk.new }
     ensures few { length desk.new.out ≤ length desk.old.out + 1 }

@@ -5,9 +5,10 @@ ghost use Rattle.unit_rules.specs.Promises.{promise_received, raise_told, say_ol
 ghost use Rattle.unit_rules.specs.Seats.{last_of};
 ghost use Rattle.unit_desk.specs.Desks.{Does, HasRoom, HasRoomFor, Left};
 
+use crate::named::NamedReplica;
 use crate::seat::{Seat, last_of};
 use fabric_terms::{Body, Record, Report};
-use replica_core::{Done, Replica, ReplicaRefusal};
+use replica_core::{Done, ReplicaRefusal};
 use ring_points::{Epoch, Who};
 use unit_desk::Desk;
 
@@ -46,7 +47,7 @@ pub(crate) fn tell_raised(partition: u16, epoch: Epoch, done: Done, desk: &mut D
 }
 
 /// The epoch of the log and its last entry are answered.
-fn say_promised(asker: Who, epoch: Epoch, replica: &Replica, desk: &mut Desk)
+fn say_promised(asker: Who, epoch: Epoch, replica: &NamedReplica, desk: &mut Desk)
     requires { HasRoomFor 0 1 0 desk.old }
     ensures left { Left (Deed.Send asker (body.Promised replica.now.partition epoch replica.now.at (last_of replica.now)) ∷ []) desk.old desk.new }
     ensures few { length desk.new.out ≤ length desk.old.out + 1 }

@@ -4,6 +4,7 @@ ghost use Rattle.unit_rules.specs.Seats.{first_seat, last_of};
 ghost use Rattle.unit_replica.specs.Starts.{seat_again, seat_uncollected};
 
 use crate::lead::Lead;
+use crate::named::NamedReplica;
 use replica_core::Replica;
 use std::alloc::Global;
 use std::marker::Model;
@@ -12,7 +13,7 @@ use unit_rules::Taking;
 /// A replica at its node. Contracts see it as the rules' record of that name.
 #[derive(Drop)]
 pub struct Seat {
-    pub(crate) replica: Replica,
+    pub(crate) replica: NamedReplica,
     /// The Sync that it took last.
     pub(crate) taking: Option<Taking>,
     /// What it knows as a primary.
@@ -36,7 +37,7 @@ impl Seat {
         ensures { result ≡ first_seat partition }
     {
         Seat {
-            replica: Replica::new(alloc, partition),
+            replica: NamedReplica::new(alloc, partition),
             taking: None,
             lead: None,
         }
@@ -46,7 +47,7 @@ impl Seat {
     pub fn replica(&self) -> &Replica
         ensures { result.now ≡ self.now.replica }
     {
-        &self.replica
+        self.replica.replica()
     }
 
     /// What is collected is forgotten.
@@ -67,7 +68,7 @@ impl Seat {
 }
 
 /// The number of a replica's last entry, 0 where there is none.
-pub(crate) fn last_of(replica: &Replica) -> u32
+pub(crate) fn last_of(replica: &NamedReplica) -> u32
     ensures last { result ≡ last_of replica.now }
     ensures few { result ≤ 100000 }
     ensures sound { IsSound replica.now }

@@ -4,14 +4,15 @@ ghost use Rattle.fabric_lemmas.specs.Maps.{at};
 ghost use Rattle.fabric_terms.specs.Messages.{is_sound_body};
 ghost use Rattle.unit_desk.specs.Desks.{Does, HasRoom};
 ghost use Rattle.unit_rules.specs.Deeds.{still};
-ghost use Rattle.unit_replica.specs.Tables.{at_seat, at_standing, frame_at, replica_at, row_of, write_at};
+ghost use Rattle.unit_replica.specs.Tables.{at_seat, at_standing, frame_at, list_at, replica_at, resolve_at, row_of, write_at};
 
+use crate::answer::{names_commanded, resolve_commanded};
 use crate::frame::row_of;
 use crate::seat::Seat;
 use crate::write::{refuse, write_commanded};
-use fabric_terms::{Body, OutOfMemory, Payload, Reason};
+use fabric_terms::{Body, NameText, OutOfMemory, Payload, Reason, Verb};
 use replica_core::Replica;
-use ring_points::Who;
+use ring_points::{Interval, Who};
 use std::alloc::Global;
 use std::collections::BTreeMap;
 use std::marker::Model;
@@ -62,7 +63,7 @@ impl Seats {
         ensures { option_copied result ≡ replica_at partition self.now }
     {
         match self.map.get(&partition) {
-            Some(seat) => Some(&seat.replica),
+            Some(seat) => Some(seat.replica.replica()),
             None => None,
         }
     }
@@ -184,9 +185,48 @@ impl Seats {
         ensures refused { OnErr result ((self.new ≡ self.old) × (desk.new ≡ desk.old)) }
     {
         let Some(seat) = self.map.get_mut(&partition) else {
-            refuse(Reason::NotPrimary, desk);
+            refuse(Verb::Write, Reason::NotPrimary, desk);
             return Ok(());
         };
         write_commanded(text, seat, desk)
+    }
+    /// Resolve: the partition's primary tells what a name stands for. It is refused where the node has no replica of the
+    /// partition, and where that answers nothing. It is an error where memory is short, and then nothing is changed.
+    pub fn resolve(
+        &mut self,
+        partition: u16,
+        name: &NameText,
+        desk: &mut Desk,
+    ) -> Result<(), OutOfMemory>
+        requires { HasRoom desk.old }
+        ensures does { IfOk result (λ _. Does (resolve_at partition name.now self.old) self.new desk.old desk.new) }
+        ensures few { length desk.new.out ≤ length desk.old.out }
+        ensures refused { OnErr result ((self.new ≡ self.old) × (desk.new ≡ desk.old)) }
+    {
+        let Some(seat) = self.map.get_mut(&partition) else {
+            refuse(Verb::Resolve, Reason::NotPrimary, desk);
+            return Ok(());
+        };
+        resolve_commanded(self.alloc, name, seat, desk)
+    }
+
+    /// Names: the partition's primary tells the first names with a point in the range. It is refused, and an error,
+    /// where `resolve` is.
+    pub fn list_names(
+        &mut self,
+        partition: u16,
+        range: &Interval,
+        desk: &mut Desk,
+    ) -> Result<(), OutOfMemory>
+        requires { HasRoom desk.old }
+        ensures does { IfOk result (λ _. Does (list_at partition range.now self.old) self.new desk.old desk.new) }
+        ensures few { length desk.new.out ≤ length desk.old.out }
+        ensures refused { OnErr result ((self.new ≡ self.old) × (desk.new ≡ desk.old)) }
+    {
+        let Some(seat) = self.map.get_mut(&partition) else {
+            refuse(Verb::Names, Reason::NotPrimary, desk);
+            return Ok(());
+        };
+        names_commanded(self.alloc, range, seat, desk)
     }
 }

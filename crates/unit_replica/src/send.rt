@@ -6,14 +6,15 @@ ghost use Rattle.unit_rules.specs.Seats.{entry_at};
 ghost use Rattle.unit_rules.specs.Writes.{append_to, entry_sent, seat_fired};
 
 use crate::fetch::entry_at;
+use crate::named::NamedReplica;
 use crate::seat::Seat;
 use fabric_terms::{Body, Outbox, Payload};
-use replica_core::{Replica, Role};
+use replica_core::Role;
 use ring_points::{Epoch, Who};
 use unit_rules::Peer;
 
 /// Whether a replica takes writes: it is a primary, and has promised nothing higher than its epoch.
-pub(crate) fn takes_writes(replica: &Replica) -> bool
+pub(crate) fn takes_writes(replica: &NamedReplica) -> bool
     ensures { result ≡ (is_primary replica.now.role && not (is_older replica.now.at replica.now.promised)) }
 {
     replica.role() == Role::Primary && !(replica.at() < replica.promised())
@@ -22,7 +23,7 @@ pub(crate) fn takes_writes(replica: &Replica) -> bool
 /// A member is sent an entry.
 pub(crate) fn append_to(
     epoch: Epoch,
-    replica: &Replica,
+    replica: &NamedReplica,
     lsn: u32,
     text: &[u8],
     peer: &Peer,
@@ -48,7 +49,7 @@ pub(crate) fn append_to(
 /// Each of these members is sent the entry.
 pub(crate) fn append_to_all(
     epoch: Epoch,
-    replica: &Replica,
+    replica: &NamedReplica,
     lsn: u32,
     text: &[u8],
     peers: &[Peer],
@@ -65,7 +66,7 @@ pub(crate) fn append_to_all(
 }
 
 /// A member is sent the entry that is next for it, where there is one.
-fn send_next(replica: &Replica, peer: &Peer, out: &mut Outbox)
+fn send_next(replica: &NamedReplica, peer: &Peer, out: &mut Outbox)
     requires room { length out.old + 1 ≤ 192 }
     ensures sent { out.new ≡ out.old ++ frames_of (entry_sent replica.now peer.now (entry_at peer.now.next replica.now.log)) }
     ensures one { length out.new ≤ length out.old + 1 }
@@ -84,7 +85,7 @@ fn send_next(replica: &Replica, peer: &Peer, out: &mut Outbox)
 
 /// Each of these members is sent the entry that is next for it, where there is one.
 #[tactic(auto, using(unit_desk::proofs::Deeds::deeds_append))]
-fn send_all_next(replica: &Replica, peers: &[Peer], out: &mut Outbox)
+fn send_all_next(replica: &NamedReplica, peers: &[Peer], out: &mut Outbox)
     requires { length out.old + length peers.now ≤ 192 }
     ensures sent { out.new ≡ out.old ++ frames_of (flat_map (λ p. entry_sent replica.now p (entry_at p.next replica.now.log)) peers.now) }
     ensures few { length out.new ≤ length out.old + length peers.now }

@@ -6,10 +6,10 @@ ghost use Rattle.unit_rules.specs.Deeds.{Deed};
 ghost use Rattle.unit_rules.specs.Seats.{last_of};
 ghost use Rattle.unit_desk.specs.Desks.{Does, HasRoom, HasRoomFor, Left};
 
+use crate::named::NamedReplica;
 use crate::promise::{say_older, tell_raised};
 use crate::seat::{Seat, last_of};
 use fabric_terms::{Body, Record, Report};
-use replica_core::Replica;
 use ring_points::{Epoch, Who};
 use unit_desk::Desk;
 use unit_rules::Taking;
@@ -49,7 +49,7 @@ fn say_adopted(taking: Taking, partition: u16, last: u32, desk: &mut Desk)
 }
 
 /// The next entry of the log is asked for at its origin.
-pub(crate) fn fetch_next(taking: Taking, replica: &Replica, desk: &mut Desk)
+pub(crate) fn fetch_next(taking: Taking, replica: &NamedReplica, desk: &mut Desk)
     requires { HasRoomFor 0 1 0 desk.old }
     ensures left { Left (fetch_next taking replica.now ∷ []) desk.old desk.new }
     ensures few { length desk.new.out ≤ length desk.old.out + 1 }

@@ -1,6 +1,5 @@
 ghost use Rattle.std.specs.Prelude.{◌≡◌, ◌≤◌, ◌+◌, ◌∷◌, ◌++◌, [], Some, IfOk, OnErr, length, map};
 ghost use Rattle.fabric_terms.specs.declared.report.Report.TheVariants.{Refused};
-ghost use Rattle.fabric_terms.specs.declared.report.Verb.TheVariants as verb;
 ghost use Rattle.unit_rules.specs.Deeds.{Tell};
 ghost use Rattle.unit_rules.specs.Seats as seats;
 ghost use Rattle.unit_rules.specs.Seats.{last_of};
@@ -10,10 +9,11 @@ ghost use Rattle.unit_replica.specs.Rows.{spread};
 
 use crate::append::accept;
 use crate::lead::Lead;
+use crate::named::NamedReplica;
 use crate::seat::{Seat, last_of};
 use crate::send::{append_to_all, takes_writes};
 use fabric_terms::{OutOfMemory, Payload, Reason, Report, Verb};
-use replica_core::{Replica, ReplicaRefusal};
+use replica_core::ReplicaRefusal;
 use ring_points::Epoch;
 use unit_desk::Desk;
 
@@ -54,7 +54,7 @@ pub fn appended_received(node: u16, epoch: Epoch, last: u32, seat: &mut Seat, de
 }
 
 /// The new last entry is recorded and told, and sent to each other member.
-fn tell_written(text: &Payload, lead: &Lead, replica: &Replica, desk: &mut Desk)
+fn tell_written(text: &Payload, lead: &Lead, replica: &NamedReplica, desk: &mut Desk)
     requires { HasRoom desk.old }
     ensures left { Left (accepted replica.now.partition replica.now.at (last_of replica.now) text.now ++ map (append_to replica.now.at replica.now (last_of replica.now) text.now) lead.now.peers) desk.old desk.new }
     ensures few { length desk.new.out ≤ length desk.old.out + 6 }
@@ -87,12 +87,12 @@ fn spread(text: &Payload, seat: &mut Seat, desk: &mut Desk)
 }
 
 /// A command is refused, and changes nothing.
-pub(crate) fn refuse(reason: Reason, desk: &mut Desk)
+pub(crate) fn refuse(question: Verb, reason: Reason, desk: &mut Desk)
     requires { HasRoomFor 0 0 1 desk.old }
-    ensures left { Left (Tell (Refused verb.Write reason) ∷ []) desk.old desk.new }
+    ensures left { Left (Tell (Refused question reason) ∷ []) desk.old desk.new }
     ensures few { length desk.new.out ≤ length desk.old.out }
 {
-    desk.told.tell(Report::Refused(Verb::Write, reason));
+    desk.told.tell(Report::Refused(question, reason));
 }
 
 /// Write: the primary adds an entry, and sends it to each other member. It is refused at a replica that takes no
@@ -105,7 +105,7 @@ pub fn write_commanded(text: &Payload, seat: &mut Seat, desk: &mut Desk) -> Resu
     ensures refused { OnErr result ((seat.new ≡ seat.old) × (desk.new ≡ desk.old)) }
 {
     if !takes_writes(&seat.replica) || seat.lead.is_none() {
-        refuse(Reason::NotPrimary, desk);
+        refuse(Verb::Write, Reason::NotPrimary, desk);
         return Ok(());
     }
     let epoch = seat.replica.at();
@@ -116,7 +116,7 @@ pub fn write_commanded(text: &Payload, seat: &mut Seat, desk: &mut Desk) -> Resu
             Ok(())
         }
         Err(ReplicaRefusal::LogFull) => {
-            refuse(Reason::Full, desk);
+            refuse(Verb::Write, Reason::Full, desk);
             Ok(())
         }
         Err(ReplicaRefusal::OutOfMemory) => Err(OutOfMemory),

@@ -2,6 +2,7 @@ use Rattle.std.proofs.Common.{◌≡◌, ◌∙◌, Some, None, ap, sym}
 use Rattle.std.specs.Option.{option_copied}
 use Rattle.fabric_lemmas.specs.Maps.{at}
 use Rattle.keep_log.proofs.MapEntries.{lookup-is}
+use Rattle.replica_core.specs.Replicas.{Replica}
 use Rattle.unit_rules.specs.Seats.{Seat}
 use Rattle.unit_replica.specs.Tables.{Seats, replica_at, replica_seated}
 use Rattle.unit_replica.proofs.seats.Seats.replica.Goals as goal
@@ -11,8 +12,9 @@ returns-in-Some c =
     let es = c.self.inside.map.entries in
     let found : at c.args.partition es ≡ Some c.in-Some.seat.now =
     sym (lookup-is c.args.partition es) ∙ (sym c.get.ensures.value ∙ ap option_copied c.in-Some.is) in
-    ap (λ (s : Seat). replica_seated (Some s)) c.seat.view_is
-    ∙ (ap replica_seated (sym found) ∙ ap (λ (m : Seats). replica_at c.args.partition m) c.self.view_is)
+    ap (λ (r : Replica). Some r) c.replica.ensures
+    ∙ (ap (λ (s : Seat). replica_seated (Some s)) c.seat.view_is
+    ∙ (ap replica_seated (sym found) ∙ ap (λ (m : Seats). replica_at c.args.partition m) c.self.view_is))
 
 pub returns-in-None : goal.returns-in-None
 returns-in-None c =
