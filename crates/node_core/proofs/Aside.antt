@@ -35,6 +35,8 @@ unit_command (command.Heal partition count) = true
 unit_command (command.Lose partition node) = true
 unit_command (command.Write partition text) = true
 unit_command (command.Units range) = true
+unit_command (command.Resolve partition name) = true
+unit_command (command.Names partition range) = true
 unit_command _ = false
 
 abbrev unit_body : Body → Bool
@@ -56,6 +58,8 @@ command_idle c now (command.Heal partition count) r n u = rw (command_received-i
 command_idle c now (command.Lose partition node) r n u = rw (command_received-is c now (command.Lose partition node) (begun r), n) refl
 command_idle c now (command.Write partition text) r n u = rw (command_received-is c now (command.Write partition text) (begun r), n) refl
 command_idle c now (command.Units range) r n u = rw (command_received-is c now (command.Units range) (begun r), n) refl
+command_idle c now (command.Resolve partition name) r n u = rw (command_received-is c now (command.Resolve partition name) (begun r), n) refl
+command_idle c now (command.Names partition range) r n u = rw (command_received-is c now (command.Names partition range) (begun r), n) refl
 command_idle c now d r n u = absurd (cc (u))
 
 frame_idle : (c : Settings) (now : ℕ) (x : Who) (b : Body) (w : Work) → has_numbers w.ring ≡ true → unit_body b ≡ true → frame_received c now x b w ≡ w
@@ -127,6 +131,8 @@ command_still c now r (command.Heal partition count) s u = absurd (cc (u))
 command_still c now r (command.Lose partition node) s u = absurd (cc (u))
 command_still c now r (command.Write partition text) s u = absurd (cc (u))
 command_still c now r (command.Units range) s u = absurd (cc (u))
+command_still c now r (command.Resolve partition name) s u = absurd (cc (u))
+command_still c now r (command.Names partition range) s u = absurd (cc (u))
 command_still c now r d s u = refl
 
 -- whether it comes above or not

@@ -1,5 +1,5 @@
 -- What a node records above the ring is a node's own: no record of an arbitrator is among it.
-use Rattle.std.proofs.Common.{◌≡◌, ℕ, ◌+◌, Bool, true, false, List, [], ◌∷◌, ◌++◌, Option, None, Some, Ok, Err, refl, ap}
+use Rattle.std.proofs.Common.{◌≡◌, ℕ, ◌+◌, Bool, true, false, List, [], ◌∷◌, ◌++◌, Option, None, Some, Ok, Err, refl, sym, ap, subst}
 use Rattle.std.specs.Prelude.{◌==◌, ◌||◌, if◌then◌else◌, map, not, ◌&&◌}
 use Rattle.std.specs.List.{list_any}
 use Rattle.fabric_above.specs.Fabric.{fabric}
@@ -36,6 +36,7 @@ use Rattle.ring_rules.specs.Steps.{ring_step}
 use Rattle.ring_rules.specs.declared.input.Input.{Input}
 use Rattle.ring_rules.specs.declared.input.Input.TheVariants as input
 use Rattle.unit_rules.specs.Activations.{activate_answered, activate_received, role_begun, same_role, say_activated}
+use Rattle.unit_rules.specs.Answers.{OnlyAnswers, names_commanded, resolve_commanded}
 use Rattle.unit_rules.specs.Copies.{adoption, copy_begun, entry_given, fetch_next, fetch_received, is_wanted, log_adopted, log_taken, nothing_adopted, own_adopted, piece_collected, piece_for, piece_received, sync_answered, sync_received, sync_taken}
 use Rattle.unit_rules.specs.Deeds.{Acted, Deed, Send, acted, records_of, refuse, still}
 use Rattle.unit_rules.specs.Leads.{confirmed_by, lead_of}
@@ -44,6 +45,7 @@ use Rattle.unit_rules.specs.Promises.{promise_answered, promise_received, say_ol
 use Rattle.unit_rules.specs.Seats.{Lead, Seat, entry_at, last_of, seated}
 use Rattle.unit_rules.specs.Steps.{Failover, answer, at_found, at_standing, command_row, failover_step, fired, frame_row, manage}
 use Rattle.unit_rules.specs.Writes.{append_answered, append_received, append_to, appended_received, appended_to, committed, say_appended, write_answered, write_commanded, write_to}
+use Rattle.unit_rules.proofs.Answered.{names_only_answer, resolve_only_answers}
 use Rattle.unit_rules.specs.declared.lead.Peer.{Peer}
 use Rattle.unit_rules.specs.declared.lead.Taking.{Taking}
 use Rattle.unit_rules.specs.declared.reconfig.Kind.{Kind}
@@ -179,6 +181,10 @@ module _ (s : Seat) where
       go None = refl
       go (Some l) = by l (append_call s.replica.at (last_of s.replica + 1) text s.replica)
 
+-- an answer about names records nothing
+answer_own : (s : Seat) (a : Acted Seat) → OnlyAnswers s a → Own a.deeds
+answer_own s a h = subst (λ (b : Acted Seat). Own b.deeds) (sym h.is) refl
+
 -- a Sync, by what the promise answers
 
 module _ (me : ℕ) (t : Taking) where
@@ -261,6 +267,10 @@ module _ (c : Site) (now : ℕ) (r : Ring) (s : Failover) where
   command_own (command.Lose q node) = commanded_own q (Lose node)
   command_own (command.Write q text) = standing_own q (write_commanded text) (refuse verb.Write reason.NotPrimary s) refl (λ t. write_own t text)
   command_own (command.Units range) = refl
+  command_own (command.Resolve q name) =
+      standing_own q (resolve_commanded name) (refuse verb.Resolve reason.NotPrimary s) refl (λ t. answer_own t (resolve_commanded name t) (resolve_only_answers name t))
+  command_own (command.Names q range) =
+      standing_own q (names_commanded range) (refuse verb.Names reason.NotPrimary s) refl (λ t. answer_own t (names_commanded range t) (names_only_answer range t))
   command_own d = refl
 
   row_own : (i : Input) → Own (failover_step c now r s i).deeds
