@@ -70,6 +70,8 @@ impl UnitNode {
                 self.manage(now, ring, *partition, Kind::Lose(*node), desk)
             }
             Command::Write(partition, text) => self.seats.write(*partition, text, desk),
+            Command::Resolve(partition, name) => self.seats.resolve(*partition, name, desk),
+            Command::Names(partition, range) => self.seats.list_names(*partition, range, desk),
             Command::Units(range) => self.manager.list_units(range, desk),
             _ => Ok(()),
         }
