@@ -63,7 +63,7 @@ pub record Numbered (w : World units) : Type 0 where
   pub counted : (node : ℕ) (s : Running units) → at node w.nodes ≡ Some s → 0 < boots_of (kept_of w node)
 
 -- what is owned is no affair of a partition
-own_apart : (set : Settings) (old new : Ring) → list_any is_unit_report (own_after set old new) ≡ false
+pub own_apart : (set : Settings) (old new : Ring) → list_any is_unit_report (own_after set old new) ≡ false
 own_apart set old new = go (is_same_own set old new)
   where
     go : (b : Bool) → list_any is_unit_report (own_unless set new b) ≡ false

@@ -19,3 +19,4 @@ pub mod Primaries
 pub mod Written
 pub mod Answers
 pub mod Naming
+pub mod Asked

@@ -1,3 +1,4 @@
+ghost use Rattle.epoch_safety.specs.Answers.{AnswersAreByEntries};
 ghost use Rattle.epoch_safety.specs.Laws.{AnswersAreCovered, NamesAreCovered, RunsHaveNoOlder, RunsHaveOnePrimary, WritesAreKept};
 
 /// In no valid run of a sound configuration do two nodes report that they are primary of one partition in one epoch.
@@ -28,4 +29,10 @@ pub fn answers_are_covered()
 /// to its own of the same data loss number. So no answer leaves out a name that a committed write has set.
 pub fn names_are_covered()
     ensures { NamesAreCovered }
+{}
+
+/// Whoever reports an answer about names at a question was ready to answer, and told what the names are that these entries
+/// leave.
+pub fn answers_are_by_entries()
+    ensures { AnswersAreByEntries }
 {}

@@ -32,12 +32,15 @@ is_unit_frame (body.Appended p epoch last) = true
 is_unit_frame (body.Older p epoch kept) = true
 is_unit_frame _ = false
 
--- what a replica promises or accepts, or a primary begins or commits
+-- what a replica promises or accepts, or a primary begins, commits or answers
 abbrev pub is_unit_report : Report → Bool
 is_unit_report (report.Promised p epoch) = true
 is_unit_report (report.Accepted p epoch lsn) = true
 is_unit_report (report.IsPrimary p epoch) = true
 is_unit_report (report.Committed p epoch lsn) = true
+is_unit_report (report.Resolved p name value) = true
+is_unit_report (report.Unresolved p name) = true
+is_unit_report (report.NameList p names) = true
 is_unit_report _ = false
 
 -- nothing of partitions is sent or told
