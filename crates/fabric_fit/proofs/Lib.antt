@@ -20,6 +20,7 @@ pub mod Transitions
 pub mod Tables
 pub mod Knowing
 pub mod Managing
+pub mod Naming
 pub mod Rows
 pub mod Units
 pub mod Steps

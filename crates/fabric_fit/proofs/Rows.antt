@@ -30,7 +30,7 @@ use Rattle.ring_rules.specs.Rings.{Ring, settings_of}
 use Rattle.unit_rules.specs.declared.reconfig.Kind.{Kind}
 use Rattle.unit_rules.specs.declared.reconfig.Kind.TheVariants.{Create, Swap, Heal, Lose}
 use Rattle.unit_rules.specs.Activations.{activate_received}
-use Rattle.unit_rules.specs.Answers.{OnlyAnswers, names_commanded, resolve_commanded}
+use Rattle.unit_rules.specs.Answers.{names_commanded, resolve_commanded}
 use Rattle.unit_rules.specs.Copies.{fetch_received, piece_received, sync_received}
 use Rattle.unit_rules.specs.Deeds.{Acted, Tell, refuse, still}
 use Rattle.unit_rules.specs.Loads.{Site, loads, site_of}
@@ -41,7 +41,6 @@ use Rattle.unit_rules.specs.Reconfigs.{Reconfig}
 use Rattle.unit_rules.specs.Seats.{Seat, first_seat}
 use Rattle.unit_rules.specs.Steps.{Failover, answer, at_found, at_seat, at_standing, by_manager, by_seat, command_row, failover_step, fired, frame_row, manage}
 use Rattle.unit_rules.specs.Writes.{append_received, appended_received, seat_fired, write_commanded}
-use Rattle.unit_rules.proofs.Answered.{names_only_answer, resolve_only_answers}
 use Rattle.fabric_fit.specs.Deeds.{ActedInRange, DeedInRange}
 use Rattle.fabric_fit.specs.Failovers.{FailoverInRange}
 use Rattle.fabric_fit.specs.Managers.{ManagedInRange, ReconfigInRange, is_kind}
@@ -54,6 +53,7 @@ use Rattle.fabric_fit.proofs.Deeds.{does_one, no_deeds, stays_in_range}
 use Rattle.fabric_fit.proofs.Knowing.{listed_in_range}
 use Rattle.fabric_fit.proofs.Managing.{manager_answered_in_range, reconfig_commanded_in_range}
 use Rattle.fabric_fit.proofs.Members.{config_parts}
+use Rattle.fabric_fit.proofs.Naming.{names_commanded_in_range, resolve_commanded_in_range}
 use Rattle.fabric_fit.proofs.Placing.{loads_in_range}
 use Rattle.fabric_fit.proofs.Promises.{promise_received_in_range}
 use Rattle.fabric_fit.proofs.Starts.{first_seat_in_range}
@@ -61,10 +61,6 @@ use Rattle.fabric_fit.proofs.Writes.{append_received_in_range, appended_received
 
 abbrev pub Acts : Acted Failover → Type 0
 Acts a = ActedInRange FailoverInRange a
-
--- a replica that only answers stays in range, and so does what it does
-answer_only_in_range : (t : Seat) → SeatInRange t → (a : Acted Seat) → OnlyAnswers t a → ActedInRange SeatInRange a
-answer_only_in_range t k a h = subst (ActedInRange SeatInRange) (sym h.is) (does_one SeatInRange t (Tell h.told) k tt)
 
 module _ (s : Failover) (fine : FailoverInRange s) where
   still_in_range : Acts (still s)
@@ -171,11 +167,11 @@ module _ (s : Failover) (fine : FailoverInRange s) where
         does_one FailoverInRange s (Tell (report.UnitList (partitions_in range s.managed.units))) fine (listed_in_range range s.managed.units fine.managed.units)
     command_in_range (command.Resolve partition name) h =
         at_standing_in_range partition (resolve_commanded name) (refuse verb.Resolve reason.NotPrimary s)
-        (λ t k. answer_only_in_range t k (resolve_commanded name t) (resolve_only_answers name t))
+        (resolve_commanded_in_range name h.1)
         (does_one FailoverInRange s (Tell (report.Refused verb.Resolve reason.NotPrimary)) fine tt)
     command_in_range (command.Names partition range) h =
         at_standing_in_range partition (names_commanded range) (refuse verb.Names reason.NotPrimary s)
-        (λ t k. answer_only_in_range t k (names_commanded range t) (names_only_answer range t))
+        (names_commanded_in_range range)
         (does_one FailoverInRange s (Tell (report.Refused verb.Names reason.NotPrimary)) fine tt)
     command_in_range d h = still_in_range
 
