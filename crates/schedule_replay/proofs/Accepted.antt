@@ -17,7 +17,7 @@ use Rattle.world_rules.specs.Schedules.{MayCome, is_there, keeps_bound}
 use Rattle.world_rules.specs.Worlds.{World}
 use Rattle.schedule_replay.specs.Laws.{IsValidHistory, AcceptedIsValid}
 use Rattle.source_lines.specs.Lines.{is_ignored, most_line, most_lines, most_first_line}
-use Rattle.schedule_replay.specs.Schedule.{Verdict, Ignored, Accepted, Refused, Judged, unless_room, unless_within, unless_there, unless_run, is_run, event_verdict, unless_ignored, unless_large, line_verdict, judge_from, judge_rest, judge_first, judge_lines, judge}
+use Rattle.schedule_replay.specs.Schedule.{Verdict, Ignored, Accepted, Refused, Judged, unless_room, unless_within, unless_there, run_verdict, event_verdict, unless_ignored, unless_large, line_verdict, judge_from, judge_rest, judge_first, judge_lines, judge}
 use Rattle.schedule_replay.proofs.Judging.{judge_on, judge_line}
 
 room_accepted : (n : ℕ) (e d : Event) (room : Bool) → unless_room n e room ≡ Accepted d → e ≡ d
@@ -37,15 +37,14 @@ record Comes (c : FabricConfig) (w : World fabric) (e : Event) : Type 0 where
   fits : Fits e
   may_come : MayCome is_frame c w e
 
-run_accepted : (c : FabricConfig) (w : World fabric) (events n : ℕ) (e d : Event) (run : Bool) → Fits e → unless_run c w events n e run ≡ Accepted d → Comes c w d
-run_accepted c w events n e d true fits q =
+run_accepted : (c : FabricConfig) (w : World fabric) (events n : ℕ) (e d : Event) → Fits e → run_verdict c w events n e ≡ Accepted d → Comes c w d
+run_accepted c w events n e d fits q =
     let t = there_accepted n e d (is_there is_frame c w e) (keeps_bound c w e) _ q in
     subst (λ k. Comes c w k) t.0 (record { fits = fits; may_come = record { there = t.1; bound = t.2 } })
-run_accepted c w events n e d false fits q = cc
 
 event_accepted : (c : FabricConfig) (w : World fabric) (events n : ℕ) (line : List ℕ) (read : Option Event) (d : Event) → event_of line ≡ read → event_verdict c w events n read ≡ Accepted d → Comes c w d
 event_accepted c w events n line None d is q = cc
-event_accepted c w events n line (Some e) d is q = run_accepted c w events n e d (is_run e) (read_is_spelled line e is).0 q
+event_accepted c w events n line (Some e) d is q = run_accepted c w events n e d (read_is_spelled line e is).0 q
 
 ignored_accepted : (c : FabricConfig) (w : World fabric) (events n : ℕ) (line : List ℕ) (d : Event) (ignored : Bool) → unless_ignored c w events n line ignored ≡ Accepted d → Comes c w d
 ignored_accepted c w events n line d true q = cc

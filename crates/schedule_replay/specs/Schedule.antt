@@ -1,13 +1,10 @@
 -- Which lines of a schedule are accepted, and what is accepted of a schedule.
-use Rattle.std.specs.Prelude.{ℕ, ◌+◌, Bool, true, false, not, ◌||◌, List, [], ◌∷◌, length, Option, Some, None, Result, Ok, Err, nat_lt}
+use Rattle.std.specs.Prelude.{ℕ, ◌+◌, Bool, true, false, ◌||◌, List, [], ◌∷◌, length, Option, Some, None, Result, Ok, Err, nat_lt}
 use Rattle.fabric_config.specs.Config.{config_of_line}
 use Rattle.fabric_config.specs.declared.error.ConfigError.{ConfigError}
 use Rattle.fabric_config.specs.declared.error.ConfigError.TheVariants.{NotJson}
-use Rattle.fabric_terms.specs.declared.command.Command.{Command}
-use Rattle.fabric_terms.specs.declared.command.Command.TheVariants.{Resolve, Names}
 use Rattle.fabric_terms.specs.declared.config.FabricConfig.{FabricConfig}
 use Rattle.fabric_terms.specs.declared.event.Event.{Event}
-use Rattle.fabric_terms.specs.declared.event.Event.TheVariants.{Do}
 use Rattle.ring_world.specs.Answers.{is_frame, ruled}
 use Rattle.ring_world.specs.Room.{has_room}
 use Rattle.ring_world.specs.declared.world.EventRefusal.{EventRefusal}
@@ -19,17 +16,6 @@ use Rattle.world_rules.specs.Schedules.{is_there, keeps_bound}
 use Rattle.world_rules.specs.Worlds.{World}
 use Rattle.fabric_status.specs.declared.status.Refusal.{Refusal}
 use Rattle.fabric_status.specs.declared.status.Refusal.TheVariants.{BadConfig, BadLine, DriftBroken, NoSuch, TooLarge}
-
--- a command about names
-abbrev pub is_of_names : Command → Bool
-is_of_names (Resolve partition name) = true
-is_of_names (Names partition range) = true
-is_of_names _ = false
-
--- All events are run but commands about names.
-abbrev pub is_run : Event → Bool
-is_run (Do node command) = not (is_of_names command)
-is_run _ = true
 
 pub data Verdict : Type 0 where
   Ignored : Verdict
@@ -56,17 +42,13 @@ abbrev pub unless_there : ℕ → Event → Bool → Bool → Bool → Verdict
 unless_there n e true within room = unless_within n e within room
 unless_there n e false within room = Refused (NoSuch n)
 
--- an event that is run, at line n
+-- an event at line n
 abbrev pub run_verdict : FabricConfig → World fabric → ℕ → ℕ → Event → Verdict
 run_verdict c w events n e = unless_there n e (is_there is_frame c w e) (keeps_bound c w e) (has_room w events e)
 
-abbrev pub unless_run : FabricConfig → World fabric → ℕ → ℕ → Event → Bool → Verdict
-unless_run c w events n e true = run_verdict c w events n e
-unless_run c w events n e false = Refused (BadLine n)
-
 abbrev pub event_verdict : FabricConfig → World fabric → ℕ → ℕ → Option Event → Verdict
 event_verdict c w events n None = Refused (BadLine n)
-event_verdict c w events n (Some e) = unless_run c w events n e (is_run e)
+event_verdict c w events n (Some e) = run_verdict c w events n e
 
 abbrev pub unless_ignored : FabricConfig → World fabric → ℕ → ℕ → List ℕ → Bool → Verdict
 unless_ignored c w events n line true = Ignored

@@ -6,32 +6,15 @@ ghost use Rattle.fabric_terms.specs.Ranges.{Fits};
 ghost use Rattle.sched_text.specs.Lines.{event_of};
 ghost use Rattle.world_rules.specs.Runs.{History};
 ghost use Rattle.schedule_replay.specs.Follows.{At, Follows};
-ghost use Rattle.schedule_replay.specs.Schedule.{is_of_names, is_run, line_verdict, event_verdict, run_verdict, refusal_at};
+ghost use Rattle.schedule_replay.specs.Schedule.{line_verdict, event_verdict, run_verdict, refusal_at};
 
 use crate::brief::{Brief, read_brief};
 use crate::teller::Teller;
 use fabric_status::Refusal;
-use fabric_terms::{Command, Event, OutOfMemory};
+use fabric_terms::{Event, OutOfMemory};
 use ring_world::{EventRefusal, World};
 use sched_text::{TickReadings, read_event, read_tick};
 use source_lines::{MOST_LINE, MOST_LINES, is_ignored};
-
-/// Whether a command is about names.
-fn is_of_names(command: &Command) -> bool
-    ensures { result ≡ is_of_names command.now }
-{
-    matches!(command, Command::Resolve(..) | Command::Names(..))
-}
-
-/// Whether events of this kind are run.
-fn is_run(event: &Event) -> bool
-    ensures { result ≡ is_run event.now }
-{
-    match event {
-        Event::Do { command, .. } => !is_of_names(command),
-        _ => true,
-    }
-}
 
 /// How an event at this line is refused, or that memory was short.
 fn refusal_of(refusal: EventRefusal, number: u64) -> Result<Refusal, OutOfMemory>
@@ -103,12 +86,7 @@ fn take_any<T: Teller>(
 {
     match read_event(line) {
         Err(_) => Ok(Some(Refusal::BadLine(number))),
-        Ok(event) => {
-            if !is_run(&event) {
-                return Ok(Some(Refusal::BadLine(number)));
-            }
-            take_event(world, teller, number, &event, text)
-        }
+        Ok(event) => take_event(world, teller, number, &event, text),
     }
 }
 
