@@ -7,7 +7,6 @@ use Rattle.fabric_lemmas.specs.Maps.{at}
 use Rattle.fabric_lemmas.specs.Members.{IsMember}
 use Rattle.fabric_terms.specs.declared.command.Command.TheVariants as command
 use Rattle.fabric_terms.specs.declared.config.FabricConfig.{FabricConfig}
-use Rattle.fabric_terms.specs.declared.event.Event.TheVariants.{Do}
 use Rattle.fabric_terms.specs.declared.report.Reason.{Reason}
 use Rattle.fabric_terms.specs.declared.report.Reason.TheVariants as reason
 use Rattle.fabric_terms.specs.declared.report.Report.{Report}
@@ -16,7 +15,6 @@ use Rattle.fabric_terms.specs.declared.report.Verb.{Verb}
 use Rattle.fabric_terms.specs.declared.report.Verb.TheVariants as verb
 use Rattle.fabric_terms.specs.Places.{tells_leave}
 use Rattle.join_phases.specs.Phases.{is_left}
-use Rattle.ring_points.specs.declared.interval.Interval.{Interval}
 use Rattle.ring_points.specs.declared.who.Who.{Who}
 use Rattle.ring_rules.specs.declared.input.Input.{Input}
 use Rattle.ring_rules.specs.declared.input.Input.TheVariants as input
@@ -33,7 +31,7 @@ use Rattle.unit_rules.specs.Steps.{Failover, at_found, at_standing, failover_ste
 use Rattle.unit_rules.specs.Units.{units}
 use Rattle.world_rules.specs.Above.{is_ring_report}
 use Rattle.world_rules.specs.Events.{acts_at, node_acts, world_step}
-use Rattle.world_rules.specs.Nodes.{above_if, comes_above, node_step, ring_did}
+use Rattle.world_rules.specs.Nodes.{above_if, comes_above}
 use Rattle.world_rules.specs.Worlds.{World, Running}
 use Rattle.world_rules.proofs.Rows.{node_step-is}
 use Rattle.run_facts.proofs.Steps.{Stepped, ring_stepped}

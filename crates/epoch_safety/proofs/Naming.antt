@@ -1,29 +1,24 @@
 -- Who may answer about names answers by entries that begin with all that was reported committed.
-use Rattle.std.proofs.Common.{◌≡◌, ℕ, ◌≤◌, Bool, true, false, List, length, take, Option, None, Some, Result, Ok, Err, refl, sym, ap, ◌∙◌, subst, arith}
+use Rattle.std.proofs.Common.{◌≡◌, ℕ, ◌≤◌, Bool, true, false, length, take, Option, None, Some, Result, Ok, Err, refl, sym, ◌∙◌, subst}
 use Rattle.std.specs.Prelude.{◌==◌, drop, nat_lt, if◌then◌else◌}
 use Rattle.std.proofs.lemmas.List.{take-take}
-use Rattle.fabric_lemmas.specs.Maps.{at}
 use Rattle.fabric_terms.specs.declared.report.Reason.{Reason}
 use Rattle.fabric_terms.specs.declared.report.Reason.TheVariants as reason
 use Rattle.epoch_machine.specs.Epochs.{number_of}
-use Rattle.epoch_machine.specs.Plans.{Role}
 use Rattle.epoch_machine.proofs.Kept.{active_sync, positive, sync_plan}
-use Rattle.epoch_refinement.specs.Epochs.{IsEpoch, IsReal, settings_to}
+use Rattle.epoch_refinement.specs.Epochs.{IsEpoch, IsReal}
 use Rattle.epoch_refinement.specs.Nodes.{seat_at}
-use Rattle.epoch_refinement.specs.Seats.{ShowsLead, ShowsSeat}
+use Rattle.epoch_refinement.specs.Seats.{ShowsSeat}
 use Rattle.epoch_refinement.proofs.Losing.{settings_sound}
 use Rattle.epoch_refinement.proofs.Numbers.{number_older_not, real}
 use Rattle.unit_rules.specs.Answers.{ready}
-use Rattle.unit_rules.specs.Leads.{lead_of, reported_of}
+use Rattle.unit_rules.specs.Leads.{lead_of}
 use Rattle.unit_rules.specs.Seats.{Lead, Seat}
 use Rattle.unit_rules.specs.Steps.{Failover}
-use Rattle.unit_rules.specs.Units.{units}
-use Rattle.world_rules.specs.Runs.{world_after}
-use Rattle.world_rules.specs.Worlds.{Running}
 use Rattle.epoch_safety.specs.Laws.{NamesAreCovered}
 use Rattle.epoch_safety.specs.Reports.{log_after}
 use Rattle.epoch_safety.proofs.Committing.{LeadsAt}
-use Rattle.epoch_safety.proofs.Covering.{Covers, lead_covers}
+use Rattle.epoch_safety.proofs.Covering.{lead_covers}
 use Rattle.epoch_safety.proofs.Followed.{FollowedAfter, followed}
 use Rattle.epoch_safety.proofs.Primaries.{numbered}
 use Rattle.epoch_safety.proofs.Written.{committed_told, loss_is}

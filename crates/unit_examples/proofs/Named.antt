@@ -1,5 +1,5 @@
 -- The examples of names: what maps of names have is looked up by its laws, all else is computed.
-use Rattle.std.proofs.Common.{◌≡◌, ℕ, List, [], ◌∷◌, Option, Some, None, filter, map, take, codes, refl, ap, sym, ◌∙◌}
+use Rattle.std.proofs.Common.{◌≡◌, ℕ, List, [], ◌∷◌, Some, None, filter, map, take, codes, refl, ap, sym, ◌∙◌}
 use Rattle.std.specs.FinMap as finite
 use Rattle.std.specs.FinMap.{put}
 use Rattle.fabric_terms.specs.declared.report.Report.TheVariants as report
