@@ -59,9 +59,9 @@ const SCHEDULES: [(&str, &str, u8, &str); 19] = [
     ),
     (
         ONE,
-        "start 1 0\ndo 1 resolve 1 a",
-        6,
-        "2 0 1.1 0 own 0000000000000000-ffffffffffffffff -\nfault line 3",
+        "start 1 0\ndo 1 resolve 1 a\ndo 1 names 1 0000000000000000-ffffffffffffffff",
+        0,
+        "2 0 1.1 0 own 0000000000000000-ffffffffffffffff -\n3 0 1.1 0 refused resolve notprimary\n4 0 1.1 0 refused names notprimary\nend 3 0",
     ),
     (
         ONE,

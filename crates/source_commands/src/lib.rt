@@ -1,12 +1,10 @@
 //! The commands of a source: which of them are taken.
 //!
 //! A schedule commands its nodes, and so do the lines of a running program. A command is taken where the node that it names
-//! is configured, and another than the commanded one where it is about a link. Commands about names are not run yet, so a
-//! line that gives one is bad. The crate stands on the rules of schedules; it reads no line and takes no memory.
+//! is configured, and another than the commanded one where it is about a link. The crate stands on the rules of schedules; it
+//! reads no line and takes no memory.
 #![tactic(auto)]
 
-mod names;
 mod nodes;
 
-pub use names::is_of_names;
 pub use nodes::{is_configured_node, is_named};

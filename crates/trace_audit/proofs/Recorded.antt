@@ -28,7 +28,7 @@ use Rattle.run_facts.proofs.Clocks.{rising}
 use Rattle.run_facts.proofs.Happens.{Cases, by_cases}
 use Rattle.sched_text.specs.Lines.{event_of, lines_of}
 use Rattle.schedule_replay.specs.Laws.{IsValidHistory}
-use Rattle.schedule_replay.specs.Schedule.{Accepted, Ignored, Judged, Refused, Verdict, event_verdict, is_run, judge, judge_first, judge_from, judge_lines, judge_rest, line_verdict, unless_ignored, unless_large, unless_room, unless_run, unless_there, unless_within}
+use Rattle.schedule_replay.specs.Schedule.{Accepted, Ignored, Judged, Refused, Verdict, event_verdict, judge, judge_first, judge_from, judge_lines, judge_rest, line_verdict, run_verdict, unless_ignored, unless_large, unless_room, unless_there, unless_within}
 use Rattle.schedule_replay.proofs.Judging.{judge_line, judge_on}
 use Rattle.source_lines.specs.Lines.{is_ignored, most_first_line, most_line, most_lines}
 use Rattle.transcript_audit.specs.Said.{is_above}
@@ -62,15 +62,14 @@ there_accepted : (n : ℕ) (e d : Event) (there within room : Bool) → unless_t
 there_accepted n e d true within room q = within_accepted n e d within room q
 there_accepted n e d false within room q = cc
 
-run_accepted : (c : FabricConfig) (w : World fabric) (events n : ℕ) (e d : Event) (run : Bool) → unless_run c w events n e run ≡ Accepted d → has_room w events d ≡ true
-run_accepted c w events n e d true q =
+run_accepted : (c : FabricConfig) (w : World fabric) (events n : ℕ) (e d : Event) → run_verdict c w events n e ≡ Accepted d → has_room w events d ≡ true
+run_accepted c w events n e d q =
     let t = there_accepted n e d (is_there is_frame c w e) (keeps_bound c w e) (has_room w events e) q in
     subst (λ k. has_room w events k ≡ true) t.0 t.1
-run_accepted c w events n e d false q = cc
 
 event_accepted : (c : FabricConfig) (w : World fabric) (events n : ℕ) (read : Option Event) (d : Event) → event_verdict c w events n read ≡ Accepted d → has_room w events d ≡ true
 event_accepted c w events n None d q = cc
-event_accepted c w events n (Some e) d q = run_accepted c w events n e d (is_run e) q
+event_accepted c w events n (Some e) d q = run_accepted c w events n e d q
 
 ignored_accepted : (c : FabricConfig) (w : World fabric) (events n : ℕ) (line : List ℕ) (d : Event) (ignored : Bool) → unless_ignored c w events n line ignored ≡ Accepted d → has_room w events d ≡ true
 ignored_accepted c w events n line d true q = cc

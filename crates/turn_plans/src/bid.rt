@@ -1,13 +1,13 @@
 // The lines of a source: which node is commanded what, in which turn.
 ghost use Rattle.std.specs.Prelude.{IfOk};
 ghost use Rattle.fabric_terms.specs.Ranges.{FitsCommand};
+ghost use Rattle.sched_text.specs.Commands.{command_of};
 ghost use Rattle.text_fields.specs.Fields.{Gives};
-ghost use Rattle.turn_plans.specs.Bids.{bid_of, cluster_bid_of, node_bid_of, run_command_of};
+ghost use Rattle.turn_plans.specs.Bids.{bid_of, cluster_bid_of, node_bid_of};
 
 use crate::crew::Crew;
 use fabric_terms::Command;
 use sched_text::{BadLine, read_command};
-use source_commands::is_of_names;
 use text_fields::{node_word, number_word};
 
 /// A command to a node, in a turn.
@@ -18,16 +18,12 @@ pub struct Bid {
     pub command: Command,
 }
 
-/// The command that the bytes spell. A command about names is none yet.
-fn run_command_of(words: &[u8]) -> Result<Command, BadLine>
-    ensures read { Gives (λ k. k) result (run_command_of words.now) }
+/// The command that the bytes spell, which is in its ranges.
+fn fitting_command(words: &[u8]) -> Result<Command, BadLine>
+    ensures read { Gives (λ k. k) result (command_of words.now) }
     ensures fits { IfOk result FitsCommand }
 {
-    let command = read_command(words)?;
-    if is_of_names(&command) {
-        return Err(BadLine);
-    }
-    Ok(command)
+    read_command(words)
 }
 
 /// A line of one node: `<turn> <command>`.
@@ -36,7 +32,7 @@ fn node_bid_of(node: u16, least: u64, turns: u64, line: &[u8]) -> Result<Bid, Ba
     ensures fits { IfOk result (λ b. FitsCommand b.command) }
 {
     let (turn, rest) = number_word(least, turns, line)?;
-    let command = run_command_of(rest)?;
+    let command = fitting_command(rest)?;
     Ok(Bid {
         turn,
         node,
@@ -51,7 +47,7 @@ fn cluster_bid_of(least: u64, turns: u64, line: &[u8]) -> Result<Bid, BadLine>
 {
     let (turn, rest) = number_word(least, turns, line)?;
     let (node, rest) = node_word(rest)?;
-    let command = run_command_of(rest)?;
+    let command = fitting_command(rest)?;
     Ok(Bid {
         turn,
         node,
