@@ -15,7 +15,7 @@ use Rattle.epoch_safety.proofs.Followed.{FollowedAfter, followed}
 use Rattle.epoch_safety.proofs.Primaries.{numbered}
 use Rattle.epoch_safety.proofs.Written.{committed_told, loss_is}
 
-valid_drop : (is_frame : List ℕ → Bool) (c : FabricConfig) (h : History) (j : ℕ) → Valid units is_frame c h → Valid units is_frame c (drop j h)
+pub valid_drop : (is_frame : List ℕ → Bool) (c : FabricConfig) (h : History) (j : ℕ) → Valid units is_frame c h → Valid units is_frame c (drop j h)
 valid_drop is_frame c h zero valid = valid
 valid_drop is_frame c [] (suc j) valid = valid
 valid_drop is_frame c (e ∷ h) (suc j) valid = valid_drop is_frame c h j valid.0

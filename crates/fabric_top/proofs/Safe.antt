@@ -12,6 +12,8 @@ use Rattle.ring_points.specs.declared.unit.Epoch.{Epoch}
 use Rattle.ring_points.specs.declared.who.Who.{Who}
 use Rattle.fabric_above.specs.Fabric.{fabric_stays, fabric}
 use Rattle.ring_safety.proofs.Safe.{places_are_kept_lem}
+use Rattle.epoch_safety.proofs.Answers.{valid_drop}
+use Rattle.epoch_safety.proofs.Naming.{names_covered_lem}
 use Rattle.epoch_safety.proofs.Written.{writes_kept_lem}
 use Rattle.run_safety.proofs.Safe.{runs_are_safe_lem}
 use Rattle.ring_world.specs.Answers.{is_frame}
@@ -19,7 +21,7 @@ use Rattle.world_rules.specs.Runs.{History}
 use Rattle.schedule_replay.specs.Laws.{IsValidHistory}
 use Rattle.schedule_replay.specs.Output.{run_judged}
 use Rattle.schedule_replay.specs.Schedule.{judge}
-use Rattle.fabric_top.specs.Safe.{IsSafe, KeepsPlaces, KeepsWrites}
+use Rattle.fabric_top.specs.Safe.{IsSafe, KeepsAnswers, KeepsPlaces, KeepsWrites}
 use Rattle.schedule_replay.proofs.Accepted.{accepted_valid}
 
 -- before any event nobody holds anything
@@ -43,6 +45,7 @@ record IsSafeRun (o : Option FabricConfig) (h : History) : Type 0 where
   pub primaries : OnePrimary (run_judged o h)
   pub epochs : NoOlder (run_judged o h)
   pub writes : KeepsWrites o h
+  pub answers : KeepsAnswers o h
 
 safe_from : (o : Option FabricConfig) (h : History) → ((c : FabricConfig) → o ≡ Some c → IsValidHistory c h) → IsSafeRun o h
 safe_from None h valid = record {
@@ -52,6 +55,7 @@ safe_from None h valid = record {
   primaries = record { one = λ partition epoch v w told_v told_w. absurd (nothing_there v partition epoch told_v) };
   epochs = record { not_older = λ newer partition lsn epoch earlier v w before r e there same bound older. none_told newer (v, Accepted partition epoch lsn) before e };
   writes = tt;
+  answers = tt;
 }
 safe_from (Some c) h valid =
     let v = valid c refl in
@@ -63,10 +67,11 @@ safe_from (Some c) h valid =
       primaries = safe.primaries;
       epochs = safe.epochs;
       writes = writes_kept_lem is_frame c h v.sound v.valid;
+      answers = λ ago. names_covered_lem is_frame c (drop ago h) v.sound (valid_drop is_frame c h ago v.valid);
     }
 
 -- Whatever the bytes are, the run of the events that are accepted is safe.
 pub accepted_is_safe : (bytes : List ℕ) → IsSafe (judge bytes)
 accepted_is_safe bytes =
     let safe = safe_from (judge bytes).config (judge bytes).history (accepted_valid bytes) in
-    record { ring = safe.ring; taken = safe.taken; places = safe.places; primaries = safe.primaries; epochs = safe.epochs; writes = safe.writes }
+    record { ring = safe.ring; taken = safe.taken; places = safe.places; primaries = safe.primaries; epochs = safe.epochs; writes = safe.writes; answers = safe.answers }
