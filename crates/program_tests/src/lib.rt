@@ -17,6 +17,8 @@ mod lengths;
 #[cfg(test)]
 mod limits;
 #[cfg(test)]
+mod names;
+#[cfg(test)]
 mod partitions;
 #[cfg(test)]
 mod schedules;
@@ -24,3 +26,5 @@ mod schedules;
 mod small;
 #[cfg(test)]
 mod take_overs;
+#[cfg(test)]
+mod writes;

@@ -2,18 +2,24 @@ use crate::schedules::expect_replay;
 use std::test::Fail;
 
 /// One node, one arbitrator.
-const ALONE: &str =
+pub(crate) const ALONE: &str =
     "{\"lease\":3000,\"answer\":1000,\"drift\":10,\"grain\":1,\"nodes\":[{\"node\":1,\"point\":\"0000000000000000\"}],\"arbiters\":[{\"arbiter\":1}],\"first\":1}";
 
 /// Partition 1 is created at node 1, and written: lines 2 to 15.
-const CREATED: [&str; 3] = [
+pub(crate) const CREATED: [&str; 3] = [
     "start 1 0\nstart a1\ndo 1 create 1 1",
     "give 1\ngive 2\ngive 3\ngive 4\ngive 5\ngive 6\ngive 7\ngive 8\ngive 9\ngive 10",
     "do 1 write 1 hello",
 ];
 
-/// What is written of it: the frames of one reconfiguration, and the write that a majority of one has confirmed at once.
-const OF_CREATED: [&str; 16] = [
+/// Its data is given up for what node 1 has, and it is written again: lines 16 to 29.
+pub(crate) const LOST: [&str; 2] = [
+    "do 1 lose 1 1\ngive 11\ngive 12\ngive 13\ngive 14\ngive 15\ngive 16\ngive 17",
+    "give 18\ngive 19\ngive 20\ngive 21\ngive 22\ndo 1 write 1 again",
+];
+
+/// What is written of the first: the frames of one reconfiguration, and the write that a majority of one has confirmed at once.
+pub(crate) const OF_CREATED: [&str; 16] = [
     "2 0 1.1 0 own 0000000000000000-ffffffffffffffff -",
     "4 0 1.1 0 sent 1-1",
     "5 0 a1 - sent 2-2",
@@ -60,10 +66,6 @@ fn what_cannot_be_written_or_placed_is_refused(rt: HostRuntime) -> Result<(), Fa
 
 #[test]
 fn a_loss_of_data_opens_a_number(rt: HostRuntime) -> Result<(), Fail> {
-    let lost = [
-        "do 1 lose 1 1\ngive 11\ngive 12\ngive 13\ngive 14\ngive 15\ngive 16\ngive 17",
-        "give 18\ngive 19\ngive 20\ngive 21\ngive 22\ndo 1 write 1 again",
-    ];
     let answers = [
         "16 0 1.1 0 sent 11-11",
         "17 0 a1 - sent 12-12",
@@ -85,6 +87,6 @@ fn a_loss_of_data_opens_a_number(rt: HostRuntime) -> Result<(), Fail> {
         "29 0 1.1 0 committed 1 1.1 2",
         "end 28 22",
     ];
-    let events: [&[&str]; 3] = [&[ALONE], &CREATED, &lost];
+    let events: [&[&str]; 3] = [&[ALONE], &CREATED, &LOST];
     expect_replay(&rt, rt.alloc(), &events, 0, &[&OF_CREATED, &answers])
 }
