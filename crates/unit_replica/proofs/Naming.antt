@@ -8,7 +8,6 @@ use Rattle.ring_points.specs.declared.unit.Epoch.{Epoch}
 use Rattle.ring_points.specs.Epochs.{is_older}
 use Rattle.replica_core.specs.declared.entry.Entry.{Entry}
 use Rattle.replica_core.specs.declared.refusal.Done.{Done}
-use Rattle.replica_core.specs.declared.refusal.Done.TheVariants.{New}
 use Rattle.replica_core.specs.declared.refusal.ReplicaRefusal.{ReplicaRefusal}
 use Rattle.replica_core.specs.Calls.{Answers, Outcome, append_call, held_if, is_ahead, unless}
 use Rattle.replica_core.specs.Replicas.{Replica, written}
