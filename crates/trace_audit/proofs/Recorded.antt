@@ -12,11 +12,9 @@ use Rattle.fabric_fit.proofs.Units.{units_send, units_tell_in_range}
 use Rattle.fabric_lemmas.specs.Maps.{rises_from}
 use Rattle.fabric_terms.specs.declared.config.FabricConfig.{FabricConfig}
 use Rattle.fabric_terms.specs.declared.event.Event.{Event}
-use Rattle.fabric_terms.specs.declared.event.Event.TheVariants.{Tick}
 use Rattle.fabric_terms.specs.Ranges.{Fits, IsNumber}
-use Rattle.fabric_terms.specs.Runs.{Clocks, Entry, Moment, Run}
+use Rattle.fabric_terms.specs.Runs.{Entry, Moment}
 use Rattle.fabric_terms.specs.Sound.{IsSound}
-use Rattle.frames_fit.specs.Formats.{ReportInRange}
 use Rattle.frames_fit.specs.Laws.{EntryFits}
 use Rattle.frames_fit.proofs.Valid.{world_in_range}
 use Rattle.frames_fit.proofs.Worlds.{RunningInRange}
@@ -33,10 +31,10 @@ use Rattle.schedule_replay.proofs.Judging.{judge_line, judge_on}
 use Rattle.source_lines.specs.Lines.{is_ignored, most_first_line, most_line, most_lines}
 use Rattle.transcript_audit.specs.Said.{is_above}
 use Rattle.world_rules.specs.Events.{world_step}
-use Rattle.world_rules.specs.Runs.{History, moment_of, run_of, world_after}
+use Rattle.world_rules.specs.Runs.{History, moment_of, run_of}
 use Rattle.world_rules.specs.Schedules.{is_there, keeps_bound}
 use Rattle.world_rules.specs.Worlds.{Running, World, clocks_in}
-use Rattle.trace_audit.specs.Recordings.{ClocksRise, EntryHasLines, HasLines, IsRecordable, IsRecording, LinesRise}
+use Rattle.trace_audit.specs.Recordings.{ClocksRise, HasLines, IsRecordable, IsRecording, LinesRise}
 use Rattle.trace_audit.proofs.Few.{few_listed}
 use Rattle.trace_audit.proofs.Seeing.{IsSeen, count_grows, configured_node, entry_seen}
 use Rattle.trace_audit.proofs.Worlds.{NodeSeen, Seen, none_seen, seen_after}

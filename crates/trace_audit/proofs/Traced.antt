@@ -1,5 +1,5 @@
 -- What `trace` writes of a good schedule is audited as safe.
-use Rattle.std.proofs.Common.{◌≡◌, ℕ, suc, List, [], ◌∷◌, ◌++◌, length, Option, Some, None, Ok, refl, sym, ap, subst, ◌∙◌}
+use Rattle.std.proofs.Common.{◌≡◌, ℕ, suc, List, [], ◌∷◌, ◌++◌, length, Option, Some, None, Ok, refl, ap, subst, ◌∙◌}
 use Rattle.std.proofs.lemmas.List.{append-nil}
 use Rattle.fabric_above.specs.Fabric.{fabric}
 use Rattle.fabric_status.specs.declared.status.Refusal.{Refusal}
@@ -10,7 +10,7 @@ use Rattle.ring_world.specs.Answers.{is_frame}
 use Rattle.run_safety.proofs.Safe.{runs_are_safe_lem}
 use Rattle.schedule_replay.specs.Laws.{IsValidHistory}
 use Rattle.schedule_replay.specs.Schedule.{judge}
-use Rattle.schedule_replay.specs.Telling.{IsTold, IsToldAt, IsToldWhole, lines_told}
+use Rattle.schedule_replay.specs.Telling.{IsToldAt, IsToldWhole, lines_told}
 use Rattle.schedule_replay.specs.Tellings.{newest, trace_telling}
 use Rattle.schedule_replay.specs.Traces.{group}
 use Rattle.schedule_replay.proofs.Accepted.{accepted_valid}
