@@ -1,5 +1,6 @@
 pub mod Positions
 pub mod Cuts
+pub mod FirstFeed
 pub mod Feeds
 pub mod Pieces
 pub mod Taking

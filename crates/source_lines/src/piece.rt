@@ -5,12 +5,14 @@ ghost use Rattle.source_lines.specs.Feeds.{HasNoFeed};
 ghost use Rattle.source_lines.specs.Stops.{StopsAt};
 
 use edge_io::{Failed, Source};
+use memchr::memchr;
 
 /// Where the first line feed is.
+#[tactic(auto, using(crate::proofs::FirstFeed::first_is_position))]
 pub fn first_feed(bytes: &[u8]) -> Option<usize>
     ensures { result ≡ position (λ b. b == 10) bytes.now }
 {
-    bytes.iter().position(|b| *b == b'\n')
+    memchr(b'\n', bytes)
 }
 
 /// Reads a piece of the source into the room from this place on, and says how many bytes it has.
