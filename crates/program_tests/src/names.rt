@@ -13,13 +13,7 @@ fn a_primary_that_has_committed_nothing_is_not_ready(rt: HostRuntime) -> Result<
         "end 15 10",
     ];
     let events: [&[&str]; 3] = [&[ALONE], &CREATED[..2], &[asked]];
-    expect_replay(
-        &rt,
-        rt.alloc(),
-        &events,
-        0,
-        &[&OF_CREATED[..14], &answers],
-    )
+    expect_replay(&rt, rt.alloc(), &events, 0, &[&OF_CREATED[..14], &answers])
 }
 
 #[test]
@@ -44,11 +38,5 @@ fn names_are_answered_from_what_is_committed(rt: HostRuntime) -> Result<(), Fail
         "end 21 10",
     ];
     let events: [&[&str]; 3] = [&[ALONE], &CREATED[..2], &asked];
-    expect_replay(
-        &rt,
-        rt.alloc(),
-        &events,
-        0,
-        &[&OF_CREATED[..14], &answers],
-    )
+    expect_replay(&rt, rt.alloc(), &events, 0, &[&OF_CREATED[..14], &answers])
 }

@@ -58,12 +58,14 @@ IsRead plan = IsSound plan.config × IsClusterPlan plan
 with_orders : (c : FabricConfig) (turns : ℕ) (orders : List Order) → IsSound c → All (Names c (endpoints_of c Cluster)) orders →
     IsRead (record { config = c; actors = endpoints_of c Cluster; orders = orders; turns = turns })
 with_orders c turns orders sound named =
-    let stretch : Stretch c 0 (arbiter_actor 10) (nodes_to c 999 ++ arbiters_to c 9) = cluster_rises c sound in
-    (sound, record {
-      rise = stretch.rise;
-      configured = all_at (IsOf c) (nodes_to c 999 ++ arbiters_to c 9) stretch.known;
-      named = λ k o e here at. all_at (Names c (endpoints_of c Cluster)) orders named k o here e at;
-    })
+    let stretch : Stretch c 0 (arbiter_actor 10) (nodes_to c 999 ++ arbiters_to c 9) = cluster_rises c sound in (
+      sound,
+      record {
+        rise = stretch.rise;
+        configured = all_at (IsOf c) (nodes_to c 999 ++ arbiters_to c 9) stretch.known;
+        named = λ k o e here at. all_at (Names c (endpoints_of c Cluster)) orders named k o here e at;
+      },
+    )
 
 plan_read : (c : FabricConfig) (turns : ℕ) (ls : List (List ℕ)) (plan : Plan) → IsSound c → plan_of Cluster turns c ls ≡ Ok plan → IsRead plan
 plan_read c turns ls plan sound is = by_orders (judge_from Cluster c (endpoints_of c Cluster) turns [] 1 2 ls) refl is

@@ -17,7 +17,13 @@ const SOURCES: [(&[&str], &str, &str, u8, &str); 12] = [
         "fault line 3",
     ),
     (&["node", "1", "2"], "1 link 1", "", 8, "fault nosuch 2"),
-    (&["node", "1", "2"], "1 resolve 1 a,b", "", 6, "fault line 2"),
+    (
+        &["node", "1", "2"],
+        "1 resolve 1 a,b",
+        "",
+        6,
+        "fault line 2",
+    ),
     (&["cluster", "2"], "1 link 2", "", 6, "fault line 2"),
     (&["cluster", "2"], "1 3 link 2", "", 8, "fault nosuch 2"),
     (
