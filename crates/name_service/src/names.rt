@@ -115,7 +115,8 @@ fn push_marked(
     Ok(())
 }
 
-/// The first 64 names whose points are in the range, in the order of the rows.
+/// The first 64 names whose points are in the range, in the order of the rows. Where a word of the mask marks none, its
+/// rows are passed at once.
 fn names_in(
     alloc: Global,
     points: &[u64],
@@ -127,11 +128,14 @@ fn names_in(
 {
     let mask = mask_of(alloc, points, range)?;
     let mut names = Vec::new(alloc);
-    for i in 0..rows.len() {
-        if names.len() == MOST_LISTED {
-            return Ok(names);
+    let mut i = 0;
+    while i < rows.len() && names.len() < MOST_LISTED {
+        if mask[i / 64] == 0 {
+            i += 64 - i % 64;
+        } else {
+            push_marked(alloc, &mask, rows, i, &mut names)?;
+            i += 1;
         }
-        push_marked(alloc, &mask, rows, i, &mut names)?;
     }
     Ok(names)
 }
