@@ -1,9 +1,11 @@
 -- The names of a range, row by row.
-use Rattle.std.proofs.Common.{◌≡◌, ◌≢◌, ◌==◌, ℕ, zero, suc, ◌+◌, ◌<◌, ◌≤◌, ◌↔◌, Bool, true, false, cond, IsTrue, List, [], ◌∷◌, ◌++◌, filter, length, map, take, drop, arith, refl, ap, sym, ◌∙◌}
+use Rattle.std.proofs.Common.{◌≡◌, ◌≢◌, ◌==◌, ◌⊎◌, inl, inr, ℕ, zero, suc, ◌+◌, ◌/◌, ◌%◌, ◌<◌, ◌≤◌, ◌↔◌, Bool, true, false, cond, IsTrue, List, [], ◌∷◌, ◌++◌, filter, length, map, take, drop, arith, refl, ap, sym, ◌∙◌}
 use Rattle.std.specs.List.{slice_index, slice_index_or}
-use Rattle.std.proofs.lemmas.List.{take-append-drop, take_all}
+use Rattle.std.specs.Int.{bit_at}
+use Rattle.std.proofs.lemmas.List.{append-nil, take-append-drop, take_all}
 use Rattle.std.proofs.lemmas.List.Elements.{filter_more}
-use Rattle.std.proofs.lemmas.Bool.{both_ways, eqb-true}
+use Rattle.std.proofs.lemmas.Bool.{both_ways, cases_lt, eqb-true}
+use Rattle.std.proofs.lemmas.Nat.Bits.{bit_at-zero}
 use Rattle.lane_scan.specs.Masks.{is_between}
 use Rattle.ring_points.specs.declared.interval.Interval.{Interval}
 use Rattle.name_service.specs.Names.{is_within, point_of}
@@ -47,6 +49,26 @@ marked : (range : Interval) (points : List ℕ) (rows : Rows) (mask : List ℕ) 
 marked range points rows mask i m beside l =
     let same : slice_index points i ≡ point_of (name_at i rows) = ap (λ ps. slice_index_or ps i 0) beside ∙ point_at rows i l in
     alike (bit_of mask i) _ (m.each i (omega (arith, ap length beside, length-column rows, l))) ∙ ap (is_between range.lo range.hi) same
+
+-- a row whose bit is 0 adds no name
+passed : (range : Interval) (points : List ℕ) (rows : Rows) (mask : List ℕ) (i : ℕ) → Marks range points mask → points ≡ map (λ r. point_of r.0) rows → bit_of mask i ≡ 0
+    → (i < length rows) ⊎ (length rows ≤ i) → listed range rows (i + 1) ≡ listed range rows i
+passed range points rows mask i m beside none (inl l) =
+    filter_more (is_within range) (names_of rows) i [] (omega (arith, length-names rows, l))
+    ∙ ap (λ b. listed range rows i ++ cond b (name_at i rows ∷ []) []) (sym (marked range points rows mask i m beside l) ∙ ap (λ n. n == 1) none)
+    ∙ append-nil (listed range rows i)
+passed range points rows mask i m beside none (inr past) =
+    ap (filter (is_within range)) (take_all (i + 1) (names_of rows) (omega (arith, length-names rows, past)) ∙ sym (take_all i (names_of rows) (omega (arith, length-names rows, past))))
+
+-- the rows of a word of zeros add no name
+pub passed_by : (range : Interval) (points : List ℕ) (rows : Rows) (mask : List ℕ) (i k : ℕ) → Marks range points mask → points ≡ map (λ r. point_of r.0) rows → slice_index mask (i / 64) ≡ 0
+    → i % 64 + k ≤ 64 → listed range rows (i + k) ≡ listed range rows i
+passed_by range points rows mask i zero m beside none l = ap (listed range rows) (omega arith)
+passed_by range points rows mask i (suc k) m beside none l =
+    let none_here : bit_of mask (i + k) ≡ 0 = ap (λ w. bit_at (slice_index mask w) ((i + k) % 64)) (omega arith) ∙ ap (λ w. bit_at w ((i + k) % 64)) none ∙ bit_at-zero ((i + k) % 64) in
+    ap (listed range rows) (omega arith)
+    ∙ passed range points rows mask (i + k) m beside none_here (cases_lt (i + k) (length rows))
+    ∙ passed_by range points rows mask i k m beside none (omega (arith, l))
 
 pub one_more : (range : Interval) (points : List ℕ) (rows : Rows) (mask : List ℕ) (i : ℕ) (names names' : List (List ℕ)) → Marks range points mask → points ≡ map (λ r. point_of r.0) rows → i < length rows
     → names ≡ listed range rows i → names' ≡ names ++ name_if (bit_of mask i == 1) (name_at i rows) → names' ≡ listed range rows (i + 1)

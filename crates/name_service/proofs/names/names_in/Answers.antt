@@ -1,9 +1,18 @@
-use Rattle.std.proofs.Common.{rules}
-use Rattle.name_service.proofs.Listed.{all_told, no_more, one_longer, one_more}
+use Rattle.std.proofs.Common.{◌≡◌, ◌/◌, ◌∙◌, ap, arith, length, rules, sym}
+use Rattle.std.specs.List.{slice_index}
+use Rattle.name_service.proofs.Listed.{all_told, no_more, one_longer, one_more, passed_by}
 use Rattle.name_service.proofs.names.names_in.Goals as goal
+use Rattle.name_service.proofs.names.names_in.Goals.{then-loop-i-test+else-len-lt-MOST_LISTED, else-loop-i-test}
 
-pub returns-then-len-eq-MOST_LISTED : goal.returns-then-len-eq-MOST_LISTED
-returns-then-len-eq-MOST_LISTED c = all_told c.args.range.now c.args.rows.now c.loop-i.i c.loop-i.names.items c.loop-i.invariant.0 (search rules)
+pub loop-i-init : goal.loop-i-init
+loop-i-init c = (c.new-names.ensures.items, omega (arith, ap length c.new-names.ensures.items))
+
+pub loop-i-preserved-then-index-eq0 : goal.loop-i-preserved-then-index-eq0
+loop-i-preserved-then-index-eq0 c =
+    let none : slice_index c.in_ok-mask.mask.items (c.loop-i.i / 64) ≡ 0 = cc (c.index.ensures, c.if-index-eq0.true) in (
+      c.loop-i.invariant.0 ∙ sym (passed_by c.args.range.now c.args.points.now c.args.rows.now c.in_ok-mask.mask.items c.loop-i.i _ c.in_ok-mask.ensures c.requires none (omega arith)),
+      c.loop-i.invariant.1,
+    )
 
 pub loop-i-preserved : goal.loop-i-preserved
 loop-i-preserved c =
@@ -14,4 +23,7 @@ loop-i-preserved c =
     )
 
 pub returns : goal.returns
-returns c = no_more c.args.range.now c.args.rows.now c.loop-i.i c.loop-i.names.items c.loop-i.invariant.0 (search rules) c.loop-i.invariant.1
+returns c = elim c.loop-i-test.branch [
+  | then-loop-i-test+else-len-lt-MOST_LISTED w ↦ all_told c.args.range.now c.args.rows.now c.loop-i.i c.loop-i.names.items c.loop-i.invariant.0 (search rules)
+  | else-loop-i-test w ↦ no_more c.args.range.now c.args.rows.now c.loop-i.i c.loop-i.names.items c.loop-i.invariant.0 (search rules) c.loop-i.invariant.1
+]
