@@ -2,3 +2,4 @@ mod OnePlace
 mod Ended
 mod Strangers
 mod Example
+pub mod Barred

@@ -25,6 +25,10 @@ pub record Recalled (actors : List Endpoint) (a : Told) (kept : List (List Recor
   pub told : (place : ℕ) (e : Endpoint) (records : List Record) → slice_get actors place ≡ Some e → slice_get kept place ≡ Some records → Tells (a.kept e.actor) (map spelling records)
   pub good : (place : ℕ) (e : Endpoint) (records : List Record) → slice_get actors place ≡ Some e → slice_get kept place ≡ Some records → IsGoodFor e.actor records
 
+-- the keeper tells what it holds of each of these actors
+abbrev pub TellsKept : List Endpoint → Told → Type 0
+TellsKept actors a = (place : ℕ) (e : Endpoint) → slice_get actors place ≡ Some e → (lists : List (List ℕ)) × (a.kept e.actor ≡ Some lists)
+
 -- The list is bad for the actor, from this record on, counted from 1: it is no record or not in its place; or the whole
 -- list is good, and of the other kind of actor.
 abbrev pub IsBadFor : ℕ → List (List ℕ) → ℕ → Type 0

@@ -17,7 +17,7 @@ use Rattle.turn_rules.specs.Happenings.{History}
 use Rattle.turn_rules.specs.Order.{IsInOrder, arrive}
 use Rattle.turn_rules.specs.Plans.{Plan, Setting}
 use Rattle.turn_rules.specs.Process.{after}
-use Rattle.turn_rules.specs.Recalled.{Recalled, IsBadKeep}
+use Rattle.turn_rules.specs.Recalled.{Recalled, IsBadKeep, TellsKept}
 use Rattle.turn_rules.specs.Works.{works_of}
 use Rattle.turn_rules.specs.declared.stop.Stop.{Stop}
 use Rattle.turn_rules.specs.declared.stop.Stop.TheVariants as stop
@@ -45,6 +45,13 @@ pub record OpenedOnly (plan : Plan) (n : ℕ) (a b : Told) : Type 0 where
   pub untouched : Untouched a b
   pub opened : b.opened ≡ a.opened ++ take n plan.actors
 
+-- the endpoints were being opened: the records of all actors are good, and the first so many endpoints are open
+pub record Opening (plan : Plan) (n : ℕ) (a b : Told) : Type 0 where
+  pub kept : List (List Record)
+  pub recalled : Recalled plan.actors a kept
+  pub all : length kept ≡ length plan.actors
+  pub opened : OpenedOnly plan n a b
+
 -- what is told once all endpoints are opened
 abbrev pub with_endpoints : Plan → Told → Told
 with_endpoints plan a = record a { opened = a.opened ++ plan.actors }
@@ -65,9 +72,9 @@ StoppedRun plan a b stopped = (kept : List (List Record)) × (Recalled plan.acto
 -- How the run of a plan ends.
 abbrev pub Ends : Plan → Told → Result (Unit {0}) Stop → Told → Type 0
 Ends plan a (Ok done) b = (kept : List (List Record)) × (Recalled plan.actors a kept × (length kept ≡ length plan.actors) × Whole plan kept a b)
-Ends plan a (Err stop.OutOfMemory) b = ((n : ℕ) × OpenedOnly plan n a b) ⊎ StoppedRun plan a b stop.OutOfMemory
+Ends plan a (Err stop.OutOfMemory) b = OpenedOnly plan 0 a b ⊎ (((n : ℕ) × Opening plan n a b) ⊎ StoppedRun plan a b stop.OutOfMemory)
 Ends plan a (Err stop.KeepFault) b = (OpenedOnly plan 0 a b × HasRisen a.keep_faults b.keep_faults) ⊎ StoppedRun plan a b stop.KeepFault
-Ends plan a (Err stop.LinkFault) b = (n : ℕ) × ((n < length plan.actors) × OpenedOnly plan n a b × HasRisen a.link_faults b.link_faults)
+Ends plan a (Err stop.LinkFault) b = (n : ℕ) × ((n < length plan.actors) × Opening plan n a b × HasRisen a.link_faults b.link_faults)
 Ends plan a (Err (stop.BadKeep i)) b = IsBadKeep plan a i × OpenedOnly plan 0 a b
 Ends plan a (Err stopped) b = StoppedRun plan a b stopped
 
@@ -149,8 +156,22 @@ abbrev pub Completes : Plan → Told → Status → Told → Type 0
 Completes plan a ended c =
     NoFault a c → ((¬ HasRisen a.link_faults c.link_faults) ⊎ (c.opened ≡ a.opened ++ plan.actors)) → ((i : ℕ) → ¬ IsBadKeep plan a i) → IsComplete ended
 
--- The whole promise: how the call ends and what it leaves, why its status comes, and that nothing else ends it.
+-- how a run may end where a record is bad: with it, or nobody heard of it
+abbrev pub IsBadEnd : ℕ → Status → Type 0
+IsBadEnd i (status.BadKeep j) = j ≡ i
+IsBadEnd i status.KeepFault = Unit {0}
+IsBadEnd i status.OutOfMemory = Unit {0}
+IsBadEnd i status.WriteFault = Unit {0}
+IsBadEnd i _ = ⊥
+
+-- where the keeper tells, and a record is bad, no endpoint is opened
+abbrev pub Bars : Plan → Told → Status → Told → Type 0
+Bars plan a ended c = TellsKept plan.actors a → (i : ℕ) → IsBadKeep plan a i → IsBadEnd i ended × (c.opened ≡ a.opened)
+
+-- The whole promise: how the call ends and what it leaves, why its status comes, that nothing else ends it, and that a bad
+-- record does.
 pub record IsRun (plan : Plan) (a : Told) (ended : Status) (c : Told) : Type 0 where
   pub runs : Runs plan a ended c
   pub cause : Cause plan a ended c
   pub complete : Completes plan a ended c
+  pub bad : Bars plan a ended c
