@@ -14,6 +14,7 @@ use Rattle.keep_log.specs.Spellings.{spelling}
 use Rattle.keep_log.proofs.Lists.{all_decided}
 use Rattle.keep_log.proofs.Spelled.{one_spelling}
 use Rattle.outside.specs.Told.{Told}
+use Rattle.turn_rules.specs.Laws.{BadRecordsBar}
 use Rattle.turn_rules.specs.Plans.{Plan}
 use Rattle.turn_rules.specs.Recalled.{AreOf, IsBadFor, IsBadKeep, IsGoodFor, Recalled, TellsKept}
 use Rattle.turn_rules.specs.Whole.{Bars, Ends, Finishes, IsBadEnd, OpenedOnly, Opening, StoppedRun, status_of}
@@ -124,3 +125,6 @@ module _ (plan : Plan) (a : Told) (tells : TellsKept plan.actors a) where
 -- what is said of a bad record holds of every run
 pub barred : (plan : Plan) (a b : Told) (r : Result (Unit {0}) Stop) (ended : Status) (c : Told) → Ends plan a r b → Finishes plan.turns r b ended c → Bars plan a ended c
 barred plan a b r ended c e f = λ tells i k. finishes plan a tells i k b r ended c e f
+
+pub bad_records_bar : BadRecordsBar
+bad_records_bar plan a ended c r = barred plan a r.before_last r.result ended c r.ends r.finishes

@@ -1,12 +1,15 @@
 -- What holds of every run, and examples that are computed.
 use Rattle.std.specs.Prelude.{◌≡◌, ℕ, List, [], ◌∷◌, Some, None, codes}
+use Rattle.fabric_status.specs.declared.status.Status.{Status}
 use Rattle.fabric_terms.specs.declared.command.Command.TheVariants.{Join}
 use Rattle.fabric_terms.specs.declared.config.FabricConfig.{FabricConfig}
 use Rattle.fabric_terms.specs.declared.message.Message.{Message}
+use Rattle.outside.specs.Told.{Told}
 use Rattle.turn_rules.specs.Happenings.{Absent, Begins, Bids, Datagram, Fires, Happening, Hears, History, Turns, Comes}
 use Rattle.turn_rules.specs.Order.{IsInOrder, Place, arrive}
 use Rattle.turn_rules.specs.Plans.{Plan, Setting}
 use Rattle.turn_rules.specs.Process.{End, after}
+use Rattle.turn_rules.specs.Whole.{Bars, Runs}
 use Rattle.turn_rules.specs.Works.{posts_of}
 
 -- what has come in order leads to one place
@@ -20,6 +23,10 @@ NothingAfterEnd = (s : Setting) (h : History) (x : Happening) (end : End) → (a
 -- no frame is sent to an actor that is not configured
 abbrev pub NoneToStrangers : Type 0
 NoneToStrangers = (c : FabricConfig) (ms : List Message) → c.nodes ≡ [] → c.arbiters ≡ [] → posts_of c ms ≡ []
+
+-- where a record is bad, a run ends with it, or nobody heard of it, and opens no endpoint
+abbrev pub BadRecordsBar : Type 0
+BadRecordsBar = (plan : Plan) (a : Told) (ended : Status) (c : Told) → Runs plan a ended c → Bars plan a ended c
 
 -- An example: node 1 and arbitrator 1 take one turn, in which the node has a command.
 

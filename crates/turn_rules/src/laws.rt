@@ -1,4 +1,4 @@
-ghost use Rattle.turn_rules.specs.Laws.{ExampleIsInOrder, NoneToStrangers, NothingAfterEnd, OnePlace};
+ghost use Rattle.turn_rules.specs.Laws.{BadRecordsBar, ExampleIsInOrder, NoneToStrangers, NothingAfterEnd, OnePlace};
 
 /// What has come in order leads to one place: what may come next does not depend on how the order is seen.
 pub fn what_has_come_leads_to_one_place()
@@ -13,6 +13,11 @@ pub fn nothing_comes_after_an_end()
 /// Where no actor is configured, no frame makes a datagram.
 pub fn a_frame_to_nobody_makes_no_datagram()
     ensures { NoneToStrangers }
+{}
+
+/// Where the keeper tells and a record is bad, a run ends with it, or nobody heard of it, and no endpoint is opened.
+pub fn a_bad_record_bars_a_run()
+    ensures { BadRecordsBar }
 {}
 
 /// The starts and a turn of a node and an arbitrator, as an example that is computed.

@@ -13,8 +13,8 @@ mod order;
 mod stop;
 
 pub use laws::{
-    a_frame_to_nobody_makes_no_datagram, a_turn_in_order, nothing_comes_after_an_end,
-    what_has_come_leads_to_one_place,
+    a_bad_record_bars_a_run, a_frame_to_nobody_makes_no_datagram, a_turn_in_order,
+    nothing_comes_after_an_end, what_has_come_leads_to_one_place,
 };
 pub use order::Order;
 pub use stop::Stop;
