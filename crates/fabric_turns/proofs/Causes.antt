@@ -33,10 +33,12 @@ opened_sink plan n a c o = omega (arith, o.untouched.sink)
 
 ends_sink : (plan : Plan) (a c : Told) (r : Result (Unit {0}) Stop) → Ends plan a r c → a.sink_faults ≤ c.sink_faults
 ends_sink plan a c (Ok done) k = k.1.2.stays.sink
-ends_sink plan a c (Err stop.OutOfMemory) k = ⊎_elim (λ (n : (m : ℕ) × OpenedOnly plan m a c). opened_sink plan n.0 a c n.1) (λ s. run_sink plan a c stop.OutOfMemory s) k
+ends_sink plan a c (Err stop.OutOfMemory) (inl recalling) = opened_sink plan 0 a c recalling
+ends_sink plan a c (Err stop.OutOfMemory) (inr (inl opening)) = opened_sink plan opening.0 a c opening.1.opened
+ends_sink plan a c (Err stop.OutOfMemory) (inr (inr s)) = run_sink plan a c stop.OutOfMemory s
 ends_sink plan a c (Err stop.WriteFault) k = run_sink plan a c stop.WriteFault k
 ends_sink plan a c (Err stop.KeepFault) k = ⊎_elim (λ (n : OpenedOnly plan 0 a c × HasRisen a.keep_faults c.keep_faults). opened_sink plan 0 a c n.0) (λ s. run_sink plan a c stop.KeepFault s) k
-ends_sink plan a c (Err stop.LinkFault) k = opened_sink plan k.0 a c k.1.1
+ends_sink plan a c (Err stop.LinkFault) k = opened_sink plan k.0 a c k.1.1.opened
 ends_sink plan a c (Err (stop.ClockBack former latter)) k = run_sink plan a c (stop.ClockBack former latter) k
 ends_sink plan a c (Err (stop.Left why)) k = run_sink plan a c (stop.Left why) k
 ends_sink plan a c (Err (stop.BadKeep i)) k = opened_sink plan 0 a c k.1
@@ -53,7 +55,7 @@ run_cause plan a b (Err stop.KeepFault) c k w =
     subst (λ (n : ℕ). HasRisen a.keep_faults n) (sym (ap (λ (t : Told). t.keep_faults) w.rest)) risen
 run_cause plan a b (Err stop.LinkFault) c k w = (
   subst (λ (n : ℕ). HasRisen a.link_faults n) (sym (ap (λ (t : Told). t.link_faults) w.rest)) k.1.2,
-  (k.0, (k.1.0, ap (λ (t : Told). t.opened) w.rest ∙ k.1.1.opened)),
+  (k.0, (k.1.0, ap (λ (t : Told). t.opened) w.rest ∙ k.1.1.opened.opened)),
 )
 run_cause plan a b (Err (stop.ClockBack former latter)) c k w = omega (arith, k.1.2.1, ap (λ (t : Told). t.falls) w.rest)
 run_cause plan a b (Err (stop.Left why)) c k w = tt

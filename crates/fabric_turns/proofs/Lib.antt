@@ -8,4 +8,5 @@ mod Hearing
 mod RecordKinds
 mod Recalling
 mod Opened
+mod Unopened
 mod Causes

@@ -120,7 +120,7 @@ at_first plan list run a b c none p o = record {
 
 -- the run stopped
 pub ends_stopped : (plan : Plan) (list : List (List Record)) (kept : List (Option Kept)) (a b c : Told) (r : Stop) → RecalledAll plan a list kept b → Stopped (setting plan list) (with_endpoints plan a) c r → Ends plan a (Err r) c
-ends_stopped plan list kept a b c stop.OutOfMemory k s = inr (list, (k.recalled, k.are_kept.all, s))
+ends_stopped plan list kept a b c stop.OutOfMemory k s = inr (inr (list, (k.recalled, k.are_kept.all, s)))
 ends_stopped plan list kept a b c stop.WriteFault k s = (list, (k.recalled, k.are_kept.all, s))
 ends_stopped plan list kept a b c stop.KeepFault k s = inr (list, (k.recalled, k.are_kept.all, s))
 ends_stopped plan list kept a b c stop.LinkFault k s = absurd s
@@ -165,10 +165,12 @@ run_loans plan a c r k = stopped_loans (setting plan k.0) (with_endpoints plan a
 
 ends_loans : (plan : Plan) (a c : Told) (r : Result (Unit {0}) Stop) → Ends plan a r c → c.loans ≡ a.loans
 ends_loans plan a c (Ok done) k = k.1.2.stays.loans
-ends_loans plan a c (Err stop.OutOfMemory) k = ⊎_elim (λ (n : (m : ℕ) × OpenedOnly plan m a c). n.1.untouched.loans) (λ s. run_loans plan a c stop.OutOfMemory s) k
+ends_loans plan a c (Err stop.OutOfMemory) (inl recalling) = recalling.untouched.loans
+ends_loans plan a c (Err stop.OutOfMemory) (inr (inl opening)) = opening.1.opened.untouched.loans
+ends_loans plan a c (Err stop.OutOfMemory) (inr (inr s)) = run_loans plan a c stop.OutOfMemory s
 ends_loans plan a c (Err stop.WriteFault) k = run_loans plan a c stop.WriteFault k
 ends_loans plan a c (Err stop.KeepFault) k = ⊎_elim (λ (n : OpenedOnly plan 0 a c × HasRisen a.keep_faults c.keep_faults). n.0.untouched.loans) (λ s. run_loans plan a c stop.KeepFault s) k
-ends_loans plan a c (Err stop.LinkFault) k = k.1.1.untouched.loans
+ends_loans plan a c (Err stop.LinkFault) k = k.1.1.opened.untouched.loans
 ends_loans plan a c (Err (stop.ClockBack former latter)) k = run_loans plan a c (stop.ClockBack former latter) k
 ends_loans plan a c (Err (stop.Left why)) k = run_loans plan a c (stop.Left why) k
 ends_loans plan a c (Err (stop.BadKeep i)) k = k.1.untouched.loans

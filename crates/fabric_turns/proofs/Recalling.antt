@@ -21,6 +21,7 @@ use Rattle.ring_rules.specs.Arbiters.{no_table}
 use Rattle.turn_members.specs.Members.{IsKept}
 use Rattle.turn_rules.specs.Plans.{Plan}
 use Rattle.turn_rules.specs.Recalled.{IsBadFor, IsBadKeep, IsGoodFor, Recalled}
+use Rattle.turn_rules.specs.Whole.{Untouched}
 use Rattle.turn_rules.specs.declared.stop.Stop.{Stop}
 use Rattle.turn_rules.specs.declared.stop.Stop.TheVariants as stop
 use Rattle.world_rules.specs.Events.{is_arbiter_actor}
@@ -92,23 +93,23 @@ so_far_none plan a kept none = record {
       opened = refl;
     }
 
-pub only_on : (a b c : Told) → OnlyRecalled a b → OnlyRecalled b c → OnlyRecalled a c
-only_on a b c p q = record {
-  untouched = record {
-    loans = q.untouched.loans ∙ p.untouched.loans;
-    held = q.untouched.held ∙ p.untouched.held;
-    kept = λ actor. q.untouched.kept actor ∙ p.untouched.kept actor;
-    sent = q.untouched.sent ∙ p.untouched.sent;
-    arrivals = λ actor. q.untouched.arrivals actor ∙ p.untouched.arrivals actor;
-    readings = q.untouched.readings ∙ p.untouched.readings;
-    keeper = omega (arith, p.untouched.keeper, q.untouched.keeper);
-    links = omega (arith, p.untouched.links, q.untouched.links);
-    sink = q.untouched.sink ∙ p.untouched.sink;
-    falls = q.untouched.falls ∙ p.untouched.falls;
-    last = q.untouched.last ∙ p.untouched.last;
-  };
-  opened = q.opened ∙ p.opened;
+pub untouched_on : (a b c : Told) → Untouched a b → Untouched b c → Untouched a c
+untouched_on a b c p q = record {
+  loans = q.loans ∙ p.loans;
+  held = q.held ∙ p.held;
+  kept = λ actor. q.kept actor ∙ p.kept actor;
+  sent = q.sent ∙ p.sent;
+  arrivals = λ actor. q.arrivals actor ∙ p.arrivals actor;
+  readings = q.readings ∙ p.readings;
+  keeper = omega (arith, p.keeper, q.keeper);
+  links = omega (arith, p.links, q.links);
+  sink = q.sink ∙ p.sink;
+  falls = q.falls ∙ p.falls;
+  last = q.last ∙ p.last;
 }
+
+only_on : (a b c : Told) → OnlyRecalled a b → OnlyRecalled b c → OnlyRecalled a c
+only_on a b c p q = record { untouched = untouched_on a b c p.untouched q.untouched; opened = q.opened ∙ p.opened }
 
 -- what is told of an actor's records does not change meanwhile
 told_before : (actor : ℕ) (lists : List (List ℕ)) (a b : Told) → OnlyRecalled a b → Tells (b.kept actor) lists → Tells (a.kept actor) lists

@@ -1,6 +1,7 @@
 use Rattle.std.proofs.Common.{[]}
 use Rattle.std.proofs.lemmas.Result.{err_from_is_err_and}
 use Rattle.fabric_turns.proofs.Opened.{ready_first, at_first, ends_stopped, ends_turns}
+use Rattle.fabric_turns.proofs.Unopened.{ends_opening, ends_recalling}
 use Rattle.fabric_turns.proofs.whole.run_plan.Goals as goal
 use Rattle.turn_rules.specs.Whole.{with_endpoints}
 
@@ -9,6 +10,17 @@ start_all-requires-clause-ready g c = ready_first c.args.plan.now c.new-run.resu
 
 pub start_all-requires-clause-kept : goal.start_all-requires-clause-kept
 start_all-requires-clause-kept g c = let k = c.in_ok-kept.ensures in (k.0, k.1.are_kept)
+
+pub returns-in_err-kept : goal.returns-in_err-kept
+returns-in_err-kept g c =
+    let p = err_from_is_err_and c.from_residual.result c.from_residual.ensures.1 in
+    rw (p.1, p.2) (ends_recalling c.args.plan.now _ _ c.in_err-kept.field-0.0 c.in_err-kept.ensures)
+
+pub returns-in_err-open_all : goal.returns-in_err-open_all
+returns-in_err-open_all g c =
+    let p = err_from_is_err_and c.from_residual-in_err-open_all.result c.from_residual-in_err-open_all.ensures.1 in
+    let k = c.in_ok-kept.ensures in
+    rw (p.1, p.2) (ends_opening c.args.plan.now k.0 _ _ _ _ c.in_err-open_all.field-0.0 k.1 c.in_err-open_all.ensures)
 
 pub returns-in_err-start_all : goal.returns-in_err-start_all
 returns-in_err-start_all g c =

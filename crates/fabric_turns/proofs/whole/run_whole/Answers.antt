@@ -1,5 +1,6 @@
 use Rattle.fabric_turns.proofs.Causes.{cause_of, complete}
 use Rattle.fabric_turns.proofs.Opened.{both_loans, finishes_as}
+use Rattle.turn_rules.proofs.Barred.{barred}
 use Rattle.fabric_turns.proofs.whole.run_whole.Goals as goal
 
 pub returns-clause-loans : goal.returns-clause-loans
@@ -15,4 +16,5 @@ returns-clause-run g c =
       runs = record { result = c.run_plan-ended.result; before_last = _; ends = c.run_plan-ended.ensures; finishes = f };
       cause = cause;
       complete = complete c.args.plan.now _ c.finish.result _ cause;
+      bad = barred c.args.plan.now _ _ c.run_plan-ended.result c.finish.result _ c.run_plan-ended.ensures f;
     }
