@@ -1,6 +1,5 @@
 -- Why the status of a crew's command comes.
 use Rattle.std.proofs.Common.{◌≡◌, ℕ, List, [], Option, Some, Result, Ok, Err, refl, ap, sym, subst, ◌∙◌, inl, inr, ⊎_elim}
-use Rattle.std.specs.Prelude.{◌⊎◌}
 use Rattle.edge_io.specs.Edge.{HasRisen}
 use Rattle.fabric_status.specs.Codes.{status_of}
 use Rattle.fabric_status.specs.Writes.{Wrote}
@@ -8,10 +7,11 @@ use Rattle.fabric_status.specs.declared.status.Refusal.{Refusal}
 use Rattle.fabric_status.specs.declared.status.Refusal.TheVariants as refusal
 use Rattle.fabric_status.specs.declared.status.Status.{Status}
 use Rattle.fabric_status.specs.declared.status.Status.TheVariants as status
+use Rattle.outside.specs.Told.{Told}
 use Rattle.turn_plans.specs.Plans.{judge_plan}
 use Rattle.turn_plans.specs.declared.crew.Crew.{Crew}
 use Rattle.turn_rules.specs.Plans.{Plan}
-use Rattle.turn_rules.specs.Whole.{Cause, Completes}
+use Rattle.turn_rules.specs.Whole.{Bars, Cause, Completes, IsBadEnd}
 use Rattle.crew_runs.specs.Causes.{AreJudged, CrewCause, EndsAs, IsCrewRun}
 use Rattle.crew_runs.specs.Runs.{IsReadWhole, RunsCrew, RunsJudged, Seen, failed, read, short}
 
@@ -83,6 +83,10 @@ module _ (crew : Crew) (turns : ℕ) (a : Seen) (ended : Status) (c : Seen) wher
       (subst (λ (j : Result Plan Refusal). RunsJudged j a.told ended c.told) same done).wrote)
       k
 
+  -- where memory was short before the run, nothing is opened
+  memory_bars : (plan : Plan) → ended ≡ status.OutOfMemory → c.told ≡ a.told → Bars plan a.told ended c.told
+  memory_bars plan memory same = λ tells i bad. (subst (IsBadEnd i) (sym memory) tt, ap (λ (t : Told). t.opened) same)
+
   run_complete : RunsCrew crew turns a ended c → (bytes : List ℕ) (plan : Plan) → a.left ≡ Some bytes → judge_plan crew turns bytes ≡ Ok plan →
       ¬ HasRisen a.source_faults c.source_faults → Completes plan a.told ended c.told
   run_complete (failed risen ends) bytes plan told is source = absurd (source risen)
@@ -92,5 +96,14 @@ module _ (crew : Crew) (turns : ℕ) (a : Seen) (ended : Status) (c : Seen) wher
       ⊎_elim (λ memory. subst (λ (s : Status). Completes plan a.told s c.told) (sym memory.0) (λ none links good. tt))
       (λ done. (subst (λ (j : Result Plan Refusal). RunsJudged j a.told ended c.told) same done).complete) k
 
+  barred : RunsCrew crew turns a ended c → (bytes : List ℕ) (plan : Plan) → a.left ≡ Some bytes → judge_plan crew turns bytes ≡ Ok plan →
+      ¬ HasRisen a.source_faults c.source_faults → Bars plan a.told ended c.told
+  barred (failed risen ends) bytes plan told is source = absurd (source risen)
+  barred (short memory same) bytes plan told is source = memory_bars plan memory same
+  barred (read all whole k) bytes plan told is source =
+      let same : judge_plan crew turns all ≡ Ok plan = ap (judge_plan crew turns) (whole bytes told).0 ∙ is in
+      ⊎_elim (λ memory. memory_bars plan memory.0 memory.1)
+      (λ done. (subst (λ (j : Result Plan Refusal). RunsJudged j a.told ended c.told) same done).bad) k
+
   pub crew_run : RunsCrew crew turns a ended c → IsCrewRun crew turns a ended c
-  crew_run runs = record { runs = runs; cause = cause_of runs; read = read_whole runs; refused = refused_so runs; complete = run_complete runs }
+  crew_run runs = record { runs = runs; cause = cause_of runs; read = read_whole runs; refused = refused_so runs; complete = run_complete runs; bad = barred runs }

@@ -9,7 +9,7 @@ use Rattle.fabric_status.specs.declared.status.Status.TheVariants as status
 use Rattle.turn_plans.specs.Plans.{judge_plan}
 use Rattle.turn_plans.specs.declared.crew.Crew.{Crew}
 use Rattle.turn_rules.specs.Plans.{Plan}
-use Rattle.turn_rules.specs.Whole.{Cause, Completes}
+use Rattle.turn_rules.specs.Whole.{Bars, Cause, Completes}
 use Rattle.crew_runs.specs.Runs.{RunsCrew, Seen}
 
 -- where the source tells its bytes, this is what they say
@@ -42,3 +42,5 @@ pub record IsCrewRun (crew : Crew) (turns : ℕ) (a : Seen) (ended : Status) (c 
   pub refused : (bytes : List ℕ) (refusal : Refusal) → a.left ≡ Some bytes → judge_plan crew turns bytes ≡ Err refusal → ¬ HasRisen a.source_faults c.source_faults → ¬ HasRisen a.told.sink_faults c.told.sink_faults → EndsAs (status_of refusal) ended
   -- a good plan is run to its last turn, or until a node leaves or a table is full, or memory was short
   pub complete : (bytes : List ℕ) (plan : Plan) → a.left ≡ Some bytes → judge_plan crew turns bytes ≡ Ok plan → ¬ HasRisen a.source_faults c.source_faults → Completes plan a.told ended c.told
+  -- a plan whose actors have a bad record ends with it, and no endpoint is opened
+  pub bad : (bytes : List ℕ) (plan : Plan) → a.left ≡ Some bytes → judge_plan crew turns bytes ≡ Ok plan → ¬ HasRisen a.source_faults c.source_faults → Bars plan a.told ended c.told

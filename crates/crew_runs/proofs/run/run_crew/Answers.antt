@@ -1,4 +1,4 @@
-use Rattle.std.proofs.Common.{◌≡◌, List, ℕ, Some, ap, sym, subst, ◌∙◌, refl}
+use Rattle.std.proofs.Common.{◌∙◌, refl}
 use Rattle.crew_runs.specs.Runs.{failed, read, short}
 use Rattle.outside.specs.Told.{Loans}
 use Rattle.crew_runs.proofs.Causes.{crew_run}
