@@ -2,6 +2,3 @@ pub mod Crews
 pub mod Judging
 pub mod Planning
 pub mod Runs
-mod Rising
-mod Named
-pub mod Clusters

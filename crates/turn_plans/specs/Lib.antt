@@ -2,4 +2,3 @@ pub mod Crews
 pub mod Bids
 pub mod Verdicts
 pub mod Plans
-pub mod Laws

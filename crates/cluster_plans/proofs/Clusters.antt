@@ -19,12 +19,12 @@ use Rattle.source_lines.specs.Lines.{most_first_line}
 use Rattle.turn_rules.specs.Plans.{Plan}
 use Rattle.turn_rules.specs.declared.order.Order.{Order}
 use Rattle.turn_plans.specs.Crews.{arbiters_to, endpoints_of, is_crew, nodes_to}
-use Rattle.turn_plans.specs.Laws.{ReadsClusterPlans}
+use Rattle.cluster_plans.specs.Laws.{ReadsClusterPlans}
 use Rattle.turn_plans.specs.Plans.{config_for, config_from, judge_first, judge_from, judge_lines, judge_plan, judge_rest, plan_of, plan_with, unless_missing}
 use Rattle.turn_plans.specs.declared.crew.Crew.{Crew}
 use Rattle.turn_plans.specs.declared.crew.Crew.TheVariants.{Cluster}
-use Rattle.turn_plans.proofs.Named.{Names, all_name, among}
-use Rattle.turn_plans.proofs.Rising.{IsOf, Stretch, cluster_rises}
+use Rattle.cluster_plans.proofs.Named.{Names, all_name, among}
+use Rattle.cluster_plans.proofs.Rising.{IsOf, Stretch, cluster_rises}
 
 all_at : {X : Type 0} (P : X → Type 0) (xs : List X) → All P xs → (k : ℕ) (x : X) → slice_get xs k ≡ Some x → P x
 all_at P xs all k x here = subst P (get_or_from_slice_get xs k x x here) (All-get_or P xs k x (slice_get_within xs k x here) all)

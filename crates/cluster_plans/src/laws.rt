@@ -1,4 +1,4 @@
-ghost use Rattle.turn_plans.specs.Laws.{ReadsClusterPlans};
+ghost use Rattle.cluster_plans.specs.Laws.{ReadsClusterPlans};
 
 /// What a source defines for a cluster is a cluster's plan.
 pub fn a_clusters_plan_is_read()

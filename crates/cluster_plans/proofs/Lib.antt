@@ -1,0 +1,3 @@
+mod Rising
+mod Named
+pub mod Clusters
