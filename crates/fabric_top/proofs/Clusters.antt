@@ -1,5 +1,6 @@
 -- A cluster's run is safe, since its history is in the order of a cluster's plan.
 use Rattle.std.proofs.Common.{◌≡◌, ℕ, List, ◌∷◌, length, Result, Ok, Err, refl, inl, inr}
+use Rattle.cluster_plans.proofs.Clusters.{read_for_cluster}
 use Rattle.cluster_safety.specs.Plans.{HoldsNothing}
 use Rattle.cluster_safety.proofs.Recalling.{nothing_recalled}
 use Rattle.cluster_safety.proofs.Safe.{cluster_is_safe_lem}
@@ -11,7 +12,6 @@ use Rattle.fabric_terms.specs.declared.record.Record.{Record}
 use Rattle.outside.specs.Told.{Told}
 use Rattle.turn_plans.specs.Plans.{judge_plan}
 use Rattle.turn_plans.specs.declared.crew.Crew.TheVariants as crew
-use Rattle.turn_plans.proofs.Clusters.{read_for_cluster}
 use Rattle.turn_rules.specs.Ends.{Broken, Stopped}
 use Rattle.turn_rules.specs.Happenings.{History}
 use Rattle.turn_rules.specs.Order.{IsInOrder, Place}
@@ -49,8 +49,9 @@ module _ (turns : ℕ) (bytes : List ℕ) (plan : Plan) (judged : judge_plan cre
 
   safe_run : (r : Result (Unit {0}) Stop) (d : Told) (k : Ends plan a r d) → IsSafeRun plan a r d k
   safe_run (Ok done) d k = safe_for k.0 k.1.0 k.1.1 k.1.2.history _ k.1.2.order
-  safe_run (Err stop.OutOfMemory) d (inl opened) = tt
-  safe_run (Err stop.OutOfMemory) d (inr k) = safe_until d stop.OutOfMemory k
+  safe_run (Err stop.OutOfMemory) d (inl recalled) = tt
+  safe_run (Err stop.OutOfMemory) d (inr (inl opening)) = tt
+  safe_run (Err stop.OutOfMemory) d (inr (inr k)) = safe_until d stop.OutOfMemory k
   safe_run (Err stop.KeepFault) d (inl recalled) = tt
   safe_run (Err stop.KeepFault) d (inr k) = safe_until d stop.KeepFault k
   safe_run (Err stop.LinkFault) d k = tt

@@ -45,8 +45,9 @@ IsSafeUntil plan a b stopped k = IsSafeStopped (setting plan k.0) (with_endpoint
 -- the steps that a run tells of, however it ends; some ends come before the first step
 abbrev pub IsSafeRun : (plan : Plan) (a : Told) (r : Result (Unit {0}) Stop) (b : Told) → Ends plan a r b → Type 0
 IsSafeRun plan a (Ok done) b k = IsSafeFor (setting plan k.0) k.1.2.history
-IsSafeRun plan a (Err stop.OutOfMemory) b (inl opened) = Unit {0}
-IsSafeRun plan a (Err stop.OutOfMemory) b (inr k) = IsSafeUntil plan a b stop.OutOfMemory k
+IsSafeRun plan a (Err stop.OutOfMemory) b (inl recalled) = Unit {0}
+IsSafeRun plan a (Err stop.OutOfMemory) b (inr (inl opening)) = Unit {0}
+IsSafeRun plan a (Err stop.OutOfMemory) b (inr (inr k)) = IsSafeUntil plan a b stop.OutOfMemory k
 IsSafeRun plan a (Err stop.KeepFault) b (inl recalled) = Unit {0}
 IsSafeRun plan a (Err stop.KeepFault) b (inr k) = IsSafeUntil plan a b stop.KeepFault k
 IsSafeRun plan a (Err stop.LinkFault) b k = Unit {0}
