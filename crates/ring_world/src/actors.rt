@@ -1,26 +1,18 @@
 ghost use Rattle.std.specs.Prelude.{◌≡◌, ◌==◌, length};
 ghost use Rattle.std.specs.List.{position};
 ghost use Rattle.fabric_above.specs.Fabric.{fabric};
-ghost use Rattle.world_rules.specs.Schedules.{is_configured_node, runs};
+ghost use Rattle.world_rules.specs.Schedules.{runs};
 ghost use Rattle.world_rules.specs.Worlds.{World as RuledWorld};
 ghost use Rattle.ring_world.specs.Finds.{IsPlaceOf, IsSeatPlace};
 ghost use Rattle.ring_world.specs.Stands.{Stands};
 
 use crate::world::World;
-use fabric_terms::FabricConfig;
 use ring_points::{ARBITRATORS, Who};
 
 fn position_of(clocks: &[(Who, u64)], node: u16) -> Option<usize>
     ensures { result ≡ position (λ k. k.0.actor == node) clocks.now }
 {
     clocks.iter().position(|k| k.0.actor == node)
-}
-
-/// Whether the node is configured.
-pub fn is_configured(config: &FabricConfig, node: u16) -> bool
-    ensures { result ≡ is_configured_node config.now node }
-{
-    config.nodes.as_slice().iter().any(|e| e.node == node)
 }
 
 impl World {

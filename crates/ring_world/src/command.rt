@@ -1,8 +1,6 @@
 ghost use Rattle.std.specs.Prelude.{◌≡◌};
-ghost use Rattle.world_rules.specs.Schedules.{command_names};
 
-use crate::actors::is_configured;
-use fabric_terms::{Command, FabricConfig};
+use fabric_terms::Command;
 
 /// The same command again.
 pub fn copy_of(command: &Command) -> Command
@@ -24,21 +22,5 @@ pub fn copy_of(command: &Command) -> Command
         Command::Units(part) => Command::Units(*part),
         Command::Resolve(partition, name) => Command::Resolve(*partition, name.copy()),
         Command::Names(partition, part) => Command::Names(*partition, *part),
-    }
-}
-
-/// Whether the node that a command names is configured, and another where the command is about a link.
-pub fn is_named(config: &FabricConfig, node: u16, command: &Command) -> bool
-    ensures { result ≡ command_names config.now node command.now }
-{
-    match command {
-        Command::Link(other)
-        | Command::LinkFor(other, _)
-        | Command::Part(other)
-        | Command::GiveNear(other)
-        | Command::GiveAll(other)
-        | Command::Join(other) => is_configured(config, *other) && *other != node,
-        Command::Swap(_, other) | Command::Lose(_, other) => is_configured(config, *other),
-        _ => true,
     }
 }

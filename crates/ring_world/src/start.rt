@@ -12,13 +12,13 @@ ghost use Rattle.ring_world.specs.Running.{last_node};
 ghost use Rattle.ring_world.specs.Stands.{Stands};
 ghost use Rattle.ring_world.specs.Starts.{place_for};
 
-use crate::actors::is_configured;
 use crate::running::Running;
 use crate::world::{Acted, EventRefusal, World};
 use drift_clock::{Drift, MAX_READING};
 use fabric_terms::{Event, OutOfMemory};
 use node_core::NodeCore;
 use ring_points::Who;
+use source_commands::is_configured_node;
 
 /// Where the clock of this node has to stand.
 fn place_for(clocks: &[(Who, u64)], node: u16) -> usize
@@ -95,7 +95,7 @@ impl World {
         requires reading { reading ≤ MAX_READING }
         ensures { (w : RuledWorld fabric) → Stands self.old w → Comes self.old self.new w line (Event.Start node (Some reading)) result }
     {
-        if !is_configured(&self.config, node) {
+        if !is_configured_node(&self.config, node) {
             return Err(EventRefusal::NoSuch);
         }
         if self.place_of(node).is_some() {

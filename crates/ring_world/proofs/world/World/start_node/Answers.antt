@@ -10,23 +10,23 @@ use Rattle.ring_world.proofs.Limits.{room_is, room_test, same_on, same_world, bo
 use Rattle.ring_world.proofs.NodeStartNames.{absent_where, after_room, runs_where, start_there}
 use Rattle.ring_world.proofs.world.World.start_node.Goals as goal
 
-pub returns-then-not-is_configured : goal.returns-then-not-is_configured
-returns-then-not-is_configured c w s =
+pub returns-then-not-is_configured_node : goal.returns-then-not-is_configured_node
+returns-then-not-is_configured_node c w s =
     let a = c.args.self.now in
-    let no : is_configured_node a.config c.args.node ≡ false = sym c.is_configured.ensures ∙ c.if-not-is_configured.true in
+    let no : is_configured_node a.config c.args.node ≡ false = sym c.is_configured_node.ensures ∙ c.if-not-is_configured_node.true in
     (start_there a w c.args.node c.args.reading false (is_some (at c.args.node w.nodes)) no refl, same_world a)
 
 pub returns-then-is_some : goal.returns-then-is_some
 returns-then-is_some c w s =
     let a = c.args.self.now in
-    let yes : is_configured_node a.config c.args.node ≡ true = sym c.is_configured.ensures ∙ c.if-not-is_configured.false in
+    let yes : is_configured_node a.config c.args.node ≡ true = sym c.is_configured_node.ensures ∙ c.if-not-is_configured_node.false in
     let runs : is_some (at c.args.node w.nodes) ≡ true = runs_where c.args.node w.nodes c.place_of.result (c.place_of.ensures w s) ∙ (sym c.is_some.ensures ∙ c.if-is_some.true) in
     (start_there a w c.args.node c.args.reading true true yes runs, same_world a)
 
 pub returns-then-not-may_act : goal.returns-then-not-may_act
 returns-then-not-may_act c w s =
     let a = c.args.self.now in
-    let yes : is_configured_node a.config c.args.node ≡ true = sym c.is_configured.ensures ∙ c.if-not-is_configured.false in
+    let yes : is_configured_node a.config c.args.node ≡ true = sym c.is_configured_node.ensures ∙ c.if-not-is_configured_node.false in
     let none : is_some (at c.args.node w.nodes) ≡ false = runs_where c.args.node w.nodes c.place_of.result (c.place_of.ensures w s) ∙ (sym c.is_some.ensures ∙ c.if-is_some.false) in
     let full : room_test a true ≡ false = sym c.may_act.ensures ∙ c.if-not-may_act.true in
     ((start_there a w c.args.node c.args.reading true false yes none, bound-start a w c.args.node (Some c.args.reading), room_is a w (Start c.args.node (Some c.args.reading)) true s refl refl ∙ full), same_world a)
@@ -39,7 +39,7 @@ enter-requires-clause-can c =
 
 pub enter-requires-clause-configured : goal.enter-requires-clause-configured
 enter-requires-clause-configured c =
-    ap (λ (x : Seen). is_configured_node x.config c.args.node) c.in_ok-make_place.ensures.same.seen ∙ (sym c.is_configured.ensures ∙ c.if-not-is_configured.false)
+    ap (λ (x : Seen). is_configured_node x.config c.args.node) c.in_ok-make_place.ensures.same.seen ∙ (sym c.is_configured_node.ensures ∙ c.if-not-is_configured_node.false)
 
 pub returns-in_err-enter : goal.returns-in_err-enter
 returns-in_err-enter c w s =
@@ -55,7 +55,7 @@ returns c w s =
     let a = c.args.self.now in
     let m = c.make_place.new.self in
     let place = c.place_of.ensures w s in
-    let yes : is_configured_node a.config c.args.node ≡ true = sym c.is_configured.ensures ∙ c.if-not-is_configured.false in
+    let yes : is_configured_node a.config c.args.node ≡ true = sym c.is_configured_node.ensures ∙ c.if-not-is_configured_node.false in
     let none : is_some (at c.args.node w.nodes) ≡ false = runs_where c.args.node w.nodes c.place_of.result place ∙ (sym c.is_some.ensures ∙ c.if-is_some.false) in
     let room : room_test a true ≡ true = sym c.may_act.ensures ∙ c.if-not-may_act.false in
     let same = c.in_ok-make_place.ensures.same in
