@@ -1,6 +1,9 @@
+pub mod Calls
+pub mod FewRecords
 pub mod Fulls
 pub mod Keeping
 pub mod Lives
+pub mod RegisterReplies
 pub mod Restores
 pub mod Rounds
 pub mod Rulings

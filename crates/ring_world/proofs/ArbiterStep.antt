@@ -4,26 +4,18 @@ use Rattle.std.specs.Prelude.{◌==◌, slice_set, All, IfSome, IsTrue}
 use Rattle.std.specs.Option.{option_to_list}
 use Rattle.std.proofs.lemmas.Option.{slice_get_within}
 use Rattle.arbiter_core.specs.Arbiters.{Arbiter, entries, fresh, restored, with_kept}
-use Rattle.fabric_terms.specs.declared.config.FabricConfig.{FabricConfig}
 use Rattle.fabric_terms.specs.declared.message.Body.{Body}
-use Rattle.fabric_terms.specs.declared.message.Body.TheVariants as body
 use Rattle.fabric_terms.specs.declared.message.Message.{Message}
-use Rattle.fabric_terms.specs.declared.record.Record.{Record}
 use Rattle.fabric_terms.specs.declared.report.Report.{Report}
 use Rattle.point_places.specs.Spots.{place_at}
 use Rattle.ring_points.specs.Whos.{arbiter_actor}
 use Rattle.ring_points.specs.declared.who.Who.{Who}
-use Rattle.ring_rules.specs.Arbiters.{Table, accusation_kept, claim_kept, table_after, takes_frame}
-use Rattle.unit_rules.specs.Deeds.{did, unless}
-use Rattle.unit_rules.specs.Registers.{Registers, Reply, question_answered, register_after, registers_after, replied}
-use Rattle.world_rules.specs.Above.{is_ring_record}
 use Rattle.fabric_terms.specs.Messages.{is_sound}
-use Rattle.world_rules.specs.Arbiters.{ArbiterState, arbiter_step, arbiter_takes, beside_did}
+use Rattle.world_rules.specs.Arbiters.{ArbiterState, arbiter_step}
 use Rattle.fabric_lemmas.specs.Maps.{at}
 use Rattle.fabric_above.specs.Fabric.{fabric}
 use Rattle.world_rules.specs.Uppers.{Did}
 use Rattle.world_rules.specs.Worlds.{World as RuledWorld, arbiter_acted, arbiter_who, kept_of, numbers_of, posted}
-use Rattle.world_rules.proofs.Rows.{arbiter_step-is}
 use Rattle.ring_world.specs.Answers.{entry_of}
 use Rattle.ring_world.specs.Moves.{Moves, placed_by}
 use Rattle.ring_world.specs.Room.{most_events, most_frames}
@@ -36,61 +28,12 @@ use Rattle.ring_world.specs.Steps.{IsSoundFrame}
 use Rattle.ring_world.specs.declared.world.Acted.{Acted}
 use Rattle.ring_world.specs.declared.world.World.{World}
 use Rattle.ring_world.proofs.Entries.{few_entries, kept_more, seat_rises}
-use Rattle.ring_world.proofs.FewRecords.{accused_apart, accused_few, claimed_apart, claimed_few}
-use Rattle.ring_world.proofs.RegisterReplies.{AnswersSo, LeavesTable, answers_so}
 use Rattle.ring_world.proofs.FramesAfter.{sound_sent}
 use Rattle.ring_world.proofs.Maps.{unequal}
+use Rattle.ring_world.proofs.Rulings.{IsRuling, is_ruling, kept_state}
 use Rattle.ring_world.proofs.Growth.{kept_here, kept_there, posted-length}
 use Rattle.ring_world.proofs.KeptNodes.{kept_follows, same_run}
 use Rattle.ring_world.proofs.SeatChanges.{arbiters_set, at_other_put, at_same_put}
-
--- with these records kept
-abbrev kept_state : List Record → ArbiterState fabric → ArbiterState fabric
-kept_state records s = record { table = table_after s.table records; beside = registers_after s.beside records }
-
--- a step leaves what it records, and does little
-pub record IsRuling (s : ArbiterState fabric) (d : Did (ArbiterState fabric)) : Type 0 where
-  pub state : d.state ≡ kept_state d.records s
-  pub few : length d.records ≤ 1
-  pub told : d.told ≡ []
-
-module _ (c : FabricConfig) (arbiter : ℕ) (m : Message) (s : ArbiterState fabric) where
-  -- the table is kept by its records, and the registers beside it stay
-  apart : (records : List Record) → registers_after s.beside records ≡ s.beside → record s { table = table_after s.table records } ≡ kept_state records s
-  apart records stays = ap (λ (rs : Registers). record s { table = table_after s.table records; beside = rs }) (sym stays)
-
-  replied_by : (kept : Option Record) (said : Body) → LeavesTable kept
-      → IsRuling s (beside_did fabric s (did (replied m.from s.beside (Some (record { kept = kept; body = said })))))
-  replied_by None said leaves = record { state = refl; few = omega arith; told = refl }
-  replied_by (Some r) said leaves =
-      let one : unless (is_ring_record r) r [] ≡ r ∷ [] = ap (λ b. unless b r []) leaves.0 in
-      record {
-        state = ap (λ (t : Table). record s { table = t; beside = register_after s.beside r }) (sym (leaves.1 s.table))
-            ∙ ap (λ (rs : List Record). kept_state rs s) (sym one);
-        few = omega (arith, ap length one);
-        told = refl;
-      }
-
-  replied_so : (o : Option Reply) → AnswersSo o → IsRuling s (beside_did fabric s (did (replied m.from s.beside o)))
-  replied_so None h = record { state = refl; few = omega arith; told = refl }
-  replied_so (Some r) h = replied_by r.kept r.body h.kept
-
-  by_body : (said : Body) (b : Bool) → IsRuling s (arbiter_takes fabric c arbiter m s said b)
-  by_body said false = record { state = refl; few = omega arith; told = refl }
-  by_body (body.Accuse victim) true = record {
-    state = apart (accusation_kept s.table.accusations m.from victim) (accused_apart s.table m.from victim s.beside);
-    few = accused_few s.table m.from victim;
-    told = refl;
-  }
-  by_body (body.Claim victim round) true = record {
-    state = apart (claim_kept s.table m.from victim round) (claimed_apart s.table m.from victim round s.beside);
-    few = claimed_few s.table m.from victim round;
-    told = refl;
-  }
-  by_body _ true = replied_so (question_answered m.body m.from s.beside) (answers_so m.body m.from s.beside)
-
-  is_ruling : IsRuling s (arbiter_step fabric c arbiter m s)
-  is_ruling = subst (λ (d : Did (ArbiterState fabric)). IsRuling s d) (sym (arbiter_step-is fabric c arbiter m s)) (by_body m.body (takes_frame arbiter m))
 
 few_reply : {X : Type 0} (o : Option X) → length (option_to_list o) ≤ 1
 few_reply None = omega arith

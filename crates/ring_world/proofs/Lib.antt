@@ -12,8 +12,7 @@ pub mod StopNames
 pub mod NodeStop
 pub mod Edits
 pub mod Entries
-pub mod FewRecords
-pub mod RegisterReplies
+pub mod Rulings
 pub mod SeatChanges
 pub mod KeptReplicas
 pub mod KeptNodes

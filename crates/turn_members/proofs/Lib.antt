@@ -1,6 +1,4 @@
 mod Own
-mod FewRecords
-mod RegisterReplies
 mod Rulings
 mod Records
 mod Lives

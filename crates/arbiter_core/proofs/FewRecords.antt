@@ -1,6 +1,9 @@
 -- What is recorded of an accusation or of a claim: one record at most, and none of a register's.
-use Rattle.std.proofs.Common.{◌≡◌, ℕ, ◌≤◌, Bool, true, false, Option, Some, None, refl, arith, length}
+use Rattle.std.proofs.Common.{◌≡◌, ℕ, ◌≤◌, Bool, true, false, List, [], ◌∷◌, Option, Some, None, refl, arith, length}
 use Rattle.std.specs.Prelude.{◌==◌}
+use Rattle.std.specs.Option.{option_to_list}
+use Rattle.arbiter_core.specs.Arbiters.{first_of}
+use Rattle.fabric_terms.specs.declared.record.Record.{Record}
 use Rattle.ring_points.specs.declared.who.Who.{Who}
 use Rattle.ring_rules.specs.Arbiters.{Table, accusation_kept, claim_kept, claimer_kept, first_accuser, first_claimer, first_kept}
 use Rattle.unit_rules.specs.Registers.{Registers, registers_after}
@@ -42,3 +45,9 @@ claimed_apart table claimer victim round rs = by_firsts (first_accuser victim ta
     by_firsts (Some x) (Some y) b = refl
     by_firsts (Some x) None true = refl
     by_firsts (Some x) None false = refl
+
+-- a list of one record at most is that of its first
+pub first_is : (records : List Record) → length records ≤ 1 → option_to_list (first_of records) ≡ records
+first_is [] h = refl
+first_is (r ∷ []) h = refl
+first_is (r ∷ x ∷ xs) h = absurd (omega arith)
