@@ -18,9 +18,9 @@ use Rattle.node_core.specs.declared.outcome.Outcome.{Outcome}
 use Rattle.point_places.specs.Spots.{place_at}
 use Rattle.ring_points.specs.Whos.{arbiter_actor, node_instance}
 use Rattle.ring_points.specs.declared.who.Who.{Who}
-use Rattle.run_facts.proofs.Steps.{started_as}
+use Rattle.run_facts.proofs.Steps.{node_begun-told}
 use Rattle.fabric_lemmas.specs.Maps.{at, put}
-use Rattle.world_rules.specs.Nodes.{NodeState, instance_begun, is_spent, node_begun}
+use Rattle.world_rules.specs.Nodes.{NodeState, instance_begun, node_begun}
 use Rattle.fabric_above.specs.Fabric.{fabric}
 use Rattle.world_rules.specs.Uppers.{Did}
 use Rattle.world_rules.specs.Worlds.{World as RuledWorld, Running as RuledRunning, kept_of, node_acted, numbers_of}
@@ -52,9 +52,7 @@ module _ (c : FabricConfig) (node : ℕ) (rs : List Record) where
   begun_sends = ap (λ (d : Did (NodeState fabric)). d.sent) (node_begun-is fabric c node rs)
 
   pub begun_me : (node_begun fabric c node rs).state.ring.me ≡ node_instance node (instance_begun rs)
-  begun_me =
-      ap (λ (d : Did (NodeState fabric)). d.state.ring.me) (node_begun-is fabric c node rs)
-      ∙ (started_as c (node_instance node (instance_begun rs)) (is_spent rs)).0
+  begun_me = (node_begun-told fabric c node rs).name
 
 map-insert : (es : List Ruled) (i : ℕ) (e : Ruled) → map clock_of (insert es i e) ≡ insert (map clock_of es) i (clock_of e)
 map-insert [] zero e = refl

@@ -1,7 +1,7 @@
 -- Whatever has come to an actor, what it records and sends has a spelling.
-use Rattle.std.proofs.Common.{◌≡◌, ℕ, Bool, true, false, ◌&&◌, List, [], ◌∷◌, Option, Some, IsTrue, refl, sym, ap, subst, ◌∙◌, arith}
+use Rattle.std.proofs.Common.{◌≡◌, ℕ, Bool, true, false, List, [], ◌∷◌, Option, Some, IsTrue, refl, sym, ap, subst, ◌∙◌, arith}
 use Rattle.arbiter_core.specs.declared.answer.ArbiterError.{ArbiterError}
-use Rattle.std.specs.Prelude.{◌==◌, All, Err, IfOk, Ok, OnErr, Result, nat_lt}
+use Rattle.std.specs.Prelude.{All, Err, IfOk, Ok, OnErr, Result, nat_lt}
 use Rattle.std.proofs.lemmas.Bool.Decides.{nat_tests}
 use Rattle.std.proofs.lemmas.List.Elements.{All-cons, All-head, All-nil, All-tail}
 use Rattle.fabric_above.specs.Fabric.{fabric}
@@ -22,10 +22,9 @@ use Rattle.node_core.specs.Nodes.{FitsInput}
 use Rattle.ring_points.specs.Whos.{arbiter_actor, node_instance}
 use Rattle.ring_points.specs.declared.who.Who.{Who}
 use Rattle.ring_rules.specs.Rings.{settings_of}
-use Rattle.ring_rules.specs.Starts.{node_started, start_first, start_if}
 use Rattle.ring_rules.specs.declared.input.Input.{Input}
 use Rattle.ring_rules.specs.declared.input.Input.TheVariants as input
-use Rattle.run_facts.proofs.Steps.{ring_stepped}
+use Rattle.run_facts.proofs.Steps.{node_begun-told, ring_stepped}
 use Rattle.turn_members.proofs.Records.{Spelled, arbiter_spelled, boot_spelled, kept_in_range, node_spelled}
 use Rattle.turn_members.specs.Lives.{Came, FitsCame, IsConfigured, Lives, member_after}
 use Rattle.turn_members.specs.Members.{Does, GoesOn, IsDeedOf, IsOf, Makes, seen}
@@ -35,7 +34,7 @@ use Rattle.turn_rules.specs.Recalled.{IsGoodFor}
 use Rattle.turn_rules.specs.Steps.{Member, Node, Arbiter, Step, Stepped, begun, begun_as, exceeds, node_stepped, arbiter_stepped, present, stepped}
 use Rattle.world_rules.specs.Arbiters.{ArbiterState, arbiter_step}
 use Rattle.world_rules.specs.Events.{arbiter_number, is_arbiter_actor}
-use Rattle.world_rules.specs.Nodes.{NodeState, instance_begun, is_spent, node_begun, node_step}
+use Rattle.world_rules.specs.Nodes.{NodeState, instance_begun, node_begun, node_step}
 use Rattle.world_rules.specs.Schedules.{is_configured_node}
 use Rattle.world_rules.specs.Uppers.{Did}
 use Rattle.world_rules.specs.Worlds.{arbiter_who}
@@ -72,21 +71,8 @@ step_named : (c : FabricConfig) (now : ℕ) (i : Input) (s : NodeState fabric) �
 unfolding node_step
 step_named c now i s = (ring_stepped (settings_of c s.ring.me.actor) now i s.ring).name
 
-first_named : (c : FabricConfig) (me : Who) (b : Bool) → (start_first c me b).ring.me ≡ me
-first_named c me true = refl
-first_named c me false = refl
-
-if_named : (c : FabricConfig) (me : Who) (spent : Bool) → (start_if c me spent).ring.me ≡ me
-if_named c me true = refl
-if_named c me false = first_named c me (me.actor == c.first && me.instance == 1)
-
-started_named : (c : FabricConfig) (me : Who) (spent : Bool) → (node_started c me spent).ring.me ≡ me
-unfolding node_started
-started_named c me spent = if_named c me spent
-
 start_named : (c : FabricConfig) (node : ℕ) (records : List Record) → (node_begun fabric c node records).state.ring.me ≡ node_instance node (instance_begun records)
-unfolding node_begun
-start_named c node records = started_named c (node_instance node (instance_begun records)) (is_spent records)
+start_named c node records = (node_begun-told fabric c node records).name
 
 -- what a node's start records
 
