@@ -1,13 +1,11 @@
 -- What is accepted of a schedule is a recording.
-use Rattle.std.proofs.Common.{◌≡◌, ℕ, ◌+◌, ◌≤◌, ◌<◌, ◌^◌, Bool, true, false, ◌||◌, List, [], ◌∷◌, length, map, Option, Some, None, Result, Ok, Err, arith, refl, sym, ap, subst, ◌∙◌}
+use Rattle.std.proofs.Common.{◌≡◌, ℕ, ◌+◌, ◌≤◌, ◌<◌, ◌^◌, true, List, [], ◌∷◌, length, map, Option, Some, None, arith, refl, subst}
 use Rattle.std.specs.Prelude.{◌==◌, All, nat_le, nat_lt}
 use Rattle.std.specs.List.{list_any}
-use Rattle.std.proofs.lemmas.Bool.{and_parts, leb-true, lt-ltb, ltb-false, or_parts}
+use Rattle.std.proofs.lemmas.Bool.{and_parts, leb-true, lt-ltb}
 use Rattle.std.proofs.lemmas.List.{length-map}
 use Rattle.std.proofs.lemmas.List.Elements.{All-cons, All-head, All-nil, All-tail, All-weaker}
 use Rattle.fabric_above.specs.Fabric.{fabric}
-use Rattle.fabric_config.specs.Config.{config_of_line}
-use Rattle.fabric_config.specs.declared.error.ConfigError.{ConfigError}
 use Rattle.fabric_fit.proofs.Units.{units_send, units_tell_in_range}
 use Rattle.fabric_lemmas.specs.Maps.{rises_from}
 use Rattle.fabric_terms.specs.declared.config.FabricConfig.{FabricConfig}
@@ -24,15 +22,13 @@ use Rattle.ring_world.specs.Room.{has_room, is_room, acts, most_time, time_after
 use Rattle.run_audit.specs.Breaches.{is_below}
 use Rattle.run_facts.proofs.Clocks.{rising}
 use Rattle.run_facts.proofs.Happens.{Cases, by_cases}
-use Rattle.sched_text.specs.Lines.{event_of, lines_of}
 use Rattle.schedule_replay.specs.Laws.{IsValidHistory}
-use Rattle.schedule_replay.specs.Schedule.{Accepted, Ignored, Judged, Refused, Verdict, event_verdict, judge, judge_first, judge_from, judge_lines, judge_rest, line_verdict, run_verdict, unless_ignored, unless_large, unless_room, unless_there, unless_within}
-use Rattle.schedule_replay.proofs.Judging.{judge_line, judge_on}
-use Rattle.source_lines.specs.Lines.{is_ignored, most_first_line, most_line, most_lines}
+use Rattle.schedule_replay.specs.Schedule.{judge}
+use Rattle.schedule_replay.proofs.Accepted.{Comes, all_accepted}
+use Rattle.source_lines.specs.Lines.{most_lines}
 use Rattle.transcript_audit.specs.Said.{is_above}
 use Rattle.world_rules.specs.Events.{world_step}
 use Rattle.world_rules.specs.Runs.{History, moment_of, run_of}
-use Rattle.world_rules.specs.Schedules.{is_there, keeps_bound}
 use Rattle.world_rules.specs.Worlds.{Running, World, clocks_in}
 use Rattle.trace_audit.specs.Recordings.{ClocksRise, HasLines, IsRecordable, IsRecording, LinesRise}
 use Rattle.trace_audit.proofs.Few.{few_listed}
@@ -41,95 +37,24 @@ use Rattle.trace_audit.proofs.Worlds.{NodeSeen, Seen, none_seen, seen_after}
 
 -- Each event of what is accepted has a line above those before, and there was room for it.
 
-abbrev Before : ℕ → History → Type 0
-Before n h = All (λ x. x.0 < n) h
-
 abbrev pub Steps : FabricConfig → History → Type 0
 Steps c [] = Unit {0}
 Steps c (e ∷ es) = Steps c es × (has_room (ruled c es) (length es) e.1 ≡ true) × All (λ x. x.0 < e.0) es × (e.0 ≤ most_lines)
 
-room_accepted : (n : ℕ) (e d : Event) (room : Bool) → unless_room n e room ≡ Accepted d → (e ≡ d) × (room ≡ true)
-room_accepted n e d true q = (cc, refl)
-room_accepted n e d false q = cc
+-- as it is before line n
+abbrev StepsBefore : FabricConfig → ℕ → History → Type 0
+StepsBefore c n h = Steps c h × All (λ x. x.0 < n) h
 
-within_accepted : (n : ℕ) (e d : Event) (within room : Bool) → unless_within n e within room ≡ Accepted d → (e ≡ d) × (room ≡ true)
-within_accepted n e d true room q = room_accepted n e d room q
-within_accepted n e d false room q = cc
+later : (n : ℕ) (h : History) → All (λ x. x.0 < n) h → All (λ x. x.0 < n + 1) h
+later n h before = All-weaker (λ x. x.0 < n) (λ x. x.0 < n + 1) (λ x less. omega arith) h before
 
-there_accepted : (n : ℕ) (e d : Event) (there within room : Bool) → unless_there n e there within room ≡ Accepted d → (e ≡ d) × (room ≡ true)
-there_accepted n e d true within room q = within_accepted n e d within room q
-there_accepted n e d false within room q = cc
+steps_taken : (c : FabricConfig) (n : ℕ) (h : History) (e : Event) → StepsBefore c n h → n ≤ most_lines → Comes c (ruled c h) (length h) e → StepsBefore c (n + 1) ((n, e) ∷ h)
+steps_taken c n h e before line comes =
+    ((before.0, comes.room, before.1, line), All-cons (λ x. x.0 < n + 1) (n, e) h (omega arith) (later n h before.1))
 
-run_accepted : (c : FabricConfig) (w : World fabric) (events n : ℕ) (e d : Event) → run_verdict c w events n e ≡ Accepted d → has_room w events d ≡ true
-run_accepted c w events n e d q =
-    let t = there_accepted n e d (is_there is_frame c w e) (keeps_bound c w e) (has_room w events e) q in
-    subst (λ k. has_room w events k ≡ true) t.0 t.1
-
-event_accepted : (c : FabricConfig) (w : World fabric) (events n : ℕ) (read : Option Event) (d : Event) → event_verdict c w events n read ≡ Accepted d → has_room w events d ≡ true
-event_accepted c w events n None d q = cc
-event_accepted c w events n (Some e) d q = run_accepted c w events n e d q
-
-ignored_accepted : (c : FabricConfig) (w : World fabric) (events n : ℕ) (line : List ℕ) (d : Event) (ignored : Bool) → unless_ignored c w events n line ignored ≡ Accepted d → has_room w events d ≡ true
-ignored_accepted c w events n line d true q = cc
-ignored_accepted c w events n line d false q = event_accepted c w events n (event_of line) d q
-
-large_accepted : (c : FabricConfig) (w : World fabric) (events n : ℕ) (line : List ℕ) (d : Event) (large : Bool) → unless_large c w events n line large ≡ Accepted d → (large ≡ false) × (has_room w events d ≡ true)
-large_accepted c w events n line d true q = cc
-large_accepted c w events n line d false q = (refl, ignored_accepted c w events n line d (is_ignored line) q)
-
-line_accepted : (c : FabricConfig) (w : World fabric) (events n : ℕ) (line : List ℕ) (d : Event) → line_verdict c w events n line ≡ Accepted d → (n ≤ most_lines) × (has_room w events d ≡ true)
-unfolding line_verdict
-line_accepted c w events n line d q =
-    let small = large_accepted c w events n line d (nat_lt most_line (length line) || nat_lt most_lines n) q in
-    let parts = or_parts (nat_lt most_line (length line)) (nat_lt most_lines n) small.0 in
-    (ltb-false most_lines n parts.1, small.1)
-
-steps_on : (c : FabricConfig) (h : History) (n : ℕ) (l : List ℕ) (ls : List (List ℕ)) (v : Verdict) → Steps c h → Before n h →
-    ((k : History) → Steps c k → Before (n + 1) k → Steps c (judge_from c k (n + 1) ls).history) → line_verdict c (ruled c h) (length h) n l ≡ v →
-    Steps c (judge_on c h n ls v).history
-steps_on c h n l ls Ignored steps before rest is = rest h steps (All-weaker (λ x. x.0 < n) (λ x. x.0 < n + 1) (λ x less. omega arith) h before)
-steps_on c h n l ls (Accepted e) steps before rest is =
-    let taken = line_accepted c (ruled c h) (length h) n l e is in
-    rest ((n, e) ∷ h) (steps, taken.1, before, taken.0)
-    (All-cons (λ x. x.0 < n + 1) (n, e) h (omega arith) (All-weaker (λ x. x.0 < n) (λ x. x.0 < n + 1) (λ x less. omega arith) h before))
-steps_on c h n l ls (Refused refusal) steps before rest is = steps
-
-steps_from : (c : FabricConfig) (h : History) (n : ℕ) (ls : List (List ℕ)) → Steps c h → Before n h → Steps c (judge_from c h n ls).history
-steps_from c h n [] steps before = steps
-steps_from c h n (l ∷ ls) steps before =
-    subst (λ j. Steps c j.history) (sym (judge_line c h n l ls))
-    (steps_on c h n l ls (line_verdict c (ruled c h) (length h) n l) steps before (λ k more later. steps_from c k (n + 1) ls more later) refl)
-
--- of a judged schedule with this configuration
-abbrev HasSteps : Judged → Type 0
-HasSteps j = (c : FabricConfig) → j.config ≡ Some c → Steps c j.history
-
-config_from : (c : FabricConfig) (h : History) (n : ℕ) (ls : List (List ℕ)) → (judge_from c h n ls).config ≡ Some c
-config_from c h n [] = refl
-config_from c h n (l ∷ ls) = ap (λ j. j.config) (judge_line c h n l ls) ∙ by_verdict (line_verdict c (ruled c h) (length h) n l) (λ k. config_from c k (n + 1) ls)
-  where
-    by_verdict : (v : Verdict) → ((k : History) → (judge_from c k (n + 1) ls).config ≡ Some c) → (judge_on c h n ls v).config ≡ Some c
-    by_verdict Ignored rest = rest h
-    by_verdict (Accepted e) rest = rest ((n, e) ∷ h)
-    by_verdict (Refused refusal) rest = refl
-
-steps_rest : (ls : List (List ℕ)) (read : Result FabricConfig ConfigError) → HasSteps (judge_rest ls read)
-steps_rest ls (Ok c) = λ d is.
-    let same : c ≡ d = let e : Some c ≡ Some d = sym (config_from c [] 2 ls) ∙ is in cc in
-    subst (λ k. Steps k (judge_from c [] 2 ls).history) same (steps_from c [] 2 ls tt (All-nil (λ x. x.0 < 2)))
-steps_rest ls (Err e) = λ c f. cc
-
-steps_first : (l : List ℕ) (ls : List (List ℕ)) (large : Bool) → HasSteps (judge_first l ls large)
-steps_first l ls true = λ c f. cc
-steps_first l ls false = steps_rest ls (config_of_line l)
-
-steps_lines : (ls : List (List ℕ)) → HasSteps (judge_lines ls)
-steps_lines [] = λ c f. cc
-steps_lines (l ∷ ls) = steps_first l ls (nat_lt most_first_line (length l))
-
-pub accepted_steps : (bytes : List ℕ) → HasSteps (judge bytes)
-unfolding judge
-accepted_steps bytes = steps_lines (lines_of bytes)
+pub accepted_steps : (bytes : List ℕ) (c : FabricConfig) → (judge bytes).config ≡ Some c → Steps c (judge bytes).history
+accepted_steps =
+    all_accepted StepsBefore Steps (λ c sound. (tt, All-nil (λ x. x.0 < 2))) (λ c n h before. (before.0, later n h before.1)) steps_taken (λ c n h before. before.0)
 
 -- The world of such a history.
 
