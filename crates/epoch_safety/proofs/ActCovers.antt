@@ -1,5 +1,5 @@
 -- What a step reports committed begins with all that was.
-use Rattle.std.proofs.Common.{◌≡◌, ℕ, false, true, List, [], Some, sym, ap, ◌∙◌, subst}
+use Rattle.std.proofs.Common.{◌≡◌, ℕ, false, true, List, [], Some, refl, sym, ap, ◌∙◌, subst}
 use Rattle.std.specs.Prelude.{length}
 use Rattle.fabric_lemmas.specs.Maps.{at}
 use Rattle.fabric_terms.specs.declared.config.FabricConfig.{FabricConfig}
@@ -31,7 +31,7 @@ use Rattle.epoch_safety.proofs.Committing.{LeadsAt}
 use Rattle.epoch_safety.proofs.Covering.{Covers, lead_covers}
 use Rattle.epoch_safety.proofs.Follows.{Follows}
 use Rattle.epoch_safety.proofs.NodeFollows.{Named, kept_at}
-use Rattle.epoch_safety.proofs.StepCommits.{step_commits, reports_commit}
+use Rattle.epoch_safety.proofs.StepCommits.{asks_in, step_told, reports_told}
 use Rattle.epoch_safety.proofs.Telling.{Tellings}
 
 module _ (c : FabricConfig) (w : World units) (t : Tellings) (m : Machines) (n : Numbered w) (f : Follows (length c.arbiters) w t m) (node : ℕ)
@@ -75,8 +75,8 @@ module _ (c : FabricConfig) (w : World units) (t : Tellings) (m : Machines) (n :
           let above = commit_above c w t m n f node i s there (reports_of row.deeds) p e last a.1 in
           let seats = (shows c w t m n f node i s there stay passed came).seats in
           let leads : LeadsAt (seat_at p row.state) e last
-          = reports_commit row.state row.deeds (Committed p e last)
-          (step_commits s.node.above (λ q. (seats q).partition) (site_of c x.actor) s.reading new.ring i) above in
+          = reports_told (asks_in i) s.node.above row.state row.deeds (Committed p e last)
+          (step_told (asks_in i) s.node.above (site_of c x.actor) s.reading new.ring i refl) above (λ q. (seats q).partition) in
           subst (λ (log : List Entry). Covers (settings_to k) (r.after p) (number_of e) last log)
           (sym (ap (λ (z : Who). log_in stepped.world z.actor p) (sym a.0) ∙ logs p))
           (lead_covers (r.between p).inv (settings_sound k) (r.shows.seats p) e last leads)

@@ -51,11 +51,21 @@ told_above (report.Unresolved p name) h = refl
 told_above (report.NameList p names) h = refl
 told_above r h = absurd (cc (h))
 
-apart : (r : Report) → tells_names r ≡ true → (rs : List Report) → list_any is_unit_report rs ≡ false → IsMember r rs → ⊥
+pub apart : (r : Report) → tells_names r ≡ true → (rs : List Report) → list_any is_unit_report rs ≡ false → IsMember r rs → ⊥
 apart r h rs none m =
     let yes : is_unit_report r ≡ true = told_above r h in
     let no : is_unit_report r ≡ false = none_passes is_unit_report rs r none m in
     cc (yes, no)
+
+-- so what a node tells of names is told above its ring
+pub from_above : (r : Report) → tells_names r ≡ true → (set : Settings) (now : ℕ) (i : Input) (old : Ring) (rs : List Report) →
+    IsMember r ((ring_step set now i old).told ++ rs ++ own_after set old (ring_step set now i old).ring) → IsMember r rs
+from_above r h set now i old rs m =
+    let new : Work = ring_step set now i old in
+    let own : List Report = own_after set old new.ring in
+    ⊎_elim
+    (λ a. ⊎_elim (λ b. absurd (apart r h new.told (steps_apart_lem set now i old).tells b)) (λ b. b) (append_cases r new.told rs a))
+    (λ a. absurd (apart r h own (own_apart set old new.ring) a)) (append_cases r (new.told ++ rs) own m)
 
 -- what one deed tells
 one_told : (r z : Report) → IsMember r (reports_of (Tell z ∷ [])) → r ≡ z
@@ -117,11 +127,6 @@ module _ (r : Report) (told : tells_names r ≡ true) (partition : ℕ) (questio
         own : List Report
         own = own_after set s.node.ring new.ring
 
-        middle : (rs : List Report) → IsMember r (new.told ++ rs ++ own) → IsMember r rs
-        middle rs m = ⊎_elim
-            (λ a. ⊎_elim (λ b. absurd (apart r told new.told (steps_apart_lem set s.reading i s.node.ring).tells b)) (λ b. b) (append_cases r new.told rs a))
-            (λ a. absurd (apart r told own (own_apart set s.node.ring new.ring) a)) (append_cases r (new.told ++ rs) own m)
-
         stayed : is_left new.ring.phase ≡ false → is_left s.node.ring.phase ≡ false
         stayed stay =
             let stepped : Stepped s.node.ring new = ring_stepped set s.reading i s.node.ring in
@@ -129,13 +134,13 @@ module _ (r : Report) (told : tells_names r ≡ true) (partition : ℕ) (questio
 
         go : (b : Bool) → (not (is_left new.ring.phase) && comes_above set s.node.ring i) ≡ b →
             IsMember r (new.told ++ (above_if units c s.reading new.ring s.node.above i b).told ++ own) → AnsweredBy w node partition answer r
-        go false is m = absurd (middle [] m)
+        go false is m = absurd (from_above r told set s.reading i s.node.ring [] m)
         go true is m =
             let stay : is_left new.ring.phase ≡ false = not-true (is_left new.ring.phase) (and_parts (not (is_left new.ring.phase)) (comes_above set s.node.ring i) is).0 in
             let from : From (seat_at partition s.node.above) =
             from_node s.node.above
             (subst (λ (a : Acted Failover). IsMember r (reports_of a.deeds)) (row (site_of c new.ring.me.actor) s.reading new.ring s.node.above)
-            (middle (reports_of (failover_step (site_of c new.ring.me.actor) s.reading new.ring s.node.above i).deeds) m)) in
+            (from_above r told set s.reading i s.node.ring (reports_of (failover_step (site_of c new.ring.me.actor) s.reading new.ring s.node.above i).deeds) m)) in
             record { running = s; there = there; stays = stayed stay; count = from.count; is_ready = from.is_ready; told = from.is }
 
     by_node : (o : Option (Running units)) → at node w.nodes ≡ o → IsAmong (acts_at units c w node i o).entry x r → AnsweredBy w node partition answer r

@@ -1,5 +1,6 @@
--- Who reports an entry committed is the primary that holds it committed then.
-use Rattle.std.proofs.Common.{◌≡◌, ℕ, ◌+◌, Bool, true, false, not, ◌&&◌, ◌||◌, ◌==◌, List, [], ◌∷◌, ◌++◌, length, Option, None, Some, Ok, Err, refl, sym, ap, subst, ◌∙◌}
+-- Of each row of a replica but its answers about names: it tells of no name, and who reports an entry committed is the primary
+-- that holds it committed then.
+use Rattle.std.proofs.Common.{◌≡◌, ℕ, ◌+◌, Bool, true, false, not, ◌&&◌, ◌||◌, ◌==◌, List, [], ◌∷◌, ◌++◌, length, Option, None, Some, Ok, Err, refl, ap, ◌∙◌}
 use Rattle.std.specs.Prelude.{map, nat_lt, if◌then◌else◌}
 use Rattle.std.specs.List.{flat_map}
 use Rattle.fabric_terms.specs.declared.report.Report.{Report}
@@ -20,7 +21,6 @@ use Rattle.replica_core.specs.Replicas.{Replica, written}
 use Rattle.unit_rules.specs.declared.lead.Peer.{Peer}
 use Rattle.unit_rules.specs.declared.lead.Taking.{Taking}
 use Rattle.unit_rules.specs.Activations.{activate_answered, activate_received, role_begun, same_role}
-use Rattle.unit_rules.specs.Answers.{OnlyAnswers, is_answer}
 use Rattle.unit_rules.specs.Copies.{adoption, entry_given, fetch_received, is_wanted, log_taken, own_adopted, piece_collected, piece_for, piece_received, sync_answered, sync_received, sync_taken}
 use Rattle.unit_rules.specs.Deeds.{Deed, Keep, Send, Tell, Acted, still}
 use Rattle.unit_rules.specs.Leads.{confirmed_by, confirmed_of, is_primary, lead_of, most_confirmed}
@@ -36,9 +36,12 @@ pub record LeadsAt (s : Seat) (e : Epoch) (last : ℕ) : Type 0 where
   pub committed_is : lead.committed ≡ last
   pub at_is : s.replica.at ≡ e
 
--- a commit is reported of this partition, by its primary
+-- a commit is reported of this partition, by its primary, and no answer about names
 abbrev pub IsCommitOf : ℕ → Seat → Report → Type 0
 IsCommitOf q s (report.Committed p e last) = (p ≡ q) × LeadsAt s e last
+IsCommitOf q s (report.Resolved p name value) = ⊥
+IsCommitOf q s (report.Unresolved p name) = ⊥
+IsCommitOf q s (report.NameList p names) = ⊥
 IsCommitOf q s _ = Unit {0}
 
 abbrev pub CommitsOf : ℕ → Seat → List Deed → Type 0
@@ -47,31 +50,37 @@ CommitsOf q s (Keep r ∷ ds) = CommitsOf q s ds
 CommitsOf q s (Send to b ∷ ds) = CommitsOf q s ds
 CommitsOf q s (Tell r ∷ ds) = IsCommitOf q s r × CommitsOf q s ds
 
-abbrev pub IsNoCommit : Report → Type 0
-IsNoCommit (report.Committed p e last) = ⊥
-IsNoCommit _ = Unit {0}
+-- neither a commit nor an answer about names
+abbrev pub IsPlain : Report → Type 0
+IsPlain (report.Committed p e last) = ⊥
+IsPlain (report.Resolved p name value) = ⊥
+IsPlain (report.Unresolved p name) = ⊥
+IsPlain (report.NameList p names) = ⊥
+IsPlain _ = Unit {0}
 
--- no commit is reported
-abbrev pub NoCommits : List Deed → Type 0
-NoCommits [] = Unit {0}
-NoCommits (Keep r ∷ ds) = NoCommits ds
-NoCommits (Send to b ∷ ds) = NoCommits ds
-NoCommits (Tell r ∷ ds) = IsNoCommit r × NoCommits ds
+abbrev pub ArePlain : List Deed → Type 0
+ArePlain [] = Unit {0}
+ArePlain (Keep r ∷ ds) = ArePlain ds
+ArePlain (Send to b ∷ ds) = ArePlain ds
+ArePlain (Tell r ∷ ds) = IsPlain r × ArePlain ds
 
-pub none_join : (ds es : List Deed) → NoCommits ds → NoCommits es → NoCommits (ds ++ es)
-none_join [] es h k = k
-none_join (Keep r ∷ ds) es h k = none_join ds es h k
-none_join (Send to b ∷ ds) es h k = none_join ds es h k
-none_join (Tell r ∷ ds) es h k = (h.0, none_join ds es h.1 k)
+pub plain_join : (ds es : List Deed) → ArePlain ds → ArePlain es → ArePlain (ds ++ es)
+plain_join [] es h k = k
+plain_join (Keep r ∷ ds) es h k = plain_join ds es h k
+plain_join (Send to b ∷ ds) es h k = plain_join ds es h k
+plain_join (Tell r ∷ ds) es h k = (h.0, plain_join ds es h.1 k)
 
-none_of : (q : ℕ) (s : Seat) (ds : List Deed) → NoCommits ds → CommitsOf q s ds
-none_of q s [] h = tt
-none_of q s (Keep r ∷ ds) h = none_of q s ds h
-none_of q s (Send to b ∷ ds) h = none_of q s ds h
-none_of q s (Tell r ∷ ds) h = (one r h.0, none_of q s ds h.1)
+plain_of : (q : ℕ) (s : Seat) (ds : List Deed) → ArePlain ds → CommitsOf q s ds
+plain_of q s [] h = tt
+plain_of q s (Keep r ∷ ds) h = plain_of q s ds h
+plain_of q s (Send to b ∷ ds) h = plain_of q s ds h
+plain_of q s (Tell r ∷ ds) h = (one r h.0, plain_of q s ds h.1)
   where
-    one : (r : Report) → IsNoCommit r → IsCommitOf q s r
+    one : (r : Report) → IsPlain r → IsCommitOf q s r
     one (report.Committed p e last) n = absurd n
+    one (report.Resolved p name value) n = absurd n
+    one (report.Unresolved p name) n = absurd n
+    one (report.NameList p names) n = absurd n
     one r n = tt
 
 commits_join : (q : ℕ) (s : Seat) (ds es : List Deed) → CommitsOf q s ds → CommitsOf q s es → CommitsOf q s (ds ++ es)
@@ -80,119 +89,110 @@ commits_join q s (Keep r ∷ ds) es h k = commits_join q s ds es h k
 commits_join q s (Send to b ∷ ds) es h k = commits_join q s ds es h k
 commits_join q s (Tell r ∷ ds) es h k = (h.0, commits_join q s ds es h.1 k)
 
--- Rows that report none.
+-- Rows that report neither.
 
-older_none : (asker : Who) (p : ℕ) (e : Epoch) (why : ReplicaRefusal) → NoCommits (say_older asker p e why)
-older_none asker p e (Older promised) = tt
-older_none asker p e why = tt
+older_plain : (asker : Who) (p : ℕ) (e : Epoch) (why : ReplicaRefusal) → ArePlain (say_older asker p e why)
+older_plain asker p e (Older promised) = tt
+older_plain asker p e why = tt
 
-raise_none : (p : ℕ) (e : Epoch) (d : Done) → NoCommits (raise_told p e d)
-raise_none p e New = (tt, tt)
-raise_none p e Held = tt
+raise_plain : (p : ℕ) (e : Epoch) (d : Done) → ArePlain (raise_told p e d)
+raise_plain p e New = (tt, tt)
+raise_plain p e Held = tt
 
-pub promise_none : (asker : Who) (e : Epoch) (s : Seat) → NoCommits (promise_received asker e s).deeds
+pub promise_plain : (asker : Who) (e : Epoch) (s : Seat) → ArePlain (promise_received asker e s).deeds
 unfolding promise_received
-promise_none asker e s = go (promise_call e s.replica)
+promise_plain asker e s = go (promise_call e s.replica)
   where
-    go : (o : Outcome Done) → NoCommits (promise_answered asker e s o).deeds
-    go (Err why, r) = older_none asker r.partition e why
-    go (Ok d, r) = none_join (raise_told r.partition e d) _ (raise_none r.partition e d) tt
+    go : (o : Outcome Done) → ArePlain (promise_answered asker e s o).deeds
+    go (Err why, r) = older_plain asker r.partition e why
+    go (Ok d, r) = plain_join (raise_told r.partition e d) _ (raise_plain r.partition e d) tt
 
-either : (b : Bool) (x y : Acted Seat) → NoCommits x.deeds → NoCommits y.deeds → NoCommits (let a : Acted Seat = if b then x else y in a).deeds
+either : (b : Bool) (x y : Acted Seat) → ArePlain x.deeds → ArePlain y.deeds → ArePlain (let a : Acted Seat = if b then x else y in a).deeds
 either true x y h k = h
 either false x y h k = k
 
-either_list : (b : Bool) (ds es : List Deed) → NoCommits ds → NoCommits es → NoCommits (if b then ds else es)
+either_list : (b : Bool) (ds es : List Deed) → ArePlain ds → ArePlain es → ArePlain (if b then ds else es)
 either_list true ds es h k = h
 either_list false ds es h k = k
 
-adoption_none : (p : ℕ) (t : Taking) (is_own : Bool) → NoCommits (adoption p t is_own)
-adoption_none p t is_own = either_list (t.last == 0) _ _ tt (tt, tt)
+adoption_plain : (p : ℕ) (t : Taking) (is_own : Bool) → ArePlain (adoption p t is_own)
+adoption_plain p t is_own = either_list (t.last == 0) _ _ tt (tt, tt)
 
-own_none : (t : Taking) (s : Seat) (o : Outcome Done) → NoCommits (own_adopted t s o).deeds
-own_none t s (Err why, r) = tt
-own_none t s (Ok d, r) = adoption_none r.partition t true
+own_plain : (t : Taking) (s : Seat) (o : Outcome Done) → ArePlain (own_adopted t s o).deeds
+own_plain t s (Err why, r) = tt
+own_plain t s (Ok d, r) = adoption_plain r.partition t true
 
-log_none : (me : ℕ) (t : Taking) (s : Seat) → NoCommits (log_taken me t s).deeds
-log_none me t s = either (t.last == 0 || t.origin == me) _ _ (own_none t s (adopt_own_call t.epoch t.last s.replica)) tt
+log_plain : (me : ℕ) (t : Taking) (s : Seat) → ArePlain (log_taken me t s).deeds
+log_plain me t s = either (t.last == 0 || t.origin == me) _ _ (own_plain t s (adopt_own_call t.epoch t.last s.replica)) tt
 
-taken_none : (me : ℕ) (t : Taking) (s : Seat) → NoCommits (sync_taken me t s).deeds
-taken_none me t s = either (same_epoch s.replica.at t.epoch) _ _ tt (log_none me t (record s { replica = (idle_call t.epoch s.replica).1; taking = Some t }))
+taken_plain : (me : ℕ) (t : Taking) (s : Seat) → ArePlain (sync_taken me t s).deeds
+taken_plain me t s = either (same_epoch s.replica.at t.epoch) _ _ tt (log_plain me t (record s { replica = (idle_call t.epoch s.replica).1; taking = Some t }))
 
-pub sync_none : (me : ℕ) (t : Taking) (s : Seat) → NoCommits (sync_received me t s).deeds
+pub sync_plain : (me : ℕ) (t : Taking) (s : Seat) → ArePlain (sync_received me t s).deeds
 unfolding sync_received
-sync_none me t s = go (promise_call t.epoch s.replica)
+sync_plain me t s = go (promise_call t.epoch s.replica)
   where
-    go : (o : Outcome Done) → NoCommits (sync_answered me t s o).deeds
-    go (Err why, r) = older_none t.asker r.partition t.epoch why
-    go (Ok d, r) = none_join (raise_told r.partition t.epoch d) _ (raise_none r.partition t.epoch d) (taken_none me t (seated s r))
+    go : (o : Outcome Done) → ArePlain (sync_answered me t s o).deeds
+    go (Err why, r) = older_plain t.asker r.partition t.epoch why
+    go (Ok d, r) = plain_join (raise_told r.partition t.epoch d) _ (raise_plain r.partition t.epoch d) (taken_plain me t (seated s r))
 
-given_none : (asker : Who) (e : Epoch) (s : Seat) (o : Option Entry) → NoCommits (entry_given asker e s o).deeds
-given_none asker e s None = tt
-given_none asker e s (Some x) = tt
+given_plain : (asker : Who) (e : Epoch) (s : Seat) (o : Option Entry) → ArePlain (entry_given asker e s o).deeds
+given_plain asker e s None = tt
+given_plain asker e s (Some x) = tt
 
-pub fetch_none : (asker : Who) (e : Epoch) (lsn : ℕ) (s : Seat) → NoCommits (fetch_received asker e lsn s).deeds
+pub fetch_plain : (asker : Who) (e : Epoch) (lsn : ℕ) (s : Seat) → ArePlain (fetch_received asker e lsn s).deeds
 unfolding fetch_received
-fetch_none asker e lsn s = either (same_epoch s.replica.promised e) _ _ (given_none asker e s (entry_at lsn s.replica.log)) tt
+fetch_plain asker e lsn s = either (same_epoch s.replica.promised e) _ _ (given_plain asker e s (entry_at lsn s.replica.log)) tt
 
-collected_none : (t : Taking) (x : Entry) (s : Seat) (o : Outcome Done) → NoCommits (piece_collected t x s o).deeds
-collected_none t x s (Err why, r) = tt
-collected_none t x s (Ok d, r) = either_list (x.lsn == t.last) _ _ (adoption_none r.partition t false) tt
+collected_plain : (t : Taking) (x : Entry) (s : Seat) (o : Outcome Done) → ArePlain (piece_collected t x s o).deeds
+collected_plain t x s (Err why, r) = tt
+collected_plain t x s (Ok d, r) = either_list (x.lsn == t.last) _ _ (adoption_plain r.partition t false) tt
 
-pub piece_none : (e : Epoch) (x : Entry) (s : Seat) → NoCommits (piece_received e x s).deeds
+pub piece_plain : (e : Epoch) (x : Entry) (s : Seat) → ArePlain (piece_received e x s).deeds
 unfolding piece_received
-piece_none e x s = go s.taking
+piece_plain e x s = go s.taking
   where
-    go : (o : Option Taking) → NoCommits (piece_for e x s o).deeds
+    go : (o : Option Taking) → ArePlain (piece_for e x s o).deeds
     go None = tt
-    go (Some t) = either (is_wanted t e x.lsn s.replica) _ _ (collected_none t x s (adopt_call t.epoch x t.last s.replica)) tt
+    go (Some t) = either (is_wanted t e x.lsn s.replica) _ _ (collected_plain t x s (adopt_call t.epoch x t.last s.replica)) tt
 
-begun_none : (me : ℕ) (asker : Who) (config : Config) (s : Seat) (r : Replica) (role : Role) → NoCommits (role_begun me asker config s r role).deeds
-begun_none me asker config s r Primary = (tt, tt)
-begun_none me asker config s r role = tt
+begun_plain : (me : ℕ) (asker : Who) (config : Config) (s : Seat) (r : Replica) (role : Role) → ArePlain (role_begun me asker config s r role).deeds
+begun_plain me asker config s r Primary = (tt, tt)
+begun_plain me asker config s r role = tt
 
-pub activate_none : (me : ℕ) (asker : Who) (config : Config) (s : Seat) → NoCommits (activate_received me asker config s).deeds
+pub activate_plain : (me : ℕ) (asker : Who) (config : Config) (s : Seat) → ArePlain (activate_received me asker config s).deeds
 unfolding activate_received
-activate_none me asker config s = go (activate_call me config s.replica)
+activate_plain me asker config s = go (activate_call me config s.replica)
   where
-    go : (o : Outcome Role) → NoCommits (activate_answered me asker config s o).deeds
-    go (Err why, r) = older_none asker config.partition config.epoch why
-    go (Ok role, r) = either (same_role s.replica.role role) _ _ tt (begun_none me asker config s r role)
+    go : (o : Outcome Role) → ArePlain (activate_answered me asker config s o).deeds
+    go (Err why, r) = older_plain asker config.partition config.epoch why
+    go (Ok role, r) = either (same_role s.replica.role role) _ _ tt (begun_plain me asker config s r role)
 
-pub append_none : (asker : Who) (e : Epoch) (lsn : ℕ) (text : List ℕ) (s : Seat) → NoCommits (append_received asker e lsn text s).deeds
+pub append_plain : (asker : Who) (e : Epoch) (lsn : ℕ) (text : List ℕ) (s : Seat) → ArePlain (append_received asker e lsn text s).deeds
 unfolding append_received
-append_none asker e lsn text s = go (append_call e lsn text s.replica)
+append_plain asker e lsn text s = go (append_call e lsn text s.replica)
   where
-    go : (o : Outcome Done) → NoCommits (append_answered asker e lsn text s o).deeds
+    go : (o : Outcome Done) → ArePlain (append_answered asker e lsn text s o).deeds
     go (Ok New, r) = (tt, tt)
     go (Ok Held, r) = tt
     go (Err (Gap last), r) = either (same_epoch r.at e) _ _ tt tt
-    go (Err why, r) = older_none asker r.partition e why
+    go (Err why, r) = older_plain asker r.partition e why
 
-sent_none : (r : Replica) (q : Peer) (o : Option Entry) → NoCommits (entry_sent r q o)
-sent_none r q None = tt
-sent_none r q (Some x) = tt
+sent_plain : (r : Replica) (q : Peer) (o : Option Entry) → ArePlain (entry_sent r q o)
+sent_plain r q None = tt
+sent_plain r q (Some x) = tt
 
-pub fired_none : (s : Seat) → NoCommits (seat_fired s)
+pub fired_plain : (s : Seat) → ArePlain (seat_fired s)
 unfolding seat_fired
-fired_none s = go (lead_of s)
+fired_plain s = go (lead_of s)
   where
-    all : (qs : List Peer) → NoCommits (flat_map (λ q. entry_sent s.replica q (entry_at q.next s.replica.log)) qs)
+    all : (qs : List Peer) → ArePlain (flat_map (λ q. entry_sent s.replica q (entry_at q.next s.replica.log)) qs)
     all [] = tt
-    all (q ∷ qs) = none_join (entry_sent s.replica q (entry_at q.next s.replica.log)) _ (sent_none s.replica q (entry_at q.next s.replica.log)) (all qs)
+    all (q ∷ qs) = plain_join (entry_sent s.replica q (entry_at q.next s.replica.log)) _ (sent_plain s.replica q (entry_at q.next s.replica.log)) (all qs)
 
-    go : (o : Option Lead) → NoCommits (lead_fired s.replica o)
+    go : (o : Option Lead) → ArePlain (lead_fired s.replica o)
     go None = tt
     go (Some l) = all l.peers
-
--- an answer about names is no commit
-
-is_no_commit : (r : Report) → is_answer r ≡ true → IsNoCommit r
-is_no_commit (report.Committed p e last) h = absurd (cc (h))
-is_no_commit r h = tt
-
-pub answer_none : (s : Seat) (a : Acted Seat) → OnlyAnswers s a → NoCommits a.deeds
-answer_none s a h = subst (λ (b : Acted Seat). NoCommits b.deeds) (sym h.is) (is_no_commit h.told h.answers, tt)
 
 -- What is committed is what the primary holds committed.
 
@@ -261,7 +261,7 @@ pub write_commits : (q : ℕ) (text : List ℕ) (s : Seat) → s.replica.partiti
 unfolding write_commanded
 write_commits q text s of = go (lead_of s) refl
   where
-    sends : (r : Replica) (ps : List Peer) → NoCommits (map (append_to r.at r (last_of r) text) ps)
+    sends : (r : Replica) (ps : List Peer) → ArePlain (map (append_to r.at r (last_of r) text) ps)
     sends r [] = tt
     sends r (p ∷ ps) = sends r ps
 
@@ -271,7 +271,7 @@ write_commits q text s of = go (lead_of s) refl
     by l h (Ok d, r) add =
         let both = leads s l h in
         commits_join q _ (accepted r.partition r.at (last_of r) text ++ map (append_to r.at r (last_of r) text) l.peers) _
-        (none_of q _ (accepted r.partition r.at (last_of r) text ++ map (append_to r.at r (last_of r) text) l.peers) (tt, sends r l.peers))
+        (plain_of q _ (accepted r.partition r.at (last_of r) text ++ map (append_to r.at r (last_of r) text) l.peers) (tt, sends r l.peers))
         (committed_commits q l (seated s r) (add.partition ∙ of) (ap is_primary add.role ∙ both.0)
         ((λ i. is_older (add.at i) (add.promised i)) ∙ both.1))
 

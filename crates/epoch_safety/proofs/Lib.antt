@@ -6,6 +6,7 @@ pub mod NodeFollows
 pub mod Sending
 pub mod Entries
 pub mod Committing
+pub mod Managing
 pub mod StepCommits
 pub mod Covering
 pub mod ActFollows
@@ -20,3 +21,4 @@ pub mod Written
 pub mod Answers
 pub mod Naming
 pub mod Asked
+pub mod Unasked

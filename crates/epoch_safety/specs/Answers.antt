@@ -1,8 +1,10 @@
--- By which entries a node answers when it is asked about names.
+-- When a node answers about names, and by which entries.
 use Rattle.std.specs.Prelude.{◌≡◌, ℕ, Bool, true, false, List, Some, Ok, take}
 use Rattle.fabric_lemmas.specs.Maps.{at}
+use Rattle.fabric_terms.specs.declared.command.Command.{Command}
 use Rattle.fabric_terms.specs.declared.command.Command.TheVariants as command
 use Rattle.fabric_terms.specs.declared.config.FabricConfig.{FabricConfig}
+use Rattle.fabric_terms.specs.declared.event.Event.{Event}
 use Rattle.fabric_terms.specs.declared.event.Event.TheVariants.{Do}
 use Rattle.fabric_terms.specs.declared.report.Report.{Report}
 use Rattle.fabric_terms.specs.declared.report.Report.TheVariants as report
@@ -25,6 +27,17 @@ tells_names (report.Unresolved p name) = true
 tells_names (report.NameList p names) = true
 tells_names _ = false
 
+-- whether a command asks about names
+abbrev pub asks_names : Command → Bool
+asks_names (command.Resolve partition name) = true
+asks_names (command.Names partition range) = true
+asks_names _ = false
+
+-- whether an event asks a node about names
+abbrev pub is_question : Event → Bool
+is_question (Do node asked) = asks_names asked
+is_question _ = false
+
 -- the node was ready to answer by so many entries of its log, and this is what the names say that they leave
 pub record AnsweredBy (w : World units) (node partition : ℕ) (answer : ℕ → NameMap → Report) (r : Report) : Type 0 where
   pub running : Running units
@@ -45,3 +58,9 @@ AnswersAreByEntries =
     AnsweredBy w node partition (λ p. resolution p name) r)
     × ((range : Interval) → IsAmong (world_step units c w (Do node (command.Names partition range))).entry x r →
     AnsweredBy w node partition (λ p. listing p range) r)
+
+-- Whatever comes in whatever world, an answer about names is reported at a question alone.
+abbrev pub OnlyQuestionsAreAnswered : Type 0
+OnlyQuestionsAreAnswered =
+    (c : FabricConfig) (w : World units) (e : Event) (x : Who) (r : Report) → tells_names r ≡ true →
+    IsAmong (world_step units c w e).entry x r → is_question e ≡ true

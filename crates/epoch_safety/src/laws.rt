@@ -1,4 +1,4 @@
-ghost use Rattle.epoch_safety.specs.Answers.{AnswersAreByEntries};
+ghost use Rattle.epoch_safety.specs.Answers.{AnswersAreByEntries, OnlyQuestionsAreAnswered};
 ghost use Rattle.epoch_safety.specs.Laws.{AnswersAreCovered, NamesAreCovered, RunsHaveNoOlder, RunsHaveOnePrimary, WritesAreKept};
 
 /// In no valid run of a sound configuration do two nodes report that they are primary of one partition in one epoch.
@@ -35,4 +35,10 @@ pub fn names_are_covered()
 /// leave.
 pub fn answers_are_by_entries()
     ensures { AnswersAreByEntries }
+{}
+
+/// Whatever comes, an answer about names is reported at a question about names alone: at no start, stop, firing, frame or
+/// other command.
+pub fn only_questions_are_answered()
+    ensures { OnlyQuestionsAreAnswered }
 {}
