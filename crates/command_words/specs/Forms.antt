@@ -1,5 +1,5 @@
 -- Which words are one of the program's forms.
-use Rattle.std.specs.Prelude.{ℕ, List, [], ◌∷◌, Option, Some, None, codes, if◌then◌else◌}
+use Rattle.std.specs.Prelude.{◌≤◌, ℕ, List, [], ◌∷◌, Option, Some, None, codes, if◌then◌else◌}
 use Rattle.std.specs.Str.{bytes_eq}
 use Rattle.text_fields.specs.Fields.{◌>>=◌, last}
 use Rattle.text_fields.specs.Numbers.{number_in}
@@ -65,3 +65,9 @@ form_of (w ∷ a ∷ []) = two_words w a
 form_of (w ∷ a ∷ b ∷ []) = three_words w a b
 form_of (w ∷ a ∷ b ∷ d ∷ []) = four_words w a b d
 form_of _ = None
+
+-- a schedule that is made has 1 to 16 nodes
+abbrev pub FitsForm : Form → Type 0
+FitsForm (Generate seed nodes rounds) = (1 ≤ nodes) × (nodes ≤ 16)
+FitsForm (Drill seed nodes rounds) = (1 ≤ nodes) × (nodes ≤ 16)
+FitsForm _ = Unit {0}

@@ -1,5 +1,5 @@
 ghost use Rattle.std.specs.Prelude.{◌≡◌, ◌≤◌, IfSome, map, string_bytes};
-ghost use Rattle.command_words.specs.Forms.{arbiter_form, cluster_form, drill_form, form_of, four_words, generate_form, node_form, number_of, one_word, three_words, turns_of, two_words};
+ghost use Rattle.command_words.specs.Forms.{FitsForm, arbiter_form, cluster_form, drill_form, form_of, four_words, generate_form, node_form, number_of, one_word, three_words, turns_of, two_words};
 
 use crate::form::Form;
 use text_fields::last_number;
@@ -34,7 +34,8 @@ fn turns_of(word: &str) -> Option<u64>
 }
 
 fn node_form(node: &str, turns: &str) -> Option<Form>
-    ensures { result ≡ node_form node.now turns.now }
+    ensures form { result ≡ node_form node.now turns.now }
+    ensures fits { IfSome result FitsForm }
 {
     let node = number_of(1, LAST_NODE, node)?;
     let turns = turns_of(turns)?;
@@ -45,7 +46,8 @@ fn node_form(node: &str, turns: &str) -> Option<Form>
 }
 
 fn arbiter_form(arbiter: &str, turns: &str) -> Option<Form>
-    ensures { result ≡ arbiter_form arbiter.now turns.now }
+    ensures form { result ≡ arbiter_form arbiter.now turns.now }
+    ensures fits { IfSome result FitsForm }
 {
     let arbiter = number_of(1, LAST_ARBITER, arbiter)?;
     let turns = turns_of(turns)?;
@@ -56,14 +58,16 @@ fn arbiter_form(arbiter: &str, turns: &str) -> Option<Form>
 }
 
 fn cluster_form(turns: &str) -> Option<Form>
-    ensures { result ≡ cluster_form turns.now }
+    ensures form { result ≡ cluster_form turns.now }
+    ensures fits { IfSome result FitsForm }
 {
     let turns = turns_of(turns)?;
     Some(Form::Cluster { turns })
 }
 
 fn generate_form(seed: &str, nodes: &str, rounds: &str) -> Option<Form>
-    ensures { result ≡ generate_form seed.now nodes.now rounds.now }
+    ensures form { result ≡ generate_form seed.now nodes.now rounds.now }
+    ensures fits { IfSome result FitsForm }
 {
     let seed = number_of(0, u64::MAX, seed)?;
     let nodes = number_of(1, MOST_NODES, nodes)?;
@@ -76,7 +80,8 @@ fn generate_form(seed: &str, nodes: &str, rounds: &str) -> Option<Form>
 }
 
 fn drill_form(seed: &str, nodes: &str, rounds: &str) -> Option<Form>
-    ensures { result ≡ drill_form seed.now nodes.now rounds.now }
+    ensures form { result ≡ drill_form seed.now nodes.now rounds.now }
+    ensures fits { IfSome result FitsForm }
 {
     let seed = number_of(0, u64::MAX, seed)?;
     let nodes = number_of(1, MOST_NODES, nodes)?;
@@ -89,7 +94,8 @@ fn drill_form(seed: &str, nodes: &str, rounds: &str) -> Option<Form>
 }
 
 fn one_word(command: &str) -> Option<Form>
-    ensures { result ≡ one_word command.now }
+    ensures form { result ≡ one_word command.now }
+    ensures fits { IfSome result FitsForm }
 {
     if command == "replay" {
         Some(Form::Replay)
@@ -105,7 +111,8 @@ fn one_word(command: &str) -> Option<Form>
 }
 
 fn two_words(command: &str, turns: &str) -> Option<Form>
-    ensures { result ≡ two_words command.now turns.now }
+    ensures form { result ≡ two_words command.now turns.now }
+    ensures fits { IfSome result FitsForm }
 {
     if command == "cluster" {
         cluster_form(turns)
@@ -115,7 +122,8 @@ fn two_words(command: &str, turns: &str) -> Option<Form>
 }
 
 fn three_words(command: &str, number: &str, turns: &str) -> Option<Form>
-    ensures { result ≡ three_words command.now number.now turns.now }
+    ensures form { result ≡ three_words command.now number.now turns.now }
+    ensures fits { IfSome result FitsForm }
 {
     if command == "node" {
         node_form(number, turns)
@@ -127,7 +135,8 @@ fn three_words(command: &str, number: &str, turns: &str) -> Option<Form>
 }
 
 fn four_words(command: &str, seed: &str, nodes: &str, rounds: &str) -> Option<Form>
-    ensures { result ≡ four_words command.now seed.now nodes.now rounds.now }
+    ensures form { result ≡ four_words command.now seed.now nodes.now rounds.now }
+    ensures fits { IfSome result FitsForm }
 {
     if command == "generate" {
         generate_form(seed, nodes, rounds)
@@ -141,7 +150,8 @@ fn four_words(command: &str, seed: &str, nodes: &str, rounds: &str) -> Option<Fo
 /// The form that the words are, without the program's name. None exactly where they are none of the forms.
 #[tactic(auto, unfolding(crate::specs::Forms::form_of))]
 pub fn read_form(words: &[String]) -> Option<Form>
-    ensures { result ≡ form_of (map string_bytes words.now) }
+    ensures form { result ≡ form_of (map string_bytes words.now) }
+    ensures fits { IfSome result FitsForm }
 {
     match words {
         [command] => one_word(command.as_str()),

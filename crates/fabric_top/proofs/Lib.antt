@@ -1,3 +1,4 @@
 pub mod Safe
 pub mod Audited
 pub mod Clusters
+pub mod Generated

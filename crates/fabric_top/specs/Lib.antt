@@ -4,5 +4,6 @@ pub mod Replaying
 pub mod Tracing
 pub mod Auditing
 pub mod Writing
+pub mod Generating
 pub mod Clusters
 pub mod Top

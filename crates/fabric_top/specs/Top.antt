@@ -1,20 +1,21 @@
 -- What the top call does.
-use Rattle.std.specs.Prelude.{Bool, true, false, Option, Some, None}
+use Rattle.std.specs.Prelude.{Option, Some, None}
 use Rattle.command_words.specs.declared.form.Form.{Form}
 use Rattle.command_words.specs.declared.form.Form.TheVariants as form
 use Rattle.crew_runs.specs.Causes.{IsCrewRun}
 use Rattle.crew_runs.specs.Runs.{Seen}
 use Rattle.fabric_status.specs.declared.status.Status.{Status}
+use Rattle.schedule_generate.specs.Texts.{drill_writing, generate_writing}
 use Rattle.turn_plans.specs.declared.crew.Crew.TheVariants as crew
 use Rattle.fabric_top.specs.Auditing.{IsAudit}
 use Rattle.fabric_top.specs.Clusters.{RunsCluster}
+use Rattle.fabric_top.specs.Generating.{Generates}
 use Rattle.fabric_top.specs.Replaying.{IsReplay}
 use Rattle.fabric_top.specs.Tracing.{IsTrace}
 use Rattle.fabric_top.specs.Using.{IsUsage}
 use Rattle.fabric_top.specs.Writing.{IsWrites}
 
--- What each command does to the devices, and how it ends. Words that are none of the forms are Usage, and so are those of
--- a command that is not built yet.
+-- What each command does to the devices, and how it ends. Words that are none of the forms are Usage.
 abbrev pub Does : Option Form → Seen → Status → Seen → Type 0
 Does None a ended c = IsUsage a ended c
 Does (Some form.Replay) a ended c = IsReplay a ended c
@@ -24,16 +25,5 @@ Does (Some form.Writes) a ended c = IsWrites a ended c
 Does (Some (form.Node node turns)) a ended c = IsCrewRun (crew.Node node) turns a ended c
 Does (Some (form.Arbiter arbiter turns)) a ended c = IsCrewRun (crew.Arbiter arbiter) turns a ended c
 Does (Some (form.Cluster turns)) a ended c = RunsCluster turns a ended c
-Does (Some _) a ended c = IsUsage a ended c
-
--- the words are a form whose command is built
-abbrev pub is_built : Option Form → Bool
-is_built None = false
-is_built (Some form.Replay) = true
-is_built (Some form.Trace) = true
-is_built (Some form.Audit) = true
-is_built (Some form.Writes) = true
-is_built (Some (form.Node node turns)) = true
-is_built (Some (form.Arbiter arbiter turns)) = true
-is_built (Some (form.Cluster turns)) = true
-is_built (Some _) = false
+Does (Some (form.Generate seed nodes rounds)) a ended c = Generates generate_writing seed nodes rounds a ended c
+Does (Some (form.Drill seed nodes rounds)) a ended c = Generates drill_writing seed nodes rounds a ended c

@@ -1,14 +1,15 @@
 // The command of a form.
-ghost use Rattle.std.specs.Prelude.{◌≡◌, Some, false};
-ghost use Rattle.fabric_top.specs.Top.{Does, is_built};
+ghost use Rattle.std.specs.Prelude.{◌≡◌, ◌≢◌, Some};
+ghost use Rattle.command_words.specs.Forms.{FitsForm};
+ghost use Rattle.fabric_top.specs.Top.{Does};
 ghost use Rattle.outside.specs.Told.{Loans};
 ghost use Rattle.turn_rules.specs.Whole.{told_of};
 
 use crate::audits::audit_source;
 use crate::crews::run_actors;
+use crate::generates::{drill_schedule, generate_schedule};
 use crate::replays::replay_source;
 use crate::traces::trace_source;
-use crate::usage::usage;
 use crate::writes::writes_source;
 use command_words::Form;
 use crew_runs::Crew;
@@ -16,7 +17,7 @@ use edge_io::{Clock, Keeper, Links, Sink, Source};
 use fabric_status::Status;
 use std::alloc::Global;
 
-/// Runs the command of a form, where it is built; else the words are none yet.
+/// Runs the command of a form.
 pub fn run_form<S: Source, K: Sink, N: Links, D: Keeper, C: Clock>(
     alloc: Global,
     form: Form,
@@ -26,6 +27,7 @@ pub fn run_form<S: Source, K: Sink, N: Links, D: Keeper, C: Clock>(
     keeps: &mut D,
     clock: &mut C,
 ) -> Status
+    requires { FitsForm form }
     ensures does { (l : Loans) × Does (Some form)
         (record {
           left = S.left source.old;
@@ -38,7 +40,7 @@ pub fn run_form<S: Source, K: Sink, N: Links, D: Keeper, C: Clock>(
           source_faults = S.faults source.new;
           told = told_of l (K.held sink.new) (K.faults sink.new) (D.kept keeps.new) (D.faults keeps.new) (N.opened links.new) (N.arrivals links.new) (N.sent links.new) (N.faults links.new) (C.readings clock.new) (C.last clock.new) (C.falls clock.new);
         }) }
-    ensures usage { result ≡ Status.Usage → is_built (Some form) ≡ false }
+    ensures usage { result ≢ Status.Usage }
 {
     match form {
         Form::Replay => replay_source(alloc, source, sink),
@@ -81,7 +83,15 @@ pub fn run_form<S: Source, K: Sink, N: Links, D: Keeper, C: Clock>(
                 clock,
             )
         }
-        Form::Generate { .. } => usage(sink),
-        Form::Drill { .. } => usage(sink),
+        Form::Generate {
+            seed,
+            nodes,
+            rounds,
+        } => generate_schedule(alloc, seed, nodes, rounds, sink),
+        Form::Drill {
+            seed,
+            nodes,
+            rounds,
+        } => drill_schedule(alloc, seed, nodes, rounds, sink),
     }
 }

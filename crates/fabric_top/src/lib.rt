@@ -10,6 +10,7 @@
 mod audits;
 mod crews;
 mod forms;
+mod generates;
 mod replays;
 mod top;
 mod traces;

@@ -1,8 +1,8 @@
 // The top call.
-ghost use Rattle.std.specs.Prelude.{◌≡◌, ℕ, List, Some, map, string_bytes, false};
+ghost use Rattle.std.specs.Prelude.{◌≡◌, ℕ, List, None, Some, map, string_bytes};
 ghost use Rattle.command_words.specs.Forms.{form_of};
 ghost use Rattle.fabric_top.specs.Safe.{IsSafe};
-ghost use Rattle.fabric_top.specs.Top.{Does, is_built};
+ghost use Rattle.fabric_top.specs.Top.{Does};
 ghost use Rattle.outside.specs.Told.{Loans};
 ghost use Rattle.schedule_replay.specs.Schedule.{judge};
 ghost use Rattle.turn_rules.specs.Whole.{told_of};
@@ -45,7 +45,7 @@ pub fn fabric_main<S: Source, K: Sink, N: Links, D: Keeper, C: Clock>(
         }) }
 
     // Usage comes where the words are none of the forms, and nowhere else.
-    ensures usage { result ≡ Status.Usage → is_built (form_of (map string_bytes words.now)) ≡ false }
+    ensures usage { result ≡ Status.Usage → form_of (map string_bytes words.now) ≡ None }
 
     // At every status the run of the events that are accepted of a schedule is safe.
     ensures safe { (bytes : List ℕ) → S.left source.old ≡ Some bytes → IsSafe (judge bytes) }

@@ -1,6 +1,7 @@
 use Rattle.std.proofs.Common.{refl}
 use Rattle.outside.specs.Told.{Loans}
 use Rattle.fabric_top.proofs.Clusters.{cluster_runs}
+use Rattle.fabric_top.proofs.Safe.{accepted_is_safe}
 use Rattle.fabric_top.proofs.forms.run_form.Goals as goal
 
 pub returns-in-Replay-clause-does : goal.returns-in-Replay-clause-does
@@ -35,9 +36,9 @@ returns-in-Writes-clause-does g c =
 pub returns-in-Generate-clause-does : goal.returns-in-Generate-clause-does
 returns-in-Generate-clause-does g c =
     let loans : Loans = record { sink = c.args.sink.ghost_name; links = c.args.links.ghost_name; keeps = c.args.keeps.ghost_name; clock = c.args.clock.ghost_name } in
-    (loans, rw c.in-Generate.is (record { written = c.usage.ensures; rest = refl }))
+    (loans, rw c.in-Generate.is (record { made = c.generate_schedule.ensures; safe = accepted_is_safe _; rest = refl }))
 
 pub returns-in-Drill-clause-does : goal.returns-in-Drill-clause-does
 returns-in-Drill-clause-does g c =
     let loans : Loans = record { sink = c.args.sink.ghost_name; links = c.args.links.ghost_name; keeps = c.args.keeps.ghost_name; clock = c.args.clock.ghost_name } in
-    (loans, rw c.in-Drill.is (record { written = c.usage-in-Drill.ensures; rest = refl }))
+    (loans, rw c.in-Drill.is (record { made = c.drill_schedule.ensures; safe = accepted_is_safe _; rest = refl }))

@@ -13,5 +13,5 @@ returns-in-None-clause-safe g c bytes e = accepted_is_safe bytes
 pub returns-in-None-clause-does : goal.returns-in-None-clause-does
 returns-in-None-clause-does g c =
     let loans : Loans = record { sink = c.args.sink.ghost_name; links = c.args.links.ghost_name; keeps = c.args.keeps.ghost_name; clock = c.args.clock.ghost_name } in
-    let none : form_of (map string_bytes c.args.words.now) ≡ None = sym c.read_form.ensures ∙ c.in-None.is in
+    let none : form_of (map string_bytes c.args.words.now) ≡ None = sym c.read_form.ensures.form ∙ c.in-None.is in
     (loans, rw none (record { written = c.usage.ensures; rest = refl }))

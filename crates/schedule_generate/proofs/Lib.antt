@@ -1,0 +1,16 @@
+pub mod Reading
+pub mod Steps
+pub mod Growing
+pub mod Numbers
+pub mod Nodes
+pub mod Taking
+pub mod Short
+pub mod Judged
+pub mod Loops
+pub mod Closing
+pub mod Making
+pub mod Ticking
+pub mod Joined
+pub mod Turning
+pub mod Frames
+pub mod Counting

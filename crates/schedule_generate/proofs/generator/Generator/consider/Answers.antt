@@ -1,0 +1,52 @@
+use Rattle.std.proofs.Common.{◌≡◌, ◌≢◌, ◌+◌, ℕ, refl, ap, sym, subst, ◌∙◌, arith}
+use Rattle.std.specs.Prelude.{◌%◌}
+use Rattle.rand_pcg.specs.Lcg.{Lcg}
+use Rattle.rand_pcg.specs.Pcg.{pcg32}
+use Rattle.schedule_generate.specs.Course.{Course}
+use Rattle.schedule_generate.specs.Goes.{Went}
+use Rattle.schedule_generate.specs.Settings.{generated_config}
+use Rattle.schedule_generate.specs.declared.generator.Generator.{Generator}
+use Rattle.schedule_generate.proofs.Loops.{own_number}
+use Rattle.schedule_generate.proofs.Frames.{frame_once, frame_twice, considered_on}
+use Rattle.schedule_generate.proofs.generator.Generator.consider.Goals as goal
+
+pub take_all-requires-clause-at : goal.take_all-requires-clause-at
+take_all-requires-clause-at g c =
+    let n = c.args.self.now.nodes in
+    let own = own_number g.L.Listener.writing (g.L.Listener.knows c.args.listener.now) c.args.self.now c.args.text.now.items c.requires.at in
+    let k = own.0 in
+    let b : Generator = record c.args.self.now { considered = c.args.before + 1; draws = c.next_word-draw.new.self } in
+    (n, record k { considered = k.considered + 1; draws = (pcg32 k.draws).1 }, own.1, considered_on g.L.Listener.writing (g.L.Listener.knows c.args.listener.now) n c.args.self.now b c.args.text.now.items c.args.before k own.1 own.2 c.requires.before refl (ap (λ (p : ℕ × Lcg). p.1) c.next_word-draw.ensures))
+
+pub take-requires-clause-at : goal.take-requires-clause-at
+take-requires-clause-at g c =
+    let n = c.args.self.now.nodes in
+    let own = own_number g.L.Listener.writing (g.L.Listener.knows c.args.listener.now) c.args.self.now c.args.text.now.items c.requires.at in
+    let k = own.0 in
+    let b : Generator = record c.args.self.now { considered = c.args.before + 1; draws = c.next_word-draw.new.self } in
+    (n, record k { considered = k.considered + 1; draws = (pcg32 k.draws).1 }, own.1, considered_on g.L.Listener.writing (g.L.Listener.knows c.args.listener.now) n c.args.self.now b c.args.text.now.items c.args.before k own.1 own.2 c.requires.before refl (ap (λ (p : ℕ × Lcg). p.1) c.next_word-draw.ensures))
+
+pub returns-then-draw-eq1-clause-went : goal.returns-then-draw-eq1-clause-went
+returns-then-draw-eq1-clause-went g c k sent at =
+    let n = c.args.self.now.nodes in
+    let draw = c.next_word-draw.result in
+    let now : Course = record k { considered = k.considered + 1; draws = (pcg32 k.draws).1 } in
+    let b : Generator = record c.args.self.now { considered = c.args.before + 1; draws = c.next_word-draw.new.self } in
+    let word : (pcg32 k.draws).0 ≡ draw = ap (λ (d : Lcg). (pcg32 d).0) (sym at.goes.draws) ∙ sym (ap (λ (p : ℕ × Lcg). p.0) c.next_word-draw.ensures) in
+    let number : c.from.result ≡ k.considered + 1 = c.from.ensures ∙ ap (λ (j : ℕ). j + 1) (c.requires.before ∙ at.goes.considered) in
+    let on = considered_on g.L.Listener.writing (g.L.Listener.knows c.args.listener.now) n c.args.self.now b c.args.text.now.items c.args.before k sent at c.requires.before refl (ap (λ (p : ℕ × Lcg). p.1) c.next_word-draw.ensures) in
+    let one : draw % 8 ≡ 1 = omega arith in
+    subst (λ (x : Course). Went g.L.Listener.writing (g.L.Listener.knows c.take_all.new.listener) n c.take_all.result c.take_all.new.self c.take_all.new.text.items x sent) (sym (frame_twice (generated_config n) k draw c.from.result word one number)) (c.take_all.ensures.went now sent on)
+
+pub returns-clause-went : goal.returns-clause-went
+returns-clause-went g c k sent at =
+    let n = c.args.self.now.nodes in
+    let draw = c.next_word-draw.result in
+    let now : Course = record k { considered = k.considered + 1; draws = (pcg32 k.draws).1 } in
+    let b : Generator = record c.args.self.now { considered = c.args.before + 1; draws = c.next_word-draw.new.self } in
+    let word : (pcg32 k.draws).0 ≡ draw = ap (λ (d : Lcg). (pcg32 d).0) (sym at.goes.draws) ∙ sym (ap (λ (p : ℕ × Lcg). p.0) c.next_word-draw.ensures) in
+    let number : c.from.result ≡ k.considered + 1 = c.from.ensures ∙ ap (λ (j : ℕ). j + 1) (c.requires.before ∙ at.goes.considered) in
+    let on = considered_on g.L.Listener.writing (g.L.Listener.knows c.args.listener.now) n c.args.self.now b c.args.text.now.items c.args.before k sent at c.requires.before refl (ap (λ (p : ℕ × Lcg). p.1) c.next_word-draw.ensures) in
+    let not_lost : draw % 8 ≢ 0 = omega arith in
+    let not_twice : draw % 8 ≢ 1 = omega arith in
+    subst (λ (x : Course). Went g.L.Listener.writing (g.L.Listener.knows c.take.new.listener) n c.take.result c.take.new.self c.take.new.text.items x sent) (sym (frame_once (generated_config n) k draw c.from.result word not_lost not_twice number)) (c.take.ensures.went now sent on)

@@ -1,0 +1,34 @@
+use Rattle.std.proofs.Common.{◌≡◌, ℕ, List, All, Err, map, ap, sym, subst, ◌∙◌}
+use Rattle.fabric_terms.specs.Ranges.{Fits}
+use Rattle.fabric_terms.specs.declared.event.Event.{Event}
+use Rattle.ring_world.specs.Answers.{ruled}
+use Rattle.schedule_generate.specs.Course.{firings, fires, taken_all, with_firings, with_gives, with_turn}
+use Rattle.schedule_generate.specs.Goes.{Went}
+use Rattle.schedule_generate.specs.Moves.{events_for}
+use Rattle.schedule_generate.specs.Settings.{generated_config}
+use Rattle.schedule_generate.specs.Shown.{nodes_of}
+use Rattle.schedule_generate.proofs.Frames.{fires_fit}
+use Rattle.schedule_generate.proofs.Loops.{own_number}
+use Rattle.schedule_generate.proofs.Steps.{after_firings, went_on}
+use Rattle.schedule_generate.proofs.generator.Generator.go_on.Goals as goal
+
+pub take_all-requires-clause-fit : goal.take_all-requires-clause-fit
+take_all-requires-clause-fit g c =
+    let items = c.args.self.now.readings.items in
+    let is : events_for c.deref-2.result.now ≡ map fires (nodes_of items) = ap events_for c.deref-2.ensures.value ∙ (c.in_ok-push_firings.ensures ∙ ap (λ (rs : List (ℕ × ℕ)). map fires (nodes_of rs)) c.deref.ensures.value) in
+    subst (λ (es : List Event). All Fits es) (sym is) (fires_fit items c.requires.fit.1)
+
+pub give_and_turn-requires-clause-at : goal.give_and_turn-requires-clause-at
+give_and_turn-requires-clause-at g c =
+    let n = c.args.self.now.nodes in
+    let own = own_number g.L.Listener.writing (g.L.Listener.knows c.args.listener.now) c.args.self.now c.args.text.now.items c.requires.at in
+    (n, taken_all (generated_config n) (events_for c.deref-2.result.now) own.0, own.1, c.in-Ok.ensures.went own.0 own.1 own.2)
+
+pub returns-in-Err-clause-went : goal.returns-in-Err-clause-went
+returns-in-Err-clause-went g c k sent at runs =
+    let n = c.args.self.now.nodes in
+    let is : events_for c.deref-2.result.now ≡ firings (ruled (generated_config n) k.history) =
+    ap events_for c.deref-2.ensures.value ∙ (c.in_ok-push_firings.ensures ∙ (ap (λ (rs : List (ℕ × ℕ)). map fires (nodes_of rs)) c.deref.ensures.value ∙ ap (map fires) runs)) in
+    let here : Went g.L.Listener.writing (g.L.Listener.knows c.take_all.new.listener) n (Err c.in-Err.halt) c.take_all.new.self c.take_all.new.text.items (with_firings (generated_config n) k) sent =
+    subst (λ (es : List Event). Went g.L.Listener.writing (g.L.Listener.knows c.take_all.new.listener) n (Err c.in-Err.halt) c.take_all.new.self c.take_all.new.text.items (taken_all (generated_config n) es k) sent) is (c.in-Err.ensures.went k sent at) in
+    went_on g.L.Listener.writing (g.L.Listener.knows c.take_all.new.listener) (g.L.Listener.knows c.take_all.new.listener) n c.in-Err.halt c.take_all.new.self c.take_all.new.self c.take_all.new.text.items (with_firings (generated_config n) k) sent (λ x. with_turn (generated_config n) n (with_gives (generated_config n) x)) (after_firings (generated_config n) n) here

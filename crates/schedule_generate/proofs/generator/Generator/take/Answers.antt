@@ -1,0 +1,29 @@
+use Rattle.std.proofs.Common.{◌+◌, refl, sym, subst, ◌∙◌, Err}
+use Rattle.fabric_terms.specs.declared.event.Event.{Event}
+use Rattle.ring_world.specs.Answers.{Refuses, Takes, ruled}
+use Rattle.schedule_generate.specs.Course.{taken}
+use Rattle.schedule_generate.specs.Goes.{Went}
+use Rattle.schedule_generate.specs.Moves.{event_for}
+use Rattle.schedule_generate.specs.Settings.{generated_config}
+use Rattle.schedule_generate.specs.declared.halt.Halt.{Halt}
+use Rattle.schedule_generate.proofs.Taking.{no_tick, refused_on, time_still, took_on}
+use Rattle.schedule_generate.proofs.generator.Generator.take.Goals as goal
+
+pub returns-in_ok-took-in-Ok-clause-went : goal.returns-in_ok-took-in-Ok-clause-went
+returns-in_ok-took-in-Ok-clause-went g c k sent at =
+    let n = c.args.self.now.nodes in
+    let e = event_for c.args.made in
+    let world = ruled (generated_config n) k.history in
+    let takes : Takes c.apply.new.self (generated_config n) k.history c.args.self.now.line e c.in-Ok.acted =
+    subst (λ (d : Event). Takes c.apply.new.self (generated_config n) k.history c.args.self.now.line d c.in-Ok.acted) c.event.ensures (c.in-Ok.ensures (generated_config n) k.history at.goes.world) in
+    took_on g.L.Listener.writing (g.L.Listener.knows c.args.listener.now) (g.L.Listener.knows c.took.new.self) n c.args.self.now (record c.args.self.now { world = c.apply.new.self; line = c.args.self.now.line + 1 }) c.args.text.now.items c.took.new.text.items k sent e c.in-Ok.acted at takes
+    (c.in_ok-took-in-Ok.ensures n k.history at.known takes) refl refl (at.goes.time ∙ sym (time_still (generated_config n) world e (no_tick c.args.made))) refl refl
+
+pub returns-in-Err-clause-went : goal.returns-in-Err-clause-went
+returns-in-Err-clause-went g c k sent at =
+    let n = c.args.self.now.nodes in
+    let e = event_for c.args.made in
+    let refuses : Refuses c.in-Err.refusal (generated_config n) k.history e =
+    subst (λ (d : Event). Refuses c.in-Err.refusal (generated_config n) k.history d) c.event.ensures (c.in-Err.ensures (generated_config n) k.history at.goes.world).refused in
+    subst (λ (s : Halt). Went g.L.Listener.writing (g.L.Listener.knows c.args.listener.now) n (Err s) (record c.args.self.now { world = c.apply.new.self }) c.args.text.now.items (taken (generated_config n) e k) sent) (sym c.halt_of.ensures)
+    (refused_on g.L.Listener.writing (g.L.Listener.knows c.args.listener.now) (g.L.Listener.knows c.args.listener.now) n c.args.self.now (record c.args.self.now { world = c.apply.new.self }) c.args.text.now.items k sent e c.in-Err.refusal at c.requires.fits refuses)

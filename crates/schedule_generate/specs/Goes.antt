@@ -1,0 +1,118 @@
+-- Which course the code goes, and what it has written of it.
+use Rattle.std.specs.Prelude.{◌≡◌, ◌⊎◌, ℕ, true, List, ◌++◌, All, Option, Some, None, Result, Ok, Err}
+use Rattle.edge_io.specs.Edge.{Grew, GrewByFront}
+use Rattle.fabric_terms.specs.declared.event.Event.{Event}
+use Rattle.fabric_terms.specs.Ranges.{Fits}
+use Rattle.fabric_terms.specs.declared.config.FabricConfig.{FabricConfig}
+use Rattle.fabric_status.specs.declared.status.Status.{Status}
+use Rattle.fabric_status.specs.declared.status.Status.TheVariants as status
+use Rattle.ring_world.specs.Answers.{StandsFor, is_frame, ruled}
+use Rattle.ring_world.specs.declared.world.EventRefusal.{EventRefusal}
+use Rattle.schedule_replay.specs.Halts.{Wrote}
+use Rattle.world_rules.specs.Runs.{History}
+use Rattle.world_rules.specs.Schedules.{is_there, keeps_bound}
+use Rattle.schedule_generate.specs.Course.{Course, next_line}
+use Rattle.schedule_generate.specs.Settings.{generated_config}
+use Rattle.schedule_generate.specs.Texts.{Writing, all_written, lines_written}
+use Rattle.schedule_generate.specs.declared.generator.Generator.{Generator}
+use Rattle.schedule_generate.specs.declared.halt.Halt.{Halt}
+use Rattle.schedule_generate.specs.declared.halt.Halt.TheVariants as halt
+
+-- what a listener knows of a history of so many nodes
+abbrev pub Known : Type 1
+Known = ℕ → History → Type 0
+
+-- no event of the course was refused yet, and the generator stands where it ends
+pub record Goes (n : ℕ) (a : Generator) (g : Course) : Type 0 where
+  pub nodes : a.nodes ≡ n
+  pub going : g.refused ≡ None
+  pub world : StandsFor a.world (generated_config n) g.history
+  pub line : a.line ≡ next_line g.history
+  pub time : a.time ≡ (ruled (generated_config n) g.history).time
+  pub considered : a.considered ≡ g.considered
+  pub draws : a.draws ≡ g.draws
+
+-- the listener knows it too, and what is written of it was sent or waits
+pub record At (w : ℕ → Writing) (knows : Known) (n : ℕ) (a : Generator) (text : List ℕ) (g : Course) (sent : List ℕ) : Type 0 where
+  pub goes : Goes n a g
+  pub known : knows n g.history
+  pub told : sent ++ text ≡ lines_written (w n) g.history
+
+-- it does so for some course, of some number of nodes
+abbrev pub IsAt : (ℕ → Writing) → Known → Generator → List ℕ → Type 0
+IsAt w knows a text = (n : ℕ) × (g : Course) × (sent : List ℕ) × At w knows n a text g sent
+
+-- what the event names is there, no clock leaves its bound, and its numbers are in their ranges
+pub record Passes (c : FabricConfig) (h : History) (e : Event) : Type 0 where
+  pub fits : Fits e
+  pub there : is_there is_frame c (ruled c h) e ≡ true
+  pub bound : keeps_bound c (ruled c h) e ≡ true
+
+-- An event was refused at this line, for a limit alone, and what is written of those before it was sent or waits.
+pub record Refused (w : ℕ → Writing) (n number : ℕ) (text : List ℕ) (g : Course) (sent : List ℕ) : Type 0 where
+  pub event : Event
+  pub refused : g.refused ≡ Some event
+  pub line : number ≡ next_line g.history
+  pub passes : Passes (generated_config n) g.history event
+  pub fits : All (λ e. Fits e.1) g.history
+  pub told : sent ++ text ≡ lines_written (w n) g.history
+
+-- what a part of a course came to
+abbrev pub Went : (ℕ → Writing) → Known → ℕ → Result (Unit {0}) Halt → Generator → List ℕ → Course → List ℕ → Type 0
+Went w knows n (Ok u) a text g sent = At w knows n a text g sent
+Went w knows n (Err (halt.TooLarge line)) a text g sent = Refused w n line text g sent
+Went w knows n (Err halt.OutOfMemory) a text g sent = Unit {0}
+Went w knows n (Err halt.SinkFailed) a text g sent = ⊥
+
+-- why a course halts where an event is refused at this line; what it names is always there, and no clock leaves its bound
+abbrev pub halt_at : EventRefusal → ℕ → Halt
+halt_at EventRefusal.NoSuch line = halt.OutOfMemory
+halt_at (EventRefusal.DriftBroken broken) line = halt.OutOfMemory
+halt_at EventRefusal.TooLarge line = halt.TooLarge line
+halt_at EventRefusal.OutOfMemory line = halt.OutOfMemory
+
+-- what a round came to, by what the sink has more: what waited was sent in part; or nothing was sent before a refused event;
+-- or a front of what waited was, if anything
+abbrev pub Rounded : (ℕ → Writing) → Known → ℕ → Result (Unit {0}) Halt → Generator → List ℕ → Course → List ℕ → Option (List ℕ) → Option (List ℕ) → Type 0
+Rounded w knows n (Ok u) a text g sent old new = (more : List ℕ) × Grew old new more × At w knows n a text g (sent ++ more)
+Rounded w knows n (Err (halt.TooLarge line)) a text g sent old new = Refused w n line text g sent × (new ≡ old)
+Rounded w knows n (Err halt.OutOfMemory) a text g sent old new =
+    (new ≡ old) ⊎ ((waits : List ℕ) × (sent ++ waits ≡ lines_written (w n) g.history) × GrewByFront old new waits)
+Rounded w knows n (Err halt.SinkFailed) a text g sent old new =
+    (waits : List ℕ) × (sent ++ waits ≡ lines_written (w n) g.history) × GrewByFront old new waits
+
+-- an event of the course was refused at this line, for a limit alone
+pub record RefusedAt (n number : ℕ) (g : Course) : Type 0 where
+  pub event : Event
+  pub refused : g.refused ≡ Some event
+  pub line : number ≡ next_line g.history
+  pub passes : Passes (generated_config n) g.history event
+  pub fits : All (λ e. Fits e.1) g.history
+
+-- the whole course was gone, or it halted; by what the sink has more
+abbrev pub WentAll : (ℕ → Writing) → Known → ℕ → Result (Unit {0}) Halt → Generator → List ℕ → Course → Option (List ℕ) → Option (List ℕ) → Type 0
+WentAll w knows n (Ok u) a text g old new = Goes n a g × knows n g.history × Wrote old new text (lines_written (w n) g.history)
+WentAll w knows n (Err (halt.TooLarge line)) a text g old new =
+    RefusedAt n line g × Wrote old new text (lines_written (w n) g.history)
+WentAll w knows n (Err halt.OutOfMemory) a text g old new = GrewByFront old new (lines_written (w n) g.history)
+WentAll w knows n (Err halt.SinkFailed) a text g old new = GrewByFront old new (lines_written (w n) g.history)
+
+-- the schedule was made and all that is written of it was sent or waits, or it halted
+abbrev pub Made : ℕ → Writing → Result (Unit {0}) Halt → List ℕ → Course → Option (List ℕ) → Option (List ℕ) → Type 0
+Made n w (Ok u) text g old new = (g.refused ≡ None) × All (λ e. Fits e.1) g.history × Wrote old new text (all_written w g)
+Made n w (Err (halt.TooLarge line)) text g old new = RefusedAt n line g × Wrote old new text (lines_written w g.history)
+Made n w (Err halt.OutOfMemory) text g old new = GrewByFront old new (all_written w g)
+Made n w (Err halt.SinkFailed) text g old new = GrewByFront old new (all_written w g)
+
+-- the schedule came to its end, or to a limit
+abbrev pub IsSettled : Status → Type 0
+IsSettled status.Ok = Unit {0}
+IsSettled (status.TooLarge line) = Unit {0}
+IsSettled _ = ⊥
+
+-- the text was written in part and the rest waits, or a front of it was written before a halt
+abbrev pub Sends : Result (Unit {0}) Halt → Option (List ℕ) → Option (List ℕ) → List ℕ → List ℕ → Type 0
+Sends (Ok u) old new text rest = Wrote old new rest text
+Sends (Err (halt.TooLarge line)) old new text rest = ⊥
+Sends (Err halt.OutOfMemory) old new text rest = GrewByFront old new text
+Sends (Err halt.SinkFailed) old new text rest = GrewByFront old new text
