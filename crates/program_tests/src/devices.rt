@@ -6,7 +6,11 @@ use std::test::Fail;
 #[test]
 fn faults_of_devices_are_told(rt: HostRuntime) -> Result<(), Fail> {
     let alloc = rt.alloc();
-    for call in [1] {
+    let written = [
+        b"fault read\n".as_slice(),
+        b"2 0 1.1 0 own 0000000000000000-ffffffffffffffff -\nfault read\n".as_slice(),
+    ];
+    for (call, text) in [1, 2].into_iter().zip(written) {
         let mut source = MemSource::new(
             text_of(alloc, &[&[ONE, "start 1 0"]])?,
             vec![in alloc; call]?,
@@ -17,7 +21,7 @@ fn faults_of_devices_are_told(rt: HostRuntime) -> Result<(), Fail> {
             3,
             "read {call} fails"
         );
-        assert_eq!(rt; sink.held(), b"fault read\n".as_slice());
+        assert_eq!(rt; sink.held(), text);
     }
     let mut source = MemSource::new(text_of(alloc, &[&[ONE, "start 1 0"]])?, Vec::new(alloc));
     let mut sink = MemSink::new(alloc, vec![in alloc; 1]?);

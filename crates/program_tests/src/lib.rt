@@ -25,6 +25,8 @@ mod schedules;
 #[cfg(test)]
 mod small;
 #[cfg(test)]
+mod streams;
+#[cfg(test)]
 mod take_overs;
 #[cfg(test)]
 mod writes;
