@@ -11,6 +11,8 @@ mod cluster;
 #[cfg(test)]
 mod devices;
 #[cfg(test)]
+mod generated;
+#[cfg(test)]
 mod joins;
 #[cfg(test)]
 mod lengths;
