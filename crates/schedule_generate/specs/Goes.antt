@@ -64,7 +64,8 @@ Went w knows n (Err (halt.TooLarge line)) a text g sent = Refused w n line text 
 Went w knows n (Err halt.OutOfMemory) a text g sent = Unit {0}
 Went w knows n (Err halt.SinkFailed) a text g sent = ⊥
 
--- why a course halts where an event is refused at this line; what it names is always there, and no clock leaves its bound
+-- why a course halts where an event is refused at this line; an event of a course that names what is not there, or breaks
+-- the bound of a clock, would end it as want of memory does
 abbrev pub halt_at : EventRefusal → ℕ → Halt
 halt_at EventRefusal.NoSuch line = halt.OutOfMemory
 halt_at (EventRefusal.DriftBroken broken) line = halt.OutOfMemory

@@ -27,8 +27,9 @@ impl From<OutOfMemory> for Halt {
     }
 }
 
-/// Why a course halts where an event is refused at this line. The first two reasons never come, since an event is made of
-/// what is there, and every clock shows the true time.
+/// Why a course halts where an event is refused at this line. An event is made of what is there, and every clock shows the
+/// true time, so the first two reasons are not expected; that they never come is not proved. They would end the course as
+/// want of memory does.
 pub fn halt_of(refusal: EventRefusal, line: u64) -> Halt
     ensures { result ≡ halt_at refusal line }
 {
