@@ -8,6 +8,7 @@ use Rattle.fabric_terms.specs.declared.event.Event.TheVariants.{Give}
 use Rattle.rand_pcg.specs.Lcg.{Lcg}
 use Rattle.rand_pcg.specs.Pcg.{pcg32}
 use Rattle.schedule_generate.specs.Course.{Course, considered_next, fires, gives_of, taken, taken_all}
+use Rattle.schedule_generate.specs.Due.{ShowsTime}
 use Rattle.schedule_generate.specs.Goes.{At, Known}
 use Rattle.schedule_generate.specs.Shown.{nodes_of}
 use Rattle.schedule_generate.specs.Texts.{Writing}
@@ -20,7 +21,7 @@ considered_on w knows n a b text before g sent at here is drawn =
     let goes = at.goes in
     subst (λ (x : Generator). At w knows n x text (record g { considered = g.considered + 1; draws = (pcg32 g.draws).1 }) sent) (sym is)
     (record {
-      goes = record { nodes = goes.nodes; going = goes.going; world = goes.world; line = goes.line; time = goes.time; considered = ap (λ (k : ℕ). k + 1) (here ∙ goes.considered); draws = drawn ∙ ap (λ (d : Lcg). (pcg32 d).1) goes.draws };
+      goes = record { nodes = goes.nodes; going = goes.going; world = goes.world; line = goes.line; time = goes.time; clocks = goes.clocks; considered = ap (λ (k : ℕ). k + 1) (here ∙ goes.considered); draws = drawn ∙ ap (λ (d : Lcg). (pcg32 d).1) goes.draws };
       known = at.known;
       told = at.told;
     })
@@ -50,6 +51,11 @@ frame_once c g draw frame is not_lost not_twice number =
     let now : Course = record g { considered = g.considered + 1; draws = (pcg32 g.draws).1 } in
     by_draw c g draw (draw % 8) is refl
     ∙ (ap (λ es. taken_all c es now) (once (g.considered + 1) (draw % 8) not_lost not_twice) ∙ ap (λ (k : ℕ). taken c (Give k) now) (sym number))
+
+-- a firing has no reading
+pub fires_show : (time : ℕ) (nodes : List ℕ) → All (ShowsTime time) (map fires nodes)
+fires_show time [] = All-nil (ShowsTime time)
+fires_show time (k ∷ ks) = All-cons (ShowsTime time) (fires k) (map fires ks) tt (fires_show time ks)
 
 -- the firings of nodes that run
 pub fires_fit : (readings : List (ℕ × ℕ)) → All IsReading readings → All Fits (map fires (nodes_of readings))

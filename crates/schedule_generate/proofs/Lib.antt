@@ -3,6 +3,8 @@ pub mod Steps
 pub mod Growing
 pub mod Numbers
 pub mod Nodes
+pub mod Truly
+pub mod Due
 pub mod Taking
 pub mod Short
 pub mod Judged

@@ -6,8 +6,12 @@ use Rattle.fabric_terms.specs.declared.config.FabricConfig.{FabricConfig}
 use Rattle.schedule_replay.proofs.Fronts.{front_behind, front_of, grew_none}
 use Rattle.world_rules.specs.Runs.{History}
 use Rattle.fabric_terms.specs.Ranges.{Fits}
-use Rattle.schedule_generate.specs.Course.{Course, considered_next, considers, is_full, next_line, round, round_unless, rounds, taken, taken_all}
-use Rattle.schedule_generate.specs.Goes.{At, IsAt, Known, Passes, Rounded, Sends, Went, WentAll}
+use Rattle.fabric_terms.specs.declared.event.Event.{Event}
+use Rattle.ring_world.specs.Answers.{ruled}
+use Rattle.schedule_generate.specs.Course.{Course, considered_next, considers, is_full, next_line, round, round_unless, rounds, running, taken, taken_all}
+use Rattle.schedule_generate.specs.Due.{AreDue}
+use Rattle.schedule_generate.specs.Shown.{nodes_of}
+use Rattle.schedule_generate.specs.Goes.{At, HasMore, HasShown, IsAt, IsDue, Known, Passes, Rounded, Sends, Went, WentAll}
 use Rattle.schedule_generate.specs.Moves.{event_for, events_for}
 use Rattle.schedule_generate.specs.Settings.{generated_config}
 use Rattle.schedule_generate.specs.Texts.{Writing, lines_written}
@@ -21,6 +25,25 @@ use Rattle.schedule_generate.proofs.Steps.{considers_stick, rounds_stick, taken_
 -- the course of a generator is one of its own number of nodes
 pub own_number : (w : ℕ → Writing) (knows : Known) (a : Generator) (text : List ℕ) → IsAt w knows a text → (g : Course) × (sent : List ℕ) × At w knows a.nodes a text g sent
 own_number w knows a text is = (is.1, is.2, subst (λ (n : ℕ). At w knows n a text is.1 is.2) (sym is.3.goes.nodes) is.3)
+
+-- and so is one at which events are due
+pub own_due : (w : ℕ → Writing) (knows : Known) (a : Generator) (text : List ℕ) (es : List Event) → IsDue w knows a text es
+    → (g : Course) × (sent : List ℕ) × At w knows a.nodes a text g sent × AreDue (generated_config a.nodes) g.history es
+own_due w knows a text es is =
+    let parts = subst (λ (n : ℕ). At w knows n a text is.1 is.2 × AreDue (generated_config n) is.1.history es) (sym is.3.goes.nodes) (is.3, is.4) in
+    (is.1, is.2, parts.0, parts.1)
+
+pub own_more : (w : ℕ → Writing) (knows : Known) (a : Generator) (text : List ℕ) (before : ℕ) → HasMore w knows a text before
+    → (g : Course) × (sent : List ℕ) × At w knows a.nodes a text g sent × (before < (ruled (generated_config a.nodes) g.history).count)
+own_more w knows a text before is =
+    let parts = subst (λ (n : ℕ). At w knows n a text is.1 is.2 × (before < (ruled (generated_config n) is.1.history).count)) (sym is.3.goes.nodes) (is.3, is.4) in
+    (is.1, is.2, parts.0, parts.1)
+
+pub own_shown : (w : ℕ → Writing) (knows : Known) (a : Generator) (text : List ℕ) → HasShown w knows a text
+    → (g : Course) × (sent : List ℕ) × At w knows a.nodes a text g sent × (nodes_of a.readings.items ≡ running (ruled (generated_config a.nodes) g.history))
+own_shown w knows a text is =
+    let parts = subst (λ (n : ℕ). At w knows n a text is.1 is.2 × (nodes_of a.readings.items ≡ running (ruled (generated_config n) is.1.history))) (sym is.3.goes.nodes) (is.3, is.4) in
+    (is.1, is.2, parts.0, parts.1)
 
 -- one more of these moves
 pub all_more : (c : FabricConfig) (moves : List Move) (i : ℕ) (d : Move) (g : Course) → i < length moves

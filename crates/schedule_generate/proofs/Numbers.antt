@@ -1,11 +1,12 @@
 -- Numbers one after the other, and what is made of them.
-use Rattle.std.proofs.Common.{◌≡◌, ℕ, ◌+◌, ◌-◌, ◌≤◌, ◌<◌, zero, suc, List, [], ◌∷◌, ◌++◌, length, get_or, map, All, ap, sym, ◌∙◌, arith, append_assoc}
+use Rattle.std.proofs.Common.{◌≡◌, ℕ, ◌+◌, ◌-◌, ◌≤◌, ◌<◌, zero, suc, List, [], ◌∷◌, ◌++◌, length, get_or, map, All, refl, ap, sym, ◌∙◌, arith, append_assoc}
 use Rattle.std.specs.List.{flat_map}
 use Rattle.std.proofs.lemmas.List.{append-nil, map-append}
 use Rattle.std.proofs.lemmas.List.Elements.{All-nil, All-cons, All-map, All-append, All-head, All-tail}
 use Rattle.fabric_terms.specs.Ranges.{Fits}
 use Rattle.fabric_terms.specs.declared.event.Event.{Event}
 use Rattle.schedule_generate.specs.Course.{arbiter_starts, asks_first, node_starts, opening}
+use Rattle.schedule_generate.specs.Due.{ShowsTime}
 use Rattle.schedule_generate.specs.Moves.{event_for, events_for}
 use Rattle.schedule_generate.specs.Settings.{node_behind, numbers_from}
 use Rattle.schedule_generate.specs.declared.moves.Move.{Move}
@@ -54,8 +55,16 @@ opening_fits n some few =
     (All-map Fits node_starts (numbers_from 1 n) (numbers_all (λ k. Fits (node_starts k)) 1 n (λ k low high. ((low, omega arith), omega arith))))
     (All-map Fits asks_first (numbers_from 2 (n - 1)) (numbers_all (λ k. Fits (asks_first k)) 2 (n - 1) (λ k low high. ((omega arith, omega arith), (omega arith, omega arith))))))
 
+pub opening_shows : (n : ℕ) → All (ShowsTime 0) (opening n)
+opening_shows n =
+    All-append (ShowsTime 0) (map arbiter_starts (numbers_from 1 3)) (map node_starts (numbers_from 1 n) ++ map asks_first (numbers_from 2 (n - 1)))
+    (All-map (ShowsTime 0) arbiter_starts (numbers_from 1 3) (numbers_all (λ k. ShowsTime 0 (arbiter_starts k)) 1 3 (λ k low high. tt)))
+    (All-append (ShowsTime 0) (map node_starts (numbers_from 1 n)) (map asks_first (numbers_from 2 (n - 1)))
+    (All-map (ShowsTime 0) node_starts (numbers_from 1 n) (numbers_all (λ k. ShowsTime 0 (node_starts k)) 1 n (λ k low high. refl)))
+    (All-map (ShowsTime 0) asks_first (numbers_from 2 (n - 1)) (numbers_all (λ k. ShowsTime 0 (asks_first k)) 2 (n - 1) (λ k low high. tt))))
+
 -- one of these moves
-pub fits_at : (moves : List Move) (k : ℕ) (d : Move) → All Fits (events_for moves) → k < length moves → Fits (event_for (get_or moves k d))
-fits_at [] k d all lt = absurd (omega arith)
-fits_at (m ∷ moves) zero d all lt = All-head Fits (event_for m) (events_for moves) all
-fits_at (m ∷ moves) (suc k) d all lt = fits_at moves k d (All-tail Fits (event_for m) (events_for moves) all) (omega arith)
+pub holds_at : (P : Event → Type 0) (moves : List Move) (k : ℕ) (d : Move) → All P (events_for moves) → k < length moves → P (event_for (get_or moves k d))
+holds_at P [] k d all lt = absurd (omega arith)
+holds_at P (m ∷ moves) zero d all lt = All-head P (event_for m) (events_for moves) all
+holds_at P (m ∷ moves) (suc k) d all lt = holds_at P moves k d (All-tail P (event_for m) (events_for moves) all) (omega arith)

@@ -1,5 +1,5 @@
 -- The world takes an event, or refuses it.
-use Rattle.std.proofs.Common.{◌≡◌, ℕ, ◌+◌, List, ◌∷◌, ◌++◌, Option, Some, Err, refl, ap, sym, subst, ◌∙◌, arith, append_assoc}
+use Rattle.std.proofs.Common.{◌≡◌, ℕ, ◌+◌, List, ◌∷◌, ◌++◌, Option, Some, None, Err, refl, ap, sym, subst, ◌∙◌, arith, append_assoc}
 use Rattle.fabric_above.specs.Fabric.{fabric}
 use Rattle.fabric_terms.specs.declared.config.FabricConfig.{FabricConfig}
 use Rattle.fabric_terms.specs.declared.event.Event.{Event}
@@ -13,7 +13,7 @@ use Rattle.run_facts.proofs.Happens.{by_cases}
 use Rattle.world_rules.specs.Events.{world_step}
 use Rattle.world_rules.specs.Worlds.{World}
 use Rattle.schedule_generate.specs.Course.{Course, next_line, running, taken}
-use Rattle.schedule_generate.specs.Goes.{At, Known, Refused, Went, halt_at}
+use Rattle.schedule_generate.specs.Goes.{At, Goes, Known, Refused, Went, halt_at}
 use Rattle.schedule_generate.specs.Moves.{event_for}
 use Rattle.schedule_generate.specs.Settings.{generated_config}
 use Rattle.schedule_generate.specs.Texts.{Writing}
@@ -21,7 +21,9 @@ use Rattle.schedule_generate.specs.declared.generator.Generator.{Generator}
 use Rattle.schedule_generate.specs.declared.moves.Move.{Move}
 use Rattle.schedule_generate.specs.declared.moves.Move.TheVariants.{Start, Stop, Fire, Give, Link}
 use Rattle.schedule_generate.proofs.Steps.{accepts_may, refuses_may, taken_may, taken_not}
+use Rattle.schedule_generate.specs.Due.{ShowsTime}
 use Rattle.schedule_generate.proofs.Nodes.{ticked_nodes}
+use Rattle.schedule_generate.proofs.Truly.{NamesTrue, true_on}
 
 -- Time.
 
@@ -52,13 +54,22 @@ pub tick_nodes : (c : FabricConfig) (w : World fabric) (advance : ℕ) (readings
 unfolding world_step
 tick_nodes c w advance readings = ticked_nodes (w.time + advance) readings w.nodes
 
+-- a clock that starts with the true time of the generator shows that of the world
+pub names_true : (n : ℕ) (a : Generator) (g : Course) (m : Move) → Goes n a g → ShowsTime a.time (event_for m) → NamesTrue (ruled (generated_config n) g.history) (event_for m)
+names_true n a g (Start actor (Some reading)) goes shows = shows ∙ goes.time
+names_true n a g (Start actor None) goes shows = tt
+names_true n a g (Stop actor) goes shows = tt
+names_true n a g (Fire node) goes shows = tt
+names_true n a g (Give frame) goes shows = tt
+names_true n a g (Link node other) goes shows = tt
+
 -- An event was taken: the course has one more.
 pub took_on : (w : ℕ → Writing) (knows known : Known) (n : ℕ) (a b : Generator) (text now : List ℕ) (g : Course) (sent : List ℕ) (e : Event) (acted : Option Acted)
     → At w knows n a text g sent → Takes b.world (generated_config n) g.history a.line e acted
     → known n ((a.line, e) ∷ g.history) × (now ≡ text ++ (w n).line e)
     → b.nodes ≡ a.nodes → b.line ≡ a.line + 1 → b.time ≡ (world_step fabric (generated_config n) (ruled (generated_config n) g.history) e).world.time
-    → b.considered ≡ a.considered → b.draws ≡ a.draws → At w known n b now (taken (generated_config n) e g) sent
-took_on w knows known n a b text now g sent e acted at takes told nodes line time considered draws =
+    → b.considered ≡ a.considered → b.draws ≡ a.draws → NamesTrue (ruled (generated_config n) g.history) e → At w known n b now (taken (generated_config n) e g) sent
+took_on w knows known n a b text now g sent e acted at takes told nodes line time considered draws names =
     let c = generated_config n in
     let h = g.history in
     let here : a.line ≡ next_line h = at.goes.line in
@@ -73,6 +84,7 @@ took_on w knows known n a b text now g sent e acted at takes told nodes line tim
         world = subst (λ (l : ℕ). StandsFor b.world c ((l, e) ∷ h)) here takes.stands;
         line = line ∙ (ap (λ (l : ℕ). l + 1) here ∙ next);
         time = time;
+        clocks = true_on c (ruled c h) e at.goes.clocks names;
         considered = considered ∙ at.goes.considered;
         draws = draws ∙ at.goes.draws;
       };

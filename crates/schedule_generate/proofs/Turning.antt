@@ -20,7 +20,7 @@ draws_on w knows n a b text g sent at is drawn =
     let goes = at.goes in
     subst (λ (x : Generator). At w knows n x text (record g { draws = (pcg32 g.draws).1 }) sent) (sym is)
     (record {
-      goes = record { nodes = goes.nodes; going = goes.going; world = goes.world; line = goes.line; time = goes.time; considered = goes.considered; draws = drawn ∙ ap (λ (d : Lcg). (pcg32 d).1) goes.draws };
+      goes = record { nodes = goes.nodes; going = goes.going; world = goes.world; line = goes.line; time = goes.time; clocks = goes.clocks; considered = goes.considered; draws = drawn ∙ ap (λ (d : Lcg). (pcg32 d).1) goes.draws };
       known = at.known;
       told = at.told;
     })

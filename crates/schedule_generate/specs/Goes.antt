@@ -1,5 +1,5 @@
 -- Which course the code goes, and what it has written of it.
-use Rattle.std.specs.Prelude.{◌≡◌, ◌⊎◌, ℕ, true, List, ◌++◌, All, Option, Some, None, Result, Ok, Err}
+use Rattle.std.specs.Prelude.{◌≡◌, ◌<◌, ◌⊎◌, ℕ, true, List, ◌++◌, All, Option, Some, None, Result, Ok, Err}
 use Rattle.edge_io.specs.Edge.{Grew, GrewByFront}
 use Rattle.fabric_terms.specs.declared.event.Event.{Event}
 use Rattle.fabric_terms.specs.Ranges.{Fits}
@@ -11,8 +11,10 @@ use Rattle.ring_world.specs.declared.world.EventRefusal.{EventRefusal}
 use Rattle.schedule_replay.specs.Halts.{Wrote}
 use Rattle.world_rules.specs.Runs.{History}
 use Rattle.world_rules.specs.Schedules.{is_there, keeps_bound}
-use Rattle.schedule_generate.specs.Course.{Course, next_line}
+use Rattle.schedule_generate.specs.Course.{Course, next_line, running}
+use Rattle.schedule_generate.specs.Due.{AreDue, ClocksAreTrue}
 use Rattle.schedule_generate.specs.Settings.{generated_config}
+use Rattle.schedule_generate.specs.Shown.{nodes_of}
 use Rattle.schedule_generate.specs.Texts.{Writing, all_written, lines_written}
 use Rattle.schedule_generate.specs.declared.generator.Generator.{Generator}
 use Rattle.schedule_generate.specs.declared.halt.Halt.{Halt}
@@ -22,13 +24,14 @@ use Rattle.schedule_generate.specs.declared.halt.Halt.TheVariants as halt
 abbrev pub Known : Type 1
 Known = ℕ → History → Type 0
 
--- no event of the course was refused yet, and the generator stands where it ends
+-- no event of the course was refused yet, its clocks are true, and the generator stands where it ends
 pub record Goes (n : ℕ) (a : Generator) (g : Course) : Type 0 where
   pub nodes : a.nodes ≡ n
   pub going : g.refused ≡ None
   pub world : StandsFor a.world (generated_config n) g.history
   pub line : a.line ≡ next_line g.history
   pub time : a.time ≡ (ruled (generated_config n) g.history).time
+  pub clocks : ClocksAreTrue (ruled (generated_config n) g.history)
   pub considered : a.considered ≡ g.considered
   pub draws : a.draws ≡ g.draws
 
@@ -41,6 +44,21 @@ pub record At (w : ℕ → Writing) (knows : Known) (n : ℕ) (a : Generator) (t
 -- it does so for some course, of some number of nodes
 abbrev pub IsAt : (ℕ → Writing) → Known → Generator → List ℕ → Type 0
 IsAt w knows a text = (n : ℕ) × (g : Course) × (sent : List ℕ) × At w knows n a text g sent
+
+-- and these events may come next
+abbrev pub IsDue : (ℕ → Writing) → Known → Generator → List ℕ → List Event → Type 0
+IsDue w knows a text es = (n : ℕ) × (g : Course) × (sent : List ℕ) × At w knows n a text g sent × AreDue (generated_config n) g.history es
+
+-- and more than so many frames were sent
+abbrev pub HasMore : (ℕ → Writing) → Known → Generator → List ℕ → ℕ → Type 0
+HasMore w knows a text before =
+    (n : ℕ) × (g : Course) × (sent : List ℕ) × At w knows n a text g sent × (before < (ruled (generated_config n) g.history).count)
+
+-- and its readings are of those who run
+abbrev pub HasShown : (ℕ → Writing) → Known → Generator → List ℕ → Type 0
+HasShown w knows a text =
+    (n : ℕ) × (g : Course) × (sent : List ℕ) × At w knows n a text g sent
+    × (nodes_of a.readings.items ≡ running (ruled (generated_config n) g.history))
 
 -- what the event names is there, no clock leaves its bound, and its numbers are in their ranges
 pub record Passes (c : FabricConfig) (h : History) (e : Event) : Type 0 where
@@ -64,13 +82,17 @@ Went w knows n (Err (halt.TooLarge line)) a text g sent = Refused w n line text 
 Went w knows n (Err halt.OutOfMemory) a text g sent = Unit {0}
 Went w knows n (Err halt.SinkFailed) a text g sent = ⊥
 
--- why a course halts where an event is refused at this line; an event of a course that names what is not there, or breaks
--- the bound of a clock, would end it as want of memory does
+-- an event of a course is refused for a limit or for want of memory, since what it names is there and its clocks are true
+abbrev pub IsLimit : EventRefusal → Type 0
+IsLimit EventRefusal.NoSuch = ⊥
+IsLimit (EventRefusal.DriftBroken broken) = ⊥
+IsLimit EventRefusal.TooLarge = Unit {0}
+IsLimit EventRefusal.OutOfMemory = Unit {0}
+
+-- why a course halts where an event is refused so at this line
 abbrev pub halt_at : EventRefusal → ℕ → Halt
-halt_at EventRefusal.NoSuch line = halt.OutOfMemory
-halt_at (EventRefusal.DriftBroken broken) line = halt.OutOfMemory
 halt_at EventRefusal.TooLarge line = halt.TooLarge line
-halt_at EventRefusal.OutOfMemory line = halt.OutOfMemory
+halt_at _ line = halt.OutOfMemory
 
 -- what a round came to, by what the sink has more: what waited was sent in part; or nothing was sent before a refused event;
 -- or a front of what waited was, if anything

@@ -1,5 +1,6 @@
 pub mod Settings
 pub mod Course
+pub mod Due
 pub mod Moves
 pub mod Shown
 pub mod Texts

@@ -3,7 +3,7 @@ ghost use Rattle.std.specs.Prelude.{◌≡◌, ◌+◌, ◌≤◌, ◌<◌, ◌^
 ghost use Rattle.ring_world.specs.Answers.{ruled};
 ghost use Rattle.fabric_terms.specs.Ranges.{AreReadings};
 ghost use Rattle.schedule_generate.specs.Course.{Course, considered_next, fires, round, running, with_firings, with_gives, with_tick, with_turn};
-ghost use Rattle.schedule_generate.specs.Goes.{At, IsAt, Went};
+ghost use Rattle.schedule_generate.specs.Goes.{At, HasMore, HasShown, IsAt, Went};
 ghost use Rattle.schedule_generate.specs.Moves.{events_for};
 ghost use Rattle.schedule_generate.specs.Settings.{generated_config};
 ghost use Rattle.schedule_generate.specs.Shown.{nodes_of, shown};
@@ -78,7 +78,7 @@ impl Generator {
         listener: &mut L,
         text: &mut Vec<u8>,
     ) -> Result<(), Halt>
-        requires at { IsAt L.writing (L.knows listener.old) self.old text.old.items }
+        requires at { HasMore L.writing (L.knows listener.old) self.old text.old.items before }
         requires before { before ≡ self.old.considered }
         requires few { before < 2 ^ 31 }
         ensures went { (g : Course) (sent : List ℕ) → At L.writing (L.knows listener.old) self.old.nodes self.old text.old.items g sent → Went L.writing (L.knows listener.new) self.old.nodes result self.new text.new.items (considered_next (generated_config self.old.nodes) g) sent }
@@ -141,7 +141,7 @@ impl Generator {
         listener: &mut L,
         text: &mut Vec<u8>,
     ) -> Result<(), Halt>
-        requires at { IsAt L.writing (L.knows listener.old) self.old text.old.items }
+        requires at { HasShown L.writing (L.knows listener.old) self.old text.old.items }
         requires some { 1 ≤ self.old.nodes }
         requires few { self.old.nodes ≤ 16 }
         requires fit { AreReadings self.old.readings.items }

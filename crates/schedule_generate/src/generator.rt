@@ -1,8 +1,9 @@
 // The generator of a schedule: its world, and what is still to be considered.
-ghost use Rattle.std.specs.Prelude.{◌≡◌, ◌≤◌, ℕ, List, All, IfOk};
+ghost use Rattle.std.specs.Prelude.{◌≡◌, ◌≤◌, ◌∷◌, [], ℕ, List, All, IfOk};
 ghost use Rattle.fabric_terms.specs.Ranges.{Fits};
 ghost use Rattle.schedule_generate.specs.Course.{Course, begun, is_full, taken, taken_all};
-ghost use Rattle.schedule_generate.specs.Goes.{At, Goes, IsAt, Went};
+ghost use Rattle.schedule_generate.specs.Due.{ShowsTime};
+ghost use Rattle.schedule_generate.specs.Goes.{At, Goes, IsDue, Went};
 ghost use Rattle.schedule_generate.specs.Moves.{event_for, events_for};
 ghost use Rattle.schedule_generate.specs.Settings.{generated_config};
 
@@ -41,6 +42,7 @@ pub struct Generator {
 
 impl Generator {
     /// It stands before the first event.
+    #[tactic(auto, using(crate::proofs::Truly::first_true))]
     pub fn new(alloc: Global, seed: u64, nodes: u16) -> Result<Generator, OutOfMemory>
         requires some { 1 ≤ nodes }
         requires few { nodes ≤ 16 }
@@ -73,8 +75,9 @@ impl Generator {
         listener: &mut L,
         text: &mut Vec<u8>,
     ) -> Result<(), Halt>
-        requires at { IsAt L.writing (L.knows listener.old) self.old text.old.items }
+        requires due { IsDue L.writing (L.knows listener.old) self.old text.old.items (event_for made ∷ []) }
         requires fits { Fits (event_for made) }
+        requires shows { ShowsTime self.old.time (event_for made) }
         ensures went { (g : Course) (sent : List ℕ) → At L.writing (L.knows listener.old) self.old.nodes self.old text.old.items g sent → Went L.writing (L.knows listener.new) self.old.nodes result self.new text.new.items (taken (generated_config self.old.nodes) (event_for made) g) sent }
         ensures rest { self.new ≡ record self.old { world = self.new.world; line = self.new.line } }
     {
@@ -96,8 +99,9 @@ impl Generator {
         listener: &mut L,
         text: &mut Vec<u8>,
     ) -> Result<(), Halt>
-        requires at { IsAt L.writing (L.knows listener.old) self.old text.old.items }
+        requires due { IsDue L.writing (L.knows listener.old) self.old text.old.items (events_for moves.now) }
         requires fit { All Fits (events_for moves.now) }
+        requires shows { All (ShowsTime self.old.time) (events_for moves.now) }
         ensures went { (g : Course) (sent : List ℕ) → At L.writing (L.knows listener.old) self.old.nodes self.old text.old.items g sent → Went L.writing (L.knows listener.new) self.old.nodes result self.new text.new.items (taken_all (generated_config self.old.nodes) (events_for moves.now) g) sent }
         ensures rest { self.new ≡ record self.old { world = self.new.world; line = self.new.line } }
     {

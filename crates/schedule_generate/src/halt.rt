@@ -1,6 +1,6 @@
 // Why a course halts.
 ghost use Rattle.std.specs.Prelude.{◌≡◌};
-ghost use Rattle.schedule_generate.specs.Goes.{halt_at};
+ghost use Rattle.schedule_generate.specs.Goes.{IsLimit, halt_at};
 
 use fabric_terms::OutOfMemory;
 use ring_world::EventRefusal;
@@ -28,14 +28,14 @@ impl From<OutOfMemory> for Halt {
 }
 
 /// Why a course halts where an event is refused at this line. An event is made of what is there, and every clock shows the
-/// true time, so the first two reasons are not expected; that they never come is not proved. They would end the course as
-/// want of memory does.
+/// true time, so that it is refused for a limit or for want of memory alone.
 pub fn halt_of(refusal: EventRefusal, line: u64) -> Halt
+    requires { IsLimit refusal }
     ensures { result ≡ halt_at refusal line }
 {
     match refusal {
-        EventRefusal::NoSuch => Halt::OutOfMemory,
-        EventRefusal::DriftBroken(_) => Halt::OutOfMemory,
+        EventRefusal::NoSuch => unreachable!(),
+        EventRefusal::DriftBroken(_) => unreachable!(),
         EventRefusal::TooLarge => Halt::TooLarge(line),
         EventRefusal::OutOfMemory => Halt::OutOfMemory,
     }

@@ -1,14 +1,16 @@
-use Rattle.std.proofs.Common.{◌≡◌, [], List, All, ap, sym, subst, ◌∙◌, Ok, Err}
+use Rattle.std.proofs.Common.{◌≡◌, ℕ, [], List, All, ap, sym, subst, ◌∙◌, Ok, Err}
 use Rattle.fabric_terms.specs.Ranges.{Fits}
 use Rattle.fabric_terms.specs.declared.event.Event.{Event}
 use Rattle.schedule_generate.specs.Course.{begun, opening, taken_all}
+use Rattle.schedule_generate.specs.Due.{AreDue, ShowsTime}
 use Rattle.schedule_generate.specs.Goes.{At, WentAll}
 use Rattle.schedule_generate.specs.Moves.{events_for}
 use Rattle.schedule_generate.specs.Settings.{generated_config}
 use Rattle.schedule_generate.specs.Texts.{all_written, generated}
 use Rattle.schedule_generate.proofs.Closing.{at_first, end_halts, gone, made_all, nothing_sent, opened, opening_halts, rounds_halt}
 use Rattle.schedule_generate.proofs.Loops.{no_failure}
-use Rattle.schedule_generate.proofs.Numbers.{opening_fits}
+use Rattle.schedule_generate.proofs.Due.{opening_due}
+use Rattle.schedule_generate.proofs.Numbers.{opening_fits, opening_shows}
 use Rattle.schedule_generate.proofs.write.make.Goals as goal
 
 pub returns-in-Err-clause-made : goal.returns-in-Err-clause-made
@@ -20,12 +22,20 @@ returns-in-Err-new-clause-made g c = nothing_sent (g.K.Sink.held c.args.sink.now
 pub returns-in-Err-opening_moves-clause-made : goal.returns-in-Err-opening_moves-clause-made
 returns-in-Err-opening_moves-clause-made g c = nothing_sent (g.K.Sink.held c.args.sink.now) (all_written (g.L.Listener.writing c.args.nodes) (generated c.args.seed c.args.nodes c.args.count))
 
-pub take_all-requires-clause-at : goal.take_all-requires-clause-at
-take_all-requires-clause-at g c =
+pub take_all-requires-clause-due : goal.take_all-requires-clause-due
+take_all-requires-clause-due g c =
     let n = c.args.nodes in
     let first : At g.L.Listener.writing (g.L.Listener.knows c.args.listener.now) n c.in-Ok-new.generator c.begin.new.text.items (begun c.args.seed) [] =
     at_first g.L.Listener.writing (g.L.Listener.knows c.args.listener.now) n c.in-Ok-new.generator c.begin.new.text.items c.args.text.now.items c.args.seed c.in-Ok-new.ensures.goes c.requires.known c.requires.empty c.in-Ok.ensures in
-    (n, begun c.args.seed, [], first)
+    let is : events_for c.deref.result.now ≡ opening n = ap events_for c.deref.ensures.value ∙ c.in-Ok-opening_moves.ensures in
+    (n, begun c.args.seed, [], first, subst (λ (es : List Event). AreDue (generated_config n) [] es) (sym is) (opening_due n c.requires.some))
+
+pub take_all-requires-clause-shows : goal.take_all-requires-clause-shows
+take_all-requires-clause-shows g c =
+    let n = c.args.nodes in
+    let is : events_for c.deref.result.now ≡ opening n = ap events_for c.deref.ensures.value ∙ c.in-Ok-opening_moves.ensures in
+    subst (λ (t : ℕ). All (ShowsTime t) (events_for c.deref.result.now)) (sym c.in-Ok-new.ensures.time)
+    (subst (λ (es : List Event). All (ShowsTime 0) es) (sym is) (opening_shows n))
 
 pub take_all-requires-clause-fit : goal.take_all-requires-clause-fit
 take_all-requires-clause-fit g c =

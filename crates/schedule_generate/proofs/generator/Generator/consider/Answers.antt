@@ -2,29 +2,35 @@ use Rattle.std.proofs.Common.{◌≡◌, ◌≢◌, ◌+◌, ℕ, refl, ap, sym,
 use Rattle.std.specs.Prelude.{◌%◌}
 use Rattle.rand_pcg.specs.Lcg.{Lcg}
 use Rattle.rand_pcg.specs.Pcg.{pcg32}
+use Rattle.ring_world.specs.Answers.{ruled}
 use Rattle.schedule_generate.specs.Course.{Course}
 use Rattle.schedule_generate.specs.Goes.{Went}
 use Rattle.schedule_generate.specs.Settings.{generated_config}
 use Rattle.schedule_generate.specs.declared.generator.Generator.{Generator}
-use Rattle.schedule_generate.proofs.Loops.{own_number}
+use Rattle.schedule_generate.proofs.Due.{give_due, twice_due}
+use Rattle.schedule_generate.proofs.Loops.{own_more}
 use Rattle.schedule_generate.proofs.Frames.{frame_once, frame_twice, considered_on}
 use Rattle.schedule_generate.proofs.generator.Generator.consider.Goals as goal
 
-pub take_all-requires-clause-at : goal.take_all-requires-clause-at
-take_all-requires-clause-at g c =
+pub take_all-requires-clause-due : goal.take_all-requires-clause-due
+take_all-requires-clause-due g c =
     let n = c.args.self.now.nodes in
-    let own = own_number g.L.Listener.writing (g.L.Listener.knows c.args.listener.now) c.args.self.now c.args.text.now.items c.requires.at in
+    let own = own_more g.L.Listener.writing (g.L.Listener.knows c.args.listener.now) c.args.self.now c.args.text.now.items c.args.before c.requires.at in
     let k = own.0 in
     let b : Generator = record c.args.self.now { considered = c.args.before + 1; draws = c.next_word-draw.new.self } in
-    (n, record k { considered = k.considered + 1; draws = (pcg32 k.draws).1 }, own.1, considered_on g.L.Listener.writing (g.L.Listener.knows c.args.listener.now) n c.args.self.now b c.args.text.now.items c.args.before k own.1 own.2 c.requires.before refl (ap (λ (p : ℕ × Lcg). p.1) c.next_word-draw.ensures))
+    let more = own.3 in
+    let frame = c.from.ensures in
+    (n, record k { considered = k.considered + 1; draws = (pcg32 k.draws).1 }, own.1, considered_on g.L.Listener.writing (g.L.Listener.knows c.args.listener.now) n c.args.self.now b c.args.text.now.items c.args.before k own.1 own.2 c.requires.before refl (ap (λ (p : ℕ × Lcg). p.1) c.next_word-draw.ensures), twice_due (generated_config n) k.history c.from.result (omega arith) (omega arith))
 
-pub take-requires-clause-at : goal.take-requires-clause-at
-take-requires-clause-at g c =
+pub take-requires-clause-due : goal.take-requires-clause-due
+take-requires-clause-due g c =
     let n = c.args.self.now.nodes in
-    let own = own_number g.L.Listener.writing (g.L.Listener.knows c.args.listener.now) c.args.self.now c.args.text.now.items c.requires.at in
+    let own = own_more g.L.Listener.writing (g.L.Listener.knows c.args.listener.now) c.args.self.now c.args.text.now.items c.args.before c.requires.at in
     let k = own.0 in
     let b : Generator = record c.args.self.now { considered = c.args.before + 1; draws = c.next_word-draw.new.self } in
-    (n, record k { considered = k.considered + 1; draws = (pcg32 k.draws).1 }, own.1, considered_on g.L.Listener.writing (g.L.Listener.knows c.args.listener.now) n c.args.self.now b c.args.text.now.items c.args.before k own.1 own.2 c.requires.before refl (ap (λ (p : ℕ × Lcg). p.1) c.next_word-draw.ensures))
+    let more = own.3 in
+    let frame = c.from.ensures in
+    (n, record k { considered = k.considered + 1; draws = (pcg32 k.draws).1 }, own.1, considered_on g.L.Listener.writing (g.L.Listener.knows c.args.listener.now) n c.args.self.now b c.args.text.now.items c.args.before k own.1 own.2 c.requires.before refl (ap (λ (p : ℕ × Lcg). p.1) c.next_word-draw.ensures), (give_due (generated_config n) (ruled (generated_config n) k.history) c.from.result (omega arith) (omega arith), tt))
 
 pub returns-then-draw-eq1-clause-went : goal.returns-then-draw-eq1-clause-went
 returns-then-draw-eq1-clause-went g c k sent at =

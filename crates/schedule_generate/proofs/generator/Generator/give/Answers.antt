@@ -1,8 +1,9 @@
-use Rattle.std.proofs.Common.{◌≡◌, ◌+◌, ◌-◌, ◌<◌, ℕ, suc, Err, refl, sym, subst, ◌∙◌, arith, ⊎_elim, inl, inr}
+use Rattle.std.proofs.Common.{◌≡◌, ◌+◌, ◌-◌, ◌<◌, ◌≤◌, ℕ, suc, Err, refl, sym, subst, ◌∙◌, arith, ⊎_elim, inl, inr}
 use Rattle.ring_world.specs.Answers.{ruled}
 use Rattle.schedule_generate.specs.Course.{considered_next, considers}
 use Rattle.schedule_generate.specs.Goes.{At, Went}
 use Rattle.schedule_generate.specs.Settings.{generated_config}
+use Rattle.schedule_generate.proofs.Due.{considers_sent}
 use Rattle.schedule_generate.proofs.Loops.{considers_halt, own_number}
 use Rattle.schedule_generate.proofs.generator.Generator.give.Goals as goal
 
@@ -22,7 +23,10 @@ pub consider-requires-clause-at : goal.consider-requires-clause-at
 consider-requires-clause-at g c =
     let n = c.args.self.now.nodes in
     let own = own_number g.L.Listener.writing (g.L.Listener.knows c.args.listener.now) c.args.self.now c.args.text.now.items c.requires.at in
-    (n, considers (generated_config n) (c.loop-before.before - c.args.self.now.considered) own.0, own.1, c.loop-before.invariant.went own.0 own.1 own.2)
+    let k = c.loop-before.before - c.args.self.now.considered in
+    let all : c.counts-sent.result.1 ≡ (ruled (generated_config n) own.0.history).count = (c.counts-sent.ensures (generated_config n) own.0.history own.2.goes.world).1 in
+    let more : (ruled (generated_config n) own.0.history).count ≤ (ruled (generated_config n) (considers (generated_config n) k own.0).history).count = considers_sent (generated_config n) k own.0 in
+    (n, considers (generated_config n) k own.0, own.1, c.loop-before.invariant.went own.0 own.1 own.2, omega arith)
 
 pub returns-in-Err-clause-went : goal.returns-in-Err-clause-went
 returns-in-Err-clause-went g c k sent at =

@@ -12,7 +12,7 @@ pub go_on-requires-clause-at : goal.go_on-requires-clause-at
 go_on-requires-clause-at g c =
     let n = c.args.self.now.nodes in
     let own = own_number g.L.Listener.writing (g.L.Listener.knows c.args.listener.now) c.args.self.now c.args.text.now.items c.requires.at in
-    (n, with_tick (generated_config n) own.0, own.1, c.in-Ok.ensures.went own.0 own.1 own.2)
+    (n, with_tick (generated_config n) own.0, own.1, c.in-Ok.ensures.went own.0 own.1 own.2, c.in-Ok.ensures.shown own.0 own.1 own.2)
 
 pub returns-in-Ok-clause-went : goal.returns-in-Ok-clause-went
 returns-in-Ok-clause-went g c k sent at =

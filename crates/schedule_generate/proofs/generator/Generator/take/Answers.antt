@@ -1,4 +1,4 @@
-use Rattle.std.proofs.Common.{◌+◌, refl, sym, subst, ◌∙◌, Err}
+use Rattle.std.proofs.Common.{◌+◌, ◌∷◌, [], refl, sym, subst, ◌∙◌, Err}
 use Rattle.fabric_terms.specs.declared.event.Event.{Event}
 use Rattle.ring_world.specs.Answers.{Refuses, Takes, ruled}
 use Rattle.schedule_generate.specs.Course.{taken}
@@ -6,7 +6,9 @@ use Rattle.schedule_generate.specs.Goes.{Went}
 use Rattle.schedule_generate.specs.Moves.{event_for}
 use Rattle.schedule_generate.specs.Settings.{generated_config}
 use Rattle.schedule_generate.specs.declared.halt.Halt.{Halt}
-use Rattle.schedule_generate.proofs.Taking.{no_tick, refused_on, time_still, took_on}
+use Rattle.schedule_generate.proofs.Due.{for_a_limit}
+use Rattle.schedule_generate.proofs.Loops.{own_due}
+use Rattle.schedule_generate.proofs.Taking.{names_true, no_tick, refused_on, time_still, took_on}
 use Rattle.schedule_generate.proofs.generator.Generator.take.Goals as goal
 
 pub returns-in_ok-took-in-Ok-clause-went : goal.returns-in_ok-took-in-Ok-clause-went
@@ -17,7 +19,16 @@ returns-in_ok-took-in-Ok-clause-went g c k sent at =
     let takes : Takes c.apply.new.self (generated_config n) k.history c.args.self.now.line e c.in-Ok.acted =
     subst (λ (d : Event). Takes c.apply.new.self (generated_config n) k.history c.args.self.now.line d c.in-Ok.acted) c.event.ensures (c.in-Ok.ensures (generated_config n) k.history at.goes.world) in
     took_on g.L.Listener.writing (g.L.Listener.knows c.args.listener.now) (g.L.Listener.knows c.took.new.self) n c.args.self.now (record c.args.self.now { world = c.apply.new.self; line = c.args.self.now.line + 1 }) c.args.text.now.items c.took.new.text.items k sent e c.in-Ok.acted at takes
-    (c.in_ok-took-in-Ok.ensures n k.history at.known takes) refl refl (at.goes.time ∙ sym (time_still (generated_config n) world e (no_tick c.args.made))) refl refl
+    (c.in_ok-took-in-Ok.ensures n k.history at.known takes) refl refl (at.goes.time ∙ sym (time_still (generated_config n) world e (no_tick c.args.made))) refl refl (names_true n c.args.self.now k c.args.made at.goes c.requires.shows)
+
+pub halt_of-requires : goal.halt_of-requires
+halt_of-requires g c =
+    let n = c.args.self.now.nodes in
+    let e = event_for c.args.made in
+    let own = own_due g.L.Listener.writing (g.L.Listener.knows c.args.listener.now) c.args.self.now c.args.text.now.items (e ∷ []) c.requires.due in
+    let refuses : Refuses c.in-Err.refusal (generated_config n) own.0.history e =
+    subst (λ (d : Event). Refuses c.in-Err.refusal (generated_config n) own.0.history d) c.event.ensures (c.in-Err.ensures (generated_config n) own.0.history own.2.goes.world).refused in
+    for_a_limit c.in-Err.refusal (generated_config n) own.0.history e own.3.0 refuses
 
 pub returns-in-Err-clause-went : goal.returns-in-Err-clause-went
 returns-in-Err-clause-went g c k sent at =

@@ -1,18 +1,37 @@
 use Rattle.std.proofs.Common.{◌≡◌, ℕ, List, None, take, Err, ap, sym, subst, ◌∙◌, get_or}
 use Rattle.std.proofs.lemmas.List.{take_all}
+use Rattle.fabric_terms.specs.Ranges.{Fits}
 use Rattle.schedule_generate.specs.Course.{Course, taken, taken_all}
+use Rattle.schedule_generate.specs.Due.{ShowsTime}
 use Rattle.schedule_generate.specs.Goes.{At, Went}
 use Rattle.schedule_generate.specs.Moves.{event_for, events_for}
 use Rattle.schedule_generate.specs.Settings.{generated_config}
 use Rattle.schedule_generate.specs.declared.generator.Generator.{Generator}
 use Rattle.schedule_generate.specs.declared.moves.Move.{Move}
 use Rattle.schedule_generate.specs.declared.moves.Move.TheVariants.{Start}
-use Rattle.schedule_generate.proofs.Loops.{all_halt, all_more}
-use Rattle.schedule_generate.proofs.Numbers.{fits_at}
+use Rattle.schedule_generate.proofs.Due.{due_at}
+use Rattle.schedule_generate.proofs.Loops.{all_halt, all_more, own_due}
+use Rattle.schedule_generate.proofs.Numbers.{holds_at}
 use Rattle.schedule_generate.proofs.generator.Generator.take_all.Goals as goal
 
 pub take-requires-clause-fits : goal.take-requires-clause-fits
-take-requires-clause-fits g c = fits_at c.args.moves.now c.loop-i.i (Start 0 None) c.requires.fit c.loop-i-test.true
+take-requires-clause-fits g c = holds_at Fits c.args.moves.now c.loop-i.i (Start 0 None) c.requires.fit c.loop-i-test.true
+
+pub take-requires-clause-shows : goal.take-requires-clause-shows
+take-requires-clause-shows g c =
+    let still : c.loop-i.self.time ≡ c.args.self.now.time = ap (λ (a : Generator). a.time) c.loop-i.invariant.rest in
+    subst (λ (t : ℕ). ShowsTime t (event_for (get_or c.args.moves.now c.loop-i.i (Start 0 None)))) (sym still)
+    (holds_at (ShowsTime c.args.self.now.time) c.args.moves.now c.loop-i.i (Start 0 None) c.requires.shows c.loop-i-test.true)
+
+pub take-requires-clause-due : goal.take-requires-clause-due
+take-requires-clause-due g c =
+    let n = c.args.self.now.nodes in
+    let i = c.loop-i.i in
+    let d : Move = Start 0 None in
+    let moves = c.args.moves.now in
+    let own = own_due g.L.Listener.writing (g.L.Listener.knows c.args.listener.now) c.args.self.now c.args.text.now.items (events_for moves) c.requires.due in
+    let here = c.loop-i.invariant.went own.0 own.1 own.2 in
+    (n, taken_all (generated_config n) (events_for (take i moves)) own.0, own.1, here, (due_at (generated_config n) moves i d own.0 c.loop-i-test.true own.3 own.2.goes.going here.goes.going, tt))
 
 pub returns-in-Err-clause-went : goal.returns-in-Err-clause-went
 returns-in-Err-clause-went g c k sent at =

@@ -8,9 +8,11 @@ use Rattle.schedule_generate.specs.Goes.{Went}
 use Rattle.schedule_generate.specs.Settings.{generated_config}
 use Rattle.schedule_generate.specs.declared.generator.Generator.{Generator}
 use Rattle.schedule_generate.specs.declared.halt.Halt.{Halt}
+use Rattle.schedule_generate.proofs.Due.{for_a_limit}
 use Rattle.schedule_generate.proofs.Loops.{own_number}
 use Rattle.schedule_generate.proofs.Taking.{refused_on, took_on}
 use Rattle.schedule_generate.proofs.Ticking.{nodes_are, readings_are, readings_fit, tick_after, tick_is}
+use Rattle.schedule_generate.proofs.Truly.{tick_due}
 use Rattle.schedule_generate.proofs.generator.Generator.tick.Goals as goal
 
 pub tick-requires-clause-fits : goal.tick-requires-clause-fits
@@ -35,7 +37,7 @@ returns-in_ok-ticked-in-Ok-clause-went g c k sent at =
     subst (λ (e : Event). Takes c.tick.new.self (generated_config n) k.history c.args.self.now.line e None) first (c.in-Ok.ensures.answers (generated_config n) k.history at.goes.world) in
     let told = subst (λ (e : Event). Takes c.tick.new.self (generated_config n) k.history c.args.self.now.line e None → g.L.Listener.knows c.ticked.new.self n ((c.args.self.now.line, e) ∷ k.history) × (c.ticked.new.text.items ≡ c.args.text.now.items ++ (g.L.Listener.writing n).line e)) second (c.in_ok-ticked-in-Ok.ensures n k.history at.known) takes in
     took_on g.L.Listener.writing (g.L.Listener.knows c.args.listener.now) (g.L.Listener.knows c.ticked.new.self) n c.args.self.now (record c.args.self.now { world = c.tick.new.self; line = c.args.self.now.line + 1; time = c.args.self.now.time + 100; readings = c.show_all.new.readings }) c.args.text.now.items c.ticked.new.text.items k sent (tick_of w) None at takes told
-    refl refl (tick_after n c.args.self.now k (c.args.self.now.time + 100) at.goes refl) refl refl
+    refl refl (tick_after n c.args.self.now k (c.args.self.now.time + 100) at.goes refl) refl refl refl
 
 pub returns-in_ok-ticked-in-Ok-clause-shown : goal.returns-in_ok-ticked-in-Ok-clause-shown
 returns-in_ok-ticked-in-Ok-clause-shown g c k sent at =
@@ -57,6 +59,20 @@ returns-in_ok-ticked-in-Ok-clause-fit g c =
     let items = c.show_all.new.readings.items in
     let are = readings_are n c.args.self.now k c.clocks.result.now (c.args.self.now.time + 100) items goes (c.clocks.ensures (generated_config n) k.history goes.world) refl c.in_ok-show_all.ensures in
     readings_fit n c.args.self.now k items c.requires.few c.requires.early goes are
+
+pub halt_of-requires : goal.halt_of-requires
+halt_of-requires g c =
+    let n = c.args.self.now.nodes in
+    let own = own_number g.L.Listener.writing (g.L.Listener.knows c.args.listener.now) c.args.self.now c.args.text.now.items c.requires.at in
+    let k = own.0 in
+    let goes = own.2.goes in
+    let w = ruled (generated_config n) k.history in
+    let items = c.show_all.new.readings.items in
+    let are = readings_are n c.args.self.now k c.clocks.result.now (c.args.self.now.time + 100) items goes (c.clocks.ensures (generated_config n) k.history goes.world) refl c.in_ok-show_all.ensures in
+    let first : Tick 100 c.deref.result.now ≡ tick_of w = ap (Tick 100) c.deref.ensures.value ∙ tick_is n k items are in
+    let refuses : Refuses c.in-Err.refusal (generated_config n) k.history (tick_of w) =
+    subst (λ (e : Event). Refuses c.in-Err.refusal (generated_config n) k.history e) first (c.in-Err.ensures.answers (generated_config n) k.history goes.world).refused in
+    for_a_limit c.in-Err.refusal (generated_config n) k.history (tick_of w) (tick_due n w goes.clocks) refuses
 
 pub returns-in-Err-clause-went : goal.returns-in-Err-clause-went
 returns-in-Err-clause-went g c k sent at =

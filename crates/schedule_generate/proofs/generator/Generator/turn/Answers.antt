@@ -1,36 +1,57 @@
-use Rattle.std.proofs.Common.{◌≡◌, ◌+◌, ℕ, true, false, Some, refl, ap, sym, subst, ◌∙◌, arith}
+use Rattle.std.proofs.Common.{◌≡◌, ◌+◌, ◌<◌, ℕ, true, false, Some, refl, ap, sym, subst, ◌∙◌, arith}
 use Rattle.std.specs.Prelude.{◌%◌, ◌/◌}
+use Rattle.std.proofs.Math.Nat.{mod-lt}
 use Rattle.std.specs.List.{list_any}
 use Rattle.fabric_terms.specs.declared.event.Event.{Event}
 use Rattle.fabric_terms.specs.declared.event.Event.TheVariants.{Start}
 use Rattle.rand_pcg.specs.Lcg.{Lcg}
 use Rattle.rand_pcg.specs.Pcg.{pcg32}
-use Rattle.ring_world.specs.Answers.{ruled}
-use Rattle.world_rules.specs.Schedules.{node_runs}
+use Rattle.ring_world.specs.Answers.{is_frame, ruled}
+use Rattle.world_rules.specs.Schedules.{MayCome, node_runs}
 use Rattle.schedule_generate.specs.Course.{Course, taken, turn_of, with_turn}
 use Rattle.schedule_generate.specs.Goes.{Went}
 use Rattle.schedule_generate.specs.Settings.{generated_config}
 use Rattle.schedule_generate.specs.declared.generator.Generator.{Generator}
+use Rattle.schedule_generate.proofs.Due.{turn_due}
 use Rattle.schedule_generate.proofs.Loops.{own_number}
 use Rattle.schedule_generate.proofs.Nodes.{among_nodes, has_node}
 use Rattle.schedule_generate.proofs.Turning.{draws_on, one_turns}
 use Rattle.schedule_generate.proofs.generator.Generator.turn.Goals as goal
 
-pub take-requires-clause-at : goal.take-requires-clause-at
-take-requires-clause-at g c =
+pub take-requires-clause-due : goal.take-requires-clause-due
+take-requires-clause-due g c =
     let n = c.args.self.now.nodes in
     let own = own_number g.L.Listener.writing (g.L.Listener.knows c.args.listener.now) c.args.self.now c.args.text.now.items c.requires.at in
     let k = own.0 in
     let b : Generator = record c.args.self.now { draws = c.next_word-draw.new.self } in
-    (n, record k { draws = (pcg32 k.draws).1 }, own.1, draws_on g.L.Listener.writing (g.L.Listener.knows c.args.listener.now) n c.args.self.now b c.args.text.now.items k own.1 own.2 refl (ap (λ (p : ℕ × Lcg). p.1) c.next_word-draw.ensures))
+    let draw = c.next_word-draw.result in
+    let node = draw / 64 % c.from.result + 1 in
+    let world = ruled (generated_config n) k.history in
+    let which : node ≡ draw / 64 % n + 1 = ap (λ (m : ℕ). draw / 64 % m + 1) c.from.ensures in
+    let below : draw / 64 % n < n = mod-lt (draw / 64) {m = n} (omega (arith, c.requires.some)) in
+    let runs : node_runs world node ≡ true =
+    sym (among_nodes c.args.self.now.world (generated_config n) k.history node own.2.goes.world) ∙ (ap (list_any (has_node node)) (sym (c.clocks.ensures (generated_config n) k.history own.2.goes.world)) ∙ (sym c.is_among.ensures ∙ c.if-is_among.true)) in
+    (n, record k { draws = (pcg32 k.draws).1 }, own.1, draws_on g.L.Listener.writing (g.L.Listener.knows c.args.listener.now) n c.args.self.now b c.args.text.now.items k own.1 own.2 refl (ap (λ (p : ℕ × Lcg). p.1) c.next_word-draw.ensures), (turn_due n world node true (omega arith) (omega (arith, which, below)) c.requires.few runs, tt))
 
-pub take-requires-2-clause-at : goal.take-requires-2-clause-at
-take-requires-2-clause-at g c =
+pub take-requires-2-clause-due : goal.take-requires-2-clause-due
+take-requires-2-clause-due g c =
     let n = c.args.self.now.nodes in
     let own = own_number g.L.Listener.writing (g.L.Listener.knows c.args.listener.now) c.args.self.now c.args.text.now.items c.requires.at in
     let k = own.0 in
     let b : Generator = record c.args.self.now { draws = c.next_word-draw.new.self } in
-    (n, record k { draws = (pcg32 k.draws).1 }, own.1, draws_on g.L.Listener.writing (g.L.Listener.knows c.args.listener.now) n c.args.self.now b c.args.text.now.items k own.1 own.2 refl (ap (λ (p : ℕ × Lcg). p.1) c.next_word-draw.ensures))
+    let draw = c.next_word-draw.result in
+    let node = draw / 64 % c.from.result + 1 in
+    let world = ruled (generated_config n) k.history in
+    let which : node ≡ draw / 64 % n + 1 = ap (λ (m : ℕ). draw / 64 % m + 1) c.from.ensures in
+    let below : draw / 64 % n < n = mod-lt (draw / 64) {m = n} (omega (arith, c.requires.some)) in
+    let runs : node_runs world node ≡ false =
+    sym (among_nodes c.args.self.now.world (generated_config n) k.history node own.2.goes.world) ∙ (ap (list_any (has_node node)) (sym (c.clocks.ensures (generated_config n) k.history own.2.goes.world)) ∙ (sym c.is_among.ensures ∙ c.if-is_among.false)) in (
+      n,
+      record k { draws = (pcg32 k.draws).1 },
+      own.1,
+      draws_on g.L.Listener.writing (g.L.Listener.knows c.args.listener.now) n c.args.self.now b c.args.text.now.items k own.1 own.2 refl (ap (λ (p : ℕ × Lcg). p.1) c.next_word-draw.ensures),
+      (subst (λ (t : ℕ). MayCome is_frame (generated_config n) world (Start node (Some t))) (sym own.2.goes.time) (turn_due n world node false (omega arith) (omega (arith, which, below)) c.requires.few runs), tt),
+    )
 
 pub returns-then-is_among-clause-went : goal.returns-then-is_among-clause-went
 returns-then-is_among-clause-went g c k sent at =
