@@ -1,5 +1,5 @@
 -- The events of a generated schedule name what is there.
-use Rattle.std.proofs.Common.{◌≡◌, ◌≢◌, ℕ, ◌+◌, ◌-◌, ◌≤◌, ◌<◌, zero, suc, Bool, true, false, cond, not, List, [], ◌∷◌, ◌++◌, length, get_or, take, map, Option, Some, None, refl, ap, sym, subst, ◌∙◌, arith, nat_lt, nat_le}
+use Rattle.std.proofs.Common.{◌≡◌, ℕ, ◌+◌, ◌-◌, ◌≤◌, ◌<◌, zero, suc, Bool, true, false, cond, not, List, [], ◌∷◌, ◌++◌, length, get_or, take, map, Option, Some, None, refl, ap, sym, subst, ◌∙◌, arith, nat_lt, nat_le}
 use Rattle.std.specs.Prelude.{◌==◌, ◌&&◌, ◌||◌, ◌%◌, is_some}
 use Rattle.std.specs.List.{list_any}
 use Rattle.std.proofs.lemmas.Bool.{and_from, eq-eqb}
@@ -9,14 +9,13 @@ use Rattle.fabric_lemmas.proofs.Maps.{at-put}
 use Rattle.fabric_lemmas.specs.Maps.{at, put}
 use Rattle.fabric_terms.specs.declared.config.FabricConfig.{FabricConfig}
 use Rattle.fabric_terms.specs.declared.event.Event.{Event}
-use Rattle.fabric_terms.specs.declared.event.Event.TheVariants.{Start, Fire, Give, Do}
-use Rattle.fabric_terms.specs.declared.command.Command.TheVariants.{Link}
+use Rattle.fabric_terms.specs.declared.event.Event.TheVariants.{Fire, Give}
 use Rattle.ring_rules.specs.declared.input.Input.{Input}
 use Rattle.ring_world.specs.Answers.{Refuses, is_frame, ruled}
 use Rattle.ring_world.specs.declared.world.EventRefusal.{EventRefusal}
 use Rattle.ring_world.specs.declared.world.EventRefusal.TheVariants as refusal
 use Rattle.run_facts.proofs.Happens.{by_cases}
-use Rattle.world_rules.specs.Events.{acts_at, is_arbiter_actor, world_step}
+use Rattle.world_rules.specs.Events.{acts_at, world_step}
 use Rattle.world_rules.specs.Runs.{History}
 use Rattle.world_rules.specs.Schedules.{MayCome, is_configured_node, is_there, keeps_bound, node_runs, runs_as}
 use Rattle.world_rules.specs.Worlds.{Running, World}
