@@ -34,7 +34,13 @@ fn schedules_are_generated(rt: HostRuntime) -> Result<(), Fail> {
         let mut keeps = MemKeeper::new(alloc, Vec::new(alloc), Vec::new(alloc));
         let mut clock = MemClock::new(Vec::new(alloc));
         let status = fabric_main(
-            alloc, &said, &mut source, &mut sink, &mut links, &mut keeps, &mut clock,
+            alloc,
+            &said,
+            &mut source,
+            &mut sink,
+            &mut links,
+            &mut keeps,
+            &mut clock,
         );
         assert_eq!(rt; status.code(), 0);
         assert_eq!(rt; sink.held(), written.as_bytes());
