@@ -8,10 +8,8 @@ ghost use Rattle.text_fields.specs.Actors.{actor_text};
 
 use crate::moves::Move;
 use fabric_terms::OutOfMemory;
+use ring_points::ARBITRATORS;
 use text_fields::{push_bytes, push_number};
-
-/// Arbitrators have the actors behind this number.
-const ARBITRATORS: u16 = 32768;
 
 /// Appends words and a number.
 pub fn push_counted(text: &mut Vec<u8>, words: &[u8], number: u64) -> Result<(), OutOfMemory>

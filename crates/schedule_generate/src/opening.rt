@@ -6,10 +6,8 @@ ghost use Rattle.schedule_generate.specs.Settings.{numbers_from};
 
 use crate::moves::Move;
 use fabric_terms::OutOfMemory;
+use ring_points::ARBITRATORS;
 use std::alloc::Global;
-
-/// Arbitrators have the actors behind this number.
-const ARBITRATORS: u16 = 32768;
 
 fn push_arbiters(moves: &mut Vec<Move>) -> Result<(), OutOfMemory>
     ensures { OnOk result (events_for moves.new.items ≡ events_for moves.old.items ++ map arbiter_starts (numbers_from 1 3)) }
