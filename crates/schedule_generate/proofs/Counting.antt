@@ -15,7 +15,8 @@ use Rattle.ring_world.specs.declared.world.World.{World}
 use Rattle.world_rules.specs.Runs.{History, run_of}
 use Rattle.schedule_generate.specs.Settings.{generated_config}
 use Rattle.schedule_generate.specs.Tallies.{Counts, reports_in}
-use Rattle.schedule_generate.specs.Texts.{is_leave, is_take_over, told_of}
+use Rattle.fabric_terms.specs.Places.{tells_leave}
+use Rattle.schedule_generate.specs.Texts.{is_take_over, told_of}
 use Rattle.schedule_generate.specs.declared.summary.Tally.{Tally}
 
 of_test : (Report → Bool) → Who × Report → Bool
@@ -44,10 +45,10 @@ one_more test w c h line e acted takes =
     ap (λ (o : Option Entry). count_by (λ t. test t.1) (told_in o (told (run_of fabric c h)))) (sym takes.entry) ∙ in_entry test acted (told (run_of fabric c h))
 
 pub counts_on : (a b : Tally) (n : ℕ) (w : World) (h : History) (line : ℕ) (e : Event) (acted : Option Acted) → Counts a n h → Takes w (generated_config n) h line e acted
-    → b.took_over ≡ a.took_over + count_by is_take_over (reports_in acted) → b.left ≡ a.left + count_by is_leave (reports_in acted) → Counts b n ((line, e) ∷ h)
+    → b.took_over ≡ a.took_over + count_by is_take_over (reports_in acted) → b.left ≡ a.left + count_by tells_leave (reports_in acted) → Counts b n ((line, e) ∷ h)
 counts_on a b n w h line e acted counts takes took left = record {
   took_over = took ∙ (ap (λ (k : ℕ). k + count_by is_take_over (reports_in acted)) counts.took_over ∙ sym (one_more is_take_over w (generated_config n) h line e acted takes));
-  left = left ∙ (ap (λ (k : ℕ). k + count_by is_leave (reports_in acted)) counts.left ∙ sym (one_more is_leave w (generated_config n) h line e acted takes));
+  left = left ∙ (ap (λ (k : ℕ). k + count_by tells_leave (reports_in acted)) counts.left ∙ sym (one_more tells_leave w (generated_config n) h line e acted takes));
 }
 
 pub on_ok : {E : Type 0} (r : Result (Unit {0}) E) (P Q R : Type 0) → (P → Q → R) → OnOk r P → OnOk r Q → OnOk r R

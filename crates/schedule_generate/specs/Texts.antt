@@ -4,7 +4,8 @@ use Rattle.std.specs.List.{flat_map}
 use Rattle.fabric_terms.specs.declared.config.FabricConfig.{FabricConfig}
 use Rattle.fabric_terms.specs.declared.event.Event.{Event}
 use Rattle.fabric_terms.specs.declared.report.Report.{Report}
-use Rattle.fabric_terms.specs.declared.report.Report.TheVariants.{LeftRing, TookOver}
+use Rattle.fabric_terms.specs.declared.report.Report.TheVariants.{TookOver}
+use Rattle.fabric_terms.specs.Places.{tells_leave}
 use Rattle.fabric_terms.specs.Reports.{told}
 use Rattle.fabric_above.specs.Fabric.{fabric}
 use Rattle.fabric_status.specs.Faults.{fault_line}
@@ -78,10 +79,6 @@ abbrev pub is_take_over : Report → Bool
 is_take_over (TookOver victim ranges) = true
 is_take_over _ = false
 
-abbrev pub is_leave : Report → Bool
-is_leave (LeftRing why) = true
-is_leave _ = false
-
 -- how many of such reports are told in the run
 abbrev pub told_of : (Report → Bool) → FabricConfig → History → ℕ
 told_of test c h = count_by (λ t. test t.1) (told (run_of fabric c h))
@@ -96,7 +93,7 @@ summary c h =
     number_line (codes "events ") (length h)
     ++ (number_line (codes "frames ") (ruled c h).count
     ++ (number_line (codes "tookover ") (told_of is_take_over c h)
-    ++ (number_line (codes "left ") (told_of is_leave c h) ++ number_line (codes "held ") (holders_in (run_of fabric c h)))))
+    ++ (number_line (codes "left ") (told_of tells_leave c h) ++ number_line (codes "held ") (holders_in (run_of fabric c h)))))
 
 -- `drill`: the summary alone
 abbrev pub drill_writing : ℕ → Writing

@@ -8,7 +8,8 @@ ghost use Rattle.fabric_terms.specs.declared.report.Report.{Report as Told};
 ghost use Rattle.ring_world.specs.Answers.{StandsFor};
 ghost use Rattle.schedule_generate.specs.Settings.{generated_config};
 ghost use Rattle.schedule_generate.specs.Tallies.{Counts, reports_in};
-ghost use Rattle.schedule_generate.specs.Texts.{all_written, drill_writing, ended, gen_text, generated, is_leave, is_take_over, number_line, summary};
+ghost use Rattle.fabric_terms.specs.Places.{tells_leave};
+ghost use Rattle.schedule_generate.specs.Texts.{all_written, drill_writing, ended, gen_text, generated, is_take_over, number_line, summary};
 ghost use Rattle.world_rules.specs.Runs.{History};
 
 use crate::listener::Listener;
@@ -33,8 +34,8 @@ fn is_take_over(report: &Report) -> bool
     matches!(report, Report::TookOver(..))
 }
 
-fn is_leave(report: &Report) -> bool
-    ensures { result ≡ is_leave report.now }
+fn tells_leave(report: &Report) -> bool
+    ensures { result ≡ tells_leave report.now }
 {
     matches!(report, Report::LeftRing(_))
 }
@@ -53,13 +54,13 @@ impl Tally {
     /// Counts these reports.
     fn count(&mut self, reports: &[Report]) -> Result<(), OutOfMemory>
         ensures took_over { OnOk result (self.new.took_over ≡ self.old.took_over + count_by is_take_over reports.now) }
-        ensures left { OnOk result (self.new.left ≡ self.old.left + count_by is_leave reports.now) }
+        ensures left { OnOk result (self.new.left ≡ self.old.left + count_by tells_leave reports.now) }
     {
         for report in reports {
             if is_take_over(report) {
                 self.took_over = one_more(self.took_over)?;
             }
-            if is_leave(report) {
+            if tells_leave(report) {
                 self.left = one_more(self.left)?;
             }
         }
@@ -68,7 +69,7 @@ impl Tally {
 
     fn take(&mut self, acted: &Option<Acted>) -> Result<(), OutOfMemory>
         ensures took_over { OnOk result (self.new.took_over ≡ self.old.took_over + count_by is_take_over (reports_in acted.now)) }
-        ensures left { OnOk result (self.new.left ≡ self.old.left + count_by is_leave (reports_in acted.now)) }
+        ensures left { OnOk result (self.new.left ≡ self.old.left + count_by tells_leave (reports_in acted.now)) }
     {
         match acted {
             None => Ok(()),
