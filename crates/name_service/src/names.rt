@@ -1,10 +1,10 @@
-ghost use Rattle.std.specs.Prelude.{◌≡◌, ◌==◌, ◌≤◌, ◌<◌, ◌*◌, ◌++◌, IfOk, OnOk, OnErr, drop, option_map, length, map, true};
+ghost use Rattle.std.specs.Prelude.{◌≡◌, ◌==◌, ◌≤◌, ◌<◌, ◌*◌, ◌++◌, IfOk, OnOk, OnErr, drop, filter, option_map, length, map, true};
 ghost use Rattle.std.specs.Coded.{coded_ℕ, coded_list};
 ghost use Rattle.std.specs.FinMap as finite;
 ghost use Rattle.std.specs.FinMap.{is_sorted};
 ghost use Rattle.std.specs.List.{insert};
 ghost use Rattle.name_service.specs.Grammar.{is_name};
-ghost use Rattle.name_service.specs.Names.{NameMap, applied, name_cmp, name_list, point_of};
+ghost use Rattle.name_service.specs.Names.{NameMap, applied, is_within, name_cmp, name_list, point_of};
 ghost use Rattle.name_service.specs.Stores.{IsStore, Marks, bit_of, count_before, first_names, is_name_at, map_of, name_at, name_if};
 ghost use Rattle.ring_points.specs.declared.interval.Interval.{Interval as IntervalOf};
 
@@ -88,13 +88,14 @@ fn is_marked(mask: &[u64], i: usize) -> bool
     mask[i / 64] >> (i % 64) & 1 == 1
 }
 
-/// A mask that marks the points in the range.
-fn mask_of(alloc: Global, points: &[u64], range: &Interval) -> Result<Vec<u64>, OutOfMemory>
-    ensures { IfOk result (λ mask. Marks range.now points.now mask.items) }
+/// A mask that marks the points in the range, of at most 64 points: these are the bits of one word.
+fn mask_of(points: &[u64], range: &Interval) -> [u64; 1]
+    requires { length points.now ≤ 64 }
+    ensures { Marks range.now points.now result }
 {
-    let mut mask = vec![in alloc; 0u64; points.len().div_ceil(64)]?;
+    let mut mask = [0; 1];
     mask_in(points, range.lo, range.hi, &mut mask);
-    Ok(mask)
+    mask
 }
 
 /// Adds the name of the row at a place, where the mask marks it.
@@ -115,29 +116,39 @@ fn push_marked(
     Ok(())
 }
 
-/// The first 64 names whose points are in the range, in the order of the rows. Where a word of the mask marks none, its
-/// rows are passed at once.
+/// The names whose points are in the range, of a window of at most 64 rows, in the order of the rows.
 fn names_in(
     alloc: Global,
     points: &[u64],
     rows: &[Row],
     range: &Interval,
 ) -> Result<Vec<Name>, OutOfMemory>
-    requires { points.now ≡ map (λ r. point_of r.0) rows.now }
-    ensures { IfOk result (λ names. names.items ≡ first_names range.now rows.now) }
+    requires few { length rows.now ≤ 64 }
+    requires beside { points.now ≡ map (λ r. point_of r.0) rows.now }
+    ensures { IfOk result (λ names. names.items ≡ filter (is_within range.now) (map (λ r. r.0) rows.now)) }
 {
-    let mask = mask_of(alloc, points, range)?;
+    let mask = mask_of(points, range);
     let mut names = Vec::new(alloc);
-    let mut i = 0;
-    while i < rows.len() && names.len() < MOST_LISTED {
-        if mask[i / 64] == 0 {
-            i += 64 - i % 64;
-        } else {
-            push_marked(alloc, &mask, rows, i, &mut names)?;
-            i += 1;
-        }
+    for i in 0..rows.len() {
+        push_marked(alloc, &mask, rows, i, &mut names)?;
     }
     Ok(names)
+}
+
+/// The first 64 names whose points are in the range. The points rise, so where not all of the first 64 rows from the
+/// range's start on are in it, no row behind them is.
+fn first_names_in(
+    alloc: Global,
+    points: &[u64],
+    rows: &[Row],
+    range: &Interval,
+) -> Result<Vec<Name>, OutOfMemory>
+    requires { IsStore points.now rows.now }
+    ensures { IfOk result (λ names. names.items ≡ first_names range.now rows.now) }
+{
+    let first = points.partition_point(|point| *point < range.lo);
+    let end = first + (points.len() - first).min(MOST_LISTED);
+    names_in(alloc, &points[first..end], &rows[first..end], range)
 }
 
 impl Names {
@@ -206,10 +217,11 @@ impl Names {
         }
     }
 
-    /// The first 64 names with a point in the range, in their order. It searches all points, in lanes.
+    /// The first 64 names with a point in the range, in their order. It finds the range's first point by halving, and asks
+    /// the 64 points from there on, in lanes.
     pub fn select(&self, alloc: Global, range: &Interval) -> Result<Vec<Name>, OutOfMemory>
         ensures { IfOk result (λ names. names.items ≡ name_list self.now range.now) }
     {
-        names_in(alloc, self.points.as_slice(), self.rows.as_slice(), range)
+        first_names_in(alloc, self.points.as_slice(), self.rows.as_slice(), range)
     }
 }

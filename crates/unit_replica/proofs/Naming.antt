@@ -11,19 +11,16 @@ use Rattle.replica_core.specs.declared.refusal.Done.{Done}
 use Rattle.replica_core.specs.declared.refusal.ReplicaRefusal.{ReplicaRefusal}
 use Rattle.replica_core.specs.Calls.{Answers, Outcome, append_call, held_if, is_ahead, unless}
 use Rattle.replica_core.specs.Replicas.{Replica, written}
-use Rattle.name_service.specs.Names.{NameMap, applied, names_from, names_of}
+use Rattle.name_service.specs.Names.{NameMap, applied, names_of}
+use Rattle.name_service.proofs.Entries.{names_after_one_more}
 use Rattle.unit_replica.specs.declared.log_names.LogNames.{LogNames}
 use Rattle.unit_replica.specs.Names.{AreOf}
 
 -- A step of the walk.
 
-one_more : (m : NameMap) (es : List Entry) (e : Entry) → names_from m (es ++ e ∷ []) ≡ applied e (names_from m es)
-one_more m [] e = refl
-one_more m (x ∷ es) e = one_more (applied x m) es e
-
 pub names_next : (log : List Entry) (i : ℕ) (d : Entry) → i < length log
     → (get_or log i d ≡ get_or log i d) × (names_of (take (i + 1) log) ≡ applied (get_or log i d) (names_of (take i log)))
-names_next log i d h = (refl, ap names_of (take_more log i d h) ∙ one_more empty (take i log) (get_or log i d))
+names_next log i d h = (refl, ap names_of (take_more log i d h) ∙ names_after_one_more empty (take i log) (get_or log i d))
 
 -- its end: of more entries than the log has it is the whole log
 pub take_least : (n m : ℕ) (log : List Entry) → m ≡ min n (length log) → take m log ≡ take n log

@@ -1,15 +1,11 @@
-use Rattle.std.proofs.Common.{◌≡◌, List, [], ◌∷◌, ◌++◌, ℕ, Option, Some, None, refl, ap, ◌∙◌}
+use Rattle.std.proofs.Common.{◌≡◌, List, ℕ, Option, Some, None, refl, ap, ◌∙◌}
 use Rattle.std.specs.FinMap.{get, empty, get-insert, get-remove}
-use Rattle.replica_core.specs.declared.entry.Entry.{Entry}
 use Rattle.name_service.specs.Grammar.{Change, Sets, Deletes, change_of}
 use Rattle.name_service.specs.Laws.{said_by}
-use Rattle.name_service.specs.Names.{NameMap, applied, changed, names_from, names_of}
+use Rattle.name_service.specs.Names.{NameMap, changed, names_of}
+use Rattle.name_service.proofs.Entries.{names_after_one_more}
 use Rattle.name_service.proofs.Order.{name_total}
 use Rattle.name_service.proofs.laws.names_are_what_was_said_last.Goals as goal
-
-one_more : (names : NameMap) (entries : List Entry) (e : Entry) → names_from names (entries ++ e ∷ []) ≡ applied e (names_from names entries)
-one_more names [] e = refl
-one_more names (first ∷ rest) e = one_more (applied first names) rest e
 
 said : (names : NameMap) (name : List ℕ) (change : Option Change) → get (changed change names) name ≡ said_by name change (get names name)
 said names name None = refl
@@ -17,4 +13,4 @@ said names name (Some (Sets other value)) = get-insert name_total names other va
 said names name (Some (Deletes other)) = get-remove name_total names other name
 
 pub returns : goal.returns
-returns c entries e name = ap (λ (m : NameMap). get m name) (one_more empty entries e) ∙ said (names_of entries) name (change_of e.bytes)
+returns c entries e name = ap (λ (m : NameMap). get m name) (names_after_one_more empty entries e) ∙ said (names_of entries) name (change_of e.bytes)
