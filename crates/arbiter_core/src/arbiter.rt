@@ -12,16 +12,13 @@ mod rulings;
 use crate::answer::{Answer, ArbiterError};
 use arbiter_tables::{Registers, Table};
 use fabric_terms::{Body, Message, Record};
-use ring_points::Who;
+use ring_points::{ARBITRATORS, Who};
 use std::alloc::Global;
 use std::marker::Model;
 
 /// How many entries an arbitrator can keep: the accused instances, the claimers of later rounds, the prepared epochs,
 /// the votes, and the done configurations.
 pub const MOST_ENTRIES: usize = 1_000_000;
-
-/// The actor of arbitrator a is a above this.
-const ARBITRATORS: u16 = 32768;
 
 /// An arbitrator: each accused instance with its first accuser, each later round about one with its first claimer, and
 /// the register of each partition. Contracts see the first two in the order in which they were kept.

@@ -14,7 +14,7 @@ use Rattle.fabric_status.specs.declared.status.Refusal.TheVariants.{BadConfig, N
 use Rattle.fabric_terms.specs.Sound.{IsSound}
 use Rattle.fabric_terms.specs.declared.config.FabricConfig.{FabricConfig}
 use Rattle.ring_points.specs.Whos.{arbiter_actor}
-use Rattle.sched_text.specs.Lines.{lines_of}
+use Rattle.line_format.specs.Lines.{lines_of}
 use Rattle.source_lines.specs.Lines.{most_first_line}
 use Rattle.turn_rules.specs.Plans.{Plan}
 use Rattle.turn_rules.specs.declared.order.Order.{Order}

@@ -9,7 +9,7 @@ use Rattle.fabric_terms.specs.declared.message.Message.{Message}
 use Rattle.fabric_terms.specs.declared.record.Record.{Record}
 use Rattle.ring_rules.specs.declared.input.Input.{Input}
 use Rattle.ring_rules.specs.declared.input.Input.TheVariants as input
-use Rattle.ring_wire.specs.Kinds.{message_of}
+use Rattle.frame_format.specs.Kinds.{message_of}
 use Rattle.turn_rules.specs.Happenings.{Absent, Begins, Bids, Comes, Datagram, Failed, Fires, Hears, History, Turns}
 use Rattle.turn_rules.specs.Order.{Busy, Doing, Firing, Goes, IsInOrder, IsNext, Place, Starting, Turning, arrive, hearing, onward, rests}
 use Rattle.turn_rules.specs.Plans.{Plan, Setting, is_node_at, is_of_node}

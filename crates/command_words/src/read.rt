@@ -2,10 +2,8 @@ ghost use Rattle.std.specs.Prelude.{◌≡◌, ◌≤◌, IfSome, map, string_by
 ghost use Rattle.command_words.specs.Forms.{FitsForm, arbiter_form, cluster_form, drill_form, form_of, four_words, generate_form, node_form, number_of, one_word, three_words, turns_of, two_words};
 
 use crate::form::Form;
+use ring_points::LAST_NODE;
 use text_fields::last_number;
-
-/// The greatest number of a node.
-const LAST_NODE: u64 = 999;
 
 /// The greatest number of an arbitrator.
 const LAST_ARBITER: u64 = 9;
@@ -37,7 +35,7 @@ fn node_form(node: &str, turns: &str) -> Option<Form>
     ensures form { result ≡ node_form node.now turns.now }
     ensures fits { IfSome result FitsForm }
 {
-    let node = number_of(1, LAST_NODE, node)?;
+    let node = number_of(1, u64::from(LAST_NODE), node)?;
     let turns = turns_of(turns)?;
     Some(Form::Node {
         node: node as u16,

@@ -2,7 +2,7 @@
 use Rattle.std.proofs.Common.{◌≡◌, ℕ, List, Option, Result, Ok, inl, inr, refl, subst}
 use Rattle.fabric_status.specs.declared.status.Status.{Status}
 use Rattle.fabric_status.specs.declared.status.Status.TheVariants as status
-use Rattle.schedule_replay.specs.Replays.{IsDone}
+use Rattle.schedule_rules.specs.Replays.{IsDone}
 use Rattle.transcript_audit.specs.Audits.{IsAnswerTo, Writes, WritesAnswer}
 use Rattle.transcript_audit.specs.Groups.{Group}
 use Rattle.transcript_audit.specs.Transcript.{transcript_of}

@@ -18,11 +18,11 @@ use Rattle.epoch_safety.proofs.Written.{writes_kept_lem}
 use Rattle.run_safety.proofs.Safe.{runs_are_safe_lem}
 use Rattle.ring_world.specs.Answers.{is_frame}
 use Rattle.world_rules.specs.Runs.{History}
-use Rattle.schedule_replay.specs.Laws.{IsValidHistory}
-use Rattle.schedule_replay.specs.Output.{run_judged}
-use Rattle.schedule_replay.specs.Schedule.{judge}
+use Rattle.schedule_rules.specs.Laws.{IsValidHistory}
+use Rattle.schedule_rules.specs.Output.{run_judged}
+use Rattle.schedule_rules.specs.Schedule.{judge}
 use Rattle.fabric_top.specs.Safe.{IsSafe, KeepsAnswers, KeepsPlaces, KeepsWrites}
-use Rattle.schedule_replay.proofs.Accepted.{accepted_valid}
+use Rattle.schedule_rules.proofs.Accepted.{accepted_valid}
 
 -- before any event nobody holds anything
 no_clock : (ago : ℕ) (w : Who) (p : ℕ) → Holds (drop ago []) w p → ⊥

@@ -4,7 +4,7 @@ use Rattle.crew_runs.specs.Runs.{Seen}
 use Rattle.edge_io.specs.Edge.{HasRisen}
 use Rattle.fabric_status.specs.declared.status.Status.{Status}
 use Rattle.fabric_status.specs.declared.status.Status.TheVariants as status
-use Rattle.schedule_replay.specs.Replays.{IsDone}
+use Rattle.schedule_rules.specs.Replays.{IsDone}
 use Rattle.transcript_audit.specs.Audits.{Writes}
 use Rattle.transcript_audit.specs.Groups.{Group}
 use Rattle.transcript_audit.specs.Transcript.{transcript_of}

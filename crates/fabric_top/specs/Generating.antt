@@ -7,7 +7,7 @@ use Rattle.fabric_status.specs.declared.status.Status.TheVariants as status
 use Rattle.schedule_generate.specs.Goes.{IsSettled}
 use Rattle.schedule_generate.specs.Laws.{judged_of}
 use Rattle.schedule_generate.specs.Texts.{Writing, all_written, ended, gen_text, generated}
-use Rattle.schedule_replay.specs.Schedule.{judge}
+use Rattle.schedule_rules.specs.Schedule.{judge}
 use Rattle.fabric_top.specs.Safe.{IsSafe}
 
 -- What is written of the schedule of a seed, or a front of it for want of memory or where the sink failed. Where the schedule

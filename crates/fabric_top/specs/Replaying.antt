@@ -4,8 +4,8 @@ use Rattle.crew_runs.specs.Runs.{Seen}
 use Rattle.edge_io.specs.Edge.{HasRisen}
 use Rattle.fabric_status.specs.declared.status.Status.{Status}
 use Rattle.fabric_status.specs.declared.status.Status.TheVariants as status
-use Rattle.schedule_replay.specs.Replays.{IsDone, Writes}
-use Rattle.schedule_replay.specs.Schedule.{judge}
+use Rattle.schedule_rules.specs.Replays.{IsDone, Writes}
+use Rattle.schedule_rules.specs.Schedule.{judge}
 
 -- by what the source has left before and after, how often it failed, and the same of the sink
 pub record Replays (ended : Status) (left left' : Option (List ℕ)) (failed failed' : ℕ) (held held' : Option (List ℕ)) (refused refused' : ℕ) : Type 0 where

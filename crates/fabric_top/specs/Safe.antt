@@ -8,8 +8,8 @@ use Rattle.fabric_terms.specs.declared.config.FabricConfig.{FabricConfig}
 use Rattle.ring_points.specs.Whos.{node_instance}
 use Rattle.world_rules.specs.Runs.{History}
 use Rattle.epoch_safety.specs.Laws.{NamesCovered, WritesKept}
-use Rattle.schedule_replay.specs.Output.{accepted_run}
-use Rattle.schedule_replay.specs.Schedule.{Judged}
+use Rattle.schedule_rules.specs.Output.{accepted_run}
+use Rattle.schedule_rules.specs.Schedule.{Judged}
 
 -- points stay where they are told to be; they begin with the first node's first instance
 abbrev pub KeepsPlaces : Option FabricConfig → Run → Type 0

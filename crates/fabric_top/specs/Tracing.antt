@@ -4,11 +4,11 @@ use Rattle.crew_runs.specs.Runs.{Seen}
 use Rattle.edge_io.specs.Edge.{HasRisen}
 use Rattle.fabric_status.specs.declared.status.Status.{Status}
 use Rattle.fabric_status.specs.declared.status.Status.TheVariants as status
-use Rattle.schedule_replay.specs.Endings.{EndsSo}
-use Rattle.schedule_replay.specs.Replays.{IsDone}
-use Rattle.schedule_replay.specs.Schedule.{judge}
-use Rattle.schedule_replay.specs.Telling.{IsTold, lines_judged}
-use Rattle.schedule_replay.specs.Tellings.{trace_telling}
+use Rattle.schedule_rules.specs.Endings.{EndsSo}
+use Rattle.schedule_rules.specs.Replays.{IsDone}
+use Rattle.schedule_rules.specs.Schedule.{judge}
+use Rattle.schedule_rules.specs.Telling.{IsTold, lines_judged}
+use Rattle.schedule_rules.specs.Tellings.{trace_telling}
 
 -- as `replay`, but with the clocks before the lines of each event, and no places and no end
 pub record Traces (ended : Status) (left left' : Option (List ℕ)) (failed failed' : ℕ) (held held' : Option (List ℕ)) (refused refused' : ℕ) : Type 0 where

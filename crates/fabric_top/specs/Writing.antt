@@ -4,8 +4,8 @@ use Rattle.crew_runs.specs.Runs.{Seen}
 use Rattle.edge_io.specs.Edge.{HasRisen}
 use Rattle.fabric_status.specs.declared.status.Status.{Status}
 use Rattle.fabric_status.specs.declared.status.Status.TheVariants as status
-use Rattle.schedule_replay.specs.Replays.{IsDone}
-use Rattle.schedule_replay.specs.Schedule.{judge}
+use Rattle.schedule_rules.specs.Replays.{IsDone}
+use Rattle.schedule_rules.specs.Schedule.{judge}
 use Rattle.schedule_writes.specs.Writes.{Writes}
 
 -- as `replay`, but with the committed logs in place of the report, and a fault stands alone

@@ -4,7 +4,7 @@ ghost use Rattle.command_words.specs.Forms.{form_of};
 ghost use Rattle.fabric_top.specs.Safe.{IsSafe};
 ghost use Rattle.fabric_top.specs.Top.{Does};
 ghost use Rattle.outside.specs.Told.{Loans};
-ghost use Rattle.schedule_replay.specs.Schedule.{judge};
+ghost use Rattle.schedule_rules.specs.Schedule.{judge};
 ghost use Rattle.turn_rules.specs.Whole.{told_of};
 
 use crate::forms::run_form;

@@ -14,9 +14,9 @@ use Rattle.fabric_turns.proofs.Places.{hears_on}
 use Rattle.fabric_turns.specs.Moves.{Reaches, at_place}
 use Rattle.fabric_turns.specs.Runs.{Run, At, Meets, Stands, IsLast}
 use Rattle.outside.specs.Told.{Told, Receives}
-use Rattle.ring_wire.proofs.FrameLaws.{message_again, message_found}
-use Rattle.ring_wire.specs.Frames.{spelling}
-use Rattle.ring_wire.specs.Kinds.{message_of}
+use Rattle.frame_format.proofs.FrameLaws.{message_again, message_found}
+use Rattle.frame_format.specs.Frames.{spelling}
+use Rattle.frame_format.specs.Kinds.{message_of}
 use Rattle.wire_fields.proofs.Numbers.{AreBytes}
 use Rattle.turn_rules.specs.Effects.{Did, Stays, FailedSince, lost, records_of, lines_of}
 use Rattle.turn_rules.specs.Ends.{Stopped}

@@ -10,9 +10,9 @@ use Rattle.std.proofs.lemmas.List.Elements.{All-append}
 use Rattle.std.proofs.lemmas.Option.{slice_get-get_or, slice_get-map, get_or_from_slice_get}
 use Rattle.fabric_terms.specs.declared.message.Message.{Message}
 use Rattle.fabric_terms.specs.Messages.{is_sound}
-use Rattle.ring_wire.specs.Frames.{spelling}
-use Rattle.ring_wire.specs.Kinds.{message_of}
-use Rattle.ring_wire.proofs.FrameLaws.{message_again}
+use Rattle.frame_format.specs.Frames.{spelling}
+use Rattle.frame_format.specs.Kinds.{message_of}
+use Rattle.frame_format.proofs.FrameLaws.{message_again}
 use Rattle.frame_bag.specs.Stored.{ends_of, messages_in, AreFrames}
 use Rattle.frame_bag.specs.Bags.{frame_of}
 use Rattle.frame_bag.proofs.Cuts.{cut_again, length-ends_of, ends_of-more, concat-more, LiesAt, text_at}

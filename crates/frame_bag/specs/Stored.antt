@@ -3,8 +3,8 @@ use Rattle.std.specs.Prelude.{◌≡◌, ℕ, ◌+◌, List, [], ◌∷◌, leng
 use Rattle.std.specs.List.{filter_map, concat}
 use Rattle.fabric_terms.specs.declared.message.Message.{Message}
 use Rattle.fabric_terms.specs.Messages.{is_sound}
-use Rattle.ring_wire.specs.Frames.{spelling}
-use Rattle.ring_wire.specs.Kinds.{message_of}
+use Rattle.frame_format.specs.Frames.{spelling}
+use Rattle.frame_format.specs.Kinds.{message_of}
 
 -- the bytes of each frame: from where the frame before it ends to where it ends
 abbrev pub cut : ℕ → List ℕ → List ℕ → List (List ℕ)

@@ -3,9 +3,9 @@
 ghost use Rattle.std.specs.Prelude.{◌≡◌, ◌≢◌, IsTrue, MatchResult};
 ghost use Rattle.fabric_terms.specs.declared.message.Message.{Message};
 ghost use Rattle.fabric_terms.specs.Messages.{is_sound};
-ghost use Rattle.ring_wire.specs.Frames.{spelling};
+ghost use Rattle.frame_format.specs.Frames.{spelling};
 ghost use Rattle.wire_fields.specs.Readers.{Gives, Fills};
-ghost use Rattle.ring_wire.specs.Kinds.{head_at, body_of, message_of};
+ghost use Rattle.frame_format.specs.Kinds.{head_at, body_of, message_of};
 
 mod links;
 mod partitions;
@@ -15,6 +15,7 @@ mod searches;
 
 use crate::not_frame::NotFrame;
 use fabric_terms::{Body, Message};
+use frame_format::Head;
 use links::{read_lease, read_link};
 use ring_points::Who;
 use wire_fields::read::{addressee_at, sender_at, u8_at};
@@ -22,16 +23,7 @@ use wire_fields::read::{addressee_at, sender_at, u8_at};
 /// The first byte of every frame.
 const FIRST_BYTE: u8 = 0x53;
 
-/// What stands before the body of a frame.
-#[derive(Clone, Copy)]
-pub struct Head {
-    version: u8,
-    kind: u8,
-    from: Who,
-    to: Who,
-}
-
-#[tactic(auto, unfolding(crate::specs::Kinds::head_at))]
+#[tactic(auto, unfolding(frame_format::specs::Kinds::head_at))]
 fn head_at(bytes: &[u8]) -> Result<(Head, &[u8]), NotFrame>
     ensures { Gives (λ x. (x.0, x.1.now)) result (head_at bytes.now) }
 {
@@ -55,7 +47,7 @@ fn head_at(bytes: &[u8]) -> Result<(Head, &[u8]), NotFrame>
 }
 
 // The body, to the end of the bytes. A refusal may leave any body.
-#[tactic(auto, unfolding(crate::specs::Kinds::body_of))]
+#[tactic(auto, unfolding(frame_format::specs::Kinds::body_of))]
 fn read_body(head: Head, bytes: &[u8], body: &mut Body) -> Result<(), NotFrame>
     ensures { Fills result body.new (body_of head.version head.kind bytes.now) }
 {
@@ -67,7 +59,7 @@ fn read_body(head: Head, bytes: &[u8], body: &mut Body) -> Result<(), NotFrame>
 }
 
 // The message, to the end of the bytes, into a place. A refusal may leave any message.
-#[tactic(auto, unfolding(crate::specs::Kinds::message_of))]
+#[tactic(auto, unfolding(frame_format::specs::Kinds::message_of))]
 fn read_message(frame: &[u8], message: &mut Message) -> Result<(), NotFrame>
     ensures { Fills result message.new (message_of frame.now) }
 {

@@ -2,7 +2,7 @@
 
 ghost use Rattle.std.specs.Prelude.{◌≡◌, ◌≤◌, ◌+◌, ◌++◌, [], ◌∷◌, length, drop, IsTrue};
 ghost use Rattle.fabric_terms.specs.Messages.{is_sound, is_sound_body};
-ghost use Rattle.ring_wire.specs.Frames.{version_of, kind_of, body_bytes, spelling};
+ghost use Rattle.frame_format.specs.Frames.{version_of, kind_of, body_bytes, spelling};
 ghost use Rattle.wire_fields.specs.Texts.{who_bytes};
 ghost use Rattle.wire_fields.specs.Writers.{Puts};
 

@@ -3,9 +3,9 @@ use Rattle.std.proofs.Common.{◌≡◌, ◌≢◌, ℕ, true, false, List, Opti
 use Rattle.std.specs.Prelude.{is_some, IsTrue}
 use Rattle.fabric_terms.specs.declared.message.Message.{Message}
 use Rattle.fabric_terms.specs.Messages.{is_sound}
-use Rattle.ring_wire.specs.Frames.{spelling}
-use Rattle.ring_wire.specs.Kinds.{message_of}
-use Rattle.ring_wire.proofs.FrameLaws.{message_again, message_found}
+use Rattle.frame_format.specs.Frames.{spelling}
+use Rattle.frame_format.specs.Kinds.{message_of}
+use Rattle.frame_format.proofs.FrameLaws.{message_again, message_found}
 use Rattle.wire_fields.proofs.Numbers.{AreBytes}
 use Rattle.ring_world.specs.Answers.{is_frame}
 

@@ -4,7 +4,7 @@ use Rattle.fabric_terms.specs.Runs.{Entry}
 use Rattle.fabric_terms.specs.Sound.{IsSound}
 use Rattle.fabric_terms.specs.declared.config.FabricConfig.{FabricConfig}
 use Rattle.fabric_terms.specs.declared.event.Event.{Event}
-use Rattle.ring_wire.specs.Kinds.{message_of}
+use Rattle.frame_format.specs.Kinds.{message_of}
 use Rattle.fabric_terms.specs.Ranges.{Fits}
 use Rattle.world_rules.specs.Events.{world_step}
 use Rattle.fabric_above.specs.Fabric.{fabric}

@@ -1,17 +1,13 @@
-ghost use Rattle.std.specs.Prelude.{◌≡◌, ◌≤◌, length, IfOk, OnErr};
-ghost use Rattle.std.specs.List.{list_all};
+ghost use Rattle.std.specs.Prelude.{◌≡◌, IfOk, OnErr};
 ghost use Rattle.fabric_terms.specs.declared.command.Command.{Command};
-ghost use Rattle.text_fields.specs.Fields.{Gives, whole_of, word_of};
-ghost use Rattle.sched_text.specs.Commands.{partition_at, members_of, link_of, give_of, is_printable, text_of, in_partition, partition_command_of, command_of, CommandReadIsSpelled, SpelledCommandIsRead};
+ghost use Rattle.text_fields.specs.Fields.{Gives, whole_of};
+ghost use Rattle.line_format.specs.Commands.{members_of, link_of, give_of, text_of, in_partition, partition_command_of, command_of};
 
-use crate::bad_line::BadLine;
-use crate::name::last_name;
 use fabric_terms::{Command, Payload};
+use line_format::BadLine;
+use report_lines::{last_name, partition_word, text_of};
 use ring_points::Point;
-use text_fields::{
-    BadField, after_word, last_node, last_number, last_point, last_span, node_at, number_in,
-    number_word,
-};
+use text_fields::{BadField, after_word, last_node, last_number, last_point, last_span, node_at};
 
 /// The shortest lease that a link may ask for, in ticks.
 const SHORTEST_LEASE: u64 = 10;
@@ -19,30 +15,11 @@ const SHORTEST_LEASE: u64 = 10;
 /// The longest, in ticks.
 const LONGEST_LEASE: u64 = 1_000_000_000;
 
-/// The greatest number of a partition.
-const LAST_PARTITION: u64 = 65535;
-
 /// How many replicas a partition may have at most.
 const MOST_MEMBERS: u64 = 7;
 
 /// How many bytes a write may have at most.
 const MOST_TEXT: usize = 512;
-
-/// A partition, and what follows it.
-pub fn partition_at(bytes: &[u8]) -> Result<(u16, &[u8]), BadField>
-    ensures { Gives (λ x. (x.0, x.1.now)) result (partition_at bytes.now) }
-{
-    let (partition, rest) = number_in(0, LAST_PARTITION, bytes)?;
-    Ok((partition as u16, rest))
-}
-
-/// The same, and the blank behind it.
-pub fn partition_word(bytes: &[u8]) -> Result<(u16, &[u8]), BadField>
-    ensures { Gives (λ x. (x.0, x.1.now)) result (word_of partition_at bytes.now) }
-{
-    let (partition, rest) = number_word(0, LAST_PARTITION, bytes)?;
-    Ok((partition as u16, rest))
-}
 
 fn members_of(bytes: &[u8]) -> Result<u8, BadField>
     ensures { Gives (λ x. x) result (members_of bytes.now) }
@@ -61,7 +38,7 @@ fn whole_of(command: Command, rest: &[u8]) -> Result<Command, BadLine>
     }
 }
 
-#[tactic(auto, unfolding(crate::specs::Commands::link_of))]
+#[tactic(auto, unfolding(line_format::specs::Commands::link_of))]
 fn link_of(words: &[u8]) -> Result<Command, BadLine>
     ensures { Gives (λ x. x) result (link_of words.now) }
 {
@@ -74,7 +51,7 @@ fn link_of(words: &[u8]) -> Result<Command, BadLine>
     }
 }
 
-#[tactic(auto, unfolding(crate::specs::Commands::give_of))]
+#[tactic(auto, unfolding(line_format::specs::Commands::give_of))]
 fn give_of(words: &[u8]) -> Result<Command, BadLine>
     ensures { Gives (λ x. x) result (give_of words.now) }
 {
@@ -86,30 +63,6 @@ fn give_of(words: &[u8]) -> Result<Command, BadLine>
     }
 }
 
-fn is_printable(b: u8) -> bool
-    ensures { result ≡ is_printable b }
-{
-    b' ' <= b && b <= b'~'
-}
-
-fn all_printable(bytes: &[u8]) -> bool
-    ensures { result ≡ list_all is_printable bytes.now }
-{
-    bytes.iter().all(|b| is_printable(*b))
-}
-
-/// The same bytes, where there are some, at most so many, and all are blanks or visible signs.
-#[tactic(auto, unfolding(crate::specs::Commands::text_of))]
-pub fn text_of(most: usize, bytes: &[u8]) -> Result<&[u8], BadLine>
-    ensures read { Gives (λ x. x.now) result (text_of 1 most bytes.now) }
-    ensures short { IfOk result (λ x. length x.now ≤ most) }
-{
-    if bytes.is_empty() || bytes.len() > most || !all_printable(bytes) {
-        return Err(BadLine);
-    }
-    Ok(bytes)
-}
-
 fn write_of(words: &[u8]) -> Result<Command, BadLine>
     ensures { Gives (λ x. x) result (in_partition (text_of 1 512) Command.Write words.now) }
 {
@@ -117,7 +70,7 @@ fn write_of(words: &[u8]) -> Result<Command, BadLine>
     Ok(Command::Write(partition, Payload::from_slice(text_of(MOST_TEXT, rest)?)))
 }
 
-#[tactic(auto, unfolding(crate::specs::Commands::partition_command_of))]
+#[tactic(auto, unfolding(line_format::specs::Commands::partition_command_of))]
 fn partition_command_of(words: &[u8]) -> Result<Command, BadLine>
     ensures { Gives (λ x. x) result (partition_command_of words.now) }
 {
@@ -148,7 +101,7 @@ fn partition_command_of(words: &[u8]) -> Result<Command, BadLine>
 
 /// The command of these words, as they stand behind `do N`. BadLine comes exactly where the bytes are
 /// none.
-#[tactic(auto, unfolding(crate::specs::Commands::command_of))]
+#[tactic(auto, unfolding(line_format::specs::Commands::command_of))]
 pub fn read_command(words: &[u8]) -> Result<Command, BadLine>
     ensures ok { IfOk result (λ c. command_of words.now ≡ Some c) }
     ensures err { OnErr result (command_of words.now ≡ None) }
@@ -167,9 +120,3 @@ pub fn read_command(words: &[u8]) -> Result<Command, BadLine>
         partition_command_of(words)
     }
 }
-
-/// Each command has one spelling, and nothing else is read as a command.
-pub fn one_command_spelling()
-    ensures read { CommandReadIsSpelled }
-    ensures spelled { SpelledCommandIsRead }
-{}

@@ -1,21 +1,21 @@
 ghost use Rattle.std.specs.Prelude.{◌≡◌, IfOk, OnErr};
 ghost use Rattle.text_fields.specs.Fields.{Gives};
-ghost use Rattle.sched_text.specs.Lines.{start_of, tick_of, do_of, junk_of, event_of, ReadIsSpelled, SpelledIsRead};
+ghost use Rattle.line_format.specs.Lines.{start_of, tick_of, do_of, junk_of, event_of};
 
 mod count;
 mod junk;
 mod tick;
 
-use crate::bad_line::BadLine;
 use crate::command::read_command;
 use count::{count_at, last_count};
 use fabric_terms::Event;
 use junk::junk_bytes_of;
+use line_format::BadLine;
 use text_fields::{actor_word, after_word, last_actor, last_arbiter, last_node, node_word};
 use tick::readings_of;
 pub use tick::{TickReadings, read_tick};
 
-#[tactic(auto, unfolding(crate::specs::Lines::start_of))]
+#[tactic(auto, unfolding(line_format::specs::Lines::start_of))]
 fn start_of(words: &[u8]) -> Result<Event, BadLine>
     ensures { Gives (λ e. e) result (start_of words.now) }
 {
@@ -33,7 +33,7 @@ fn start_of(words: &[u8]) -> Result<Event, BadLine>
     })
 }
 
-#[tactic(auto, unfolding(crate::specs::Lines::tick_of))]
+#[tactic(auto, unfolding(line_format::specs::Lines::tick_of))]
 fn tick_of(words: &[u8]) -> Result<Event, BadLine>
     ensures { Gives (λ e. e) result (tick_of words.now) }
 {
@@ -42,7 +42,7 @@ fn tick_of(words: &[u8]) -> Result<Event, BadLine>
     Ok(Event::Tick { advance, readings })
 }
 
-#[tactic(auto, unfolding(crate::specs::Lines::do_of))]
+#[tactic(auto, unfolding(line_format::specs::Lines::do_of))]
 fn do_of(words: &[u8]) -> Result<Event, BadLine>
     ensures { Gives (λ e. e) result (do_of words.now) }
 {
@@ -51,7 +51,7 @@ fn do_of(words: &[u8]) -> Result<Event, BadLine>
     Ok(Event::Do { node, command })
 }
 
-#[tactic(auto, unfolding(crate::specs::Lines::junk_of))]
+#[tactic(auto, unfolding(line_format::specs::Lines::junk_of))]
 fn junk_of(words: &[u8]) -> Result<Event, BadLine>
     ensures { Gives (λ e. e) result (junk_of words.now) }
 {
@@ -62,7 +62,7 @@ fn junk_of(words: &[u8]) -> Result<Event, BadLine>
 
 /// The event of a schedule's line, without its line feed. BadLine comes exactly where the bytes are none.
 /// Whether the line is ignored, and whether it is too long, is the caller's matter.
-#[tactic(auto, unfolding(crate::specs::Lines::event_of))]
+#[tactic(auto, unfolding(line_format::specs::Lines::event_of))]
 pub fn read_event(line: &[u8]) -> Result<Event, BadLine>
     ensures ok { IfOk result (λ e. event_of line.now ≡ Some e) }
     ensures err { OnErr result (event_of line.now ≡ None) }
@@ -86,9 +86,3 @@ pub fn read_event(line: &[u8]) -> Result<Event, BadLine>
         junk_of(after_word(b"junk ", line)?)
     }
 }
-
-/// Each event has one spelling, and nothing else is read as an event.
-pub fn one_spelling()
-    ensures read { ReadIsSpelled }
-    ensures spelled { SpelledIsRead }
-{}

@@ -7,14 +7,14 @@ use Rattle.fabric_status.specs.Writes.{Wrote as Written}
 use Rattle.fabric_status.specs.declared.status.Status.{Status}
 use Rattle.fabric_status.specs.declared.status.Status.TheVariants as status
 use Rattle.fabric_terms.specs.declared.event.Event.{Event}
-use Rattle.schedule_replay.proofs.Closing.{risen_since}
-use Rattle.schedule_replay.proofs.Fronts.{front_behind, front_of, grew_as, grew_more, grew_none, wrote_more}
-use Rattle.schedule_replay.specs.Halts.{Wrote}
+use Rattle.schedule_rules.proofs.Closing.{risen_since}
+use Rattle.schedule_rules.proofs.Fronts.{front_behind, front_of, grew_as, grew_more, grew_none, wrote_more}
+use Rattle.schedule_rules.specs.Halts.{Wrote}
 use Rattle.world_rules.specs.Runs.{History}
 use Rattle.schedule_generate.specs.Course.{Course, begun, next_line, opening, rounds, taken_all}
 use Rattle.schedule_generate.specs.Goes.{At, Goes, Known, Made, Passes, Went, WentAll}
 use Rattle.schedule_generate.specs.Laws.{judged_of}
-use Rattle.schedule_replay.specs.Schedule.{judge}
+use Rattle.schedule_rules.specs.Schedule.{judge}
 use Rattle.fabric_terms.specs.Ranges.{Fits}
 use Rattle.schedule_generate.proofs.Making.{text_is_judged_so}
 use Rattle.schedule_generate.specs.Settings.{generated_config}

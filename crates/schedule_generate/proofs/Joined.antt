@@ -3,7 +3,7 @@ use Rattle.std.proofs.Common.{◌≡◌, ℕ, ◌+◌, suc, List, ◌++◌, ap, 
 use Rattle.std.specs.Prelude.{codes, decimal}
 use Rattle.std.specs.List.{flat_map}
 use Rattle.fabric_terms.specs.declared.event.Event.TheVariants.{Tick}
-use Rattle.sched_text.specs.Lines.{event_text}
+use Rattle.line_format.specs.Lines.{event_text}
 use Rattle.schedule_generate.specs.Settings.{node_behind, node_text, numbers_from}
 use Rattle.schedule_generate.specs.Texts.{event_line, readings_text}
 use Rattle.schedule_generate.proofs.Numbers.{node_more}

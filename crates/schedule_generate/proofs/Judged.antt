@@ -12,13 +12,13 @@ use Rattle.fabric_terms.specs.declared.config.FabricConfig.{FabricConfig}
 use Rattle.fabric_terms.specs.declared.event.Event.{Event}
 use Rattle.ring_world.specs.Answers.{is_frame, ruled}
 use Rattle.ring_world.specs.Room.{acts, has_room, is_room}
-use Rattle.sched_text.proofs.LineLaws.{spelled_is_read}
-use Rattle.sched_text.specs.Lines.{event_text, lines_of, onto_first}
+use Rattle.line_format.proofs.LineLaws.{spelled_is_read}
+use Rattle.line_format.specs.Lines.{event_text, lines_of, onto_first}
 use Rattle.source_lines.proofs.Cuts.{lines_cut}
 use Rattle.source_lines.specs.Lines.{is_ignored, most_line, most_lines}
-use Rattle.schedule_replay.proofs.First.{first_read}
-use Rattle.schedule_replay.proofs.Judging.{judge_line, judge_on}
-use Rattle.schedule_replay.specs.Schedule.{Accepted, Refused as IsRefused, event_verdict, judge, judge_from, judge_rest, judged_at, line_verdict, run_verdict, unless_ignored, unless_large, unless_there}
+use Rattle.schedule_rules.proofs.First.{first_read}
+use Rattle.schedule_rules.proofs.Judging.{judge_line, judge_on}
+use Rattle.schedule_rules.specs.Schedule.{Accepted, Refused as IsRefused, event_verdict, judge, judge_from, judge_rest, judged_at, line_verdict, run_verdict, unless_ignored, unless_large, unless_there}
 use Rattle.world_rules.specs.Runs.{History}
 use Rattle.world_rules.specs.Schedules.{is_there, keeps_bound}
 use Rattle.world_rules.specs.Worlds.{World}

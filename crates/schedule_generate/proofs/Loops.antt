@@ -3,7 +3,7 @@ use Rattle.std.proofs.Common.{◌≡◌, ℕ, ◌+◌, ◌-◌, ◌≤◌, ◌<�
 use Rattle.std.proofs.lemmas.List.{append-nil, map-append, take-append-drop, take_more}
 use Rattle.edge_io.specs.Edge.{Grew, GrewByFront}
 use Rattle.fabric_terms.specs.declared.config.FabricConfig.{FabricConfig}
-use Rattle.schedule_replay.proofs.Fronts.{front_behind, front_of, grew_none}
+use Rattle.schedule_rules.proofs.Fronts.{front_behind, front_of, grew_none}
 use Rattle.world_rules.specs.Runs.{History}
 use Rattle.fabric_terms.specs.Ranges.{Fits}
 use Rattle.fabric_terms.specs.declared.event.Event.{Event}

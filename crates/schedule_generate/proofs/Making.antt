@@ -10,7 +10,7 @@ use Rattle.fabric_terms.specs.declared.event.Event.TheVariants.{Give}
 use Rattle.rand_pcg.specs.Pcg.{pcg32}
 use Rattle.ring_world.specs.Answers.{is_frame, ruled}
 use Rattle.ring_world.specs.Room.{has_room}
-use Rattle.schedule_replay.specs.Schedule.{judge}
+use Rattle.schedule_rules.specs.Schedule.{judge}
 use Rattle.world_rules.specs.Runs.{History}
 use Rattle.world_rules.specs.Schedules.{is_there, keeps_bound, node_runs}
 use Rattle.world_rules.specs.Worlds.{World}

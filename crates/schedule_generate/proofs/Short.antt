@@ -12,8 +12,8 @@ use Rattle.fabric_terms.specs.Ranges.{Fits, IsReading}
 use Rattle.fabric_terms.specs.declared.command.Command.TheVariants.{Link}
 use Rattle.fabric_terms.specs.declared.event.Event.{Event}
 use Rattle.fabric_terms.specs.declared.event.Event.TheVariants.{Start, Stop, Tick, Fire, Give, Do, Junk}
-use Rattle.sched_text.specs.Lines.{event_text, reading_text}
-use Rattle.sched_text.proofs.Lists.{joined_is}
+use Rattle.line_format.specs.Lines.{event_text, reading_text}
+use Rattle.line_format.proofs.Lists.{joined_is}
 use Rattle.text_fields.specs.Actors.{actor_text}
 use Rattle.schedule_generate.specs.Texts.{reading_word, readings_text}
 

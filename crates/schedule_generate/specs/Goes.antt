@@ -8,7 +8,7 @@ use Rattle.fabric_status.specs.declared.status.Status.{Status}
 use Rattle.fabric_status.specs.declared.status.Status.TheVariants as status
 use Rattle.ring_world.specs.Answers.{StandsFor, is_frame, ruled}
 use Rattle.ring_world.specs.declared.world.EventRefusal.{EventRefusal}
-use Rattle.schedule_replay.specs.Halts.{Wrote}
+use Rattle.schedule_rules.specs.Halts.{Wrote}
 use Rattle.world_rules.specs.Runs.{History}
 use Rattle.world_rules.specs.Schedules.{is_there, keeps_bound}
 use Rattle.schedule_generate.specs.Course.{Course, next_line, running}

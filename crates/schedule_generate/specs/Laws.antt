@@ -3,7 +3,7 @@ use Rattle.std.specs.Prelude.{ℕ, Option, Some, None}
 use Rattle.fabric_terms.specs.declared.event.Event.{Event}
 use Rattle.fabric_status.specs.declared.status.Refusal.{Refusal}
 use Rattle.fabric_status.specs.declared.status.Refusal.TheVariants.{TooLarge}
-use Rattle.schedule_replay.specs.Schedule.{Judged, judged_at}
+use Rattle.schedule_rules.specs.Schedule.{Judged, judged_at}
 use Rattle.world_rules.specs.Runs.{History}
 use Rattle.schedule_generate.specs.Course.{Course, next_line}
 use Rattle.schedule_generate.specs.Settings.{generated_config}

@@ -13,7 +13,7 @@ use Rattle.fabric_status.specs.declared.status.Status.{Status}
 use Rattle.fabric_status.specs.declared.status.Status.TheVariants as status
 use Rattle.ring_world.specs.Answers.{ruled}
 use Rattle.ring_world.specs.Holders.{holders_in}
-use Rattle.sched_text.specs.Lines.{event_text, reading_text}
+use Rattle.line_format.specs.Lines.{event_text, reading_text}
 use Rattle.world_rules.specs.Runs.{History, run_of}
 use Rattle.schedule_generate.specs.Course.{Course, course_of, next_line}
 use Rattle.schedule_generate.specs.Settings.{config_line, generated_config}

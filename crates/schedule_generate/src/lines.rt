@@ -1,7 +1,7 @@
 // The lines of generated events.
 ghost use Rattle.std.specs.Prelude.{◌≡◌, ◌++◌, decimal, codes, OnOk};
 ghost use Rattle.fabric_terms.specs.declared.event.Event.TheVariants.{Tick};
-ghost use Rattle.sched_text.specs.Lines.{event_text};
+ghost use Rattle.line_format.specs.Lines.{event_text};
 ghost use Rattle.schedule_generate.specs.Moves.{event_for};
 ghost use Rattle.schedule_generate.specs.Texts.{event_line, readings_text};
 ghost use Rattle.text_fields.specs.Actors.{actor_text};

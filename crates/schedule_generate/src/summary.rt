@@ -3,7 +3,7 @@ ghost use Rattle.std.specs.Prelude.{◌≡◌, ◌++◌, ◌+◌, ◌≤◌, ◌
 ghost use Rattle.fabric_status.specs.Writes.{Wrote};
 ghost use Rattle.schedule_generate.specs.Goes.{IsSettled};
 ghost use Rattle.schedule_generate.specs.Laws.{judged_of};
-ghost use Rattle.schedule_replay.specs.Schedule.{judge};
+ghost use Rattle.schedule_rules.specs.Schedule.{judge};
 ghost use Rattle.fabric_terms.specs.declared.report.Report.{Report as Told};
 ghost use Rattle.ring_world.specs.Answers.{StandsFor};
 ghost use Rattle.schedule_generate.specs.Settings.{generated_config};

@@ -3,7 +3,7 @@ ghost use Rattle.std.specs.Prelude.{◌≡◌, ◌≤◌};
 ghost use Rattle.fabric_status.specs.Writes.{Wrote};
 ghost use Rattle.schedule_generate.specs.Goes.{IsSettled};
 ghost use Rattle.schedule_generate.specs.Laws.{judged_of};
-ghost use Rattle.schedule_replay.specs.Schedule.{judge};
+ghost use Rattle.schedule_rules.specs.Schedule.{judge};
 ghost use Rattle.schedule_generate.specs.Texts.{all_written, ended, gen_text, generate_writing, generated};
 
 use crate::lines::{push_move_line, push_tick_line};

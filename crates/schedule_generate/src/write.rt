@@ -2,13 +2,13 @@
 ghost use Rattle.std.specs.Prelude.{◌≡◌, ◌≤◌, ◌+◌, ◌^◌, ℕ, List, [], Err, OnOk};
 ghost use Rattle.edge_io.specs.Edge.{HasRisen};
 ghost use Rattle.fabric_status.specs.Writes.{Wrote};
-ghost use Rattle.schedule_replay.specs.Halts.{WroteFault};
+ghost use Rattle.schedule_rules.specs.Halts.{WroteFault};
 ghost use Rattle.schedule_generate.specs.Course.{Course, is_full, round_unless, rounds};
 ghost use Rattle.schedule_generate.specs.Goes.{At, IsAt, IsSettled, Made, Rounded, WentAll};
 ghost use Rattle.schedule_generate.specs.Laws.{judged_of};
 ghost use Rattle.schedule_generate.specs.Settings.{generated_config};
 ghost use Rattle.schedule_generate.specs.Texts.{all_written, ended, gen_text, generated};
-ghost use Rattle.schedule_replay.specs.Schedule.{judge};
+ghost use Rattle.schedule_rules.specs.Schedule.{judge};
 
 use crate::generator::Generator;
 use crate::halt::Halt;

@@ -1,7 +1,7 @@
 -- Lines of a number alone.
 use Rattle.std.specs.Prelude.{◌≡◌, ℕ, List, Option, Some, None}
 use Rattle.fabric_terms.specs.declared.event.Event.TheVariants as event
-use Rattle.sched_text.specs.Lines.{event_of}
+use Rattle.line_format.specs.Lines.{event_of}
 use Rattle.schedule_replay.specs.declared.brief.Brief.{Brief}
 use Rattle.schedule_replay.specs.declared.brief.Brief.TheVariants.{Fire, Give}
 

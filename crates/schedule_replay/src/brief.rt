@@ -14,7 +14,7 @@ pub(crate) enum Brief {
 }
 
 /// Reads a line of a firing or of a frame. None is for all others.
-#[tactic(auto, unfolding(sched_text::specs::Lines::event_of))]
+#[tactic(auto, unfolding(line_format::specs::Lines::event_of))]
 pub(crate) fn read_brief(line: &[u8]) -> Option<Brief>
     ensures { ReadsBrief line.now result }
 {

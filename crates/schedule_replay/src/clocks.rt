@@ -1,6 +1,6 @@
 // The line of the clocks behind an event.
 ghost use Rattle.std.specs.Prelude.{◌≡◌, ◌++◌, OnOk};
-ghost use Rattle.schedule_replay.specs.Traces.{clock_words, clocks_line};
+ghost use Rattle.schedule_rules.specs.Traces.{clock_words, clocks_line};
 
 use fabric_terms::OutOfMemory;
 use ring_points::Who;

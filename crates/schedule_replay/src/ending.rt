@@ -3,8 +3,8 @@ ghost use Rattle.std.specs.Prelude.{◌≡◌, ◌++◌, ℕ, List, OnOk};
 ghost use Rattle.fabric_terms.specs.declared.config.FabricConfig.{FabricConfig as Configuration};
 ghost use Rattle.world_rules.specs.Runs.{History};
 ghost use Rattle.ring_world.specs.Answers.{StandsFor};
-ghost use Rattle.schedule_replay.specs.Output.{end_line};
-ghost use Rattle.schedule_replay.specs.Tellings.{IsEnding};
+ghost use Rattle.schedule_rules.specs.Output.{end_line};
+ghost use Rattle.schedule_rules.specs.Tellings.{IsEnding};
 
 use fabric_status::push_two;
 use fabric_terms::OutOfMemory;

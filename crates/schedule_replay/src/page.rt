@@ -1,10 +1,10 @@
 // The text that waits for the sink.
 ghost use Rattle.std.specs.Prelude.{◌≡◌, ◌≤◌, Err};
 ghost use Rattle.edge_io.specs.Edge.{HasRisen};
-ghost use Rattle.schedule_replay.specs.Halts.{Sends};
+ghost use Rattle.schedule_rules.specs.Halts.{Sends};
 
-use crate::halt::Halt;
 use edge_io::{EdgeRefusal, Sink, write_all};
+use schedule_rules::Halt;
 
 /// With so many bytes or more the text is written to the sink.
 const FULL: usize = 65_536;

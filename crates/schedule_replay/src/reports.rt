@@ -1,9 +1,9 @@
 // The command `replay`: a schedule is read, and its report written.
 ghost use Rattle.std.specs.Prelude.{◌≡◌, ◌≢◌, ℕ, List, [], Some};
 ghost use Rattle.edge_io.specs.Edge.{HasRisen};
-ghost use Rattle.schedule_replay.specs.Schedule.{judge};
-ghost use Rattle.schedule_replay.specs.Replays.{Writes};
-ghost use Rattle.schedule_replay.specs.Tellings.{replay_telling};
+ghost use Rattle.schedule_rules.specs.Schedule.{judge};
+ghost use Rattle.schedule_rules.specs.Replays.{Writes};
+ghost use Rattle.schedule_rules.specs.Tellings.{replay_telling};
 
 use crate::ending::push_ending;
 use crate::run::run_schedule;

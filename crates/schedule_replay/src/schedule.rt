@@ -3,10 +3,10 @@ ghost use Rattle.std.specs.Prelude.{◌≡◌, ℕ, List, Some, IfOk, OnErr, len
 ghost use Rattle.fabric_terms.specs.declared.config.FabricConfig.{FabricConfig as Configuration};
 ghost use Rattle.ring_world.specs.Answers.{IsWorld, ruled};
 ghost use Rattle.fabric_terms.specs.Ranges.{Fits};
-ghost use Rattle.sched_text.specs.Lines.{event_of};
+ghost use Rattle.line_format.specs.Lines.{event_of};
 ghost use Rattle.world_rules.specs.Runs.{History};
-ghost use Rattle.schedule_replay.specs.Follows.{At, Follows};
-ghost use Rattle.schedule_replay.specs.Schedule.{line_verdict, event_verdict, run_verdict, refusal_at};
+ghost use Rattle.schedule_rules.specs.Follows.{At, Follows};
+ghost use Rattle.schedule_rules.specs.Schedule.{line_verdict, event_verdict, run_verdict, refusal_at};
 
 use crate::brief::{Brief, read_brief};
 use crate::teller::Teller;

@@ -2,7 +2,7 @@ ghost use Rattle.std.specs.Prelude.{◌≡◌, ◌++◌, ◌∷◌, ℕ, List, O
 ghost use Rattle.fabric_terms.specs.declared.config.FabricConfig.{FabricConfig as Configuration};
 ghost use Rattle.fabric_terms.specs.declared.event.Event.{Event};
 ghost use Rattle.ring_world.specs.Answers.{StandsFor, Takes};
-ghost use Rattle.schedule_replay.specs.Telling.{Telling};
+ghost use Rattle.schedule_rules.specs.Telling.{Telling};
 ghost use Rattle.world_rules.specs.Runs.{History};
 
 use fabric_terms::OutOfMemory;

@@ -1,12 +1,12 @@
 // The lines of one step.
 ghost use Rattle.std.specs.Prelude.{◌≡◌, ◌++◌, Some, OnOk};
 ghost use Rattle.ring_world.specs.Answers.{entry_of};
-ghost use Rattle.schedule_replay.specs.Output.{entry_lines, report_lines, sent_lines};
-ghost use Rattle.schedule_replay.specs.Acts.{told_lines};
+ghost use Rattle.schedule_rules.specs.Output.{entry_lines, report_lines, sent_lines};
+ghost use Rattle.schedule_rules.specs.Acts.{told_lines};
 
 use fabric_terms::{Head, OutOfMemory, Report};
 use ring_world::Acted;
-use sched_text::{print_report, print_sent};
+use report_lines::{print_report, print_sent};
 
 /// The lines of these reports, in their order.
 fn push_reports(text: &mut Vec<u8>, head: &Head, reports: &[Report]) -> Result<(), OutOfMemory>

@@ -1,10 +1,10 @@
 // The command `trace`: a schedule is read, and its transcript written.
 ghost use Rattle.std.specs.Prelude.{◌≡◌, ◌≢◌, ℕ, List, [], Some};
 ghost use Rattle.edge_io.specs.Edge.{HasRisen};
-ghost use Rattle.schedule_replay.specs.Endings.{EndsSo};
-ghost use Rattle.schedule_replay.specs.Schedule.{judge};
-ghost use Rattle.schedule_replay.specs.Telling.{IsTold, lines_judged};
-ghost use Rattle.schedule_replay.specs.Tellings.{trace_telling};
+ghost use Rattle.schedule_rules.specs.Endings.{EndsSo};
+ghost use Rattle.schedule_rules.specs.Schedule.{judge};
+ghost use Rattle.schedule_rules.specs.Telling.{IsTold, lines_judged};
+ghost use Rattle.schedule_rules.specs.Tellings.{trace_telling};
 
 use crate::clocks::push_clocks;
 use crate::run::run_schedule;

@@ -3,8 +3,8 @@ use Rattle.std.proofs.Common.{◌≡◌, List, ℕ, ◌++◌, Option, None, Some
 use Rattle.fabric_status.specs.declared.status.Refusal.{Refusal}
 use Rattle.fabric_terms.specs.declared.config.FabricConfig.{FabricConfig}
 use Rattle.ring_world.specs.Answers.{ruled}
-use Rattle.schedule_replay.specs.Output.{end_line}
-use Rattle.schedule_replay.specs.Schedule.{Judged}
+use Rattle.schedule_rules.specs.Output.{end_line}
+use Rattle.schedule_rules.specs.Schedule.{Judged}
 use Rattle.world_rules.specs.Runs.{History}
 use Rattle.schedule_writes.specs.Laws.{OneOutput}
 use Rattle.schedule_writes.specs.Writes.{IsKeptOf, IsOutputAt}

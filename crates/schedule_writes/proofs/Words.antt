@@ -9,12 +9,12 @@ use Rattle.fabric_status.specs.declared.status.Status.{Status}
 use Rattle.fabric_status.specs.declared.status.Status.TheVariants as status
 use Rattle.fabric_terms.specs.declared.config.FabricConfig.{FabricConfig}
 use Rattle.ring_world.specs.Answers.{ruled}
-use Rattle.schedule_replay.specs.Endings.{EndsSo, WritesText}
-use Rattle.schedule_replay.specs.Output.{end_line}
-use Rattle.schedule_replay.specs.Replays.{IsDone}
-use Rattle.schedule_replay.specs.Schedule.{Judged}
-use Rattle.schedule_replay.specs.Telling.{IsTold, IsToldAt, IsToldWhole, lines_judged, lines_told}
-use Rattle.schedule_replay.proofs.Endings.{ends_as}
+use Rattle.schedule_rules.specs.Endings.{EndsSo, WritesText}
+use Rattle.schedule_rules.specs.Output.{end_line}
+use Rattle.schedule_rules.specs.Replays.{IsDone}
+use Rattle.schedule_rules.specs.Schedule.{Judged}
+use Rattle.schedule_rules.specs.Telling.{IsTold, IsToldAt, IsToldWhole, lines_judged, lines_told}
+use Rattle.schedule_rules.proofs.Endings.{ends_as}
 use Rattle.world_rules.specs.Runs.{History}
 use Rattle.write_safety.specs.Books.{KeptLog, logs_rise}
 use Rattle.write_safety.specs.Fed.{HasCommitted}

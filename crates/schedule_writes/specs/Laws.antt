@@ -1,6 +1,6 @@
 -- What the law of this crate says of what is written.
 use Rattle.std.specs.Prelude.{◌≡◌, ℕ, List}
-use Rattle.schedule_replay.specs.Schedule.{Judged}
+use Rattle.schedule_rules.specs.Schedule.{Judged}
 use Rattle.schedule_writes.specs.Writes.{IsOutput}
 
 -- one text at most is written of a schedule

@@ -6,10 +6,10 @@ use Rattle.fabric_status.specs.declared.status.Refusal.{Refusal}
 use Rattle.fabric_status.specs.declared.status.Status.{Status}
 use Rattle.fabric_terms.specs.declared.config.FabricConfig.{FabricConfig}
 use Rattle.ring_world.specs.Answers.{ruled}
-use Rattle.schedule_replay.specs.Endings.{EndsSo}
-use Rattle.schedule_replay.specs.Output.{end_line}
-use Rattle.schedule_replay.specs.Schedule.{Judged}
-use Rattle.schedule_replay.specs.Telling.{Telling}
+use Rattle.schedule_rules.specs.Endings.{EndsSo}
+use Rattle.schedule_rules.specs.Output.{end_line}
+use Rattle.schedule_rules.specs.Schedule.{Judged}
+use Rattle.schedule_rules.specs.Telling.{Telling}
 use Rattle.world_rules.specs.Runs.{History}
 use Rattle.write_safety.specs.Books.{KeptLog, logs_rise}
 use Rattle.write_safety.specs.Fed.{HasCommitted}

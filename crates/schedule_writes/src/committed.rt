@@ -1,8 +1,8 @@
 // The command `writes`: a schedule is read, and its committed writes are written.
 ghost use Rattle.std.specs.Prelude.{◌≡◌, ◌≢◌, ℕ, List, [], Some, None};
 ghost use Rattle.edge_io.specs.Edge.{HasRisen};
-ghost use Rattle.schedule_replay.specs.Replays.{IsDone};
-ghost use Rattle.schedule_replay.specs.Schedule.{judge};
+ghost use Rattle.schedule_rules.specs.Replays.{IsDone};
+ghost use Rattle.schedule_rules.specs.Schedule.{judge};
 ghost use Rattle.write_safety.specs.Fed.{HasCommitted};
 ghost use Rattle.schedule_writes.specs.Writes.{Writes, writes_telling};
 

@@ -2,7 +2,7 @@
 use Rattle.std.proofs.Common.{◌≡◌, ℕ, zero, suc, ◌+◌, ◌-◌, ◌<◌, Bool, true, false, cond, not, eqb, List, [], ◌∷◌, length, take, drop, Some, None, arith, refl, ap, sym, ◌∙◌, add-one, length-drop}
 use Rattle.std.specs.List.{position, position_or_len}
 use Rattle.std.proofs.lemmas.List.{take_all, drop_all, length-take}
-use Rattle.sched_text.specs.Lines.{lines_of, onto_first}
+use Rattle.line_format.specs.Lines.{lines_of, onto_first}
 use Rattle.source_lines.proofs.Positions.{position_some, position_none}
 
 abbrev pub is_feed : ℕ → Bool

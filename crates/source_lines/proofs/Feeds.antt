@@ -2,7 +2,7 @@
 use Rattle.std.proofs.Common.{◌≡◌, ℕ, zero, suc, ◌+◌, ◌≤◌, ◌<◌, Bool, true, false, cond, not, eqb, List, [], ◌∷◌, ◌++◌, length, take, drop, Some, arith, refl, ap, sym, ◌∙◌, add-one, zero-add, nat_lt, length-append}
 use Rattle.std.proofs.lemmas.Bool.Decides.{nat_tests}
 use Rattle.std.specs.List.{position, position_or_len}
-use Rattle.sched_text.specs.Lines.{lines_of, onto_first}
+use Rattle.line_format.specs.Lines.{lines_of, onto_first}
 use Rattle.source_lines.specs.Feeds.{HasNoFeed}
 use Rattle.source_lines.proofs.Cuts.{is_feed, lines_cut, feed_step, feed_here, cut_none}
 use Rattle.source_lines.proofs.Positions.{position_some, position_none}

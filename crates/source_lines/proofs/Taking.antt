@@ -2,7 +2,7 @@
 use Rattle.std.proofs.Common.{◌≡◌, ℕ, ◌+◌, ◌≤◌, ◌<◌, List, [], ◌∷◌, ◌++◌, length, length-take, take, drop, Some, Ok, arith, ap, sym, ◌∙◌}
 use Rattle.std.proofs.lemmas.List.{append-nil}
 use Rattle.std.specs.List.{position}
-use Rattle.sched_text.specs.Lines.{lines_of}
+use Rattle.line_format.specs.Lines.{lines_of}
 use Rattle.source_lines.specs.Feeds.{HasNoFeed}
 use Rattle.source_lines.specs.Reading.{Reading, Takes}
 use Rattle.source_lines.specs.Stops.{TakesTo, TakesLast}

@@ -1,7 +1,7 @@
 -- What a reader of lines has taken of its source, and what it takes next.
 use Rattle.std.specs.Prelude.{◌≡◌, ℕ, ◌<◌, ◌≤◌, List, [], ◌∷◌, ◌++◌, length, Option, Some, Result, Ok, Err}
 use Rattle.edge_io.specs.declared.refusal.Failed.{Failed}
-use Rattle.sched_text.specs.Lines.{lines_of}
+use Rattle.line_format.specs.Lines.{lines_of}
 use Rattle.source_lines.specs.Feeds.{HasNoFeed}
 use Rattle.source_lines.specs.declared.taken.Taken.{Taken}
 use Rattle.source_lines.specs.declared.taken.Taken.TheVariants.{Line, TooLong, End}

@@ -1,6 +1,6 @@
 // Lines, cut from the front.
 ghost use Rattle.std.specs.Prelude.{◌≡◌, ◌+◌, ◌<◌, ◌∷◌, drop, length};
-ghost use Rattle.sched_text.specs.Lines.{lines_of};
+ghost use Rattle.line_format.specs.Lines.{lines_of};
 
 use crate::piece::first_feed;
 

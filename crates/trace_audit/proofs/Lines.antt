@@ -3,7 +3,7 @@ use Rattle.std.proofs.Common.{◌≡◌, ℕ, Bool, true, false, cond, not, ◌&
 use Rattle.std.specs.Prelude.{◌==◌, codes}
 use Rattle.std.specs.List.{list_all}
 use Rattle.std.proofs.lemmas.List.{append_assoc, append-nil}
-use Rattle.sched_text.specs.Lines.{lines_of, onto_first}
+use Rattle.line_format.specs.Lines.{lines_of, onto_first}
 
 -- no byte is a line feed
 abbrev pub inked : List ℕ → Bool

@@ -8,10 +8,10 @@ use Rattle.fabric_terms.specs.declared.report.Report.{Report}
 use Rattle.fabric_terms.specs.Ranges.{FitsHead}
 use Rattle.fabric_terms.specs.Runs.{Clocks, Entry, Moment, Run}
 use Rattle.frames_fit.specs.Formats.{ReportInRange}
-use Rattle.schedule_replay.specs.Output.{entry_lines, head_of, report_lines, sent_lines}
-use Rattle.schedule_replay.specs.Traces.{clock_words, clocks_line, group}
-use Rattle.sched_text.specs.Lines.{lines_of}
-use Rattle.sched_text.specs.Reports.{report_line, report_words, sent_line}
+use Rattle.schedule_rules.specs.Output.{entry_lines, head_of, report_lines, sent_lines}
+use Rattle.schedule_rules.specs.Traces.{clock_words, clocks_line, group}
+use Rattle.line_format.specs.Lines.{lines_of}
+use Rattle.line_format.specs.Reports.{report_line, report_words, sent_line}
 use Rattle.source_lines.specs.Lines.{most_lines}
 use Rattle.text_fields.specs.Fields.{◌>>=◌}
 use Rattle.transcript_audit.specs.Groups.{Group}

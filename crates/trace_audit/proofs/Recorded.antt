@@ -22,9 +22,9 @@ use Rattle.ring_world.specs.Room.{has_room, is_room, acts, most_time, time_after
 use Rattle.run_audit.specs.Breaches.{is_below}
 use Rattle.run_facts.proofs.Clocks.{rising}
 use Rattle.run_facts.proofs.Happens.{Cases, by_cases}
-use Rattle.schedule_replay.specs.Laws.{IsValidHistory}
-use Rattle.schedule_replay.specs.Schedule.{judge}
-use Rattle.schedule_replay.proofs.Accepted.{Comes, all_accepted}
+use Rattle.schedule_rules.specs.Laws.{IsValidHistory}
+use Rattle.schedule_rules.specs.Schedule.{judge}
+use Rattle.schedule_rules.proofs.Accepted.{Comes, all_accepted}
 use Rattle.source_lines.specs.Lines.{most_lines}
 use Rattle.transcript_audit.specs.Said.{is_above}
 use Rattle.world_rules.specs.Events.{world_step}

@@ -18,12 +18,12 @@ use Rattle.frames_fit.specs.Formats.{ReportInRange}
 use Rattle.ring_points.specs.declared.interval.Interval.{Interval}
 use Rattle.ring_points.specs.declared.unit.Epoch.{Epoch}
 use Rattle.ring_points.specs.declared.who.Who.{Who}
-use Rattle.schedule_replay.specs.Traces.{clock_word, clock_words}
-use Rattle.sched_text.specs.Heads.{head_text}
-use Rattle.sched_text.specs.Lists.{names_text, partitions_text}
-use Rattle.sched_text.specs.Names.{as_they_are}
-use Rattle.sched_text.specs.Refusals.{reason_text, verb_text, why_text}
-use Rattle.sched_text.specs.Reports.{report_text, report_words}
+use Rattle.schedule_rules.specs.Traces.{clock_word, clock_words}
+use Rattle.line_format.specs.Heads.{head_text}
+use Rattle.line_format.specs.Lists.{names_text, partitions_text}
+use Rattle.line_format.specs.Names.{as_they_are}
+use Rattle.line_format.specs.Refusals.{reason_text, verb_text, why_text}
+use Rattle.line_format.specs.Reports.{report_text, report_words}
 use Rattle.text_fields.specs.Epochs.{epoch_text}
 use Rattle.text_fields.specs.Instances.{who_text}
 use Rattle.text_fields.specs.Intervals.{ranges_text}

@@ -9,12 +9,12 @@ use Rattle.fabric_terms.specs.Ranges.{FitsHead, FitsReport, IsInstance, IsLong}
 use Rattle.fabric_terms.specs.Runs.{Clocks}
 use Rattle.ring_points.specs.declared.who.Who.{Who}
 use Rattle.run_audit.specs.Breaches.{first_of}
-use Rattle.schedule_replay.specs.Traces.{clock_word, clock_words}
-use Rattle.sched_text.specs.Heads.{has_its_reading, head_at, head_made, head_text}
-use Rattle.sched_text.specs.Readers.{entry_report_of, line_of, manager_report_of, move_of, peer_report_of, plain_report_of, report_of, ring_report_of, unit_report_of}
-use Rattle.sched_text.specs.Reports.{report_text, report_words}
-use Rattle.sched_text.proofs.HeadLaws.{head_again}
-use Rattle.sched_text.proofs.ReportLaws.{line_again}
+use Rattle.schedule_rules.specs.Traces.{clock_word, clock_words}
+use Rattle.line_format.specs.Heads.{has_its_reading, head_at, head_made, head_text}
+use Rattle.line_format.specs.Readers.{entry_report_of, line_of, manager_report_of, move_of, peer_report_of, plain_report_of, report_of, ring_report_of, unit_report_of}
+use Rattle.line_format.specs.Reports.{report_text, report_words}
+use Rattle.line_format.proofs.HeadLaws.{head_again}
+use Rattle.line_format.proofs.ReportLaws.{line_again}
 use Rattle.source_lines.specs.Lines.{is_ignored}
 use Rattle.text_fields.specs.Fields.{◌>>=◌, Field, after_word, last, made, pair_at, both, word_of}
 use Rattle.text_fields.specs.Instances.{instance_at, instance_made, who_at, who_text}

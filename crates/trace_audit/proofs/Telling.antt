@@ -13,8 +13,8 @@ use Rattle.fabric_terms.specs.Runs.{Clocks, Entry, Moment, Run}
 use Rattle.frames_fit.specs.Formats.{ReportInRange}
 use Rattle.ring_points.specs.declared.who.Who.{Who}
 use Rattle.ring_points.proofs.Whos.{same_who-refl}
-use Rattle.schedule_replay.specs.Output.{head_of}
-use Rattle.sched_text.specs.Reports.{report_words}
+use Rattle.schedule_rules.specs.Output.{head_of}
+use Rattle.line_format.specs.Reports.{report_words}
 use Rattle.source_lines.specs.Lines.{is_ignored}
 use Rattle.text_fields.specs.Fields.{◌>>=◌}
 use Rattle.transcript_audit.specs.Groups.{Group, group_at, group_from, may_tell, with_report}

@@ -8,12 +8,12 @@ use Rattle.fabric_terms.specs.Primaries.{Safe}
 use Rattle.fabric_terms.specs.Runs.{Run}
 use Rattle.ring_world.specs.Answers.{is_frame}
 use Rattle.run_safety.proofs.Safe.{runs_are_safe_lem}
-use Rattle.schedule_replay.specs.Laws.{IsValidHistory}
-use Rattle.schedule_replay.specs.Schedule.{judge}
-use Rattle.schedule_replay.specs.Telling.{IsToldAt, IsToldWhole, lines_told}
-use Rattle.schedule_replay.specs.Tellings.{newest, trace_telling}
-use Rattle.schedule_replay.specs.Traces.{group}
-use Rattle.schedule_replay.proofs.Accepted.{accepted_valid}
+use Rattle.schedule_rules.specs.Laws.{IsValidHistory}
+use Rattle.schedule_rules.specs.Schedule.{judge}
+use Rattle.schedule_rules.specs.Telling.{IsToldAt, IsToldWhole, lines_told}
+use Rattle.schedule_rules.specs.Tellings.{newest, trace_telling}
+use Rattle.schedule_rules.specs.Traces.{group}
+use Rattle.schedule_rules.proofs.Accepted.{accepted_valid}
 use Rattle.transcript_audit.specs.Transcript.{transcript_of}
 use Rattle.world_rules.specs.Runs.{History, run_of}
 use Rattle.trace_audit.specs.Laws.{IsTraceOf, TracedSchedulesAreSafe}

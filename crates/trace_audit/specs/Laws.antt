@@ -4,9 +4,9 @@ use Rattle.fabric_above.specs.Fabric.{fabric}
 use Rattle.fabric_terms.specs.declared.config.FabricConfig.{FabricConfig}
 use Rattle.fabric_terms.specs.Primaries.{Safe}
 use Rattle.fabric_terms.specs.Runs.{Run}
-use Rattle.schedule_replay.specs.Schedule.{judge}
-use Rattle.schedule_replay.specs.Telling.{IsTold}
-use Rattle.schedule_replay.specs.Tellings.{trace_telling}
+use Rattle.schedule_rules.specs.Schedule.{judge}
+use Rattle.schedule_rules.specs.Telling.{IsTold}
+use Rattle.schedule_rules.specs.Tellings.{trace_telling}
 use Rattle.transcript_audit.specs.Transcript.{transcript_of}
 use Rattle.world_rules.specs.Runs.{run_of}
 use Rattle.trace_audit.specs.Recordings.{IsRecording, groups_of_run, trace_of}

@@ -5,7 +5,7 @@ use Rattle.fabric_terms.specs.Ranges.{FitsReading, IsInstance, IsLong, IsWho, Is
 use Rattle.fabric_terms.specs.Runs.{Clocks, Entry, Moment, Run}
 use Rattle.frames_fit.specs.Formats.{ReportInRange}
 use Rattle.ring_points.specs.declared.who.Who.{Who}
-use Rattle.schedule_replay.specs.Traces.{group, transcript}
+use Rattle.schedule_rules.specs.Traces.{group, transcript}
 use Rattle.transcript_audit.specs.Groups.{Group}
 use Rattle.transcript_audit.specs.Said.{is_above}
 

@@ -4,7 +4,7 @@ use Rattle.edge_io.specs.Edge.{Grew, GrewByFront, HasRisen}
 use Rattle.fabric_status.specs.Faults.{fault_line}
 use Rattle.fabric_status.specs.declared.status.Status.{Status}
 use Rattle.fabric_status.specs.declared.status.Status.TheVariants as status
-use Rattle.sched_text.specs.Lines.{lines_of}
+use Rattle.line_format.specs.Lines.{lines_of}
 use Rattle.source_lines.specs.Lines.{most_lines}
 use Rattle.transcript_audit.specs.Audits.{IsAnswer, Writes}
 use Rattle.transcript_audit.specs.Transcript.{most_bytes}

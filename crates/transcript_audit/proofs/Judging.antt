@@ -17,7 +17,7 @@ use Rattle.run_audit.specs.declared.moment.Moment.{Moment}
 use Rattle.run_audit.specs.Auditing.{StandsFor, Judges, seen}
 use Rattle.fabric_status.specs.declared.status.Refusal.{Refusal}
 use Rattle.transcript_audit.specs.declared.transcript.Transcript.TheVariants.{Good, Refused}
-use Rattle.sched_text.specs.Lines.{lines_of}
+use Rattle.line_format.specs.Lines.{lines_of}
 use Rattle.transcript_audit.specs.declared.places.Places.{Places}
 use Rattle.transcript_audit.specs.Audits.{IsJudged}
 use Rattle.transcript_audit.specs.Groups.{Group, AreLines, Rise, group_at, moment_of, onto, run_along}

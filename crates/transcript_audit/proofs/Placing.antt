@@ -7,7 +7,7 @@ use Rattle.std.proofs.lemmas.Option.{same_Some}
 use Rattle.ring_points.specs.declared.who.Who.{Who}
 use Rattle.fabric_terms.specs.declared.report.Report.{Report}
 use Rattle.fabric_terms.specs.Runs.{Clocks}
-use Rattle.sched_text.specs.Lines.{lines_of}
+use Rattle.line_format.specs.Lines.{lines_of}
 use Rattle.source_lines.specs.Lines.{is_ignored}
 use Rattle.transcript_audit.specs.declared.places.Places.{Places}
 use Rattle.transcript_audit.specs.declared.said.Said.{Said as Summary}

@@ -4,7 +4,7 @@ use Rattle.std.specs.Prelude.{option_map}
 use Rattle.std.proofs.lemmas.List.{take_all, drop_all, drop_min, drop-drop, length-drop}
 use Rattle.fabric_status.specs.declared.status.Refusal.{Refusal}
 use Rattle.fabric_status.specs.declared.status.Refusal.TheVariants.{BadLine, TooLarge}
-use Rattle.sched_text.specs.Lines.{lines_of}
+use Rattle.line_format.specs.Lines.{lines_of}
 use Rattle.source_lines.specs.Lines.{is_ignored}
 use Rattle.transcript_audit.specs.declared.places.Places.{Places}
 use Rattle.transcript_audit.specs.declared.transcript.Transcript.TheVariants.{Good, Refused}

@@ -4,7 +4,7 @@ use Rattle.ring_points.specs.declared.who.Who.{Who}
 use Rattle.fabric_terms.specs.declared.report.Head.{Head}
 use Rattle.fabric_terms.specs.declared.report.Report.{Report}
 use Rattle.fabric_terms.specs.Runs.{Clocks}
-use Rattle.sched_text.specs.Readers.{line_of}
+use Rattle.line_format.specs.Readers.{line_of}
 use Rattle.transcript_audit.specs.Said.{Said, Opens, Shows, Tells, section_at, shown_of, sent_of, said_of}
 
 pub said_report : (l : List ℕ) (h : Head) (r : Report) → line_of l ≡ Some (h, r) → said_of l ≡ Some (Tells h.line h.who (Some r))

@@ -9,10 +9,10 @@ use Rattle.fabric_terms.specs.declared.report.Report.{Report}
 use Rattle.fabric_terms.specs.Runs.{Clocks}
 use Rattle.run_audit.specs.Auditing.{entry_of as audited_entry}
 use Rattle.run_audit.specs.declared.moment.Moment.{Moment}
-use Rattle.sched_text.specs.Lines.{lines_of}
-use Rattle.sched_text.specs.Readers.{Reads, line_of}
-use Rattle.sched_text.specs.declared.refusal.LineRefusal.{LineRefusal}
-use Rattle.sched_text.specs.declared.refusal.LineRefusal.TheVariants as refusal
+use Rattle.line_format.specs.Lines.{lines_of}
+use Rattle.line_format.specs.Readers.{Reads, line_of}
+use Rattle.line_format.specs.declared.refusal.LineRefusal.{LineRefusal}
+use Rattle.line_format.specs.declared.refusal.LineRefusal.TheVariants as refusal
 use Rattle.std.proofs.lemmas.Bool.Decides.{nat_tests}
 use Rattle.source_lines.specs.Lines.{is_ignored}
 use Rattle.transcript_audit.specs.declared.group.Told.{Told}

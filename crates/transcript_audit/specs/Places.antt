@@ -8,7 +8,7 @@ use Rattle.fabric_terms.specs.declared.report.Report.{Report}
 use Rattle.fabric_status.specs.declared.status.Refusal.{Refusal}
 use Rattle.run_audit.specs.declared.moment.Moment.{Moment}
 use Rattle.run_audit.specs.Auditing.{seen, entry_of as audited_entry}
-use Rattle.sched_text.specs.Lines.{lines_of}
+use Rattle.line_format.specs.Lines.{lines_of}
 use Rattle.source_lines.specs.Lines.{is_ignored}
 use Rattle.transcript_audit.specs.declared.group.Told.{Told}
 use Rattle.transcript_audit.specs.declared.places.Places.{Places}

@@ -4,8 +4,8 @@ use Rattle.ring_points.specs.declared.who.Who.{Who}
 use Rattle.fabric_terms.specs.declared.report.Report.{Report}
 use Rattle.fabric_terms.specs.Runs.{Clocks}
 use Rattle.run_audit.specs.Breaches.{is_below, first_of}
-use Rattle.sched_text.specs.Heads.{head_at}
-use Rattle.sched_text.specs.Readers.{line_of}
+use Rattle.line_format.specs.Heads.{head_at}
+use Rattle.line_format.specs.Readers.{line_of}
 use Rattle.text_fields.specs.Fields.{◌>>=◌, Field, after_word, last, word_of, made, pair_at}
 use Rattle.text_fields.specs.Instances.{instance_at}
 use Rattle.text_fields.specs.Numbers.{number_in, long_at}

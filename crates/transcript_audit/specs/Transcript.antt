@@ -4,7 +4,7 @@ use Rattle.ring_points.specs.declared.who.Who.{Who}
 use Rattle.fabric_terms.specs.declared.report.Report.{Report}
 use Rattle.fabric_status.specs.declared.status.Refusal.{Refusal}
 use Rattle.fabric_status.specs.declared.status.Refusal.TheVariants.{BadLine, TooLarge}
-use Rattle.sched_text.specs.Lines.{lines_of}
+use Rattle.line_format.specs.Lines.{lines_of}
 use Rattle.source_lines.specs.Lines.{is_ignored, most_lines}
 use Rattle.transcript_audit.specs.Groups.{Group, group_from, grown, may_tell, group_at, onto}
 use Rattle.transcript_audit.specs.Said.{Said, Opens, Shows, Tells, said_of}

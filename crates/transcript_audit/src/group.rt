@@ -1,6 +1,6 @@
 // A group, read again.
 ghost use Rattle.std.specs.Prelude.{◌≡◌, [], None, Some, IfOk, OnOk};
-ghost use Rattle.sched_text.specs.Lines.{lines_of};
+ghost use Rattle.line_format.specs.Lines.{lines_of};
 ghost use Rattle.transcript_audit.specs.Groups.{Group};
 ghost use Rattle.transcript_audit.specs.Places.{goes_on, grows, group_in, GoesOn, IsEntry, IsSeen, TellsAs};
 
@@ -8,7 +8,8 @@ use crate::said::{read_clocks, read_sent};
 use fabric_terms::{OutOfMemory, Report};
 use ring_points::Who;
 use run_audit::Moment;
-use sched_text::{LineRefusal, read_report};
+use line_format::LineRefusal;
+use report_lines::read_report;
 use source_lines::{cut_line, is_ignored};
 use std::alloc::Global;
 

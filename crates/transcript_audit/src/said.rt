@@ -3,12 +3,13 @@ ghost use Rattle.std.specs.Prelude.{◌≡◌, [], None, option_map};
 ghost use Rattle.std.specs.Bool.{Decides};
 ghost use Rattle.text_fields.specs.Fields.{Gives, last};
 ghost use Rattle.text_fields.specs.Instances.{instance_at};
-ghost use Rattle.sched_text.specs.Readers.{Reads};
+ghost use Rattle.line_format.specs.Readers.{Reads};
 ghost use Rattle.transcript_audit.specs.Places.{summary_of};
 ghost use Rattle.transcript_audit.specs.Said.{clock_at, clocks_on, is_above, shown_of, sent_of, section_at, span_of, said_of};
 
 use ring_points::Who;
-use sched_text::{BadLine, LineRefusal, head_at, read_report};
+use line_format::{BadLine, LineRefusal};
+use report_lines::{head_at, read_report};
 use std::alloc::Global;
 use text_fields::{after_word, last_number, node_at, number_in, number_word};
 

@@ -1,6 +1,6 @@
 // A transcript, read line after line.
 ghost use Rattle.std.specs.Prelude.{◌≡◌, ◌∷◌, ℕ, List, false, IfOk, drop};
-ghost use Rattle.sched_text.specs.Lines.{lines_of};
+ghost use Rattle.line_format.specs.Lines.{lines_of};
 ghost use Rattle.source_lines.specs.Lines.{is_ignored};
 ghost use Rattle.transcript_audit.specs.Said.{said_of};
 ghost use Rattle.transcript_audit.specs.Transcript.{Reading, line_read, placed_if, is_large, transcript_of};
@@ -11,7 +11,7 @@ use crate::said::read_said;
 use fabric_status::Refusal;
 use fabric_terms::OutOfMemory;
 use ring_points::Who;
-use sched_text::LineRefusal;
+use line_format::LineRefusal;
 use source_lines::{MOST_LINES, cut_line, is_ignored};
 use std::alloc::Global;
 

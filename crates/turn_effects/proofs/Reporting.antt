@@ -4,7 +4,7 @@ use Rattle.std.specs.Prelude.{slice_index_or}
 use Rattle.std.proofs.lemmas.List.{append-nil}
 use Rattle.fabric_terms.specs.declared.report.Head.{Head}
 use Rattle.fabric_terms.specs.declared.report.Report.{Report}
-use Rattle.sched_text.specs.Reports.{report_line}
+use Rattle.line_format.specs.Reports.{report_line}
 use Rattle.turn_effects.proofs.Growing.{made_next}
 use Rattle.turn_rules.specs.Works.{report_lines}
 

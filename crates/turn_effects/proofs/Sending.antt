@@ -11,7 +11,7 @@ use Rattle.fabric_terms.specs.declared.message.Message.{Message}
 use Rattle.outside.specs.Told.{Told, Sends}
 use Rattle.turn_effects.specs.Carried.{SentMore, SendsAll}
 use Rattle.turn_rules.specs.Effects.{Try, went, lost, FailedSince, Sent, sent_by}
-use Rattle.ring_wire.specs.Frames.{spelling}
+use Rattle.frame_format.specs.Frames.{spelling}
 use Rattle.turn_rules.specs.Works.{Post, address_of, post_at, post_of, posts_of}
 use Rattle.turn_rules.specs.declared.stop.Stop.{Stop}
 use Rattle.turn_rules.specs.declared.stop.Stop.TheVariants as stop

@@ -6,7 +6,7 @@ ghost use Rattle.turn_rules.specs.Works.{report_lines};
 use edge_io::EdgeRefusal;
 use fabric_terms::{Head, OutOfMemory, Report};
 use outside::Outside;
-use sched_text::print_report;
+use report_lines::print_report;
 use std::alloc::Global;
 use turn_rules::Stop;
 

@@ -3,7 +3,7 @@ use Rattle.std.proofs.Common.{◌≡◌, ℕ, ◌+◌, ◌≤◌, List, [], ◌�
 use Rattle.edge_io.specs.declared.endpoint.Endpoint.{Endpoint}
 use Rattle.fabric_status.specs.declared.status.Refusal.{Refusal}
 use Rattle.fabric_terms.specs.declared.config.FabricConfig.{FabricConfig}
-use Rattle.sched_text.specs.Lines.{lines_of}
+use Rattle.line_format.specs.Lines.{lines_of}
 use Rattle.turn_rules.specs.declared.order.Order.{Order}
 use Rattle.turn_plans.specs.Plans.{judge_from}
 use Rattle.turn_plans.specs.Verdicts.{line_verdict}

@@ -1,7 +1,7 @@
 -- The lines of a source: which node is commanded what, in which turn.
 use Rattle.std.specs.Prelude.{ℕ, List, Option, Some}
 use Rattle.fabric_terms.specs.declared.command.Command.{Command}
-use Rattle.sched_text.specs.Commands.{command_of}
+use Rattle.line_format.specs.Commands.{command_of}
 use Rattle.text_fields.specs.Actors.{node_at}
 use Rattle.text_fields.specs.Fields.{◌>>=◌, Field, nothing, word_of}
 use Rattle.text_fields.specs.Numbers.{number_in}

@@ -8,7 +8,7 @@ use Rattle.fabric_config.specs.declared.field.Field.{Field}
 use Rattle.fabric_status.specs.declared.status.Refusal.{Refusal}
 use Rattle.fabric_status.specs.declared.status.Refusal.TheVariants.{BadConfig, NoSuch, TooLarge}
 use Rattle.fabric_terms.specs.declared.config.FabricConfig.{FabricConfig}
-use Rattle.sched_text.specs.Lines.{lines_of}
+use Rattle.line_format.specs.Lines.{lines_of}
 use Rattle.source_lines.specs.Lines.{most_first_line}
 use Rattle.turn_rules.specs.Plans.{Plan}
 use Rattle.turn_rules.specs.declared.order.Order.{Order}

@@ -1,13 +1,14 @@
 // The lines of a source: which node is commanded what, in which turn.
 ghost use Rattle.std.specs.Prelude.{IfOk};
 ghost use Rattle.fabric_terms.specs.Ranges.{FitsCommand};
-ghost use Rattle.sched_text.specs.Commands.{command_of};
+ghost use Rattle.line_format.specs.Commands.{command_of};
 ghost use Rattle.text_fields.specs.Fields.{Gives};
 ghost use Rattle.turn_plans.specs.Bids.{bid_of, cluster_bid_of, node_bid_of};
 
 use crate::crew::Crew;
 use fabric_terms::Command;
-use sched_text::{BadLine, read_command};
+use line_format::BadLine;
+use sched_text::read_command;
 use text_fields::{node_word, number_word};
 
 /// A command to a node, in a turn.

@@ -1,7 +1,7 @@
 // The lines behind the configuration.
 ghost use Rattle.std.specs.Prelude.{[], All, IfOk};
 ghost use Rattle.fabric_terms.specs.Ranges.{FitsCommand};
-ghost use Rattle.sched_text.specs.Lines.{lines_of};
+ghost use Rattle.line_format.specs.Lines.{lines_of};
 ghost use Rattle.turn_plans.specs.Plans.{Judges, judge_from};
 
 use crate::crew::Crew;

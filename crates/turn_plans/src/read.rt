@@ -1,7 +1,7 @@
 // A plan, read from the bytes of a source.
 ghost use Rattle.std.specs.Prelude.{◌≡◌, IfOk, true};
 ghost use Rattle.fabric_terms.specs.Sound.{IsSound};
-ghost use Rattle.sched_text.specs.Lines.{lines_of};
+ghost use Rattle.line_format.specs.Lines.{lines_of};
 ghost use Rattle.fabric_turns.specs.Runs.{IsPlan};
 ghost use Rattle.turn_plans.specs.Crews.{is_crew};
 ghost use Rattle.turn_plans.specs.Plans.{Judges, config_for, judge_plan, plan_of};

@@ -24,7 +24,7 @@ NothingAfterEnd = (s : Setting) (h : History) (x : Happening) (end : End) → (a
 abbrev pub NoneToStrangers : Type 0
 NoneToStrangers = (c : FabricConfig) (ms : List Message) → c.nodes ≡ [] → c.arbiters ≡ [] → posts_of c ms ≡ []
 
--- where a record is bad, a run ends with it, or nobody heard of it, and opens no endpoint
+-- where a record is bad, a run opens no endpoint, and ends with that record or before it was told
 abbrev pub BadRecordsBar : Type 0
 BadRecordsBar = (plan : Plan) (a : Told) (ended : Status) (c : Told) → Runs plan a ended c → Bars plan a ended c
 

@@ -7,7 +7,7 @@ use Rattle.fabric_terms.specs.declared.record.Record.{Record}
 use Rattle.fabric_terms.specs.declared.report.Why.{Why}
 use Rattle.ring_rules.specs.declared.input.Input.{Input}
 use Rattle.ring_rules.specs.declared.input.Input.TheVariants as input
-use Rattle.ring_wire.specs.Kinds.{message_of}
+use Rattle.frame_format.specs.Kinds.{message_of}
 use Rattle.turn_rules.specs.Happenings.{Datagram, Absent, Failed, Comes, Begins, Turns, Bids, Hears, Fires, Happening, History}
 use Rattle.turn_rules.specs.Plans.{Setting}
 use Rattle.turn_rules.specs.Steps.{Member, Step, Stepped, begun, exceeds, left_of, present, stepped}

@@ -156,7 +156,8 @@ abbrev pub Completes : Plan → Told → Status → Told → Type 0
 Completes plan a ended c =
     NoFault a c → ((¬ HasRisen a.link_faults c.link_faults) ⊎ (c.opened ≡ a.opened ++ plan.actors)) → ((i : ℕ) → ¬ IsBadKeep plan a i) → IsComplete ended
 
--- how a run may end where a record is bad: with it, or nobody heard of it
+-- how a run may end where a record is bad: with it, or before it was told, where the keeper or the sink failed or memory was
+-- short
 abbrev pub IsBadEnd : ℕ → Status → Type 0
 IsBadEnd i (status.BadKeep j) = j ≡ i
 IsBadEnd i status.KeepFault = Unit {0}

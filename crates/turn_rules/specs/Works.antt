@@ -7,8 +7,8 @@ use Rattle.fabric_terms.specs.declared.report.Head.{Head}
 use Rattle.fabric_terms.specs.declared.report.Report.{Report}
 use Rattle.fabric_terms.specs.Sent.{from_all}
 use Rattle.keep_log.specs.Spellings.{spelling as record_spelling}
-use Rattle.ring_wire.specs.Frames.{spelling as frame_spelling}
-use Rattle.sched_text.specs.Reports.{report_line}
+use Rattle.frame_format.specs.Frames.{spelling as frame_spelling}
+use Rattle.line_format.specs.Reports.{report_line}
 use Rattle.world_rules.specs.Events.{arbiter_number, is_arbiter_actor}
 use Rattle.turn_rules.specs.Steps.{Step}
 

@@ -1,7 +1,7 @@
 // The sessions of links: the bodies of each kind, read to the end of the bytes. A refusal may leave any body.
 
 ghost use Rattle.wire_fields.specs.Readers.{Fills};
-ghost use Rattle.ring_wire.specs.Links.{hello_of, hello_for_of, offer_of, offer_for_of, take_of, renew_of, renew_ack_of, transfer_of, gone_of, links_of, leases_of};
+ghost use Rattle.frame_format.specs.Links.{hello_of, hello_for_of, offer_of, offer_for_of, take_of, renew_of, renew_ack_of, transfer_of, gone_of, links_of, leases_of};
 
 use crate::not_frame::NotFrame;
 use crate::read::searches::read_search;
@@ -11,7 +11,7 @@ use wire_fields::read::{
     counted_at, end, flag_at, intervals_at, lease_at, session_at, stamp_at, u32_at,
 };
 
-#[tactic(auto, unfolding(crate::specs::Links::hello_of))]
+#[tactic(auto, unfolding(frame_format::specs::Links::hello_of))]
 fn hello(bytes: &[u8], body: &mut Body) -> Result<(), NotFrame>
     ensures { Fills result body.new (hello_of bytes.now) }
 {
@@ -21,7 +21,7 @@ fn hello(bytes: &[u8], body: &mut Body) -> Result<(), NotFrame>
     Ok(())
 }
 
-#[tactic(auto, unfolding(crate::specs::Links::hello_for_of))]
+#[tactic(auto, unfolding(frame_format::specs::Links::hello_for_of))]
 fn hello_for(bytes: &[u8], body: &mut Body) -> Result<(), NotFrame>
     ensures { Fills result body.new (hello_for_of bytes.now) }
 {
@@ -32,7 +32,7 @@ fn hello_for(bytes: &[u8], body: &mut Body) -> Result<(), NotFrame>
     Ok(())
 }
 
-#[tactic(auto, unfolding(crate::specs::Links::offer_of))]
+#[tactic(auto, unfolding(frame_format::specs::Links::offer_of))]
 fn offer(bytes: &[u8], body: &mut Body) -> Result<(), NotFrame>
     ensures { Fills result body.new (offer_of bytes.now) }
 {
@@ -42,7 +42,7 @@ fn offer(bytes: &[u8], body: &mut Body) -> Result<(), NotFrame>
     Ok(())
 }
 
-#[tactic(auto, unfolding(crate::specs::Links::offer_for_of))]
+#[tactic(auto, unfolding(frame_format::specs::Links::offer_for_of))]
 fn offer_for(bytes: &[u8], body: &mut Body) -> Result<(), NotFrame>
     ensures { Fills result body.new (offer_for_of bytes.now) }
 {
@@ -57,7 +57,7 @@ fn offer_for(bytes: &[u8], body: &mut Body) -> Result<(), NotFrame>
     Ok(())
 }
 
-#[tactic(auto, unfolding(crate::specs::Links::take_of))]
+#[tactic(auto, unfolding(frame_format::specs::Links::take_of))]
 fn take(bytes: &[u8], body: &mut Body) -> Result<(), NotFrame>
     ensures { Fills result body.new (take_of bytes.now) }
 {
@@ -67,7 +67,7 @@ fn take(bytes: &[u8], body: &mut Body) -> Result<(), NotFrame>
     Ok(())
 }
 
-#[tactic(auto, unfolding(crate::specs::Links::renew_of))]
+#[tactic(auto, unfolding(frame_format::specs::Links::renew_of))]
 fn renew(bytes: &[u8], body: &mut Body) -> Result<(), NotFrame>
     ensures { Fills result body.new (renew_of bytes.now) }
 {
@@ -94,7 +94,7 @@ fn renew(bytes: &[u8], body: &mut Body) -> Result<(), NotFrame>
     Ok(())
 }
 
-#[tactic(auto, unfolding(crate::specs::Links::renew_ack_of))]
+#[tactic(auto, unfolding(frame_format::specs::Links::renew_ack_of))]
 fn renew_ack(bytes: &[u8], body: &mut Body) -> Result<(), NotFrame>
     ensures { Fills result body.new (renew_ack_of bytes.now) }
 {
@@ -111,7 +111,7 @@ fn renew_ack(bytes: &[u8], body: &mut Body) -> Result<(), NotFrame>
     Ok(())
 }
 
-#[tactic(auto, unfolding(crate::specs::Links::transfer_of))]
+#[tactic(auto, unfolding(frame_format::specs::Links::transfer_of))]
 fn transfer(bytes: &[u8], body: &mut Body) -> Result<(), NotFrame>
     ensures { Fills result body.new (transfer_of bytes.now) }
 {
@@ -135,7 +135,7 @@ fn transfer(bytes: &[u8], body: &mut Body) -> Result<(), NotFrame>
     Ok(())
 }
 
-#[tactic(auto, unfolding(crate::specs::Links::gone_of))]
+#[tactic(auto, unfolding(frame_format::specs::Links::gone_of))]
 fn gone(bytes: &[u8], body: &mut Body) -> Result<(), NotFrame>
     ensures { Fills result body.new (gone_of bytes.now) }
 {
@@ -153,7 +153,7 @@ fn gone(bytes: &[u8], body: &mut Body) -> Result<(), NotFrame>
 }
 
 /// The body of a frame of version 1.
-#[tactic(auto, unfolding(crate::specs::Links::links_of))]
+#[tactic(auto, unfolding(frame_format::specs::Links::links_of))]
 pub fn read_link(kind: u8, bytes: &[u8], body: &mut Body) -> Result<(), NotFrame>
     ensures { Fills result body.new (links_of kind bytes.now) }
 {
@@ -170,7 +170,7 @@ pub fn read_link(kind: u8, bytes: &[u8], body: &mut Body) -> Result<(), NotFrame
 }
 
 /// The body of a frame of version 2, which has a lease of its own.
-#[tactic(auto, unfolding(crate::specs::Links::leases_of))]
+#[tactic(auto, unfolding(frame_format::specs::Links::leases_of))]
 pub fn read_lease(kind: u8, bytes: &[u8], body: &mut Body) -> Result<(), NotFrame>
     ensures { Fills result body.new (leases_of kind bytes.now) }
 {

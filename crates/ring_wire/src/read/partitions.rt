@@ -1,14 +1,14 @@
 // Epochs and configurations of partitions, which nodes and arbitrators send each other: the bodies of each kind, read to the end of the bytes. A refusal may leave any body.
 
 ghost use Rattle.wire_fields.specs.Readers.{Fills};
-ghost use Rattle.ring_wire.specs.Partitions.{prepare_of, prepared_of, no_prepare_of, vote_of, voted_of, no_vote_of, done_ask_of, done_kept_of, no_done_of, partitions_of};
+ghost use Rattle.frame_format.specs.Partitions.{prepare_of, prepared_of, no_prepare_of, vote_of, voted_of, no_vote_of, done_ask_of, done_kept_of, no_done_of, partitions_of};
 
 use crate::not_frame::NotFrame;
 use crate::read::replicas::read_replica;
 use fabric_terms::Body;
 use wire_fields::read::{config_at, done_at, end, epoch_at, unit_at};
 
-#[tactic(auto, unfolding(crate::specs::Partitions::prepare_of))]
+#[tactic(auto, unfolding(frame_format::specs::Partitions::prepare_of))]
 fn prepare(bytes: &[u8], body: &mut Body) -> Result<(), NotFrame>
     ensures { Fills result body.new (prepare_of bytes.now) }
 {
@@ -18,7 +18,7 @@ fn prepare(bytes: &[u8], body: &mut Body) -> Result<(), NotFrame>
     Ok(())
 }
 
-#[tactic(auto, unfolding(crate::specs::Partitions::prepared_of))]
+#[tactic(auto, unfolding(frame_format::specs::Partitions::prepared_of))]
 fn prepared(bytes: &[u8], body: &mut Body) -> Result<(), NotFrame>
     ensures { Fills result body.new (prepared_of bytes.now) }
 {
@@ -33,7 +33,7 @@ fn prepared(bytes: &[u8], body: &mut Body) -> Result<(), NotFrame>
     Ok(())
 }
 
-#[tactic(auto, unfolding(crate::specs::Partitions::no_prepare_of))]
+#[tactic(auto, unfolding(frame_format::specs::Partitions::no_prepare_of))]
 fn no_prepare(bytes: &[u8], body: &mut Body) -> Result<(), NotFrame>
     ensures { Fills result body.new (no_prepare_of bytes.now) }
 {
@@ -48,7 +48,7 @@ fn no_prepare(bytes: &[u8], body: &mut Body) -> Result<(), NotFrame>
     Ok(())
 }
 
-#[tactic(auto, unfolding(crate::specs::Partitions::vote_of))]
+#[tactic(auto, unfolding(frame_format::specs::Partitions::vote_of))]
 fn vote(bytes: &[u8], body: &mut Body) -> Result<(), NotFrame>
     ensures { Fills result body.new (vote_of bytes.now) }
 {
@@ -58,7 +58,7 @@ fn vote(bytes: &[u8], body: &mut Body) -> Result<(), NotFrame>
     Ok(())
 }
 
-#[tactic(auto, unfolding(crate::specs::Partitions::voted_of))]
+#[tactic(auto, unfolding(frame_format::specs::Partitions::voted_of))]
 fn voted(bytes: &[u8], body: &mut Body) -> Result<(), NotFrame>
     ensures { Fills result body.new (voted_of bytes.now) }
 {
@@ -76,7 +76,7 @@ fn voted(bytes: &[u8], body: &mut Body) -> Result<(), NotFrame>
     Ok(())
 }
 
-#[tactic(auto, unfolding(crate::specs::Partitions::no_vote_of))]
+#[tactic(auto, unfolding(frame_format::specs::Partitions::no_vote_of))]
 fn no_vote(bytes: &[u8], body: &mut Body) -> Result<(), NotFrame>
     ensures { Fills result body.new (no_vote_of bytes.now) }
 {
@@ -91,7 +91,7 @@ fn no_vote(bytes: &[u8], body: &mut Body) -> Result<(), NotFrame>
     Ok(())
 }
 
-#[tactic(auto, unfolding(crate::specs::Partitions::done_ask_of))]
+#[tactic(auto, unfolding(frame_format::specs::Partitions::done_ask_of))]
 fn done_ask(bytes: &[u8], body: &mut Body) -> Result<(), NotFrame>
     ensures { Fills result body.new (done_ask_of bytes.now) }
 {
@@ -101,7 +101,7 @@ fn done_ask(bytes: &[u8], body: &mut Body) -> Result<(), NotFrame>
     Ok(())
 }
 
-#[tactic(auto, unfolding(crate::specs::Partitions::done_kept_of))]
+#[tactic(auto, unfolding(frame_format::specs::Partitions::done_kept_of))]
 fn done_kept(bytes: &[u8], body: &mut Body) -> Result<(), NotFrame>
     ensures { Fills result body.new (done_kept_of bytes.now) }
 {
@@ -111,7 +111,7 @@ fn done_kept(bytes: &[u8], body: &mut Body) -> Result<(), NotFrame>
     Ok(())
 }
 
-#[tactic(auto, unfolding(crate::specs::Partitions::no_done_of))]
+#[tactic(auto, unfolding(frame_format::specs::Partitions::no_done_of))]
 fn no_done(bytes: &[u8], body: &mut Body) -> Result<(), NotFrame>
     ensures { Fills result body.new (no_done_of bytes.now) }
 {
@@ -127,7 +127,7 @@ fn no_done(bytes: &[u8], body: &mut Body) -> Result<(), NotFrame>
 }
 
 /// A body that is no ruling either.
-#[tactic(auto, unfolding(crate::specs::Partitions::partitions_of))]
+#[tactic(auto, unfolding(frame_format::specs::Partitions::partitions_of))]
 pub fn read_partition(kind: u8, bytes: &[u8], body: &mut Body) -> Result<(), NotFrame>
     ensures { Fills result body.new (partitions_of kind bytes.now) }
 {

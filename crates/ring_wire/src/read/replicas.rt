@@ -1,13 +1,13 @@
 // Replicas: the bodies of each kind, read to the end of the bytes. A refusal may leave any body.
 
 ghost use Rattle.wire_fields.specs.Readers.{Fills};
-ghost use Rattle.ring_wire.specs.Replicas.{promise_of, promised_of, sync_of, fetch_of, piece_of, adopted_of, activate_of, activated_of, append_of, appended_of, older_of, replicas_of};
+ghost use Rattle.frame_format.specs.Replicas.{promise_of, promised_of, sync_of, fetch_of, piece_of, adopted_of, activate_of, activated_of, append_of, appended_of, older_of, replicas_of};
 
 use crate::not_frame::NotFrame;
 use fabric_terms::Body;
 use wire_fields::read::{config_at, end, epoch_at, last_at, node_at, payload_at, u32_at, unit_at};
 
-#[tactic(auto, unfolding(crate::specs::Replicas::promise_of))]
+#[tactic(auto, unfolding(frame_format::specs::Replicas::promise_of))]
 fn promise(bytes: &[u8], body: &mut Body) -> Result<(), NotFrame>
     ensures { Fills result body.new (promise_of bytes.now) }
 {
@@ -17,7 +17,7 @@ fn promise(bytes: &[u8], body: &mut Body) -> Result<(), NotFrame>
     Ok(())
 }
 
-#[tactic(auto, unfolding(crate::specs::Replicas::promised_of))]
+#[tactic(auto, unfolding(frame_format::specs::Replicas::promised_of))]
 fn promised(bytes: &[u8], body: &mut Body) -> Result<(), NotFrame>
     ensures { Fills result body.new (promised_of bytes.now) }
 {
@@ -34,7 +34,7 @@ fn promised(bytes: &[u8], body: &mut Body) -> Result<(), NotFrame>
     Ok(())
 }
 
-#[tactic(auto, unfolding(crate::specs::Replicas::sync_of))]
+#[tactic(auto, unfolding(frame_format::specs::Replicas::sync_of))]
 fn sync(bytes: &[u8], body: &mut Body) -> Result<(), NotFrame>
     ensures { Fills result body.new (sync_of bytes.now) }
 {
@@ -51,7 +51,7 @@ fn sync(bytes: &[u8], body: &mut Body) -> Result<(), NotFrame>
     Ok(())
 }
 
-#[tactic(auto, unfolding(crate::specs::Replicas::fetch_of))]
+#[tactic(auto, unfolding(frame_format::specs::Replicas::fetch_of))]
 fn fetch(bytes: &[u8], body: &mut Body) -> Result<(), NotFrame>
     ensures { Fills result body.new (fetch_of bytes.now) }
 {
@@ -66,7 +66,7 @@ fn fetch(bytes: &[u8], body: &mut Body) -> Result<(), NotFrame>
     Ok(())
 }
 
-#[tactic(auto, unfolding(crate::specs::Replicas::piece_of))]
+#[tactic(auto, unfolding(frame_format::specs::Replicas::piece_of))]
 fn piece(bytes: &[u8], body: &mut Body) -> Result<(), NotFrame>
     ensures { Fills result body.new (piece_of bytes.now) }
 {
@@ -85,7 +85,7 @@ fn piece(bytes: &[u8], body: &mut Body) -> Result<(), NotFrame>
     Ok(())
 }
 
-#[tactic(auto, unfolding(crate::specs::Replicas::adopted_of))]
+#[tactic(auto, unfolding(frame_format::specs::Replicas::adopted_of))]
 fn adopted(bytes: &[u8], body: &mut Body) -> Result<(), NotFrame>
     ensures { Fills result body.new (adopted_of bytes.now) }
 {
@@ -100,7 +100,7 @@ fn adopted(bytes: &[u8], body: &mut Body) -> Result<(), NotFrame>
     Ok(())
 }
 
-#[tactic(auto, unfolding(crate::specs::Replicas::activate_of))]
+#[tactic(auto, unfolding(frame_format::specs::Replicas::activate_of))]
 fn activate(bytes: &[u8], body: &mut Body) -> Result<(), NotFrame>
     ensures { Fills result body.new (activate_of bytes.now) }
 {
@@ -110,7 +110,7 @@ fn activate(bytes: &[u8], body: &mut Body) -> Result<(), NotFrame>
     Ok(())
 }
 
-#[tactic(auto, unfolding(crate::specs::Replicas::activated_of))]
+#[tactic(auto, unfolding(frame_format::specs::Replicas::activated_of))]
 fn activated(bytes: &[u8], body: &mut Body) -> Result<(), NotFrame>
     ensures { Fills result body.new (activated_of bytes.now) }
 {
@@ -120,7 +120,7 @@ fn activated(bytes: &[u8], body: &mut Body) -> Result<(), NotFrame>
     Ok(())
 }
 
-#[tactic(auto, unfolding(crate::specs::Replicas::append_of))]
+#[tactic(auto, unfolding(frame_format::specs::Replicas::append_of))]
 fn append(bytes: &[u8], body: &mut Body) -> Result<(), NotFrame>
     ensures { Fills result body.new (append_of bytes.now) }
 {
@@ -137,7 +137,7 @@ fn append(bytes: &[u8], body: &mut Body) -> Result<(), NotFrame>
     Ok(())
 }
 
-#[tactic(auto, unfolding(crate::specs::Replicas::appended_of))]
+#[tactic(auto, unfolding(frame_format::specs::Replicas::appended_of))]
 fn appended(bytes: &[u8], body: &mut Body) -> Result<(), NotFrame>
     ensures { Fills result body.new (appended_of bytes.now) }
 {
@@ -152,7 +152,7 @@ fn appended(bytes: &[u8], body: &mut Body) -> Result<(), NotFrame>
     Ok(())
 }
 
-#[tactic(auto, unfolding(crate::specs::Replicas::older_of))]
+#[tactic(auto, unfolding(frame_format::specs::Replicas::older_of))]
 fn older(bytes: &[u8], body: &mut Body) -> Result<(), NotFrame>
     ensures { Fills result body.new (older_of bytes.now) }
 {
@@ -168,7 +168,7 @@ fn older(bytes: &[u8], body: &mut Body) -> Result<(), NotFrame>
 }
 
 /// A body that is of a replica.
-#[tactic(auto, unfolding(crate::specs::Replicas::replicas_of))]
+#[tactic(auto, unfolding(frame_format::specs::Replicas::replicas_of))]
 pub fn read_replica(kind: u8, bytes: &[u8], body: &mut Body) -> Result<(), NotFrame>
     ensures { Fills result body.new (replicas_of kind bytes.now) }
 {

@@ -1,14 +1,14 @@
 // Accusations, rulings and claims: the bodies of each kind, read to the end of the bytes. A refusal may leave any body.
 
 ghost use Rattle.wire_fields.specs.Readers.{Fills};
-ghost use Rattle.ring_wire.specs.Rulings.{accuse_of, ruled_of, claim_of, kept_of, rulings_of};
+ghost use Rattle.frame_format.specs.Rulings.{accuse_of, ruled_of, claim_of, kept_of, rulings_of};
 
 use crate::not_frame::NotFrame;
 use crate::read::partitions::read_partition;
 use fabric_terms::Body;
 use wire_fields::read::{end, round_at, ruling_at, who_at};
 
-#[tactic(auto, unfolding(crate::specs::Rulings::accuse_of))]
+#[tactic(auto, unfolding(frame_format::specs::Rulings::accuse_of))]
 fn accuse(bytes: &[u8], body: &mut Body) -> Result<(), NotFrame>
     ensures { Fills result body.new (accuse_of bytes.now) }
 {
@@ -18,7 +18,7 @@ fn accuse(bytes: &[u8], body: &mut Body) -> Result<(), NotFrame>
     Ok(())
 }
 
-#[tactic(auto, unfolding(crate::specs::Rulings::ruled_of))]
+#[tactic(auto, unfolding(frame_format::specs::Rulings::ruled_of))]
 fn ruled(bytes: &[u8], body: &mut Body) -> Result<(), NotFrame>
     ensures { Fills result body.new (ruled_of bytes.now) }
 {
@@ -29,7 +29,7 @@ fn ruled(bytes: &[u8], body: &mut Body) -> Result<(), NotFrame>
     Ok(())
 }
 
-#[tactic(auto, unfolding(crate::specs::Rulings::claim_of))]
+#[tactic(auto, unfolding(frame_format::specs::Rulings::claim_of))]
 fn claim(bytes: &[u8], body: &mut Body) -> Result<(), NotFrame>
     ensures { Fills result body.new (claim_of bytes.now) }
 {
@@ -40,7 +40,7 @@ fn claim(bytes: &[u8], body: &mut Body) -> Result<(), NotFrame>
     Ok(())
 }
 
-#[tactic(auto, unfolding(crate::specs::Rulings::kept_of))]
+#[tactic(auto, unfolding(frame_format::specs::Rulings::kept_of))]
 fn kept(bytes: &[u8], body: &mut Body) -> Result<(), NotFrame>
     ensures { Fills result body.new (kept_of bytes.now) }
 {
@@ -57,7 +57,7 @@ fn kept(bytes: &[u8], body: &mut Body) -> Result<(), NotFrame>
 }
 
 /// A body that is no search either.
-#[tactic(auto, unfolding(crate::specs::Rulings::rulings_of))]
+#[tactic(auto, unfolding(frame_format::specs::Rulings::rulings_of))]
 pub fn read_ruling(kind: u8, bytes: &[u8], body: &mut Body) -> Result<(), NotFrame>
     ensures { Fills result body.new (rulings_of kind bytes.now) }
 {

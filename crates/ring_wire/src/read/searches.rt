@@ -1,7 +1,7 @@
 // Searches: the bodies of each kind, read to the end of the bytes. A refusal may leave any body.
 
 ghost use Rattle.wire_fields.specs.Readers.{Fills};
-ghost use Rattle.ring_wire.specs.Searches.{seek_of, found_of, searches_of};
+ghost use Rattle.frame_format.specs.Searches.{seek_of, found_of, searches_of};
 
 use crate::not_frame::NotFrame;
 use crate::read::rulings::read_ruling;
@@ -9,7 +9,7 @@ use fabric_terms::Body;
 use ring_points::Point;
 use wire_fields::read::{end, hops_at, u64_at, who_at};
 
-#[tactic(auto, unfolding(crate::specs::Searches::seek_of, wire_fields::specs::Readers::point_at))]
+#[tactic(auto, unfolding(frame_format::specs::Searches::seek_of, wire_fields::specs::Readers::point_at))]
 fn seek(bytes: &[u8], body: &mut Body) -> Result<(), NotFrame>
     ensures { Fills result body.new (seek_of bytes.now) }
 {
@@ -25,7 +25,7 @@ fn seek(bytes: &[u8], body: &mut Body) -> Result<(), NotFrame>
     Ok(())
 }
 
-#[tactic(auto, unfolding(crate::specs::Searches::found_of, wire_fields::specs::Readers::point_at))]
+#[tactic(auto, unfolding(frame_format::specs::Searches::found_of, wire_fields::specs::Readers::point_at))]
 fn found(bytes: &[u8], body: &mut Body) -> Result<(), NotFrame>
     ensures { Fills result body.new (found_of bytes.now) }
 {
@@ -40,7 +40,7 @@ fn found(bytes: &[u8], body: &mut Body) -> Result<(), NotFrame>
 }
 
 /// A body that is of no session.
-#[tactic(auto, unfolding(crate::specs::Searches::searches_of))]
+#[tactic(auto, unfolding(frame_format::specs::Searches::searches_of))]
 pub fn read_search(kind: u8, bytes: &[u8], body: &mut Body) -> Result<(), NotFrame>
     ensures { Fills result body.new (searches_of kind bytes.now) }
 {

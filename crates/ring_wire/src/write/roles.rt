@@ -2,7 +2,7 @@
 
 ghost use Rattle.std.specs.Prelude.{◌≡◌, ◌≤◌, ◌+◌, IsTrue};
 ghost use Rattle.fabric_terms.specs.Messages.{is_sound_body};
-ghost use Rattle.ring_wire.specs.Frames.{kind_of, body_bytes};
+ghost use Rattle.frame_format.specs.Frames.{kind_of, body_bytes};
 ghost use Rattle.wire_fields.specs.Writers.{Puts};
 
 use crate::write::FRAME_LIMIT;

@@ -1,5 +1,5 @@
 ghost use Rattle.text_fields.specs.Fields.{Gives, last};
-ghost use Rattle.sched_text.specs.Lines.{count_at};
+ghost use Rattle.line_format.specs.Lines.{count_at};
 
 use text_fields::{BadField, last_number, number_in};
 

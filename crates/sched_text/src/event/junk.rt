@@ -1,16 +1,16 @@
 ghost use Rattle.std.specs.Prelude.{◌≡◌};
 ghost use Rattle.text_fields.specs.Fields.{Gives};
-ghost use Rattle.sched_text.specs.Lines.{junk_bytes_of};
+ghost use Rattle.line_format.specs.Lines.{junk_bytes_of};
 
-use crate::bad_line::BadLine;
 use fabric_terms::JunkBytes;
+use line_format::BadLine;
 use text_fields::hex_value;
 
 /// How many bytes a junk line may bring at most.
 const MOST_JUNK: usize = 1200;
 
 /// The bytes of a junk line, from their digits to the end of the line.
-#[tactic(auto, unfolding(crate::specs::Lines::junk_bytes_of))]
+#[tactic(auto, unfolding(line_format::specs::Lines::junk_bytes_of))]
 pub fn junk_bytes_of(digits: &[u8]) -> Result<JunkBytes, BadLine>
     ensures { Gives (λ x. x) result (junk_bytes_of digits.now) }
 {

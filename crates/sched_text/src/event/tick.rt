@@ -1,12 +1,12 @@
 ghost use Rattle.std.specs.Prelude.{◌≡◌, ◌≤◌, [], length};
 ghost use Rattle.fabric_terms.specs.declared.event.Event.{Event};
 ghost use Rattle.text_fields.specs.Fields.{Gives};
-ghost use Rattle.sched_text.specs.Lines.{reading_at, readings_of, tick_of, ReadsTick};
+ghost use Rattle.line_format.specs.Lines.{reading_at, readings_of, tick_of, ReadsTick};
 
 use super::count::count_at;
-use crate::bad_line::BadLine;
 use arrayvec::ArrayVec;
 use fabric_terms::Readings;
+use line_format::BadLine;
 use text_fields::{BadField, after_word, node_at};
 
 /// How many readings a tick may have.
@@ -16,7 +16,7 @@ const MOST_READINGS: usize = 64;
 pub type TickReadings = ArrayVec<(u16, u64), MOST_READINGS>;
 
 // A node and the reading of its clock, behind a blank, and what follows them.
-#[tactic(auto, unfolding(crate::specs::Lines::reading_at))]
+#[tactic(auto, unfolding(line_format::specs::Lines::reading_at))]
 fn reading_at(bytes: &[u8]) -> Result<(u16, u64, &[u8]), BadField>
     ensures { Gives (λ x. ((x.0, x.1), x.2.now)) result (reading_at bytes.now) }
 {
@@ -63,7 +63,7 @@ pub fn readings_of(bytes: &[u8]) -> Result<Readings, BadLine>
 }
 
 // The advance of a tick behind its word, and its readings in the list.
-#[tactic(auto, unfolding(crate::specs::Lines::tick_of))]
+#[tactic(auto, unfolding(line_format::specs::Lines::tick_of))]
 fn tick_into(words: &[u8], readings: &mut TickReadings) -> Result<u64, BadLine>
     requires { readings.old.items ≡ [] }
     ensures { Gives (λ advance. Event.Tick advance readings.new.items) result (tick_of words.now) }

@@ -1,5 +1,5 @@
 use Rattle.std.proofs.Common.{arith}
-use Rattle.ring_wire.proofs.Decoded.{decoded}
+use Rattle.frame_format.proofs.Decoded.{decoded}
 use Rattle.ring_wire.proofs.read.decode_into.Goals as goal
 
 pub returns : goal.returns

@@ -1,5 +1,5 @@
 use Rattle.std.proofs.Common.{◌≡◌, ◌≤◌, ◌+◌, ◌++◌, ℕ, suc, List, [], Ok, Err, subst, ◌∙◌, arith, append_assoc}
-use Rattle.schedule_replay.proofs.Fronts.{grew_more}
+use Rattle.schedule_rules.proofs.Fronts.{grew_more}
 use Rattle.schedule_generate.specs.Course.{is_full, round_unless, rounds}
 use Rattle.schedule_generate.specs.Goes.{At, Rounded}
 use Rattle.schedule_generate.specs.Settings.{generated_config}

@@ -1,5 +1,5 @@
 use Rattle.std.proofs.Common.{◌≡◌, ◌++◌, drop}
-use Rattle.schedule_replay.specs.Traces.{clock_words}
+use Rattle.schedule_rules.specs.Traces.{clock_words}
 use Rattle.schedule_replay.proofs.clocks.push_clock_words.Given as goal
 
 -- what is written and the words that are left are all words

@@ -2,11 +2,11 @@ use Rattle.std.proofs.Common.{ap, subst, List, ℕ, Err}
 use Rattle.edge_io.specs.Edge.{HasRisen}
 use Rattle.fabric_status.specs.Writes.{Wrote as Written}
 use Rattle.fabric_status.specs.declared.status.Status.TheVariants as status
-use Rattle.schedule_replay.specs.Endings.{accepted}
-use Rattle.schedule_replay.specs.Halts.{HaltsAt}
-use Rattle.schedule_replay.specs.Schedule.{judge}
-use Rattle.schedule_replay.specs.declared.halt.Halt.{Halt}
-use Rattle.schedule_replay.proofs.Closing.{ends_well, ends_refused, ends_stopped}
+use Rattle.schedule_rules.specs.Endings.{accepted}
+use Rattle.schedule_rules.specs.Halts.{HaltsAt}
+use Rattle.schedule_rules.specs.Schedule.{judge}
+use Rattle.schedule_rules.specs.declared.halt.Halt.{Halt}
+use Rattle.schedule_rules.proofs.Closing.{ends_well, ends_refused, ends_stopped}
 use Rattle.schedule_replay.proofs.run.run_schedule.Goals as goal
 
 pub returns-in-Ok-clause-read : goal.returns-in-Ok-clause-read

@@ -2,13 +2,13 @@ use Rattle.std.proofs.Common.{◌≡◌, ◌≢◌, ◌++◌, Ok, Err, arith, ap
 use Rattle.fabric_config.specs.Config.{config_of_line}
 use Rattle.fabric_config.specs.declared.error.ConfigError.TheVariants.{NotJson, OutOfMemory}
 use Rattle.fabric_status.specs.declared.status.Refusal.TheVariants.{BadConfig, TooLarge}
-use Rattle.sched_text.specs.Lines.{lines_of}
+use Rattle.line_format.specs.Lines.{lines_of}
 use Rattle.source_lines.specs.Reading.{TakesOf}
 use Rattle.source_lines.specs.declared.taken.Taken.{Taken}
-use Rattle.schedule_replay.specs.Halts.{HaltsAt}
-use Rattle.schedule_replay.specs.Schedule.{judge, judge_rest}
-use Rattle.schedule_replay.proofs.Lines.{none_right}
-use Rattle.schedule_replay.proofs.First.{first_none, first_long, first_read, first_refusal, first_failure, first_config, first_good}
+use Rattle.schedule_rules.specs.Halts.{HaltsAt}
+use Rattle.schedule_rules.specs.Schedule.{judge, judge_rest}
+use Rattle.schedule_rules.proofs.Lines.{none_right}
+use Rattle.schedule_rules.proofs.First.{first_none, first_long, first_read, first_refusal, first_failure, first_config, first_good}
 use Rattle.schedule_replay.proofs.run.take_all.Goals as goal
 
 pub returns-in-Err-next-clause-halts : goal.returns-in-Err-next-clause-halts

@@ -1,6 +1,6 @@
 use Rattle.std.proofs.Common.{◌+◌, Bool, Ok, arith, subst}
-use Rattle.schedule_replay.specs.Follows.{TakesNext, TookLine, TookNone}
-use Rattle.schedule_replay.proofs.Along.{along_took, along_sent, short_memory, at_halt, at_send, at_last}
+use Rattle.schedule_rules.specs.Follows.{TakesNext, TookLine, TookNone}
+use Rattle.schedule_rules.proofs.Along.{along_took, along_sent, short_memory, at_halt, at_send, at_last}
 use Rattle.schedule_replay.proofs.run.take_lines.Goals as goal
 
 pub returns-in-Err-take_next-clause-halts : goal.returns-in-Err-take_next-clause-halts

@@ -1,5 +1,5 @@
 use Rattle.std.proofs.Common.{◌≤◌}
-use Rattle.schedule_replay.proofs.Along.{Along}
+use Rattle.schedule_rules.proofs.Along.{Along}
 use Rattle.schedule_replay.proofs.run.take_lines.Given as goal
 
 abbrev pub invariant-loop-number : goal.invariant-loop-number

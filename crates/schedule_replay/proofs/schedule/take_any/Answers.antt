@@ -1,4 +1,4 @@
-use Rattle.sched_text.proofs.LineLaws.{read_is_spelled}
+use Rattle.line_format.proofs.LineLaws.{read_is_spelled}
 use Rattle.schedule_replay.proofs.schedule.take_any.Goals as goal
 
 pub take_event-requires-clause-fits : goal.take_event-requires-clause-fits

@@ -1,8 +1,8 @@
 use Rattle.std.proofs.Common.{◌≡◌, ℕ, List, Some, sym, subst}
 use Rattle.fabric_terms.specs.declared.event.Event.TheVariants.{Tick}
 use Rattle.fabric_terms.specs.Ranges.{Fits}
-use Rattle.sched_text.specs.Lines.{event_of}
-use Rattle.sched_text.proofs.LineLaws.{read_is_spelled}
+use Rattle.line_format.specs.Lines.{event_of}
+use Rattle.line_format.proofs.LineLaws.{read_is_spelled}
 use Rattle.schedule_replay.proofs.schedule.take_line.Goals as goal
 
 pub take_tick-requires-clause-fits : goal.take_tick-requires-clause-fits

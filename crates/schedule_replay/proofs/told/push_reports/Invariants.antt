@@ -1,5 +1,5 @@
 use Rattle.std.proofs.Common.{◌≡◌, ◌++◌, drop}
-use Rattle.schedule_replay.specs.Output.{report_lines}
+use Rattle.schedule_rules.specs.Output.{report_lines}
 use Rattle.schedule_replay.proofs.told.push_reports.Given as goal
 
 -- what is written and the lines that are left are all lines

@@ -1,6 +1,6 @@
 use Rattle.std.proofs.Common.{ap}
 use Rattle.edge_io.specs.Edge.{HasRisen}
-use Rattle.schedule_replay.specs.Schedule.{judge}
+use Rattle.schedule_rules.specs.Schedule.{judge}
 use Rattle.write_safety.specs.Books.{entries_of}
 use Rattle.schedule_writes.proofs.Words.{committed_writes, is_done}
 use Rattle.schedule_writes.proofs.committed.writes.Goals as goal

@@ -1,6 +1,6 @@
 use Rattle.std.proofs.Common.{ℕ, length, refl, sym, ap, ◌∙◌}
 use Rattle.std.proofs.lemmas.Bool.{eqb-true}
-use Rattle.sched_text.specs.Lines.{lines_of}
+use Rattle.line_format.specs.Lines.{lines_of}
 use Rattle.transcript_audit.specs.Places.{group_in}
 use Rattle.transcript_audit.proofs.Telling.{bad_read, is_seen, none_begins, not_shown}
 use Rattle.transcript_audit.proofs.group.read_group.Goals as goal

@@ -1,6 +1,6 @@
 use Rattle.std.proofs.Common.{◌≡◌, length, refl, sym, ap, ◌∙◌, subst, arith}
 use Rattle.std.proofs.lemmas.Bool.Decides.{nat_tests}
-use Rattle.sched_text.specs.Lines.{lines_of}
+use Rattle.line_format.specs.Lines.{lines_of}
 use Rattle.transcript_audit.specs.Places.{goes_on, grows, GoesOn, TellsAs}
 use Rattle.transcript_audit.proofs.Telling.{goes_further, goes_no_further, told_all}
 use Rattle.transcript_audit.proofs.group.read_told.Goals as goal

@@ -1,5 +1,5 @@
 use Rattle.std.proofs.Common.{◌≡◌, [], None, length}
-use Rattle.sched_text.specs.Lines.{lines_of}
+use Rattle.line_format.specs.Lines.{lines_of}
 use Rattle.transcript_audit.specs.Groups.{Group}
 use Rattle.transcript_audit.specs.Places.{grows, TellsAs}
 use Rattle.transcript_audit.proofs.group.read_told.Given as goal

@@ -1,5 +1,5 @@
 use Rattle.std.proofs.Common.{◌-◌, length, arith, subst}
-use Rattle.sched_text.specs.Lines.{lines_of}
+use Rattle.line_format.specs.Lines.{lines_of}
 use Rattle.transcript_audit.specs.Places.{Keeps, IsRead}
 use Rattle.transcript_audit.specs.Transcript.{line_read}
 use Rattle.transcript_audit.proofs.Reading.{along_start, along_next, along_refused, along_end, cut_lines, cut_end, cut_rest, cut_less}

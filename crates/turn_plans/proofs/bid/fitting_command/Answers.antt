@@ -1,8 +1,8 @@
 use Rattle.std.proofs.Common.{◌≡◌, ℕ, List, Some, Result, Ok, Err, IfOk}
 use Rattle.fabric_terms.specs.Ranges.{FitsCommand}
 use Rattle.fabric_terms.specs.declared.command.Command.{Command}
-use Rattle.sched_text.specs.Commands.{command_of}
-use Rattle.sched_text.proofs.CommandLaws.{command_found}
+use Rattle.line_format.specs.Commands.{command_of}
+use Rattle.line_format.proofs.CommandLaws.{command_found}
 use Rattle.turn_plans.proofs.bid.fitting_command.Goals as goal
 
 fits_read : {E : Type 0} (words : List ℕ) (r : Result Command E) → IfOk r (λ k. command_of words ≡ Some k) → IfOk r FitsCommand

@@ -1,5 +1,5 @@
 use Rattle.std.proofs.Common.{arith, ap, ◌∙◌, sym, length, ◌≡◌, ◌≤◌, ◌-◌, ◌<◌, ℕ, List, ◌⊎◌, inl, inr}
-use Rattle.ring_wire.specs.Frames.{spelling}
+use Rattle.frame_format.specs.Frames.{spelling}
 use Rattle.frame_bag.specs.Stored.{messages_in, AreFrames}
 use Rattle.frame_bag.specs.Bags.{frame_of}
 use Rattle.frame_bag.proofs.Posted.{IsRead, read_at, decoded, numbered, not_numbered, count_is}

@@ -1,8 +1,8 @@
 use Rattle.std.proofs.Common.{◌≡◌, ◌+◌, ◌-◌, ◌*◌, ◌≤◌, [], ◌∷◌, length, take, drop, arith, ap, ◌∙◌, length-append, length-drop}
-use Rattle.sched_text.specs.Lines.{bytes_of}
+use Rattle.line_format.specs.Lines.{bytes_of}
 use Rattle.text_fields.proofs.Lists.{rest_is}
-use Rattle.sched_text.proofs.Lists.{put_before}
-use Rattle.sched_text.proofs.ByteSteps.{bytes_next}
+use Rattle.line_format.proofs.Lists.{put_before}
+use Rattle.line_format.proofs.ByteSteps.{bytes_next}
 use Rattle.sched_text.proofs.event.junk.junk_bytes_of.Goals as goal
 
 pub loop-rest-preserved : goal.loop-rest-preserved

@@ -1,6 +1,6 @@
 use Rattle.std.proofs.Common.{◌≡◌, ◌+◌, ◌*◌, length}
-use Rattle.sched_text.specs.Lines.{bytes_of}
-use Rattle.sched_text.proofs.Lists.{put_before}
+use Rattle.line_format.specs.Lines.{bytes_of}
+use Rattle.line_format.proofs.Lists.{put_before}
 use Rattle.sched_text.proofs.event.junk.junk_bytes_of.Given as goal
 
 -- the bytes so far, and then what is read of the rest

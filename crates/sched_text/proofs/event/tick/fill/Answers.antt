@@ -1,9 +1,9 @@
 use Rattle.std.proofs.Common.{◌≡◌, ◌<◌, ◌+◌, ◌-◌, ◌++◌, [], ◌∷◌, length, arith, sym, ap, ◌∙◌, length-append}
 use Rattle.std.proofs.lemmas.Bool.Decides.{nat_tests}
 use Rattle.std.proofs.lemmas.Result.{err_from_is_err_and}
-use Rattle.sched_text.specs.Lines.{readings_of}
-use Rattle.sched_text.proofs.Lists.{put_before}
-use Rattle.sched_text.proofs.TickLaws.{readings_full, readings_bad, readings_next, readings_done}
+use Rattle.line_format.specs.Lines.{readings_of}
+use Rattle.line_format.proofs.Lists.{put_before}
+use Rattle.line_format.proofs.TickLaws.{readings_full, readings_bad, readings_next, readings_done}
 use Rattle.sched_text.proofs.event.tick.fill.Goals as goal
 
 pub returns-then-len-eq-MOST_READINGS : goal.returns-then-len-eq-MOST_READINGS

@@ -1,6 +1,6 @@
 use Rattle.std.proofs.Common.{sym, subst, ◌∙◌, Option, Some, rules, List, ℕ}
 use Rattle.std.specs.Option.{IsSome}
-use Rattle.sched_text.proofs.LineLaws.{tick_line}
+use Rattle.line_format.proofs.LineLaws.{tick_line}
 use Rattle.sched_text.proofs.event.tick.read_tick.Goals as goal
 
 pub returns-in-Ok-tick_into : goal.returns-in-Ok-tick_into

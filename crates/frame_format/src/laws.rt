@@ -1,0 +1,12 @@
+ghost use Rattle.frame_format.specs.Laws.{OneSpelling, ShortSpelling};
+
+/// Two messages of the grammar with one spelling are one message. With `encode` and `decode`: a message has one frame,
+/// and a frame one message.
+pub fn one_spelling()
+    ensures { OneSpelling }
+{}
+
+/// No message of the grammar has a spelling of more than 1,200 bytes.
+pub fn short_spelling()
+    ensures { ShortSpelling }
+{}

@@ -1,0 +1,66 @@
+ghost use Rattle.std.specs.Prelude.{◌≡◌, ◌++◌, codes, decimal, OnOk};
+ghost use Rattle.text_fields.specs.Numbers.{optional_text};
+ghost use Rattle.text_fields.specs.Fields.{Gives};
+ghost use Rattle.text_fields.specs.Texts.{Keeps};
+ghost use Rattle.line_format.specs.Heads.{is_arbiter, has_its_reading, head_at, head_text};
+
+use fabric_terms::{Head, OutOfMemory};
+use line_format::BadLine;
+use ring_points::{ARBITRATORS, Who};
+use text_fields::{
+    number_word, optional_word, push_bytes, push_number, push_optional, push_who, who_word,
+};
+
+// An arbitrator has no reading, and a node has one.
+fn has_its_reading(who: Who, reading: Option<u64>) -> bool
+    ensures { result ≡ has_its_reading who reading }
+{
+    match reading {
+        None => who.actor > ARBITRATORS,
+        Some(_) => who.actor <= ARBITRATORS,
+    }
+}
+
+/// A head and the blank behind it, and what follows. `BadLine` exactly where the line does not begin so.
+#[tactic(auto, unfolding(line_format::specs::Heads::head_at))]
+pub fn head_at(line: &[u8]) -> Result<(Head, &[u8]), BadLine>
+    ensures { Gives (λ x. (x.0, x.1.now)) result (head_at line.now) }
+{
+    let (line, rest) = number_word(0, u64::MAX, line)?;
+    let (time, rest) = optional_word(rest)?;
+    let (who, rest) = who_word(rest)?;
+    let (reading, rest) = optional_word(rest)?;
+    if !has_its_reading(who, reading) {
+        return Err(BadLine);
+    }
+    let head = Head {
+        line,
+        time,
+        who,
+        reading,
+    };
+    Ok((head, rest))
+}
+
+// The line and the time, with a blank behind each.
+fn push_moment(into: &mut Vec<u8>, line: u64, time: Option<u64>) -> Result<(), OutOfMemory>
+    ensures ok { OnOk result (into.new.items
+        ≡ into.old.items ++ (decimal line ++ (codes " " ++ (optional_text time ++ codes " ")))) }
+    ensures kept { Keeps into.old.items into.new.items }
+{
+    push_number(into, line)?;
+    push_bytes(into, b" ")?;
+    push_optional(into, time)?;
+    push_bytes(into, b" ")
+}
+
+/// Appends a head.
+pub fn push_head(into: &mut Vec<u8>, head: &Head) -> Result<(), OutOfMemory>
+    ensures ok { OnOk result (into.new.items ≡ into.old.items ++ head_text head.now) }
+    ensures kept { Keeps into.old.items into.new.items }
+{
+    push_moment(into, head.line, head.time)?;
+    push_who(into, head.who)?;
+    push_bytes(into, b" ")?;
+    push_optional(into, head.reading)
+}

@@ -1,8 +1,0 @@
-use Rattle.sched_text.proofs.CommandLaws.{command_found, command_again}
-use Rattle.sched_text.proofs.command.one_command_spelling.Goals as goal
-
-pub returns-clause-read : goal.returns-clause-read
-returns-clause-read c = command_found
-
-pub returns-clause-spelled : goal.returns-clause-spelled
-returns-clause-spelled c = command_again

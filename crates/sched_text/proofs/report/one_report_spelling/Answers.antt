@@ -1,8 +1,0 @@
-use Rattle.sched_text.proofs.ReportLaws.{line_found, line_again}
-use Rattle.sched_text.proofs.report.one_report_spelling.Goals as goal
-
-pub returns-clause-read : goal.returns-clause-read
-returns-clause-read c = line_found
-
-pub returns-clause-spelled : goal.returns-clause-spelled
-returns-clause-spelled c = line_again

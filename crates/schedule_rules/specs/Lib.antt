@@ -1,0 +1,11 @@
+pub mod Schedule
+pub mod Output
+pub mod Telling
+pub mod Endings
+pub mod Replays
+pub mod Traces
+pub mod Tellings
+pub mod Acts
+pub mod Follows
+pub mod Halts
+pub mod Laws
