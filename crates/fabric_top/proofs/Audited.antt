@@ -1,5 +1,5 @@
 -- A good transcript is judged where no device fails.
-use Rattle.std.proofs.Common.{◌≡◌, ℕ, List, Option, Result, Ok, inl, inr, refl, subst}
+use Rattle.std.proofs.Common.{◌≡◌, ℕ, List, Option, Ok, inl, inr, refl, subst}
 use Rattle.fabric_status.specs.declared.status.Status.{Status}
 use Rattle.fabric_status.specs.declared.status.Status.TheVariants as status
 use Rattle.schedule_rules.specs.Replays.{IsDone}

@@ -1,5 +1,5 @@
 -- What `audit` does.
-use Rattle.std.specs.Prelude.{◌≡◌, ◌≢◌, ℕ, List, [], Option, Some, Result, Ok}
+use Rattle.std.specs.Prelude.{◌≡◌, ◌≢◌, ℕ, List, [], Option, Some, Ok}
 use Rattle.crew_runs.specs.Runs.{Seen}
 use Rattle.edge_io.specs.Edge.{HasRisen}
 use Rattle.fabric_status.specs.declared.status.Status.{Status}

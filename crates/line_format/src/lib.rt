@@ -12,7 +12,5 @@ mod laws;
 mod refusal;
 
 pub use bad_line::BadLine;
-pub use laws::{
-    names_are_their_bytes, one_command_spelling, one_report_spelling, one_spelling,
-};
+pub use laws::{names_are_their_bytes, one_command_spelling, one_report_spelling, one_spelling};
 pub use refusal::LineRefusal;

@@ -1,5 +1,5 @@
 // The lines of generated events.
-ghost use Rattle.std.specs.Prelude.{◌≡◌, ◌++◌, decimal, codes, OnOk};
+ghost use Rattle.std.specs.Prelude.{◌≡◌, ◌++◌, decimal, OnOk};
 ghost use Rattle.fabric_terms.specs.declared.event.Event.TheVariants.{Tick};
 ghost use Rattle.line_format.specs.Lines.{event_text};
 ghost use Rattle.schedule_generate.specs.Moves.{event_for};

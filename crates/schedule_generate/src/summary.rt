@@ -1,15 +1,14 @@
 // The command `drill`: a generated schedule is run, and its summary written.
-ghost use Rattle.std.specs.Prelude.{◌≡◌, ◌++◌, ◌+◌, ◌≤◌, ◌<◌, ◌^◌, ℕ, List, IfOk, OnOk, count_by};
+ghost use Rattle.std.specs.Prelude.{◌≡◌, ◌++◌, ◌+◌, ◌≤◌, ◌<◌, ℕ, IfOk, OnOk, count_by};
 ghost use Rattle.fabric_status.specs.Writes.{Wrote};
 ghost use Rattle.schedule_generate.specs.Goes.{IsSettled};
 ghost use Rattle.schedule_generate.specs.Laws.{judged_of};
 ghost use Rattle.schedule_rules.specs.Schedule.{judge};
-ghost use Rattle.fabric_terms.specs.declared.report.Report.{Report as Told};
 ghost use Rattle.ring_world.specs.Answers.{StandsFor};
 ghost use Rattle.schedule_generate.specs.Settings.{generated_config};
 ghost use Rattle.schedule_generate.specs.Tallies.{Counts, reports_in};
 ghost use Rattle.fabric_terms.specs.Places.{tells_leave};
-ghost use Rattle.schedule_generate.specs.Texts.{all_written, drill_writing, ended, gen_text, generated, is_take_over, number_line, summary};
+ghost use Rattle.schedule_generate.specs.Texts.{all_written, drill_writing, ended, gen_text, generated, is_take_over, summary};
 ghost use Rattle.world_rules.specs.Runs.{History};
 
 use crate::listener::Listener;

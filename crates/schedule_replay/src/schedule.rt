@@ -1,5 +1,5 @@
 // One line of a schedule: how it is judged, and what is told of it.
-ghost use Rattle.std.specs.Prelude.{◌≡◌, ℕ, List, Some, IfOk, OnErr, length};
+ghost use Rattle.std.specs.Prelude.{◌≡◌, Some, IfOk, OnErr, length};
 ghost use Rattle.fabric_terms.specs.declared.config.FabricConfig.{FabricConfig as Configuration};
 ghost use Rattle.ring_world.specs.Answers.{IsWorld, ruled};
 ghost use Rattle.fabric_terms.specs.Ranges.{Fits};

@@ -5,8 +5,8 @@ ghost use Rattle.schedule_rules.specs.Output.{entry_lines, report_lines, sent_li
 ghost use Rattle.schedule_rules.specs.Acts.{told_lines};
 
 use fabric_terms::{Head, OutOfMemory, Report};
-use ring_world::Acted;
 use report_lines::{print_report, print_sent};
+use ring_world::Acted;
 
 /// The lines of these reports, in their order.
 fn push_reports(text: &mut Vec<u8>, head: &Head, reports: &[Report]) -> Result<(), OutOfMemory>

@@ -6,10 +6,10 @@ ghost use Rattle.transcript_audit.specs.Places.{goes_on, grows, group_in, GoesOn
 
 use crate::said::{read_clocks, read_sent};
 use fabric_terms::{OutOfMemory, Report};
-use ring_points::Who;
-use run_audit::Moment;
 use line_format::LineRefusal;
 use report_lines::read_report;
+use ring_points::Who;
+use run_audit::Moment;
 use source_lines::{cut_line, is_ignored};
 use std::alloc::Global;
 

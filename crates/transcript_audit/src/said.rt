@@ -1,15 +1,14 @@
 // What a line of a transcript says.
 ghost use Rattle.std.specs.Prelude.{◌≡◌, [], None, option_map};
-ghost use Rattle.std.specs.Bool.{Decides};
 ghost use Rattle.text_fields.specs.Fields.{Gives, last};
 ghost use Rattle.text_fields.specs.Instances.{instance_at};
 ghost use Rattle.line_format.specs.Readers.{Reads};
 ghost use Rattle.transcript_audit.specs.Places.{summary_of};
 ghost use Rattle.transcript_audit.specs.Said.{clock_at, clocks_on, is_above, shown_of, sent_of, section_at, span_of, said_of};
 
-use ring_points::Who;
 use line_format::{BadLine, LineRefusal};
 use report_lines::{head_at, read_report};
+use ring_points::Who;
 use std::alloc::Global;
 use text_fields::{after_word, last_number, node_at, number_in, number_word};
 

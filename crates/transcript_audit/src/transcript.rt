@@ -10,8 +10,8 @@ use crate::places::Places;
 use crate::said::read_said;
 use fabric_status::Refusal;
 use fabric_terms::OutOfMemory;
-use ring_points::Who;
 use line_format::LineRefusal;
+use ring_points::Who;
 use source_lines::{MOST_LINES, cut_line, is_ignored};
 use std::alloc::Global;
 

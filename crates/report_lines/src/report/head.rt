@@ -2,7 +2,7 @@ ghost use Rattle.std.specs.Prelude.{◌≡◌, ◌++◌, codes, decimal, OnOk};
 ghost use Rattle.text_fields.specs.Numbers.{optional_text};
 ghost use Rattle.text_fields.specs.Fields.{Gives};
 ghost use Rattle.text_fields.specs.Texts.{Keeps};
-ghost use Rattle.line_format.specs.Heads.{is_arbiter, has_its_reading, head_at, head_text};
+ghost use Rattle.line_format.specs.Heads.{has_its_reading, head_at, head_text};
 
 use fabric_terms::{Head, OutOfMemory};
 use line_format::BadLine;
