@@ -10,7 +10,6 @@
 mod act;
 mod bids;
 mod clock;
-mod command;
 mod ends;
 mod hears;
 mod plan;

@@ -7,12 +7,11 @@ ghost use Rattle.ring_world.specs.Moves.{Comes, Moves};
 ghost use Rattle.ring_world.specs.Room.{most_events};
 ghost use Rattle.ring_world.specs.Stands.{Stands};
 
-use crate::command::copy_of;
 use crate::world::{Acted, EventRefusal, World};
 use fabric_terms::{Command, Event};
 use ring_node::Input;
 use ring_wire::decode;
-use source_commands::is_named;
+use source_commands::{copy_of, is_named};
 
 fn is_frame(bytes: &[u8]) -> bool
     ensures { result ≡ is_frame bytes.now }

@@ -8,7 +8,6 @@
 
 mod actors;
 mod arbiter_start;
-mod command;
 mod commit;
 mod delivery;
 mod events;
