@@ -1,4 +1,4 @@
-//! Tests of the parts of a node and of a schedule, from range sets to replicas: worked examples from outside, and that each
+//! Tests of the parts of a node, from range sets to replicas: worked examples from outside, and that each
 //! public call answers where memory is ample.
 //!
 //! What each call does is proved where it stands; here is what no clause says. The crate has no code of its own, so that
@@ -7,8 +7,6 @@
 
 #[cfg(test)]
 mod clocks;
-#[cfg(test)]
-mod frames;
 #[cfg(test)]
 mod lanes;
 #[cfg(test)]
