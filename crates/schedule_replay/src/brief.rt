@@ -13,28 +13,21 @@ pub(crate) enum Brief {
     Give(u64),
 }
 
-/// Reads a line of a firing or of a frame. None is for all others.
-#[tactic(auto, unfolding(line_format::specs::Lines::event_of))]
+/// Reads a line of a firing or of a frame, which its first byte tells from all others. None is for all others.
 pub(crate) fn read_brief(line: &[u8]) -> Option<Brief>
     ensures { ReadsBrief line.now result }
 {
-    if after_word(b"start ", line).is_ok() || after_word(b"stop ", line).is_ok() {
-        return None;
-    }
-    if after_word(b"tick ", line).is_ok() {
-        return None;
-    }
-    if let Ok(words) = after_word(b"fire ", line) {
-        return match last_node(words) {
-            Ok(node) => Some(Brief::Fire(node)),
-            Err(_) => None,
-        };
-    }
-    let Ok(words) = after_word(b"give ", line) else {
-        return None;
-    };
-    match last_number(0, MAX_READING, words) {
-        Ok(frame) => Some(Brief::Give(frame)),
-        Err(_) => None,
+    match line {
+        [b'f', ..] => {
+            let words = after_word(b"fire ", line).ok()?;
+            let node = last_node(words).ok()?;
+            Some(Brief::Fire(node))
+        }
+        [b'g', ..] => {
+            let words = after_word(b"give ", line).ok()?;
+            let frame = last_number(0, MAX_READING, words).ok()?;
+            Some(Brief::Give(frame))
+        }
+        _ => None,
     }
 }

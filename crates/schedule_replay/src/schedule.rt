@@ -73,7 +73,7 @@ fn take_tick<T: Teller>(
 }
 
 /// Takes a line of an event of any kind but a tick.
-#[tactic(auto, unfolding(crate::specs::Schedule::line_verdict))]
+#[tactic(auto, unfolding(schedule_rules::specs::Schedule::line_verdict))]
 fn take_any<T: Teller>(
     world: &mut World,
     teller: &mut T,
@@ -90,12 +90,34 @@ fn take_any<T: Teller>(
     }
 }
 
-/// Takes a line of another event.
-fn take_other<T: Teller>(
+/// Takes a line of a tick, or of another event that takes room. The list of readings serves each line, so that a tick is
+/// taken in place.
+#[tactic(auto, unfolding(schedule_rules::specs::Schedule::line_verdict))]
+fn take_longer<T: Teller>(
     world: &mut World,
     teller: &mut T,
     number: u64,
     line: &[u8],
+    readings: &mut TickReadings,
+    text: &mut Vec<u8>,
+) -> Result<Option<Refusal>, OutOfMemory>
+    requires { IsWorld world.old }
+    ensures { (c : Configuration) (h : History) → At world.old (T.knows teller.old) c h → IfOk result (λ refused. Follows T.telling c h number (event_verdict c (ruled c h) (length h) number (event_of line.now)) refused world.new (T.knows teller.new) text.old.items text.new.items) }
+{
+    match read_tick(line, readings) {
+        Err(_) => Ok(Some(Refusal::BadLine(number))),
+        Ok(Some(advance)) => take_tick(world, teller, number, advance, readings.as_slice(), text),
+        Ok(None) => take_any(world, teller, number, line, text),
+    }
+}
+
+/// Takes a line of an event. Firings and frames, which most lines are, are looked for first.
+fn take_words<T: Teller>(
+    world: &mut World,
+    teller: &mut T,
+    number: u64,
+    line: &[u8],
+    readings: &mut TickReadings,
     text: &mut Vec<u8>,
 ) -> Result<Option<Refusal>, OutOfMemory>
     requires { IsWorld world.old }
@@ -104,13 +126,12 @@ fn take_other<T: Teller>(
     match read_brief(line) {
         Some(Brief::Fire(node)) => take_event(world, teller, number, &Event::Fire { node }, text),
         Some(Brief::Give(frame)) => take_event(world, teller, number, &Event::Give { frame }, text),
-        None => take_any(world, teller, number, line, text),
+        None => take_longer(world, teller, number, line, readings, text),
     }
 }
 
-/// Takes a line, and writes what is told of it. Gives how it is refused, if it is. The list of readings
-/// serves each line, so that a tick is taken in place.
-#[tactic(auto, unfolding(crate::specs::Schedule::line_verdict))]
+/// Takes a line, and writes what is told of it. Gives how it is refused, if it is.
+#[tactic(auto, unfolding(schedule_rules::specs::Schedule::line_verdict))]
 pub fn take_line<T: Teller>(
     world: &mut World,
     teller: &mut T,
@@ -128,9 +149,5 @@ pub fn take_line<T: Teller>(
     if is_ignored(line) {
         return Ok(None);
     }
-    match read_tick(line, readings) {
-        Err(_) => Ok(Some(Refusal::BadLine(number))),
-        Ok(Some(advance)) => take_tick(world, teller, number, advance, readings.as_slice(), text),
-        Ok(None) => take_other(world, teller, number, line, text),
-    }
+    take_words(world, teller, number, line, readings, text)
 }

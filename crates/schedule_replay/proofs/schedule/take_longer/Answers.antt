@@ -3,7 +3,7 @@ use Rattle.fabric_terms.specs.declared.event.Event.TheVariants.{Tick}
 use Rattle.fabric_terms.specs.Ranges.{Fits}
 use Rattle.line_format.specs.Lines.{event_of}
 use Rattle.line_format.proofs.LineLaws.{read_is_spelled}
-use Rattle.schedule_replay.proofs.schedule.take_line.Goals as goal
+use Rattle.schedule_replay.proofs.schedule.take_longer.Goals as goal
 
 pub take_tick-requires-clause-fits : goal.take_tick-requires-clause-fits
 take_tick-requires-clause-fits g c =

@@ -2,7 +2,7 @@ use Rattle.std.proofs.Common.{◌≡◌, Some}
 use Rattle.fabric_terms.specs.declared.event.Event.TheVariants.{Fire, Give}
 use Rattle.line_format.specs.Lines.{event_of}
 use Rattle.line_format.proofs.LineLaws.{read_is_spelled}
-use Rattle.schedule_replay.proofs.schedule.take_other.Goals as goal
+use Rattle.schedule_replay.proofs.schedule.take_words.Goals as goal
 
 pub take_event-requires-clause-fits : goal.take_event-requires-clause-fits
 take_event-requires-clause-fits g c =
