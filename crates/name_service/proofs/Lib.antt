@@ -1,6 +1,7 @@
 pub mod Order
 pub mod Places
 pub mod Stored
+pub mod Keys
 pub mod Changed
 pub mod Entries
 pub mod Listed

@@ -1,61 +1,74 @@
--- The names of a range, row by row.
-use Rattle.std.proofs.Common.{◌≡◌, ◌==◌, ℕ, zero, suc, ◌+◌, ◌<◌, ◌≤◌, ◌↔◌, Bool, true, false, cond, IsTrue, List, [], ◌∷◌, ◌++◌, filter, length, map, take, arith, refl, ap, sym, ◌∙◌}
+-- The names that a mask marks are those in its range.
+use Rattle.std.proofs.Common.{◌≡◌, ◌==◌, ℕ, zero, suc, ◌+◌, ◌-◌, ◌<◌, ◌≤◌, ◌↔◌, Bool, true, false, cond, IsTrue, List, [], ◌∷◌, ◌++◌, filter, length, map, take, arith, refl, ap, sym, ◌∙◌}
 use Rattle.std.specs.List.{slice_index, slice_index_or}
-use Rattle.std.proofs.lemmas.List.{take_all}
-use Rattle.std.proofs.lemmas.List.Elements.{filter_more}
 use Rattle.std.proofs.lemmas.Bool.{both_ways, eqb-true}
+use Rattle.std.proofs.lemmas.List.{append-nil, append_assoc, take_all}
 use Rattle.lane_scan.specs.Masks.{is_between}
 use Rattle.ring_points.specs.declared.interval.Interval.{Interval}
 use Rattle.name_service.specs.Names.{is_within, point_of}
-use Rattle.name_service.specs.Stores.{Marks, Rows, bit_of, name_at, name_if}
+use Rattle.name_service.specs.Stores.{Marks, bit_of, marked, name_if}
+use Rattle.name_service.proofs.Order.{unless}
 
-abbrev pub names_of : Rows → List (List ℕ)
-names_of rows = map (λ r. r.0) rows
-
-abbrev pub listed : Interval → Rows → ℕ → List (List ℕ)
-listed range rows i = filter (is_within range) (take i (names_of rows))
-
-pub length-names : (rows : Rows) → length (names_of rows) ≡ length rows
-length-names [] = refl
-length-names (r ∷ rs) = ap suc (length-names rs)
-
-point_at : (rows : Rows) (i : ℕ) → i < length rows → slice_index_or (map (λ r. point_of r.0) rows) i 0 ≡ point_of (name_at i rows)
-point_at [] i l = absurd (omega arith)
-point_at (r ∷ rs) zero l = refl
-point_at (r ∷ rs) (suc i) l = point_at rs i (omega arith)
-
-unless : (a : Bool) → (a ≡ true → ⊥) → a ≡ false
-unless true n = absurd (n refl)
-unless false n = refl
-
-if_is : (b : Bool) (n : List ℕ) → name_if b n ≡ cond b (n ∷ []) []
-if_is true n = refl
-if_is false n = refl
-
-pub length-column : (rows : Rows) → length (map (λ r. point_of r.0) rows) ≡ length rows
-length-column [] = refl
-length-column (r ∷ rs) = ap suc (length-column rs)
+pub take-none : {A : Type 0} (xs : List A) → take 0 xs ≡ []
+take-none [] = refl
+take-none (x ∷ xs) = refl
 
 -- a bit is 1 exactly where a test is true
 alike : (n : ℕ) (b : Bool) → (n ≡ 1) ↔ IsTrue b → (n == 1) ≡ b
 alike n true both = ap (λ m. m == 1) (both.1 refl)
 alike n false both = unless (n == 1) (λ e. both_ways false refl (both.0 (eqb-true n 1 e)))
 
--- what the mask marks is in the range
-marked : (range : Interval) (points : List ℕ) (rows : Rows) (mask : List ℕ) (i : ℕ) → Marks range points mask → points ≡ map (λ r. point_of r.0) rows → i < length rows
-    → (bit_of mask i == 1) ≡ is_within range (name_at i rows)
-marked range points rows mask i m beside l =
-    let same : slice_index points i ≡ point_of (name_at i rows) = ap (λ ps. slice_index_or ps i 0) beside ∙ point_at rows i l in
-    alike (bit_of mask i) _ (m.each i (omega (arith, ap length beside, length-column rows, l))) ∙ ap (is_between range.lo range.hi) same
+point_at : (names : List (List ℕ)) (i : ℕ) → i < length names → slice_index_or (map point_of names) i 0 ≡ point_of (slice_index_or names i [])
+point_at [] i l = absurd (omega arith)
+point_at (n ∷ ns) zero l = refl
+point_at (n ∷ ns) (suc i) l = point_at ns i (omega arith)
 
--- the names of one more row
-pub one_more : (range : Interval) (points : List ℕ) (rows : Rows) (mask : List ℕ) (i : ℕ) (names names' : List (List ℕ)) → Marks range points mask → points ≡ map (λ r. point_of r.0) rows → i < length rows
-    → names ≡ listed range rows i → names' ≡ names ++ name_if (bit_of mask i == 1) (name_at i rows) → names' ≡ listed range rows (i + 1)
-one_more range points rows mask i names names' m beside l so more =
-    more ∙ ap (λ ns. ns ++ name_if (bit_of mask i == 1) (name_at i rows)) so
-    ∙ ap (λ b. listed range rows i ++ name_if b (name_at i rows)) (marked range points rows mask i m beside l)
-    ∙ ap (λ ns. listed range rows i ++ ns) (if_is (is_within range (name_at i rows)) (name_at i rows))
-    ∙ sym (filter_more (is_within range) (names_of rows) i [] (omega (arith, length-names rows, l)))
+length-points : (names : List (List ℕ)) → length (map point_of names) ≡ length names
+length-points [] = refl
+length-points (n ∷ ns) = ap suc (length-points ns)
 
-pub all_rows : (range : Interval) (rows : Rows) (i : ℕ) → length rows ≤ i → listed range rows i ≡ filter (is_within range) (names_of rows)
-all_rows range rows i l = ap (filter (is_within range)) (take_all i (names_of rows) (omega (arith, length-names rows, l)))
+chosen : (b : Bool) (n : List ℕ) (ns : List (List ℕ)) → name_if b n ++ ns ≡ cond b (n ∷ ns) ns
+chosen true n ns = refl
+chosen false n ns = refl
+
+-- the bits from number i on answer the test of each name
+filtered : (range : Interval) (mask : List ℕ) (names : List (List ℕ)) (i : ℕ) → ((j : ℕ) → j < length names → (bit_of mask (i + j) == 1) ≡ is_within range (slice_index_or names j []))
+    → marked mask i names ≡ filter (is_within range) names
+filtered range mask [] i h = refl
+filtered range mask (n ∷ ns) i h =
+    ap (λ rest. name_if (bit_of mask i == 1) n ++ rest) (filtered range mask ns (i + 1) (λ j l. ap (λ (k : ℕ). bit_of mask k == 1) (one_later j) ∙ h (suc j) (omega arith)))
+    ∙ chosen (bit_of mask i == 1) n (filter (is_within range) ns)
+    ∙ ap (λ b. cond b (n ∷ filter (is_within range) ns) (filter (is_within range) ns)) (ap (λ (k : ℕ). bit_of mask k == 1) here ∙ h 0 (omega arith))
+  where
+    one_later : (j : ℕ) → i + 1 + j ≡ i + suc j
+    one_later j = omega arith
+
+    here : i ≡ i + 0
+    here = omega arith
+
+pub marked_in : (range : Interval) (points mask : List ℕ) (names : List (List ℕ)) → Marks range points mask → points ≡ map point_of names → marked mask 0 names ≡ filter (is_within range) names
+marked_in range points mask names m e =
+    filtered range mask names 0 (λ j l.
+    let same : slice_index points j ≡ point_of (slice_index_or names j []) = ap (λ ps. slice_index_or ps j 0) e ∙ point_at names j l in
+    ap (λ (k : ℕ). bit_of mask k == 1) (let at : 0 + j ≡ j = omega arith in at) ∙ alike (bit_of mask j) _ (m.each j (omega (arith, ap length e, length-points names, l))) ∙ ap (is_between range.lo range.hi) same)
+
+-- one more name of the window
+pub one_more : (mask : List ℕ) (i : ℕ) (n : List ℕ) (ns names names' all : List (List ℕ)) → i < 64 → names ++ marked mask i (take (64 - i) (n ∷ ns)) ≡ all
+    → names' ≡ names ++ name_if (bit_of mask i == 1) n → names' ++ marked mask (i + 1) (take (64 - (i + 1)) ns) ≡ all
+one_more mask i n ns names names' all l so more =
+    let behind = marked mask (i + 1) (take (64 - (i + 1)) ns) in
+    let left : 64 - i ≡ suc (64 - (i + 1)) = omega arith in
+    ap (λ xs. xs ++ behind) more ∙ append_assoc names (name_if (bit_of mask i == 1) n) behind
+    ∙ sym (ap (λ (k : ℕ). names ++ marked mask i (take k (n ∷ ns))) left) ∙ so
+
+-- the points of the window
+
+front : (xs ys : List ℕ) → take (length xs) (xs ++ ys) ≡ xs
+front [] ys = take-none ys
+front (x ∷ xs) ys = ap (λ rest. x ∷ rest) (front xs ys)
+
+pub window_full : (points behind all : List ℕ) → length points ≡ 64 → points ++ behind ≡ all → points ≡ take 64 all
+window_full points behind all full so = sym (front points behind) ∙ ap (λ (k : ℕ). take k (points ++ behind)) full ∙ ap (take 64) so
+
+pub window_ended : (points all : List ℕ) → length points ≤ 64 → points ++ [] ≡ all → points ≡ take 64 all
+window_ended points all few so = sym (take_all 64 points few) ∙ ap (take 64) (sym (append-nil points) ∙ so)

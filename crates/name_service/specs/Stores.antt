@@ -1,12 +1,16 @@
--- How the names are stored: rows in their order, and beside them their points.
-use Rattle.std.specs.Prelude.{◌≡◌, ℕ, suc, ◌*◌, ◌/◌, ◌%◌, ◌<◌, ◌≤◌, ◌↔◌, IsTrue, Bool, true, false, List, [], ◌∷◌, filter, length, map, slice_index, slice_index_or, take, if◌then◌else◌}
+-- How the names are stored: by their places, in the order of these.
+use Rattle.std.specs.Prelude.{◌≡◌, ℕ, ◌+◌, ◌*◌, ◌/◌, ◌%◌, ◌==◌, ◌<◌, ◌≤◌, ◌↔◌, IsTrue, Bool, true, false, List, [], ◌∷◌, ◌++◌, length, map, slice_index, Vec}
 use Rattle.std.specs.Int.{bit_at}
+use Rattle.std.specs.List.{AllByRecursion}
 use Rattle.std.specs.FinMap.{from_sorted, is_sorted}
-use Rattle.std.specs.Ordering.{is_gt, eq_by_cmp}
+use Rattle.std.specs.declared.alloc.Global.{Global}
 use Rattle.lane_scan.specs.Masks.{is_between}
 use Rattle.ring_points.specs.declared.interval.Interval.{Interval}
-use Rattle.name_service.specs.Names.{NameMap, is_within, name_cmp, point_of}
+use Rattle.name_service.specs.Grammar.{is_name}
+use Rattle.name_service.specs.Names.{NameMap, name_cmp, point_of}
+use Rattle.name_service.specs.declared.place.Place.{Place}
 
+-- names with their values
 abbrev pub Rows : Type 0
 Rows = List (List ℕ × List ℕ)
 
@@ -14,24 +18,37 @@ Rows = List (List ℕ × List ℕ)
 abbrev pub map_of : Rows → NameMap
 map_of rows = from_sorted rows
 
--- the rows rise, and beside each stands its point
-pub record IsStore (column : List ℕ) (rows : Rows) : Type 0 where
-  pub rises : is_sorted name_cmp rows ≡ true
-  pub beside : column ≡ map (λ r. point_of r.0) rows
+-- the names of rows
+abbrev pub names_in : Rows → List (List ℕ)
+names_in rows = map (λ r. r.0) rows
 
--- how many rows stand before a name
-abbrev pub count_before : List ℕ → Rows → ℕ
-count_before name [] = 0
-count_before name (r ∷ rs) = if is_gt (name_cmp name r.0) then suc (count_before name rs) else 0
+-- the place of these bytes
+pub record IsPlaceOf (name : List ℕ) (place : Place) : Type 0 where
+  pub point : place.point ≡ point_of name
+  pub bytes : place.name.items ≡ name
 
--- whether the first of these rows is of a name
-abbrev pub is_name_at : List ℕ → Rows → Bool
-is_name_at name [] = false
-is_name_at name (r ∷ rs) = eq_by_cmp name_cmp name r.0
+-- the place of a name
+pub record IsPlaced (place : Place) : Type 0 where
+  pub point : place.point ≡ point_of place.name.items
+  pub name : is_name place.name.items ≡ true
 
--- the first 64 names of rows with points in the range
-abbrev pub first_names : Interval → Rows → List (List ℕ)
-first_names range rows = take 64 (filter (is_within range) (map (λ r. r.0) rows))
+-- values by places, as they are stored
+abbrev pub Stored : Type 0
+Stored = List (Place × Vec ℕ Global)
+
+abbrev pub rows_of : Stored → Rows
+rows_of stored = map (λ e. (e.0.name.items, e.1.items)) stored
+
+abbrev pub points_in : Stored → List ℕ
+points_in stored = map (λ e. e.0.point) stored
+
+abbrev pub AllPlaced : Stored → Type 0
+AllPlaced stored = AllByRecursion (λ e. IsPlaced e.0) stored
+
+-- the rows rise, and stand at the places of their names
+pub record IsStore (stored : Stored) : Type 0 where
+  pub rises : is_sorted name_cmp (rows_of stored) ≡ true
+  pub placed : AllPlaced stored
 
 -- bit number i of the mask
 abbrev pub bit_of : List ℕ → ℕ → ℕ
@@ -42,11 +59,12 @@ pub record Marks (range : Interval) (points mask : List ℕ) : Type 0 where
   pub room : length points ≤ 64 * length mask
   pub each : (i : ℕ) → i < length points → (bit_of mask i ≡ 1) ↔ IsTrue (is_between range.lo range.hi (slice_index points i))
 
--- the name of the row at a place
-abbrev pub name_at : ℕ → Rows → List ℕ
-name_at i rows = slice_index_or (map (λ r. r.0) rows) i []
-
 -- the name, where the test says so
 abbrev pub name_if : Bool → List ℕ → List (List ℕ)
 name_if true name = name ∷ []
 name_if false name = []
+
+-- the names that the mask marks, of names that begin at its bit number i
+abbrev pub marked : List ℕ → ℕ → List (List ℕ) → List (List ℕ)
+marked mask i [] = []
+marked mask i (n ∷ ns) = name_if (bit_of mask i == 1) n ++ marked mask (i + 1) ns

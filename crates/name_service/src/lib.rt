@@ -8,10 +8,11 @@
 
 mod change;
 mod laws;
+mod listing;
 mod name;
 mod names;
+mod place;
 mod point;
-mod row;
 mod worked;
 
 pub use laws::{names_are_what_was_said_last, one_name_at_a_place, one_spelling_of_a_change};

@@ -6,7 +6,7 @@ use std::alloc::Global;
 use std::marker::Model;
 
 /// How many bytes a name may have.
-const MOST_NAME: usize = 64;
+pub(crate) const MOST_NAME: usize = 64;
 
 /// A name: 1 to 64 visible signs of ASCII without the comma. Contracts see it as its bytes.
 #[derive(Drop)]

@@ -1,0 +1,86 @@
+// The first names of a range: the points of a window of rows are asked at once.
+ghost use Rattle.std.specs.Prelude.{◌≡◌, ◌==◌, ◌≤◌, ◌<◌, ◌*◌, ◌++◌, IfOk, OnOk, length, map, take, true};
+ghost use Rattle.name_service.specs.Grammar.{is_name};
+ghost use Rattle.name_service.specs.Stores.{AllPlaced, Marks, bit_of, marked, name_if, names_in, points_in, rows_of};
+
+use crate::name::Name;
+use crate::names::MOST_LISTED;
+use crate::place::Place;
+use arrayvec::ArrayVec;
+use fabric_terms::OutOfMemory;
+use lane_scan::mask_in;
+use ring_points::Interval;
+use std::alloc::Global;
+use std::collections::btree_map::Range;
+
+/// The points of the first 64 rows.
+pub(crate) fn points_of(rows: Range<'_, Place, Vec<u8>>) -> ArrayVec<u64, MOST_LISTED>
+    ensures { result.items ≡ take 64 (points_in rows.entry) }
+{
+    let mut points = ArrayVec::new();
+    for (place, _) in rows {
+        if points.is_full() {
+            break;
+        }
+        points.push(place.point());
+    }
+    points
+}
+
+/// A mask that marks the points in the range, of at most 64 points: these are the bits of one word.
+pub(crate) fn mask_of(points: &[u64], range: &Interval) -> [u64; 1]
+    requires { length points.now ≤ 64 }
+    ensures { Marks range.now points.now result }
+{
+    let mut mask = [0; 1];
+    mask_in(points, range.lo, range.hi, &mut mask);
+    mask
+}
+
+/// Whether bit number `i` of the mask is 1, counted from the lowest bit of the first word.
+fn is_marked(mask: &[u64], i: usize) -> bool
+    requires { i < 64 * length mask.now }
+    ensures { result ≡ (bit_of mask.now i == 1) }
+{
+    mask[i / 64] >> (i % 64) & 1 == 1
+}
+
+/// Adds a name, where bit number `i` of the mask is 1.
+fn push_marked(
+    alloc: Global,
+    mask: &[u64],
+    i: usize,
+    name: &[u8],
+    names: &mut Vec<Name>,
+) -> Result<(), OutOfMemory>
+    requires place { i < 64 * length mask.now }
+    requires name { is_name name.now ≡ true }
+    ensures { OnOk result (names.new.items ≡ names.old.items ++ name_if (bit_of mask.now i == 1) name.now) }
+{
+    if is_marked(mask, i) {
+        names.push(Name::of(alloc, name)?)?;
+    }
+    Ok(())
+}
+
+/// The names that the mask marks, of the first 64 rows.
+pub(crate) fn names_marked(
+    alloc: Global,
+    mask: &[u64],
+    rows: Range<'_, Place, Vec<u8>>,
+) -> Result<Vec<Name>, OutOfMemory>
+    requires room { 64 ≤ 64 * length mask.now }
+    requires placed { AllPlaced rows }
+    ensures { IfOk result (λ names. names.items ≡ marked mask.now 0 (take 64 (names_in (rows_of rows.entry)))) }
+{
+    let mut names = Vec::new(alloc);
+    let mut i = 0;
+    for (place, _) in rows {
+        if i == MOST_LISTED {
+            break;
+        }
+        push_marked(alloc, mask, i, place.name(), &mut names)?;
+        i += 1;
+    }
+    Ok(names)
+}
