@@ -8,3 +8,4 @@ pub mod Restores
 pub mod Rounds
 pub mod Rulings
 pub mod Votes
+pub mod Steps

@@ -21,7 +21,7 @@ use Rattle.ring_rules.specs.declared.input.Input.TheVariants as input
 use Rattle.ring_rules.specs.Owns.{own_after}
 use Rattle.ring_rules.specs.Rings.{Ring, Settings, Work, settings_of}
 use Rattle.ring_rules.specs.Steps.{ring_step}
-use Rattle.name_service.specs.Names.{NameMap, names_of}
+use Rattle.name_rules.specs.Names.{NameMap, names_of}
 use Rattle.unit_rules.specs.Answers.{answered, listing, names_commanded, ready, resolution, resolve_commanded}
 use Rattle.unit_rules.specs.Deeds.{Acted, Tell, refuse, reports_of, unless}
 use Rattle.unit_rules.specs.Leads.{lead_of}

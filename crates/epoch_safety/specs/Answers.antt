@@ -11,7 +11,7 @@ use Rattle.fabric_terms.specs.declared.report.Report.TheVariants as report
 use Rattle.join_phases.specs.Phases.{is_left}
 use Rattle.ring_points.specs.declared.interval.Interval.{Interval}
 use Rattle.ring_points.specs.declared.who.Who.{Who}
-use Rattle.name_service.specs.Names.{NameMap, names_of}
+use Rattle.name_rules.specs.Names.{NameMap, names_of}
 use Rattle.unit_rules.specs.Answers.{listing, ready, resolution}
 use Rattle.unit_rules.specs.Leads.{lead_of}
 use Rattle.unit_rules.specs.Units.{units}

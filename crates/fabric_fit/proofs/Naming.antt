@@ -16,14 +16,14 @@ use Rattle.fabric_terms.specs.declared.report.Report.TheVariants as report
 use Rattle.fabric_terms.specs.declared.report.Reason.TheVariants as reason
 use Rattle.fabric_terms.specs.declared.report.Verb.{Verb}
 use Rattle.fabric_terms.specs.declared.report.Verb.TheVariants as verb
-use Rattle.name_service.specs.Grammar.{Change, Deletes, Sets, change_of, every, is_name, is_name_byte, is_value, is_value_byte}
-use Rattle.name_service.specs.Laws.{IsChange}
-use Rattle.name_service.specs.Names.{NameMap, applied, changed, is_within, name_cmp, name_list, names_from, names_of}
-use Rattle.name_service.specs.Stores.{map_of}
-use Rattle.name_service.proofs.Order.{name_total}
-use Rattle.name_service.proofs.Places.{others}
-use Rattle.name_service.proofs.Spelling.{found}
-use Rattle.name_service.proofs.Stored.{entries_are, rises, rises-without, same_map, without_is}
+use Rattle.name_rules.specs.Grammar.{Change, Deletes, Sets, change_of, every, is_name, is_name_byte, is_value, is_value_byte}
+use Rattle.name_rules.specs.Laws.{IsChange}
+use Rattle.name_rules.specs.Names.{NameMap, applied, changed, is_within, name_cmp, name_list, names_from, names_of}
+use Rattle.name_rules.specs.Rows.{map_of}
+use Rattle.name_rules.proofs.Order.{name_total}
+use Rattle.name_rules.proofs.Places.{others}
+use Rattle.name_rules.proofs.Spelling.{found}
+use Rattle.name_rules.proofs.Ordered.{entries_are, rises, rises-without, same_map, without_is}
 use Rattle.replica_core.specs.declared.entry.Entry.{Entry}
 use Rattle.frames_fit.specs.Formats.{ReportInRange}
 use Rattle.unit_rules.specs.Answers.{answered, listing, names_commanded, ready, resolution, resolve_commanded, resolved}

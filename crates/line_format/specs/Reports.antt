@@ -47,6 +47,11 @@ report_words head report = spaced (head_text head ∷ report_text report ∷ [])
 abbrev pub report_line : Head → Report → List ℕ
 report_line head report = report_words head report ++ codes "\n"
 
+-- the lines of reports that have one head
+abbrev pub lines_of_reports : Head → List Report → List ℕ
+lines_of_reports head [] = []
+lines_of_reports head (r ∷ rs) = report_line head r ++ lines_of_reports head rs
+
 -- the numbers of the first and the last frame of a step
 abbrev pub sent_line : Head → ℕ × ℕ → List ℕ
 sent_line head sent =

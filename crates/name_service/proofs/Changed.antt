@@ -6,12 +6,13 @@ use Rattle.std.specs.FinMap as finite
 use Rattle.std.specs.FinMap.{is_sorted}
 use Rattle.std.specs.Map.{remove_entry}
 use Rattle.std.specs.declared.alloc.Global.{Global}
-use Rattle.name_service.specs.Grammar.{is_name}
-use Rattle.name_service.specs.Names.{NameMap, name_cmp, point_of}
-use Rattle.name_service.specs.Stores.{AllPlaced, IsPlaceOf, IsPlaced, IsStore, Stored, map_of, rows_of}
+use Rattle.name_rules.specs.Grammar.{is_name}
+use Rattle.name_rules.specs.Names.{NameMap, name_cmp, point_of}
+use Rattle.name_rules.specs.Rows.{map_of}
+use Rattle.name_service.specs.Stores.{AllPlaced, IsPlaceOf, IsPlaced, IsStore, Stored, rows_of}
 use Rattle.name_service.specs.declared.place.Place.{Place}
 use Rattle.name_service.proofs.Keys.{left_in, place_cmp, placed_with, placed_without, put_in, taken_out}
-use Rattle.name_service.proofs.Stored.{entries-put, rises, rises-without, same_map, without_is}
+use Rattle.name_rules.proofs.Ordered.{entries-put, rises, rises-without, same_map, without_is}
 
 -- it is still a store, and it is of this map
 pub record Becomes (stored : Stored) (m : NameMap) : Type 0 where

@@ -10,12 +10,12 @@ use Rattle.std.specs.Ordering.{is_eq, match_ordering, nat_cmp, ordering_then}
 use Rattle.std.specs.declared.alloc.Global.{Global}
 use Rattle.std.specs.declared.cmp.Ordering.{Ordering}
 use Rattle.std.specs.declared.cmp.Ordering.TheVariants.{Less, Equal, Greater}
-use Rattle.name_service.specs.Grammar.{is_name}
-use Rattle.name_service.specs.Names.{name_cmp, point_of}
+use Rattle.name_rules.specs.Grammar.{is_name}
+use Rattle.name_rules.specs.Names.{name_cmp, point_of}
 use Rattle.name_service.specs.Stores.{AllPlaced, IsPlaceOf, IsPlaced, Stored, rows_of}
 use Rattle.name_service.specs.declared.place.Place.{Place}
-use Rattle.name_service.proofs.Order.{apart, one_name}
-use Rattle.name_service.proofs.Places.{all_others, first, others, second}
+use Rattle.name_rules.proofs.Order.{apart, one_name}
+use Rattle.name_rules.proofs.Places.{all_others, first, others, second}
 
 -- the order of places, as it is derived
 abbrev pub place_cmp : Place → Place → Ordering

@@ -13,13 +13,14 @@ use Rattle.std.specs.FinMap.Entries.{below_all, where_key}
 use Rattle.std.specs.Ordering.{is_le, is_lt, nat_cmp, ordering_then}
 use Rattle.std.specs.declared.cmp.Ordering.{Ordering}
 use Rattle.ring_points.specs.declared.interval.Interval.{Interval}
-use Rattle.name_service.specs.Names.{is_within, name_cmp, name_list, point_of}
-use Rattle.name_service.specs.Stores.{AllPlaced, IsPlaced, IsStore, Marks, Rows, Stored, map_of, marked, names_in, points_in, rows_of}
+use Rattle.name_rules.specs.Names.{is_within, name_cmp, name_list, point_of}
+use Rattle.name_rules.specs.Rows.{Rows, map_of}
+use Rattle.name_service.specs.Stores.{AllPlaced, IsPlaced, IsStore, Marks, Stored, marked, names_in, points_in, rows_of}
 use Rattle.name_service.specs.declared.place.Place.{Place}
 use Rattle.name_service.proofs.Keys.{place_cmp}
 use Rattle.name_service.proofs.Listed.{marked_in, take-none}
-use Rattle.name_service.proofs.Places.{first, second}
-use Rattle.name_service.proofs.Stored.{entries_are, rises-kept}
+use Rattle.name_rules.proofs.Places.{first, second}
+use Rattle.name_rules.proofs.Ordered.{entries_are, rises-kept}
 
 -- what the tests of points say
 

@@ -1,5 +1,5 @@
 -- The changes of the code, as the definitions have them.
-use Rattle.name_service.specs.Grammar.{Change, Sets, Deletes}
+use Rattle.name_rules.specs.Grammar.{Change, Sets, Deletes}
 use Rattle.name_service.specs.declared.change.Change.{Change as CodeChange}
 use Rattle.name_service.specs.declared.change.Change.TheVariants as code
 

@@ -2,21 +2,14 @@
 use Rattle.std.specs.Prelude.{◌≡◌, ℕ, ◌+◌, ◌*◌, ◌/◌, ◌%◌, ◌==◌, ◌<◌, ◌≤◌, ◌↔◌, IsTrue, Bool, true, false, List, [], ◌∷◌, ◌++◌, length, map, slice_index, Vec}
 use Rattle.std.specs.Int.{bit_at}
 use Rattle.std.specs.List.{AllByRecursion}
-use Rattle.std.specs.FinMap.{from_sorted, is_sorted}
+use Rattle.std.specs.FinMap.{is_sorted}
 use Rattle.std.specs.declared.alloc.Global.{Global}
 use Rattle.lane_scan.specs.Masks.{is_between}
 use Rattle.ring_points.specs.declared.interval.Interval.{Interval}
-use Rattle.name_service.specs.Grammar.{is_name}
-use Rattle.name_service.specs.Names.{NameMap, name_cmp, point_of}
+use Rattle.name_rules.specs.Grammar.{is_name}
+use Rattle.name_rules.specs.Names.{name_cmp, point_of}
+use Rattle.name_rules.specs.Rows.{Rows}
 use Rattle.name_service.specs.declared.place.Place.{Place}
-
--- names with their values
-abbrev pub Rows : Type 0
-Rows = List (List ℕ × List ℕ)
-
--- the map that rows in their order are
-abbrev pub map_of : Rows → NameMap
-map_of rows = from_sorted rows
 
 -- the names of rows
 abbrev pub names_in : Rows → List (List ℕ)

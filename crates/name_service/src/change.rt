@@ -1,6 +1,6 @@
 // What an entry changes.
 ghost use Rattle.std.specs.Prelude.{◌≡◌, ◌==◌, ◌+◌, position, option_map};
-ghost use Rattle.name_service.specs.Grammar.{every, is_value, is_value_byte, change_of, set_of, delete_of};
+ghost use Rattle.name_rules.specs.Grammar.{every, is_value, is_value_byte, change_of, set_of, delete_of};
 ghost use Rattle.name_service.specs.Changes.{seen};
 
 use crate::name::is_name;
@@ -70,7 +70,7 @@ fn delete_of(bytes: &[u8]) -> Option<Change<'_>>
 }
 
 /// What the bytes of an entry change, if they are about names at all.
-#[tactic(auto, unfolding(crate::specs::Grammar::change_of))]
+#[tactic(auto, unfolding(name_rules::specs::Grammar::change_of))]
 pub(crate) fn change_of(bytes: &[u8]) -> Option<Change<'_>>
     ensures { option_map seen result ≡ change_of bytes.now }
 {

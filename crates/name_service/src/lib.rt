@@ -2,21 +2,17 @@
 //!
 //! An entry of a log may set a name or delete it. The names that entries leave are a map, kept along as entries are applied,
 //! so that an answer costs a look-up and no walk of the log. Each name has a point on the ring, and a range of the ring is
-//! searched by `lane_scan`. The crate stands on the entries of `replica_core`. It promises that the map is the one that the
-//! entries define, and that a refused call changes nothing.
+//! searched by `lane_scan`. The crate stands on the entries of `replica_core` and on the definitions of `name_rules`. It promises
+//! that the map is the one that the entries define, and that a refused call changes nothing.
 #![tactic(auto)]
 
 mod change;
-mod laws;
 mod listing;
 mod name;
 mod names;
 mod place;
 mod point;
-mod worked;
 
-pub use laws::{names_are_what_was_said_last, one_name_at_a_place, one_spelling_of_a_change};
 pub use name::Name;
 pub use names::{MOST_LISTED, Names};
 pub use point::point_of;
-pub use worked::worked_names;

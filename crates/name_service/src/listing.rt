@@ -1,6 +1,6 @@
 // The first names of a range: the points of a window of rows are asked at once.
 ghost use Rattle.std.specs.Prelude.{◌≡◌, ◌==◌, ◌≤◌, ◌<◌, ◌*◌, ◌++◌, IfOk, OnOk, length, map, take, true};
-ghost use Rattle.name_service.specs.Grammar.{is_name};
+ghost use Rattle.name_rules.specs.Grammar.{is_name};
 ghost use Rattle.name_service.specs.Stores.{AllPlaced, Marks, bit_of, marked, name_if, names_in, points_in, rows_of};
 
 use crate::name::Name;

@@ -1,5 +1,5 @@
 ghost use Rattle.std.specs.Prelude.{◌≡◌, ◌≤◌, length, IfOk, IfSome, IfNone, true, false};
-ghost use Rattle.name_service.specs.Grammar.{every, is_name, is_name_byte};
+ghost use Rattle.name_rules.specs.Grammar.{every, is_name, is_name_byte};
 
 use fabric_terms::OutOfMemory;
 use std::alloc::Global;
@@ -16,7 +16,7 @@ pub struct Name {
 
 impl Model for Name {
     ghost use Rattle.std.specs.Prelude.{◌≡◌, List, ℕ, true};
-    ghost use Rattle.name_service.specs.Grammar.{is_name};
+    ghost use Rattle.name_rules.specs.Grammar.{is_name};
 
     ghost Value = { List ℕ };
 
@@ -68,15 +68,6 @@ impl Name {
     {
         Ok(Name {
             bytes: bytes.to_vec(alloc)?,
-        })
-    }
-
-    /// The same name again.
-    pub fn copy(&self, alloc: Global) -> Result<Name, OutOfMemory>
-        ensures { IfOk result (λ copy. copy ≡ self.now) }
-    {
-        Ok(Name {
-            bytes: self.bytes.as_slice().to_vec(alloc)?,
         })
     }
 

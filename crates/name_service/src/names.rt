@@ -1,9 +1,10 @@
 ghost use Rattle.std.specs.Prelude.{◌≡◌, IfOk, OnOk, OnErr, option_map, true};
 ghost use Rattle.std.specs.Coded.{coded_ℕ, coded_list};
 ghost use Rattle.std.specs.FinMap as finite;
-ghost use Rattle.name_service.specs.Grammar.{is_name};
-ghost use Rattle.name_service.specs.Names.{NameMap, applied, name_list};
-ghost use Rattle.name_service.specs.Stores.{IsStore, map_of, rows_of};
+ghost use Rattle.name_rules.specs.Grammar.{is_name};
+ghost use Rattle.name_rules.specs.Names.{NameMap, applied, name_list};
+ghost use Rattle.name_rules.specs.Rows.{map_of};
+ghost use Rattle.name_service.specs.Stores.{IsStore, rows_of};
 
 use crate::change::{Change, change_of};
 use crate::listing::{mask_of, names_marked, points_of};

@@ -1,6 +1,6 @@
 // Where names stand: the keys of their map.
 ghost use Rattle.std.specs.Prelude.{◌≡◌, [], IfNone, IfSome, false, true};
-ghost use Rattle.name_service.specs.Grammar.{is_name};
+ghost use Rattle.name_rules.specs.Grammar.{is_name};
 ghost use Rattle.name_service.specs.Stores.{IsPlaceOf};
 
 use crate::name::{MOST_NAME, is_name};

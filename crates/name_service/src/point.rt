@@ -1,5 +1,5 @@
 ghost use Rattle.std.specs.Prelude.{◌≡◌};
-ghost use Rattle.name_service.specs.Names.{mixed, point_of};
+ghost use Rattle.name_rules.specs.Names.{mixed, point_of};
 
 use ring_points::Point;
 
@@ -16,7 +16,7 @@ fn mixed(h: u64, byte: u8) -> u64
 }
 
 /// Where a name is on the ring: the 64-bit FNV-1a hash of its bytes.
-#[tactic(auto, unfolding(crate::specs::Names::point_of))]
+#[tactic(auto, unfolding(name_rules::specs::Names::point_of))]
 pub fn point_of(name: &[u8]) -> Point
     ensures { result.0 ≡ point_of name.now }
 {

@@ -24,7 +24,7 @@ use Rattle.ring_world.specs.Rulings.{Hears, ruled_by}
 use Rattle.ring_world.specs.Seats.{state_of}
 use Rattle.ring_world.specs.declared.seat.Seat.{Seat}
 use Rattle.ring_world.proofs.Entries.{few_entries}
-use Rattle.ring_world.proofs.Rulings.{is_ruling}
+use Rattle.arbiter_core.proofs.Steps.{is_ruling}
 
 -- the call answers what was done
 abbrev AgreesOn : Arbiter → Did (ArbiterState fabric) → Outcome Answer → Type 0

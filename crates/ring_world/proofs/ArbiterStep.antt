@@ -30,7 +30,7 @@ use Rattle.ring_world.specs.declared.world.World.{World}
 use Rattle.ring_world.proofs.Entries.{few_entries, kept_more, seat_rises}
 use Rattle.ring_world.proofs.FramesAfter.{sound_sent}
 use Rattle.ring_world.proofs.Maps.{unequal}
-use Rattle.ring_world.proofs.Rulings.{IsRuling, is_ruling, kept_state}
+use Rattle.arbiter_core.proofs.Steps.{IsRuling, is_ruling, kept_state}
 use Rattle.ring_world.proofs.Growth.{kept_here, kept_there, posted-length}
 use Rattle.ring_world.proofs.KeptNodes.{kept_follows, same_run}
 use Rattle.ring_world.proofs.SeatChanges.{arbiters_set, at_other_put, at_same_put}

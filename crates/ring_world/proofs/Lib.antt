@@ -12,7 +12,6 @@ pub mod StopNames
 pub mod NodeStop
 pub mod Edits
 pub mod Entries
-pub mod Rulings
 pub mod SeatChanges
 pub mod KeptReplicas
 pub mod KeptNodes

@@ -73,7 +73,6 @@ fn take_tick<T: Teller>(
 }
 
 /// Takes a line of an event of any kind but a tick.
-#[tactic(auto, unfolding(schedule_rules::specs::Schedule::line_verdict))]
 fn take_any<T: Teller>(
     world: &mut World,
     teller: &mut T,
@@ -92,7 +91,6 @@ fn take_any<T: Teller>(
 
 /// Takes a line of a tick, or of another event that takes room. The list of readings serves each line, so that a tick is
 /// taken in place.
-#[tactic(auto, unfolding(schedule_rules::specs::Schedule::line_verdict))]
 fn take_longer<T: Teller>(
     world: &mut World,
     teller: &mut T,

@@ -1,7 +1,8 @@
 // The lines of one step.
 ghost use Rattle.std.specs.Prelude.{◌≡◌, ◌++◌, Some, OnOk};
 ghost use Rattle.ring_world.specs.Answers.{entry_of};
-ghost use Rattle.schedule_rules.specs.Output.{entry_lines, report_lines, sent_lines};
+ghost use Rattle.line_format.specs.Reports.{lines_of_reports};
+ghost use Rattle.schedule_rules.specs.Output.{entry_lines, sent_lines};
 ghost use Rattle.schedule_rules.specs.Acts.{told_lines};
 
 use fabric_terms::{Head, OutOfMemory, Report};
@@ -10,7 +11,7 @@ use ring_world::Acted;
 
 /// The lines of these reports, in their order.
 fn push_reports(text: &mut Vec<u8>, head: &Head, reports: &[Report]) -> Result<(), OutOfMemory>
-    ensures { OnOk result (text.new.items ≡ text.old.items ++ report_lines head.now reports.now) }
+    ensures { OnOk result (text.new.items ≡ text.old.items ++ lines_of_reports head.now reports.now) }
 {
     for report in reports {
         print_report(head, report, text)?;

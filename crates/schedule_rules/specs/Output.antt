@@ -10,7 +10,7 @@ use Rattle.point_places.specs.Lines.{IsText}
 use Rattle.ring_points.specs.Whos.{node_instance}
 use Rattle.ring_world.specs.Answers.{ruled}
 use Rattle.ring_world.specs.Holders.{holds_in}
-use Rattle.line_format.specs.Reports.{report_line, sent_line}
+use Rattle.line_format.specs.Reports.{lines_of_reports, sent_line}
 use Rattle.text_fields.specs.Texts.{spaced}
 use Rattle.fabric_above.specs.Fabric.{fabric}
 use Rattle.world_rules.specs.Runs.{History, run_of}
@@ -23,17 +23,13 @@ use Rattle.schedule_rules.specs.Schedule.{Judged}
 abbrev pub head_of : ℕ → ℕ → Entry → Head
 head_of line time e = record { line = line; time = Some time; who = e.who; reading = e.reading }
 
-abbrev pub report_lines : Head → List Report → List ℕ
-report_lines head [] = []
-report_lines head (r ∷ rs) = report_line head r ++ report_lines head rs
-
 -- which frames were sent, if any: they are counted from 1
 abbrev pub sent_lines : Head → ℕ × ℕ → List ℕ
 sent_lines head sent = if nat_lt 0 sent.0 then sent_line head sent else []
 
 -- what was told, and last what was sent
 abbrev pub lines_under : Head → Entry → List ℕ
-lines_under head e = report_lines head e.reports ++ sent_lines head e.sent
+lines_under head e = lines_of_reports head e.reports ++ sent_lines head e.sent
 
 abbrev pub entry_lines : ℕ → ℕ → Option Entry → List ℕ
 entry_lines line time None = []

@@ -8,10 +8,10 @@ use Rattle.fabric_terms.specs.declared.report.Report.{Report}
 use Rattle.fabric_terms.specs.Ranges.{FitsHead}
 use Rattle.fabric_terms.specs.Runs.{Clocks, Entry, Moment, Run}
 use Rattle.frames_fit.specs.Formats.{ReportInRange}
-use Rattle.schedule_rules.specs.Output.{entry_lines, head_of, report_lines, sent_lines}
+use Rattle.schedule_rules.specs.Output.{entry_lines, head_of, sent_lines}
 use Rattle.schedule_rules.specs.Traces.{clock_words, clocks_line, group}
 use Rattle.line_format.specs.Lines.{lines_of}
-use Rattle.line_format.specs.Reports.{report_line, report_words, sent_line}
+use Rattle.line_format.specs.Reports.{lines_of_reports, report_line, report_words, sent_line}
 use Rattle.source_lines.specs.Lines.{most_lines}
 use Rattle.text_fields.specs.Fields.{◌>>=◌}
 use Rattle.transcript_audit.specs.Groups.{Group}
@@ -52,10 +52,10 @@ one line h = record {
   short = All-cons (λ l. length l ≤ most_line) line [] h.few (All-nil (λ l. length l ≤ most_line));
 }
 
-reports : (head : Head) → FitsHead head → (rs : List Report) → All ReportInRange rs → AreLines (report_lines head rs) (map (report_words head) rs)
+reports : (head : Head) → FitsHead head → (rs : List Report) → All ReportInRange rs → AreLines (lines_of_reports head rs) (map (report_words head) rs)
 reports head h [] k = none
 reports head h (r ∷ rs) k =
-    more (report_line head r) (report_lines head rs) (report_words head r ∷ []) (map (report_words head) rs)
+    more (report_line head r) (lines_of_reports head rs) (report_words head r ∷ []) (map (report_words head) rs)
     (one (report_words head r) (report_line_piece head r h (All-head ReportInRange r rs k))) (reports head h rs (All-tail ReportInRange r rs k))
 
 sent_frames : (head : Head) → FitsHead head → (sent : ℕ × ℕ) → SentFits sent → AreLines (sent_lines head sent) (sent_list head sent)
@@ -70,7 +70,7 @@ entries m h None k = none
 entries m h (Some e) k =
     let head : Head = head_of m.line m.time e in
     let fits : FitsHead head = (h.line, h.time, k.who, k.reading) in
-    more (report_lines head e.reports) (sent_lines head e.sent) (map (report_words head) e.reports) (sent_list head e.sent) (reports head fits e.reports k.reports)
+    more (lines_of_reports head e.reports) (sent_lines head e.sent) (map (report_words head) e.reports) (sent_list head e.sent) (reports head fits e.reports k.reports)
     (sent_frames head fits e.sent k.sent)
 
 clocks_are : (line : ℕ) (clocks : Clocks) → clocks_text line clocks ++ codes "\n" ≡ clocks_line line clocks

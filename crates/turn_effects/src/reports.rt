@@ -1,7 +1,7 @@
 // The reports of a step.
 ghost use Rattle.std.specs.Prelude.{◌≡◌, IfOk};
 ghost use Rattle.turn_effects.specs.Carried.{WritesAll};
-ghost use Rattle.turn_rules.specs.Works.{report_lines};
+ghost use Rattle.line_format.specs.Reports.{lines_of_reports};
 
 use edge_io::EdgeRefusal;
 use fabric_terms::{Head, OutOfMemory, Report};
@@ -23,7 +23,7 @@ pub fn write_lines<O: Outside>(outside: &mut O, text: &[u8]) -> Result<(), Stop>
 
 /// The lines of reports under a head.
 fn lines_of(alloc: Global, head: &Head, reports: &[Report]) -> Result<Vec<u8>, OutOfMemory>
-    ensures { IfOk result (λ text. text.items ≡ report_lines head.now reports.now) }
+    ensures { IfOk result (λ text. text.items ≡ lines_of_reports head.now reports.now) }
 {
     let mut text = Vec::new(alloc);
     for report in reports {
@@ -39,7 +39,7 @@ pub(crate) fn write_reports<O: Outside>(
     head: &Head,
     reports: &[Report],
 ) -> Result<(), Stop>
-    ensures { WritesAll (report_lines head.now reports.now) (O.told outside.old) (O.told outside.new) result }
+    ensures { WritesAll (lines_of_reports head.now reports.now) (O.told outside.old) (O.told outside.new) result }
 {
     match lines_of(alloc, head, reports) {
         Ok(text) => write_lines(outside, text.as_slice()),

@@ -12,15 +12,12 @@ use Rattle.fabric_terms.specs.declared.message.Body.TheVariants as body
 use Rattle.fabric_terms.specs.declared.message.Message.{Message}
 use Rattle.fabric_terms.specs.declared.record.Record.{Record}
 use Rattle.ring_points.specs.declared.who.Who.{Who}
-use Rattle.ring_rules.specs.Arbiters.{Table, accusation_kept, claim_kept, table_after, takes_frame}
-use Rattle.unit_rules.specs.Deeds.{records_of}
-use Rattle.unit_rules.specs.Registers.{Registers, question_received, registers_after}
+use Rattle.ring_rules.specs.Arbiters.{takes_frame}
 use Rattle.world_rules.specs.Arbiters.{ArbiterState, arbiter_step, arbiter_takes}
 use Rattle.world_rules.specs.Uppers.{Did}
 use Rattle.world_rules.proofs.Rows.{arbiter_step-is}
 use Rattle.arbiter_core.proofs.Calls.{Agreed, Agrees, accuse_agrees, claim_agrees, nothing_agrees, question_agrees}
-use Rattle.arbiter_core.proofs.FewRecords.{accused_apart, claimed_apart}
-use Rattle.arbiter_core.proofs.RegisterReplies.{question_keeps}
+use Rattle.arbiter_core.proofs.Steps.{is_ruling, kept_state}
 use Rattle.arbiter_core.specs.declared.answer.ArbiterError.{ArbiterError}
 use Rattle.fabric_terms.specs.Sent.{from_all}
 use Rattle.ring_rules.specs.declared.input.Input.TheVariants as input
@@ -29,42 +26,6 @@ use Rattle.turn_members.specs.Members.{Does, state_of}
 use Rattle.turn_members.specs.declared.deed.Deed.{Deed}
 use Rattle.turn_rules.specs.Steps.{Arbiter as Running, arbiter_stepped, exceeds, stepped}
 use Rattle.world_rules.specs.Worlds.{arbiter_who}
-
--- with these records kept
-abbrev pub kept_state : List Record → ArbiterState fabric → ArbiterState fabric
-kept_state records s = record { table = table_after s.table records; beside = registers_after s.beside records }
-
--- a step leaves what it records, and tells nothing
-pub record IsRuling (s : ArbiterState fabric) (d : Did (ArbiterState fabric)) : Type 0 where
-  pub state : d.state ≡ kept_state d.records s
-  pub told : d.told ≡ []
-
-module _ (c : FabricConfig) (arbiter : ℕ) (m : Message) (s : ArbiterState fabric) where
-  -- the table is kept by its records, and the registers beside it stay
-  apart : (records : List Record) → registers_after s.beside records ≡ s.beside → record s { table = table_after s.table records } ≡ kept_state records s
-  apart records stays = ap (λ (rs : Registers). record s { table = table_after s.table records; beside = rs }) (sym stays)
-
-  by_body : (said : Body) (b : Bool) → IsRuling s (arbiter_takes fabric c arbiter m s said b)
-  by_body said false = record { state = refl; told = refl }
-  by_body (body.Accuse victim) true = record {
-    state = apart (accusation_kept s.table.accusations m.from victim) (accused_apart s.table m.from victim s.beside);
-    told = refl;
-  }
-  by_body (body.Claim victim round) true = record {
-    state = apart (claim_kept s.table m.from victim round) (claimed_apart s.table m.from victim round s.beside);
-    told = refl;
-  }
-  by_body _ true =
-      let keeps = question_keeps m.body m.from s.beside in
-      let recorded : List Record = records_of (question_received m.body m.from s.beside).deeds in
-      record {
-        state = ap (λ (rs : Registers). record s { beside = rs }) keeps.state
-            ∙ ap (λ (t : Table). record s { table = t; beside = registers_after s.beside recorded }) (sym (keeps.apart s.table));
-        told = refl;
-      }
-
-  pub is_ruling : IsRuling s (arbiter_step fabric c arbiter m s)
-  is_ruling = subst (λ (d : Did (ArbiterState fabric)). IsRuling s d) (sym (arbiter_step-is fabric c arbiter m s)) (by_body m.body (takes_frame arbiter m))
 
 -- The call answers what was done, and keeps what was recorded.
 

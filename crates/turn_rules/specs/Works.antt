@@ -8,7 +8,7 @@ use Rattle.fabric_terms.specs.declared.report.Report.{Report}
 use Rattle.fabric_terms.specs.Sent.{from_all}
 use Rattle.keep_log.specs.Spellings.{spelling as record_spelling}
 use Rattle.frame_format.specs.Frames.{spelling as frame_spelling}
-use Rattle.line_format.specs.Reports.{report_line}
+use Rattle.line_format.specs.Reports.{lines_of_reports}
 use Rattle.world_rules.specs.Events.{arbiter_number, is_arbiter_actor}
 use Rattle.turn_rules.specs.Steps.{Step}
 
@@ -44,17 +44,13 @@ abbrev pub posts_of : FabricConfig → List Message → List Post
 posts_of c [] = []
 posts_of c (m ∷ ms) = post_of c m ++ posts_of c ms
 
-abbrev pub report_lines : Head → List Report → List ℕ
-report_lines head [] = []
-report_lines head (r ∷ rs) = report_line head r ++ report_lines head rs
-
 -- the work of an actor whose lines have this head
 abbrev pub work_with : FabricConfig → Head → List Record → List Message → List Report → Work
 work_with c head records frames told = record {
   actor = head.who.actor;
   records = map record_spelling records;
   posts = posts_of c frames;
-  lines = report_lines head told;
+  lines = lines_of_reports head told;
 }
 
 -- a running program's lines are headed by the turn, and it knows no true time

@@ -23,8 +23,8 @@ use Rattle.unit_rules.specs.Activations.{activate_received}
 use Rattle.unit_rules.specs.Writes.{append_received, appended_received, write_commanded, seat_fired}
 use Rattle.unit_rules.specs.Answers.{resolve_commanded, names_commanded}
 use Rattle.text_fields.specs.Fields.{after_word}
-use Rattle.name_service.specs.Grammar.{change_of}
-use Rattle.name_service.specs.Names.{point_of}
+use Rattle.name_rules.specs.Grammar.{change_of}
+use Rattle.name_rules.specs.Names.{point_of}
 use Rattle.unit_rules.specs.Questions.{reconfig_fired}
 use Rattle.unit_rules.specs.Phases.{prepare_ends, swap_ends, promise_ends, vote_ends, copy_ends, done_ends, activate_ends}
 use Rattle.unit_rules.specs.Transitions.{answer_received}

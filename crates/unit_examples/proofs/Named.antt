@@ -5,9 +5,9 @@ use Rattle.std.specs.FinMap.{put}
 use Rattle.fabric_terms.specs.declared.report.Report.TheVariants as report
 use Rattle.ring_points.specs.declared.interval.Interval.{Interval}
 use Rattle.ring_examples.specs.Lines.{interval}
-use Rattle.name_service.specs.Names.{NameMap, is_within, name_cmp, names_of}
-use Rattle.name_service.proofs.Order.{name_total}
-use Rattle.name_service.proofs.Stored.{entries_are, nothing_stored}
+use Rattle.name_rules.specs.Names.{NameMap, is_within, name_cmp, names_of}
+use Rattle.name_rules.proofs.Order.{name_total}
+use Rattle.name_rules.proofs.Ordered.{entries_are, nothing_stored}
 use Rattle.unit_rules.specs.Answers.{resolved}
 use Rattle.unit_rules.specs.Deeds.{Tell, acted}
 use Rattle.unit_examples.specs.Names.{AsksTooEarly, NamesAnswered, SetsAName, naming, said}

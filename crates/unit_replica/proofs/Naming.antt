@@ -11,8 +11,8 @@ use Rattle.replica_core.specs.declared.refusal.Done.{Done}
 use Rattle.replica_core.specs.declared.refusal.ReplicaRefusal.{ReplicaRefusal}
 use Rattle.replica_core.specs.Calls.{Answers, Outcome, append_call, held_if, is_ahead, unless}
 use Rattle.replica_core.specs.Replicas.{Replica, written}
-use Rattle.name_service.specs.Names.{NameMap, applied, names_of}
-use Rattle.name_service.proofs.Entries.{names_after_one_more}
+use Rattle.name_rules.specs.Names.{NameMap, applied, names_of}
+use Rattle.name_rules.proofs.Entries.{names_after_one_more}
 use Rattle.unit_replica.specs.declared.log_names.LogNames.{LogNames}
 use Rattle.unit_replica.specs.Names.{AreOf}
 

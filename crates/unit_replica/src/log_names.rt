@@ -1,6 +1,6 @@
 ghost use Rattle.std.specs.Prelude.{◌≡◌, ◌≤◌, [], IfOk, OnOk, option_map, take};
 ghost use Rattle.std.specs.FinMap.{get};
-ghost use Rattle.name_service.specs.Names.{name_list, names_of};
+ghost use Rattle.name_rules.specs.Names.{name_list, names_of};
 ghost use Rattle.unit_replica.specs.Names.{AreOf};
 
 use fabric_terms::{NameText, NameTexts, NameValue, OutOfMemory};

@@ -1,6 +1,6 @@
 ghost use Rattle.std.specs.Prelude.{◌≡◌, ◌≤◌, IfOk, length, take};
 ghost use Rattle.std.specs.FinMap.{get};
-ghost use Rattle.name_service.specs.Names.{name_list, names_of};
+ghost use Rattle.name_rules.specs.Names.{name_list, names_of};
 ghost use Rattle.replica_core.specs.Calls.{Answers, activate_call, adopt_call, adopt_own_call, append_call, idle_call, promise_call};
 ghost use Rattle.replica_core.specs.Replicas.{IsSound, begun_again, first_replica, uncollected};
 ghost use Rattle.unit_replica.specs.Names.{AreOf};

@@ -7,7 +7,7 @@ use Rattle.fabric_terms.specs.declared.report.Reason.{Reason}
 use Rattle.fabric_terms.specs.declared.report.Verb.{Verb}
 use Rattle.fabric_terms.specs.declared.report.Verb.TheVariants as verb
 use Rattle.ring_points.specs.declared.interval.Interval.{Interval}
-use Rattle.name_service.specs.Names.{NameMap, names_of}
+use Rattle.name_rules.specs.Names.{NameMap, names_of}
 use Rattle.unit_rules.specs.Answers.{ready, answered, resolved, resolution, listing, resolve_commanded, names_commanded, is_answer, OnlyAnswers}
 use Rattle.unit_rules.specs.Deeds.{Tell}
 use Rattle.unit_rules.specs.Leads.{lead_of}

@@ -8,7 +8,7 @@ use Rattle.fabric_terms.specs.declared.report.Reason.{Reason}
 use Rattle.fabric_terms.specs.declared.report.Reason.TheVariants as reason
 use Rattle.fabric_terms.specs.declared.report.Verb.{Verb}
 use Rattle.fabric_terms.specs.declared.report.Verb.TheVariants as verb
-use Rattle.name_service.specs.Names.{NameMap, names_of, name_list}
+use Rattle.name_rules.specs.Names.{NameMap, names_of, name_list}
 use Rattle.unit_rules.specs.Deeds.{Tell, Acted, acted, refuse}
 use Rattle.unit_rules.specs.Seats.{Lead, Seat}
 use Rattle.unit_rules.specs.Leads.{lead_of, reported_of}

@@ -1,5 +1,5 @@
 use Rattle.std.proofs.Common.{◌≡◌, drop}
-use Rattle.name_service.specs.Grammar.{every, is_name_byte}
+use Rattle.name_rules.specs.Grammar.{every, is_name_byte}
 use Rattle.name_service.proofs.name.has_name_bytes.Given as goal
 
 -- the bytes so far pass

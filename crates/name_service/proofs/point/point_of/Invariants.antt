@@ -1,5 +1,5 @@
 use Rattle.std.proofs.Common.{◌≡◌, drop}
-use Rattle.name_service.specs.Names.{mixed_with, point_of}
+use Rattle.name_rules.specs.Names.{mixed_with, point_of}
 use Rattle.name_service.proofs.point.point_of.Given as goal
 
 -- the bytes so far are mixed in

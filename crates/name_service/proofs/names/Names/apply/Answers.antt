@@ -1,6 +1,6 @@
 use Rattle.std.proofs.Common.{Some, ap, sym, ◌∙◌}
 use Rattle.name_service.specs.Changes.{seen}
-use Rattle.name_service.proofs.Spelling.{sets_a_name}
+use Rattle.name_rules.proofs.Spelling.{sets_a_name}
 use Rattle.name_service.proofs.names.Names.apply.Goals as goal
 
 pub set-requires : goal.set-requires

@@ -1,10 +1,11 @@
 use Rattle.std.proofs.Common.{◌≡◌, Some, List, ℕ, option_map, sym, ap, ◌∙◌}
 use Rattle.std.specs.FinMap as finite
 use Rattle.std.specs.FinMap.{find}
-use Rattle.name_service.specs.Names.{name_cmp}
-use Rattle.name_service.specs.Stores.{IsStore, Stored, map_of, rows_of}
+use Rattle.name_rules.specs.Names.{name_cmp}
+use Rattle.name_rules.specs.Rows.{map_of}
+use Rattle.name_service.specs.Stores.{IsStore, Stored, rows_of}
 use Rattle.name_service.proofs.Keys.{found, not_found}
-use Rattle.name_service.proofs.Stored.{get_is}
+use Rattle.name_rules.proofs.Ordered.{get_is}
 use Rattle.name_service.proofs.names.Names.get.Goals as goal
 
 looked_up : (name : List ℕ) (stored : Stored) (m : finite.FinMap name_cmp (List ℕ)) → IsStore stored → map_of (rows_of stored) ≡ m → find name_cmp name (rows_of stored) ≡ finite.get m name

@@ -1,6 +1,7 @@
 use Rattle.std.proofs.Common.{ap, ◌∙◌}
-use Rattle.name_service.specs.Stores.{map_of, rows_of}
-use Rattle.name_service.proofs.Stored.{nothing_stored}
+use Rattle.name_rules.specs.Rows.{map_of}
+use Rattle.name_service.specs.Stores.{rows_of}
+use Rattle.name_rules.proofs.Ordered.{nothing_stored}
 use Rattle.name_service.proofs.names.Names.new.Goals as goal
 
 pub returns : goal.returns

@@ -1,5 +1,5 @@
 use Rattle.std.proofs.Common.{◌≡◌, IfOk, take, subst, sym, ap, ◌∙◌}
-use Rattle.name_service.specs.Names.{name_list}
+use Rattle.name_rules.specs.Names.{name_list}
 use Rattle.name_service.specs.Stores.{points_in}
 use Rattle.name_service.proofs.Window.{listed}
 use Rattle.name_service.proofs.names.Names.select.Goals as goal

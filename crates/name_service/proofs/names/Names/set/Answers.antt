@@ -1,6 +1,7 @@
 use Rattle.std.proofs.Common.{ap, ◌∙◌}
 use Rattle.std.specs.FinMap as finite
-use Rattle.name_service.specs.Stores.{map_of, rows_of}
+use Rattle.name_rules.specs.Rows.{map_of}
+use Rattle.name_service.specs.Stores.{rows_of}
 use Rattle.name_service.proofs.Changed.{Becomes, is_set}
 use Rattle.name_service.proofs.names.Names.set.Goals as goal
 

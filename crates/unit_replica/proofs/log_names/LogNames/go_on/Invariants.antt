@@ -1,5 +1,5 @@
 use Rattle.std.proofs.Common.{◌≡◌, ◌≤◌, take}
-use Rattle.name_service.specs.Names.{names_of}
+use Rattle.name_rules.specs.Names.{names_of}
 use Rattle.unit_replica.proofs.log_names.LogNames.go_on.Given as goal
 
 -- so many entries are applied

@@ -1,4 +1,4 @@
-ghost use Rattle.name_service.specs.Laws.{LastOneSays, OneName, OneSpelling};
+ghost use Rattle.name_rules.specs.Laws.{LastOneSays, OneName, OneSpelling};
 
 /// What a name stands for is what the last entry about it says.
 pub fn names_are_what_was_said_last()

@@ -6,8 +6,8 @@ use Rattle.std.proofs.lemmas.Bool.Decides.{nat_tests}
 use Rattle.std.proofs.lemmas.List.Quantifiers.{position-Some}
 use Rattle.text_fields.specs.Fields.{after_word, behind, nothing}
 use Rattle.text_fields.proofs.FieldLaws.{behind_again, behind_found, behind_other}
-use Rattle.name_service.specs.Grammar.{Change, Sets, Deletes, change_of, change_text, delete_of, every, is_name, is_name_byte, is_value, set_of, sets, sets_at}
-use Rattle.name_service.specs.Laws.{IsChange}
+use Rattle.name_rules.specs.Grammar.{Change, Sets, Deletes, change_of, change_text, delete_of, every, is_name, is_name_byte, is_value, set_of, sets, sets_at}
+use Rattle.name_rules.specs.Laws.{IsChange}
 
 abbrev is_blank : ℕ → Bool
 is_blank b = b == 32

@@ -5,8 +5,8 @@ use Rattle.std.proofs.lemmas.Bool.{both_ways}
 use Rattle.std.specs.Ordering.{eq_by_cmp, is_eq, is_lt}
 use Rattle.std.specs.declared.cmp.Ordering.{Ordering}
 use Rattle.std.specs.declared.cmp.Ordering.TheVariants.{Less, Equal, Greater}
-use Rattle.name_service.specs.Names.{name_cmp}
-use Rattle.name_service.specs.Stores.{Rows}
+use Rattle.name_rules.specs.Names.{name_cmp}
+use Rattle.name_rules.specs.Rows.{Rows}
 
 less : (o : Ordering) → is_lt o ≡ true → o ≡ Less
 less Less e = refl

@@ -6,10 +6,10 @@ use Rattle.std.specs.FinMap.Entries.{where_key, find-where_key, is_sorted-where_
 use Rattle.std.specs.Ordering.{eq_by_cmp, is_eq, ordering_reverse}
 use Rattle.std.specs.declared.cmp.Ordering.{Ordering}
 use Rattle.std.specs.declared.cmp.Ordering.TheVariants.{Less, Equal, Greater}
-use Rattle.name_service.specs.Names.{NameMap, name_cmp}
-use Rattle.name_service.specs.Stores.{Rows, map_of}
-use Rattle.name_service.proofs.Order.{name_total, one_name}
-use Rattle.name_service.proofs.Places.{others}
+use Rattle.name_rules.specs.Names.{NameMap, name_cmp}
+use Rattle.name_rules.specs.Rows.{Rows, map_of}
+use Rattle.name_rules.proofs.Order.{name_total, one_name}
+use Rattle.name_rules.proofs.Places.{others}
 
 is_true : (b : Bool) → T b → b ≡ true
 is_true true t = refl

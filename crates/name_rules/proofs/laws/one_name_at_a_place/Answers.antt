@@ -3,9 +3,9 @@ use Rattle.std.proofs.lemmas.Bool.{both_ways}
 use Rattle.std.specs.Ordering.{is_eq}
 use Rattle.std.specs.declared.cmp.Ordering.{Ordering}
 use Rattle.std.specs.declared.cmp.Ordering.TheVariants.{Less, Equal, Greater}
-use Rattle.name_service.specs.Names.{name_cmp}
-use Rattle.name_service.proofs.Order.{one_name}
-use Rattle.name_service.proofs.laws.one_name_at_a_place.Goals as goal
+use Rattle.name_rules.specs.Names.{name_cmp}
+use Rattle.name_rules.proofs.Order.{one_name}
+use Rattle.name_rules.proofs.laws.one_name_at_a_place.Goals as goal
 
 tie : (o : Ordering) → is_eq o ≡ true → o ≡ Equal
 tie Equal t = refl

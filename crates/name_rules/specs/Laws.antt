@@ -3,8 +3,8 @@ use Rattle.std.specs.Prelude.{◌≡◌, ◌∷◌, ◌++◌, [], ℕ, List, Opt
 use Rattle.std.specs.FinMap.{get}
 use Rattle.std.specs.Ordering.{eq_by_cmp}
 use Rattle.replica_core.specs.declared.entry.Entry.{Entry}
-use Rattle.name_service.specs.Grammar.{Change, Sets, Deletes, change_of, change_text, is_name, is_value}
-use Rattle.name_service.specs.Names.{name_cmp, names_of}
+use Rattle.name_rules.specs.Grammar.{Change, Sets, Deletes, change_of, change_text, is_name, is_value}
+use Rattle.name_rules.specs.Names.{name_cmp, names_of}
 
 -- what an entry says of a name: nothing, or its value, which is none where the name is deleted
 abbrev pub said_by : List ℕ → Option Change → Option (List ℕ) → Option (List ℕ)

@@ -1,4 +1,4 @@
-ghost use Rattle.name_service.specs.Worked.{PointOfA, PointOfNothing, FiveChanges, NoChanges, ADeletedName, ListedInTheirOrder};
+ghost use Rattle.name_rules.specs.Worked.{PointOfA, PointOfNothing, FiveChanges, NoChanges, ADeletedName, ListedInTheirOrder};
 
 /// Points, changes and lists that are computed.
 pub fn worked_names()

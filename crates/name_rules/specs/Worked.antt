@@ -2,8 +2,8 @@
 use Rattle.std.specs.Prelude.{◌≡◌, [], ◌∷◌, List, ℕ, Some, None, codes}
 use Rattle.std.specs.FinMap.{get}
 use Rattle.replica_core.specs.declared.entry.Entry.{Entry}
-use Rattle.name_service.specs.Grammar.{Sets, Deletes, change_of}
-use Rattle.name_service.specs.Names.{name_list, names_of, point_of}
+use Rattle.name_rules.specs.Grammar.{Sets, Deletes, change_of}
+use Rattle.name_rules.specs.Names.{name_list, names_of, point_of}
 
 abbrev pub PointOfA : Type 0
 PointOfA = point_of (codes "a") ≡ 12638187200555641996

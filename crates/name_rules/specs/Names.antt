@@ -7,7 +7,7 @@ use Rattle.std.specs.declared.cmp.Ordering.{Ordering}
 use Rattle.lane_scan.specs.Masks.{is_between}
 use Rattle.replica_core.specs.declared.entry.Entry.{Entry}
 use Rattle.ring_points.specs.declared.interval.Interval.{Interval}
-use Rattle.name_service.specs.Grammar.{Change, Sets, Deletes, change_of}
+use Rattle.name_rules.specs.Grammar.{Change, Sets, Deletes, change_of}
 
 -- the point of a name: each byte in turn is mixed into it, by xor and a product modulo 2^64
 abbrev pub mixed : ℕ → ℕ → ℕ

@@ -2,12 +2,12 @@ use Rattle.std.proofs.Common.{◌≡◌, ℕ, List, [], filter, map, take, codes
 use Rattle.text_fields.specs.Fields.{after_word}
 use Rattle.std.specs.FinMap as finite
 use Rattle.std.specs.FinMap.{put}
-use Rattle.name_service.specs.Grammar.{change_of}
+use Rattle.name_rules.specs.Grammar.{change_of}
 use Rattle.ring_points.specs.declared.interval.Interval.{Interval}
-use Rattle.name_service.specs.Names.{NameMap, is_within, name_cmp, point_of}
-use Rattle.name_service.proofs.Order.{name_total}
-use Rattle.name_service.proofs.Stored.{entries_are, nothing_stored}
-use Rattle.name_service.proofs.worked.worked_names.Goals as goal
+use Rattle.name_rules.specs.Names.{NameMap, is_within, name_cmp, point_of}
+use Rattle.name_rules.proofs.Order.{name_total}
+use Rattle.name_rules.proofs.Ordered.{entries_are, nothing_stored}
+use Rattle.name_rules.proofs.worked.worked_names.Goals as goal
 
 pub returns-clause-point : goal.returns-clause-point
 unfolding point_of

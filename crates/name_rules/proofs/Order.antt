@@ -7,8 +7,8 @@ use Rattle.std.specs.Ordering.{eq_by_cmp, is_eq, ordering_then}
 use Rattle.std.specs.declared.cmp.Ordering.{Ordering}
 use Rattle.std.specs.declared.cmp.Ordering.TheVariants.{Less, Equal, Greater}
 use Rattle.std.proofs.lemmas.Cmp.{then_total, on_total, lists_total, nat_cmp_total}
-use Rattle.name_service.specs.Grammar.{is_name}
-use Rattle.name_service.specs.Names.{name_cmp, point_of}
+use Rattle.name_rules.specs.Grammar.{is_name}
+use Rattle.name_rules.specs.Names.{name_cmp, point_of}
 
 pub name_total : IsTotalOrder name_cmp
 name_total = then_total (on_total point_of nat_cmp_total) (lists_total nat_cmp_total)
