@@ -21,7 +21,7 @@ use Rattle.epoch_refinement.specs.Registers.{ShowsRegister, recorded, IsRecordOf
 use Rattle.epoch_refinement.specs.Rows.{register_answers}
 use Rattle.epoch_refinement.specs.Shown.{partition_of, Shown}
 use Rattle.epoch_refinement.proofs.Elsewhere.{manager_elsewhere}
-use Rattle.epoch_refinement.proofs.Quiet.{apart_test}
+use Rattle.epoch_refinement.proofs.Beside.{apart_test}
 use Rattle.epoch_refinement.proofs.Rows.{answers_are_deeds_lem}
 
 -- the registers with what was recorded

@@ -26,7 +26,8 @@ pub mod Knowing
 pub mod Managing
 pub mod Elsewhere
 pub mod Parts
-pub mod Quiet
+pub mod Beside
+pub mod ManagerDeeds
 pub mod Managers
 pub mod Firing
 pub mod Stepping

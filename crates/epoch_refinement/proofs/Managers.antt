@@ -17,6 +17,7 @@ use Rattle.unit_rules.specs.Deeds.{still, refuse}
 use Rattle.unit_rules.specs.Epochs.{is_past_end}
 use Rattle.unit_rules.specs.Manager.{verb_of, reason_of, epoch_of, entered, task_commanded, begins, begins_in, stands_after, answer_for, manager_answered, reconfig_commanded}
 use Rattle.unit_rules.specs.Polls.{arbiters_to}
+use Rattle.unit_rules.specs.Questions.{asks}
 use Rattle.unit_rules.specs.Reconfigs.{Reconfig, task_of}
 use Rattle.unit_rules.specs.Steps.{Failover, by_manager}
 use Rattle.unit_rules.specs.Transitions.{begun, answer_received}
@@ -28,7 +29,8 @@ use Rattle.epoch_refinement.proofs.Answering.{answer_refines}
 use Rattle.epoch_refinement.proofs.Asking.{still_went, went_map}
 use Rattle.epoch_refinement.proofs.Managing.{step_stands, began, entered_same}
 use Rattle.epoch_refinement.proofs.Parts.{manager_step}
-use Rattle.epoch_refinement.proofs.Quiet.{asks_quiet, answer_quiet, stands_quiet, put_other, stands_beside, entered_other}
+use Rattle.epoch_refinement.proofs.Beside.{put_other, stands_beside, entered_other}
+use Rattle.epoch_refinement.proofs.ManagerDeeds.{answer_managed, asks_managed, managed_quiet, stands_managed}
 
 module _ {k : ℕ} {m : Machines} {x : Who} {s : Failover} (inv : (p : ℕ) → Invariant (settings_to k) (m p)) (shows : ShowsNode k m x s) (me : 0 < x.instance)
     (q : ℕ) where
@@ -56,8 +58,10 @@ module _ {k : ℕ} {m : Machines} {x : Who} {s : Failover} (inv : (p : ℕ) → 
           )
           (λ p d. (beside.reconfigs p d, beside.units p d)) (beside.rises_on shows.reconfigs_rise)
           (λ w log a before.
-          stands_quiet (task_of r) s.managed (answer_received nodes from.actor e b r).state (answer_received nodes from.actor e b r).deeds
-          (answer_quiet nodes from.actor e b r) x.actor log before)
+          managed_quiet (stands_after (task_of r) s.managed (answer_received nodes from.actor e b r)).deeds
+          (stands_managed (task_of r) s.managed (answer_received nodes from.actor e b r).state (answer_received nodes from.actor e b r).deeds
+          (answer_managed nodes from.actor e b r))
+          x.actor log before)
 
   pub commanded_step : (is_manager : Bool) (kind : Kind) → NodeRefined k m x (by_manager s (reconfig_commanded is_manager k q kind s.managed))
   unfolding reconfig_commanded
@@ -86,7 +90,9 @@ module _ {k : ℕ} {m : Machines} {x : Who} {s : Failover} (inv : (p : ℕ) → 
                 entered_other kind q s.managed.units units i p d,
               ))
               (rises-put q (begun (task_commanded k q kind s.managed.units)) s.managed.reconfigs shows.reconfigs_rise)
-              (λ w log a before. asks_quiet (begun (task_commanded k q kind s.managed.units)) (arbiters_to k) x.actor log before)
+              (λ w log a before.
+              managed_quiet (asks (begun (task_commanded k q kind s.managed.units)) (arbiters_to k))
+              (asks_managed (begun (task_commanded k q kind s.managed.units)) (arbiters_to k)) x.actor log before)
 
       go : (manages : Bool) (o : Option Reconfig) → at q s.managed.reconfigs ≡ o → (u : Result Table UnitRefusal) → entered kind q s.managed.units ≡ u →
           NodeRefined k m x
