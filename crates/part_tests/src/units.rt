@@ -26,18 +26,25 @@ fn config(partition: u16, epoch: Epoch, primary: u16, other: u16) -> Config {
 fn keeps_the_newest_configuration_and_the_highest_epoch(rt: HostRuntime) -> Result<(), Fail> {
     let mut units = Units::new(rt.alloc());
     assert_eq!(rt; units.highest(7), epoch(0, 0));
-    assert_eq!(rt; units.get(7).err(), Some(UnitRefusal::NoUnit));
     units.create(7)?;
     assert_eq!(rt; units.get(7).err(), Some(UnitRefusal::NoUnit));
-    units.seen(7, epoch(0, 9))?;
-    units.note(&config(7, epoch(0, 3), 1, 2))?;
-    units.note(&config(7, epoch(0, 2), 3, 4))?;
-    units.note(&config(9, epoch(1, 0), 2, 3))?;
-    units.seen(9, epoch(0, 50))?;
+    for (partition, at, primary, other) in [
+        (7, epoch(0, 3), 1, 2),
+        (7, epoch(0, 2), 3, 4),
+        (9, epoch(1, 0), 2, 3),
+    ] {
+        units.note(&config(partition, at, primary, other))?;
+    }
+    for (partition, seen, highest, primary) in [
+        (7, epoch(0, 9), epoch(0, 9), 1),
+        (9, epoch(0, 50), epoch(1, 0), 2),
+    ] {
+        units.seen(partition, seen)?;
+        assert_eq!(rt; units.highest(partition), highest);
+        let known = units.get(partition).map(|known| known.primary);
+        assert_eq!(rt; known.ok(), Some(primary));
+    }
     assert_eq!(rt; units.create(7), Err(UnitRefusal::Exists));
-    assert_eq!(rt; units.highest(7), epoch(0, 9));
-    assert_eq!(rt; units.highest(9), epoch(1, 0));
-    assert_eq!(rt; units.get(7).map(|known| known.primary).ok(), Some(1));
     for (node, load) in [(1, 1), (2, 2), (3, 1), (4, 0)] {
         assert_eq!(rt; units.load(node), load, "of {node}");
     }
