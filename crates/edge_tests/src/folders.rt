@@ -6,6 +6,8 @@ use std::cell::Cell;
 use std::fs::OpenOptions;
 use std::io::Write;
 use std::path::PathBuf;
+use std::process::Abort;
+use std::rt::Files;
 use std::test::Fail;
 use std::{env, fs, process};
 
@@ -20,7 +22,7 @@ fn in_new_folder(rt: &HostRuntime) -> Result<PathBuf, Fail> {
 }
 
 /// The records of an actor as a keeper that is new finds them, each behind its length.
-fn found(rt: &HostRuntime, alloc: Global, actor: u16) -> Result<Vec<u8>, Fail> {
+fn found(rt: &impl Files, alloc: Global, actor: u16) -> Result<Vec<u8>, Fail> {
     let mut keeper = FolderKeeper::new(rt, alloc);
     let mut all = Vec::new(alloc);
     for record in keeper.records(actor).ok().ok_or("no records")? {
@@ -30,51 +32,79 @@ fn found(rt: &HostRuntime, alloc: Global, actor: u16) -> Result<Vec<u8>, Fail> {
     Ok(all)
 }
 
+/// A keeper that is new keeps these records of an actor.
+fn keep(rt: &(impl Files + Abort), alloc: Global, actor: u16, records: &[&[u8]]) {
+    let mut keeper = FolderKeeper::new(rt, alloc);
+    for record in records {
+        assert_eq!(rt; keeper.append_synced(actor, record), Ok(()));
+    }
+}
+
+/// Writes these bytes at the end of a file.
+fn add(rt: &impl Files, path: &str, bytes: &[u8]) -> Result<(), Fail> {
+    let mut file = OpenOptions::new().append(true).open(rt, path)?;
+    Ok(file.write_all(bytes)?)
+}
+
+fn file_is(rt: &(impl Files + Abort + Alloc), path: &str, want: &[u8]) -> Result<(), Fail> {
+    assert_eq!(rt; fs::read(rt, path)?.as_slice(), want);
+    Ok(())
+}
+
+fn records_are(
+    rt: &(impl Files + Abort),
+    alloc: Global,
+    actor: u16,
+    want: &[u8],
+) -> Result<(), Fail> {
+    assert_eq!(rt; found(rt, alloc, actor)?.as_slice(), want);
+    Ok(())
+}
+
 #[test]
 fn records_stand_in_the_file_behind_their_lengths(rt: HostRuntime) -> Result<(), Fail> {
     let folder = in_new_folder(&rt)?;
-    let mut keeper = FolderKeeper::new(&rt, rt.alloc());
-    assert_eq!(rt; keeper.append_synced(1, &[1, 0, 0, 0, 1]), Ok(()));
-    assert_eq!(rt; keeper.append_synced(1, &[1, 0, 0, 0, 2]), Ok(()));
-    let bytes = fs::read(&rt, "kept/1")?;
-    let want = [0, 5, 1, 0, 0, 0, 1, 0, 5, 1, 0, 0, 0, 2];
-    assert_eq!(rt; bytes.as_slice(), want.as_slice());
-    let mut file = OpenOptions::new().append(true).open(&rt, "kept/1")?;
-    file.write_all(&[0, 5, 1])?;
-    let mut keeper = FolderKeeper::new(&rt, rt.alloc());
-    let records = keeper.records(1).ok().ok_or("no records")?;
-    assert_eq!(rt; records.len(), 2);
-    assert_eq!(rt; records[0].as_slice(), [1, 0, 0, 0, 1].as_slice());
-    assert_eq!(rt; records[1].as_slice(), [1, 0, 0, 0, 2].as_slice());
-    assert_eq!(rt; fs::read(&rt, "kept/1")?.len(), 17);
-    assert_eq!(rt; keeper.append_synced(1, &[]), Ok(()));
-    assert_eq!(rt;
-        fs::read(&rt, "kept/1")?.as_slice(),
-        [0, 5, 1, 0, 0, 0, 1, 0, 5, 1, 0, 0, 0, 2, 0, 0].as_slice()
-    );
+    keep(&rt, rt.alloc(), 1, &[b"boot", b""]);
+    file_is(&rt, "kept/1", b"\0\x04boot\0\0")?;
+    records_are(&rt, rt.alloc(), 1, b"boot;;")?;
     fs::remove_dir_all(&rt, folder)?;
     Ok(())
 }
 
 #[test]
-fn a_reader_beside_a_keeper_changes_nothing(rt: HostRuntime) -> Result<(), Fail> {
+fn a_reader_leaves_a_torn_tail_and_a_keeper_cuts_it(rt: HostRuntime) -> Result<(), Fail> {
     let folder = in_new_folder(&rt)?;
-    assert_eq!(rt; found(&rt, rt.alloc(), 6)?.len(), 0);
+    keep(&rt, rt.alloc(), 1, &[b"boot"]);
+    add(&rt, "kept/1", b"\0\x05t")?;
+    records_are(&rt, rt.alloc(), 1, b"boot;")?;
+    file_is(&rt, "kept/1", b"\0\x04boot\0\x05t")?;
+    keep(&rt, rt.alloc(), 1, &[b""]);
+    file_is(&rt, "kept/1", b"\0\x04boot\0\0")?;
+    fs::remove_dir_all(&rt, folder)?;
+    Ok(())
+}
+
+#[test]
+fn a_reader_makes_no_folder_and_no_file(rt: HostRuntime) -> Result<(), Fail> {
+    let folder = in_new_folder(&rt)?;
+    records_are(&rt, rt.alloc(), 6, b"")?;
     assert!(rt; !fs::exists(&rt, "kept")?);
+    keep(&rt, rt.alloc(), 6, &[b"one"]);
+    records_are(&rt, rt.alloc(), 7, b"")?;
+    assert!(rt; !fs::exists(&rt, "kept/7")?);
+    fs::remove_dir_all(&rt, folder)?;
+    Ok(())
+}
+
+// What another has written behind the keeper's last record stands before its next one.
+#[test]
+fn a_keeper_goes_on_behind_what_stands_in_the_file(rt: HostRuntime) -> Result<(), Fail> {
+    let folder = in_new_folder(&rt)?;
     let mut keeper = FolderKeeper::new(&rt, rt.alloc());
     assert_eq!(rt; keeper.append_synced(6, b"one"), Ok(()));
-    assert_eq!(rt; found(&rt, rt.alloc(), 6)?.as_slice(), b"one;".as_slice());
-    assert_eq!(rt; found(&rt, rt.alloc(), 7)?.len(), 0);
-    assert!(rt; !fs::exists(&rt, "kept/7")?);
-    let mut file = OpenOptions::new().append(true).open(&rt, "kept/6")?;
-    file.write_all(b"\0\x03t")?;
-    assert_eq!(rt; found(&rt, rt.alloc(), 6)?.as_slice(), b"one;".as_slice());
-    file.write_all(b"wo")?;
+    add(&rt, "kept/6", b"\0\x03two")?;
     assert_eq!(rt; keeper.append_synced(6, b"three"), Ok(()));
-    assert_eq!(rt;
-        found(&rt, rt.alloc(), 6)?.as_slice(),
-        b"one;two;three;".as_slice()
-    );
+    records_are(&rt, rt.alloc(), 6, b"one;two;three;")?;
     fs::remove_dir_all(&rt, folder)?;
     Ok(())
 }
@@ -88,16 +118,9 @@ fn a_torn_tail_of_every_length_is_cut(rt: HostRuntime) -> Result<(), Fail> {
         let mut file = b"\0\x03one\0\0".to_vec(rt.alloc())?;
         file.extend_from_slice(&torn[..length])?;
         fs::write(&rt, "kept/9", file.as_slice())?;
-        let mut keeper = FolderKeeper::new(&rt, rt.alloc());
-        assert_eq!(rt; keeper.append_synced(9, b"three"), Ok(()), "at {length}");
-        assert_eq!(rt;
-            fs::read(&rt, "kept/9")?.as_slice(),
-            b"\0\x03one\0\0\0\x05three".as_slice()
-        );
-        assert_eq!(rt;
-            found(&rt, rt.alloc(), 9)?.as_slice(),
-            b"one;;three;".as_slice()
-        );
+        keep(&rt, rt.alloc(), 9, &[b"three"]);
+        file_is(&rt, "kept/9", b"\0\x03one\0\0\0\x05three")?;
+        records_are(&rt, rt.alloc(), 9, b"one;;three;")?;
     }
     fs::remove_dir_all(&rt, folder)?;
     Ok(())
@@ -117,7 +140,7 @@ fn a_folder_that_cannot_be_made_fails_each_call(rt: HostRuntime) -> Result<(), F
         keeper.append_synced(3, &too_long),
         Err(EdgeRefusal::Failed)
     );
-    assert_eq!(rt; found(&rt, rt.alloc(), 3)?.as_slice(), b"kept;".as_slice());
+    records_are(&rt, rt.alloc(), 3, b"kept;")?;
     fs::remove_dir_all(&rt, folder)?;
     Ok(())
 }
@@ -142,11 +165,7 @@ fn a_file_that_breaks_keeps_whole_records(rt: HostRuntime) -> Result<(), Fail> {
         assert_eq!(rt; keeper.append_synced(5, b"one"), Ok(()));
         assert_eq!(rt; keeper.append_synced(5, b"two"), Err(EdgeRefusal::Failed));
         assert_eq!(rt; keeper.append_synced(5, b"three"), Ok(()));
-        assert_eq!(rt;
-            found(&rt, rt.alloc(), 5)?.as_slice(),
-            want,
-            "at {breaks:?}"
-        );
+        records_are(&rt, rt.alloc(), 5, want)?;
         fs::remove_file(&rt, "kept/5")?;
     }
     fs::remove_dir_all(&rt, folder)?;

@@ -2,6 +2,7 @@ use edge_io::{
     Clock, EdgeRefusal, Failed, Keeper, Links, MemClock, MemKeeper, MemLinks, MemSink, MemSource,
     Sink, Source, write_all,
 };
+use std::alloc::Global;
 use std::test::Fail;
 
 #[test]
@@ -28,26 +29,47 @@ fn a_sink_fails_at_its_listed_calls(rt: HostRuntime) -> Result<(), Fail> {
     Ok(())
 }
 
+/// The records of an actor, each behind its length; None where the keeper fails.
+fn kept(alloc: Global, keeper: &mut MemKeeper, actor: u16) -> Result<Option<Vec<u8>>, Fail> {
+    let Ok(records) = keeper.records(actor) else {
+        return Ok(None);
+    };
+    let mut all = Vec::new(alloc);
+    for record in records {
+        all.extend_from_slice(&record)?;
+        all.push(b';')?;
+    }
+    Ok(Some(all))
+}
+
+/// A keeper that has a record of actor 7, and fails at its calls 2, 3 and 5.
+fn failing_keeper(alloc: Global) -> Result<MemKeeper, Fail> {
+    let mut first = Vec::new(alloc);
+    first.push(b"old".to_vec(alloc)?)?;
+    let mut lists = Vec::new(alloc);
+    lists.push((7, first))?;
+    Ok(MemKeeper::new(alloc, lists, vec![in alloc; 2, 3, 5]?))
+}
+
 #[test]
 fn a_failing_append_keeps_its_record_at_even_calls(rt: HostRuntime) -> Result<(), Fail> {
-    let mut first = Vec::new(rt.alloc());
-    first.push(b"old".to_vec(rt.alloc())?)?;
-    let mut lists = Vec::new(rt.alloc());
-    lists.push((7, first))?;
-    let mut keeper = MemKeeper::new(rt.alloc(), lists, vec![in rt.alloc(); 2, 3, 5]?);
-    assert_eq!(rt; keeper.append_synced(7, b"a"), Ok(()));
-    assert_eq!(rt; keeper.append_synced(8, b"b"), Err(EdgeRefusal::Failed));
-    assert_eq!(rt; keeper.append_synced(7, b"c"), Err(EdgeRefusal::Failed));
-    let seven = keeper.records(7).ok().ok_or("fails")?;
-    assert!(rt; keeper.records(8).is_err());
-    let eight = keeper.records(8).ok().ok_or("fails")?;
-    let nine = keeper.records(9).ok().ok_or("fails")?;
-    assert_eq!(rt; seven.len(), 2);
-    assert_eq!(rt; seven[0].as_slice(), b"old".as_slice());
-    assert_eq!(rt; seven[1].as_slice(), b"a".as_slice());
-    assert_eq!(rt; eight.len(), 1);
-    assert_eq!(rt; eight[0].as_slice(), b"b".as_slice());
-    assert_eq!(rt; nine.len(), 0);
+    let mut keeper = failing_keeper(rt.alloc())?;
+    for (actor, record, want) in [
+        (7, b"a", Ok(())),
+        (8, b"b", Err(EdgeRefusal::Failed)),
+        (7, b"c", Err(EdgeRefusal::Failed)),
+    ] {
+        assert_eq!(rt; keeper.append_synced(actor, record), want);
+    }
+    for (actor, want) in [
+        (7, Some(b"old;a;".as_slice())),
+        (8, None),
+        (8, Some(b"b;".as_slice())),
+        (9, Some(b"".as_slice())),
+    ] {
+        let found = kept(rt.alloc(), &mut keeper, actor)?;
+        assert_eq!(rt; found.as_deref(), want, "of {actor}");
+    }
     Ok(())
 }
 
