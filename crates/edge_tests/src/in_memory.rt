@@ -20,11 +20,16 @@ fn a_source_fails_at_its_listed_calls(rt: HostRuntime) -> Result<(), Fail> {
 #[test]
 fn a_sink_fails_at_its_listed_calls(rt: HostRuntime) -> Result<(), Fail> {
     let mut sink = MemSink::new(rt.alloc(), vec![in rt.alloc(); 2, 3]?);
-    assert_eq!(rt; sink.write(b"ab"), Ok(2));
-    assert_eq!(rt; sink.write(b"cd"), Err(EdgeRefusal::Failed));
-    assert_eq!(rt; write_all(&mut sink, b"ef"), Err(EdgeRefusal::Failed));
-    assert_eq!(rt; write_all(&mut sink, b""), Ok(()));
-    assert_eq!(rt; write_all(&mut sink, b"gh"), Ok(()));
+    for (bytes, want) in [(b"ab", Ok(2)), (b"cd", Err(EdgeRefusal::Failed))] {
+        assert_eq!(rt; sink.write(bytes), want);
+    }
+    for (bytes, want) in [
+        (b"ef".as_slice(), Err(EdgeRefusal::Failed)),
+        (b"".as_slice(), Ok(())),
+        (b"gh".as_slice(), Ok(())),
+    ] {
+        assert_eq!(rt; write_all(&mut sink, bytes), want);
+    }
     assert_eq!(rt; sink.held(), b"abgh".as_slice());
     Ok(())
 }
@@ -73,28 +78,42 @@ fn a_failing_append_keeps_its_record_at_even_calls(rt: HostRuntime) -> Result<()
     Ok(())
 }
 
-#[test]
-fn links_fail_at_their_listed_calls(rt: HostRuntime) -> Result<(), Fail> {
-    let mut arrivals = Vec::new(rt.alloc());
+/// Links that find nothing, then a datagram for each of two actors, and fail at these calls.
+fn links(alloc: Global, failing: Vec<u64>) -> Result<MemLinks, Fail> {
+    let mut arrivals = Vec::new(alloc);
     arrivals.push((1, None))?;
-    arrivals.push((2, Some(b"two".to_vec(rt.alloc())?)))?;
-    arrivals.push((1, Some(b"one".to_vec(rt.alloc())?)))?;
-    let mut links = MemLinks::new(rt.alloc(), arrivals, vec![in rt.alloc(); 1, 3, 5]?);
+    arrivals.push((2, Some(b"two".to_vec(alloc)?)))?;
+    arrivals.push((1, Some(b"one".to_vec(alloc)?)))?;
+    Ok(MemLinks::new(alloc, arrivals, failing))
+}
+
+#[test]
+fn endpoints_and_datagrams_fail_at_their_listed_calls(rt: HostRuntime) -> Result<(), Fail> {
+    let mut links = links(rt.alloc(), vec![in rt.alloc(); 1, 3]?)?;
     assert_eq!(rt; links.listen(1, "here"), Err(EdgeRefusal::Failed));
     assert_eq!(rt; links.listen(1, "here"), Ok(()));
     assert_eq!(rt; links.send(1, "there", b"lost"), Err(EdgeRefusal::Failed));
     assert_eq!(rt; links.send(1, "there", b"sent"), Ok(()));
+    for opened in links.opened() {
+        assert_eq!(rt; opened.at.as_str(), "here");
+    }
+    for sent in links.sent() {
+        assert_eq!(rt; sent.to.as_str(), "there");
+        assert_eq!(rt; sent.bytes.as_slice(), b"sent".as_slice());
+    }
+    assert_eq!(rt; (links.opened().len(), links.sent().len()), (1, 1));
+    Ok(())
+}
+
+#[test]
+fn arrivals_fail_at_their_listed_calls(rt: HostRuntime) -> Result<(), Fail> {
+    let mut links = links(rt.alloc(), vec![in rt.alloc(); 2]?)?;
+    assert_eq!(rt; links.listen(1, "here"), Ok(()));
     let mut buffer = [0; 1500];
-    assert_eq!(rt; links.receive(1, &mut buffer), Err(Failed));
-    assert_eq!(rt; links.receive(1, &mut buffer), Ok(None));
-    assert_eq!(rt; links.receive(1, &mut buffer), Ok(Some(3)));
-    assert_eq!(rt; links.receive(1, &mut buffer), Ok(None));
+    for want in [Err(Failed), Ok(None), Ok(Some(3)), Ok(None)] {
+        assert_eq!(rt; links.receive(1, &mut buffer), want);
+    }
     assert_eq!(rt; &buffer[..3], b"one".as_slice());
-    assert_eq!(rt; links.opened().len(), 1);
-    assert_eq!(rt; links.opened()[0].at.as_str(), "here");
-    assert_eq!(rt; links.sent().len(), 1);
-    assert_eq!(rt; links.sent()[0].to.as_str(), "there");
-    assert_eq!(rt; links.sent()[0].bytes.as_slice(), b"sent".as_slice());
     Ok(())
 }
 
