@@ -1,5 +1,6 @@
 // The verdict on a transcript, and its line.
-ghost use Rattle.std.specs.Prelude.{◌≡◌, ◌++◌, ℕ, List, OnOk, IfOk, codes, decimal, length};
+ghost use Rattle.std.specs.Prelude.{◌≡◌, ◌++◌, ℕ, List, [], OnOk, IfOk, codes, decimal, length};
+ghost use Rattle.run_audit.specs.Auditing.{StandsFor};
 ghost use Rattle.transcript_audit.specs.Audits.{IsJudged};
 ghost use Rattle.transcript_audit.specs.Groups.{Group, Rise};
 ghost use Rattle.transcript_audit.specs.Places.{Finds, Stand, lines_in};
@@ -145,6 +146,30 @@ pub fn push_verdict(
     }
 }
 
+// The first breach of the groups, if there is one, as an auditor of nothing yet finds it.
+fn judge_each(
+    alloc: Global,
+    bytes: &[u8],
+    places: &Places,
+    auditor: &mut Auditor,
+    moment: &mut Moment,
+) -> Result<Option<Breach>, OutOfMemory>
+    requires { Stand bytes.now places.now }
+    ensures { (groups : List Group) → StandsFor auditor.old [] → Finds bytes.now places.now groups → Rise (lines_in places.now) → IfOk result (λ b. IsJudged groups (length places.now.table.entries) b) }
+{
+    for index in 0..places.count() {
+        let Some((_, at)) = places.entry(index) else {
+            return Ok(None);
+        };
+        read_group(alloc, &bytes[at..], moment)?;
+        let breach = auditor.moment(moment)?;
+        if breach.is_some() {
+            return Ok(breach);
+        }
+    }
+    Ok(None)
+}
+
 /// The verdict on the groups of a transcript, which stand in the order of their LINEs.
 pub fn judge(alloc: Global, bytes: &[u8], places: &Places) -> Result<Option<Breach>, OutOfMemory>
     requires { Stand bytes.now places.now }
@@ -156,15 +181,5 @@ pub fn judge(alloc: Global, bytes: &[u8], places: &Places) -> Result<Option<Brea
         clocks: Vec::new(alloc),
         entry: None,
     };
-    for index in 0..places.count() {
-        let Some((_, at)) = places.entry(index) else {
-            return Ok(None);
-        };
-        read_group(alloc, &bytes[at..], &mut moment)?;
-        let breach = auditor.moment(&moment)?;
-        if breach.is_some() {
-            return Ok(breach);
-        }
-    }
-    Ok(None)
+    judge_each(alloc, bytes, places, &mut auditor, &mut moment)
 }
