@@ -6,6 +6,7 @@ ghost use Rattle.line_format.specs.Reports.{report_text, report_line, sent_line}
 
 mod head;
 mod list;
+mod pair;
 mod refused;
 mod ring;
 mod unit;
@@ -18,10 +19,11 @@ use list::{
     name_list_of, partitions_of, push_name_list, push_resolved, push_units, push_unresolved,
     resolved_of, unresolved_of,
 };
+use pair::{push_number_behind, push_who_behind};
 use refused::{push_left, push_refused, refused_of};
-use ring::{push_flight, push_found, push_heir, push_nowhere, push_of, push_own, push_ranges_of};
+use ring::{push_flight, push_found, push_heir, push_nowhere, push_own, push_ranges_of};
 use std::alloc::Global;
-use text_fields::{after_word, push_bytes, push_number};
+use text_fields::{after_word, push_bytes};
 use unit::{push_entry, push_in, unit_report_of};
 
 // A report that takes no memory.
@@ -71,8 +73,8 @@ fn push_report(into: &mut Vec<u8>, report: &Report) -> Result<(), OutOfMemory>
 {
     match report {
         Report::Own(ranges, fence) => push_own(into, ranges, *fence),
-        Report::Accused(who) => push_of(into, b"accused ", *who),
-        Report::Discharged(who) => push_of(into, b"discharged ", *who),
+        Report::Accused(who) => push_who_behind(into, b"accused ", *who),
+        Report::Discharged(who) => push_who_behind(into, b"discharged ", *who),
         Report::Heir(who, ripe) => push_heir(into, *who, *ripe),
         Report::TookOver(who, ranges) => push_ranges_of(into, b"tookover ", *who, ranges),
         Report::Gave(to, flight, ranges) => push_flight(into, b"gave ", *to, *flight, ranges),
@@ -120,10 +122,8 @@ fn push_sent_line(into: &mut Vec<u8>, head: &Head, sent: (u32, u32)) -> Result<(
     ensures kept { Keeps into.old.items into.new.items }
 {
     push_head(into, head)?;
-    push_bytes(into, b" sent ")?;
-    push_number(into, u64::from(sent.0))?;
-    push_bytes(into, b"-")?;
-    push_number(into, u64::from(sent.1))?;
+    push_number_behind(into, b" sent ", u64::from(sent.0))?;
+    push_number_behind(into, b"-", u64::from(sent.1))?;
     push_bytes(into, b"\n")
 }
 

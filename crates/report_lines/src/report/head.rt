@@ -1,15 +1,13 @@
-ghost use Rattle.std.specs.Prelude.{◌≡◌, ◌++◌, codes, decimal, OnOk};
-ghost use Rattle.text_fields.specs.Numbers.{optional_text};
+ghost use Rattle.std.specs.Prelude.{◌≡◌, ◌++◌, OnOk};
 ghost use Rattle.text_fields.specs.Fields.{Gives};
 ghost use Rattle.text_fields.specs.Texts.{Keeps};
 ghost use Rattle.line_format.specs.Heads.{has_its_reading, head_at, head_text};
 
+use super::pair::{push_optional_behind, push_who_behind};
 use fabric_terms::{Head, OutOfMemory};
 use line_format::BadLine;
 use ring_points::{ARBITRATORS, Who};
-use text_fields::{
-    number_word, optional_word, push_bytes, push_number, push_optional, push_who, who_word,
-};
+use text_fields::{number_word, optional_word, push_number, who_word};
 
 // An arbitrator has no reading, and a node has one.
 fn has_its_reading(who: Who, reading: Option<u64>) -> bool
@@ -42,25 +40,13 @@ pub fn head_at(line: &[u8]) -> Result<(Head, &[u8]), BadLine>
     Ok((head, rest))
 }
 
-// The line and the time, with a blank behind each.
-fn push_moment(into: &mut Vec<u8>, line: u64, time: Option<u64>) -> Result<(), OutOfMemory>
-    ensures ok { OnOk result (into.new.items
-        ≡ into.old.items ++ (decimal line ++ (codes " " ++ (optional_text time ++ codes " ")))) }
-    ensures kept { Keeps into.old.items into.new.items }
-{
-    push_number(into, line)?;
-    push_bytes(into, b" ")?;
-    push_optional(into, time)?;
-    push_bytes(into, b" ")
-}
-
 /// Appends a head.
 pub fn push_head(into: &mut Vec<u8>, head: &Head) -> Result<(), OutOfMemory>
     ensures ok { OnOk result (into.new.items ≡ into.old.items ++ head_text head.now) }
     ensures kept { Keeps into.old.items into.new.items }
 {
-    push_moment(into, head.line, head.time)?;
-    push_who(into, head.who)?;
-    push_bytes(into, b" ")?;
-    push_optional(into, head.reading)
+    push_number(into, head.line)?;
+    push_optional_behind(into, b" ", head.time)?;
+    push_who_behind(into, b" ", head.who)?;
+    push_optional_behind(into, b" ", head.reading)
 }

@@ -8,6 +8,7 @@ ghost use Rattle.line_format.specs.Lists.{partitions_of, partitions_text, names_
 ghost use Rattle.line_format.specs.Names.{name_at};
 ghost use Rattle.line_format.specs.Readers.{Reads, value_of, named_of, resolved_made, name_list_of, unresolved_of};
 
+use super::pair::{push_behind, push_number_behind};
 use crate::field::{partition_at, partition_word, text_of};
 use crate::name::{last_name, name_at, name_word};
 use fabric_terms::{NameText, NameTexts, NameValue, OutOfMemory, Partitions, Report};
@@ -60,8 +61,7 @@ fn push_partitions(into: &mut Vec<u8>, partitions: &[u16]) -> Result<(), OutOfMe
         [first, more @ ..] => {
             push_number(into, u64::from(*first))?;
             for n in more {
-                push_bytes(into, b",")?;
-                push_number(into, u64::from(*n))?;
+                push_number_behind(into, b",", u64::from(*n))?;
             }
             Ok(())
         }
@@ -107,10 +107,8 @@ fn push_named(
     ensures ok { OnOk result (into.new.items ≡ into.old.items ++ (word.now ++ spaced (decimal partition ∷ name.now ∷ []))) }
     ensures kept { Keeps into.old.items into.new.items }
 {
-    push_bytes(into, word)?;
-    push_number(into, u64::from(partition))?;
-    push_bytes(into, b" ")?;
-    push_bytes(into, name.as_slice())
+    push_number_behind(into, word, u64::from(partition))?;
+    push_behind(into, b" ", name.as_slice())
 }
 
 /// Appends what a name stands for.
@@ -125,8 +123,7 @@ pub fn push_resolved(
     ensures kept { Keeps into.old.items into.new.items }
 {
     push_named(into, b"resolved ", partition, name)?;
-    push_bytes(into, b" ")?;
-    push_bytes(into, value.as_slice())
+    push_behind(into, b" ", value.as_slice())
 }
 
 /// That a name stands for nothing, behind the report's word.
@@ -201,11 +198,9 @@ fn push_names(into: &mut Vec<u8>, names: &[NameText]) -> Result<(), OutOfMemory>
     match names {
         [] => Ok(()),
         [first, more @ ..] => {
-            push_bytes(into, b" ")?;
-            push_bytes(into, first.as_slice())?;
+            push_behind(into, b" ", first.as_slice())?;
             for name in more {
-                push_bytes(into, b",")?;
-                push_bytes(into, name.as_slice())?;
+                push_behind(into, b",", name.as_slice())?;
             }
             Ok(())
         }
@@ -222,7 +217,6 @@ pub fn push_name_list(
         ≡ into.old.items ++ spaced (codes "names" ∷ (decimal partition ++ names_text names.now) ∷ [])) }
     ensures kept { Keeps into.old.items into.new.items }
 {
-    push_bytes(into, b"names ")?;
-    push_number(into, u64::from(partition))?;
+    push_number_behind(into, b"names ", u64::from(partition))?;
     push_names(into, names)
 }

@@ -5,9 +5,10 @@ ghost use Rattle.text_fields.specs.Texts.{Keeps, spaced};
 ghost use Rattle.line_format.specs.Readers.{refused_of};
 ghost use Rattle.line_format.specs.Refusals.{why_text, all_whys, why_of, verb_text, verb_at, reason_word, reason_text, plain_reasons, reason_of};
 
+use super::pair::{push_behind, push_number_behind};
 use fabric_terms::{OutOfMemory, Reason, Report, Verb, Why};
 use line_format::BadLine;
-use text_fields::{after_word, last_number, push_bytes, push_number};
+use text_fields::{after_word, last_number, push_bytes};
 
 /// The greatest number of fault domains that a reason tells.
 const MOST_DOMAINS: u64 = 255;
@@ -84,8 +85,7 @@ pub fn push_left(into: &mut Vec<u8>, why: Why) -> Result<(), OutOfMemory>
     ensures ok { OnOk result (into.new.items ≡ into.old.items ++ spaced (codes "left" ∷ why_text why ∷ [])) }
     ensures kept { Keeps into.old.items into.new.items }
 {
-    push_bytes(into, b"left ")?;
-    push_bytes(into, why_text(why))
+    push_behind(into, b"left ", why_text(why))
 }
 
 fn verb_text(verb: Verb) -> &'static [u8]
@@ -180,8 +180,7 @@ fn push_reason(into: &mut Vec<u8>, reason: Reason) -> Result<(), OutOfMemory>
 {
     push_bytes(into, reason_word(reason))?;
     if let Reason::TooFew(domains) = reason {
-        push_bytes(into, b" ")?;
-        push_number(into, u64::from(domains))?;
+        push_number_behind(into, b" ", u64::from(domains))?;
     }
     Ok(())
 }
@@ -192,8 +191,7 @@ pub fn push_refused(into: &mut Vec<u8>, verb: Verb, reason: Reason) -> Result<()
         ≡ into.old.items ++ spaced (codes "refused" ∷ verb_text verb ∷ reason_text reason ∷ [])) }
     ensures kept { Keeps into.old.items into.new.items }
 {
-    push_bytes(into, b"refused ")?;
-    push_bytes(into, verb_text(verb))?;
+    push_behind(into, b"refused ", verb_text(verb))?;
     push_bytes(into, b" ")?;
     push_reason(into, reason)
 }

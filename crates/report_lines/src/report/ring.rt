@@ -9,14 +9,17 @@ ghost use Rattle.text_fields.specs.Points.{point_text};
 ghost use Rattle.text_fields.specs.Texts.{Keeps, spaced};
 ghost use Rattle.line_format.specs.Readers.{flight_of, tookover_of, move_of, accused_of, discharged_of, heir_of, peer_report_of, own_of, found_of, ring_report_of};
 
+use super::pair::{
+    push_number_behind, push_optional_behind, push_point_behind, push_ranges_behind,
+    push_who_behind,
+};
 use super::refused::why_of;
 use fabric_terms::{OutOfMemory, Report};
 use line_format::BadLine;
 use ring_points::{Point, RangeSet, Who};
 use text_fields::{
     BadField, after_word, last_number, last_optional, last_point, last_ranges, last_who,
-    number_word, point_word, push_bytes, push_number, push_optional, push_point, push_ranges,
-    push_who, ranges_word, who_word,
+    number_word, point_word, ranges_word, who_word,
 };
 
 /// The greatest number of a flight.
@@ -141,16 +144,7 @@ pub fn ring_report_of(words: &[u8]) -> Result<Report, BadLine>
     }
 }
 
-/// Appends a word that ends with a blank, and an instance.
-pub fn push_of(into: &mut Vec<u8>, word: &[u8], who: Who) -> Result<(), OutOfMemory>
-    ensures ok { OnOk result (into.new.items ≡ into.old.items ++ (word.now ++ who_text who)) }
-    ensures kept { Keeps into.old.items into.new.items }
-{
-    push_bytes(into, word)?;
-    push_who(into, who)
-}
-
-/// The same, and ranges.
+/// Appends a word that ends with a blank, an instance and ranges.
 pub fn push_ranges_of(
     into: &mut Vec<u8>,
     word: &[u8],
@@ -161,9 +155,8 @@ pub fn push_ranges_of(
         ≡ into.old.items ++ (word.now ++ spaced (who_text who ∷ ranges_text ranges.now ∷ []))) }
     ensures kept { Keeps into.old.items into.new.items }
 {
-    push_of(into, word, who)?;
-    push_bytes(into, b" ")?;
-    push_ranges(into, ranges.intervals())
+    push_who_behind(into, word, who)?;
+    push_ranges_behind(into, b" ", ranges)
 }
 
 /// The same with a flight's number between.
@@ -178,11 +171,9 @@ pub fn push_flight(
         ≡ into.old.items ++ (word.now ++ spaced (who_text who ∷ decimal flight ∷ ranges_text ranges.now ∷ []))) }
     ensures kept { Keeps into.old.items into.new.items }
 {
-    push_of(into, word, who)?;
-    push_bytes(into, b" ")?;
-    push_number(into, u64::from(flight))?;
-    push_bytes(into, b" ")?;
-    push_ranges(into, ranges.intervals())
+    push_who_behind(into, word, who)?;
+    push_number_behind(into, b" ", u64::from(flight))?;
+    push_ranges_behind(into, b" ", ranges)
 }
 
 /// Appends what a node owns, and up to which reading.
@@ -195,10 +186,8 @@ pub fn push_own(
         ≡ into.old.items ++ spaced (codes "own" ∷ ranges_text ranges.now ∷ optional_text fence ∷ [])) }
     ensures kept { Keeps into.old.items into.new.items }
 {
-    push_bytes(into, b"own ")?;
-    push_ranges(into, ranges.intervals())?;
-    push_bytes(into, b" ")?;
-    push_optional(into, fence)
+    push_ranges_behind(into, b"own ", ranges)?;
+    push_optional_behind(into, b" ", fence)
 }
 
 /// Appends of whom a node is the heir, and when it takes over.
@@ -207,9 +196,8 @@ pub fn push_heir(into: &mut Vec<u8>, who: Who, ripe: u64) -> Result<(), OutOfMem
         ≡ into.old.items ++ spaced (codes "heir" ∷ who_text who ∷ decimal ripe ∷ [])) }
     ensures kept { Keeps into.old.items into.new.items }
 {
-    push_of(into, b"heir ", who)?;
-    push_bytes(into, b" ")?;
-    push_number(into, ripe)
+    push_who_behind(into, b"heir ", who)?;
+    push_number_behind(into, b" ", ripe)
 }
 
 /// Appends the holder of a point.
@@ -218,10 +206,8 @@ pub fn push_found(into: &mut Vec<u8>, key: Point, who: Who) -> Result<(), OutOfM
         ≡ into.old.items ++ spaced (codes "found" ∷ point_text key.0 ∷ who_text who ∷ [])) }
     ensures kept { Keeps into.old.items into.new.items }
 {
-    push_bytes(into, b"found ")?;
-    push_point(into, key.0)?;
-    push_bytes(into, b" ")?;
-    push_who(into, who)
+    push_point_behind(into, b"found ", key.0)?;
+    push_who_behind(into, b" ", who)
 }
 
 /// Appends that no way to a point is known.
@@ -229,6 +215,5 @@ pub fn push_nowhere(into: &mut Vec<u8>, key: Point) -> Result<(), OutOfMemory>
     ensures ok { OnOk result (into.new.items ≡ into.old.items ++ spaced (codes "nowhere" ∷ point_text key.0 ∷ [])) }
     ensures kept { Keeps into.old.items into.new.items }
 {
-    push_bytes(into, b"nowhere ")?;
-    push_point(into, key.0)
+    push_point_behind(into, b"nowhere ", key.0)
 }

@@ -5,13 +5,14 @@ ghost use Rattle.text_fields.specs.Fields.{Gives};
 ghost use Rattle.text_fields.specs.Texts.{Keeps, spaced};
 ghost use Rattle.line_format.specs.Readers.{in_epoch, entry_of, entry_report_of, manager_report_of, unit_report_of};
 
+use super::pair::push_number_behind;
 use super::ring::ring_report_of;
 use crate::field::partition_word;
 use fabric_terms::{OutOfMemory, Report};
 use line_format::BadLine;
 use ring_points::Epoch;
 use text_fields::{
-    BadField, after_word, epoch_word, last_epoch, last_number, push_bytes, push_epoch, push_number,
+    BadField, after_word, epoch_word, last_epoch, last_number, push_bytes, push_epoch,
 };
 
 /// The greatest number of an entry.
@@ -96,8 +97,7 @@ pub fn push_in(
         ≡ into.old.items ++ (word.now ++ spaced (decimal partition ∷ epoch_text epoch ∷ []))) }
     ensures kept { Keeps into.old.items into.new.items }
 {
-    push_bytes(into, word)?;
-    push_number(into, u64::from(partition))?;
+    push_number_behind(into, word, u64::from(partition))?;
     push_bytes(into, b" ")?;
     push_epoch(into, epoch)
 }
@@ -115,6 +115,5 @@ pub fn push_entry(
     ensures kept { Keeps into.old.items into.new.items }
 {
     push_in(into, word, partition, epoch)?;
-    push_bytes(into, b" ")?;
-    push_number(into, u64::from(lsn))
+    push_number_behind(into, b" ", u64::from(lsn))
 }
