@@ -13,9 +13,10 @@ use text_fields::{number_word, optional_word, push_number, who_word};
 fn has_its_reading(who: Who, reading: Option<u64>) -> bool
     ensures { result ≡ has_its_reading who reading }
 {
+    let is_arbiter = who.actor > ARBITRATORS;
     match reading {
-        None => who.actor > ARBITRATORS,
-        Some(_) => who.actor <= ARBITRATORS,
+        None => is_arbiter,
+        Some(_) => !is_arbiter,
     }
 }
 
