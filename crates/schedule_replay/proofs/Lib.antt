@@ -1,1 +1,2 @@
 pub mod ShortLines
+mod Taking

@@ -63,6 +63,36 @@ fn end_lines<T: Teller>(teller: &T, world: &World, text: &mut Vec<u8>) -> Result
     }
 }
 
+/// Takes the lines behind line 1 in a world that has taken none, and writes what is told of them.
+fn take_rest<T: Teller, S: Source, K: Sink>(
+    world: &mut World,
+    teller: &mut T,
+    reader: &mut LineReader,
+    source: &mut S,
+    text: &mut Vec<u8>,
+    sink: &mut K,
+) -> Result<(), Halt>
+    requires first { (c : Configuration) × At world.old (T.knows teller.old) c [] }
+    requires heading { text.old.items ≡ T.telling.heading }
+    ensures halts { (c : Configuration) (bytes : List ℕ) → At world.old (T.knows teller.old) c [] → S.left source.old ≡ Some bytes → HaltsAt T.telling result (judge_from c [] 2 (lines_of (reader.old.waiting ++ bytes))) (S.left source.new) (K.held sink.old) (K.held sink.new) text.new.items }
+    ensures source_failed { result ≡ Err Halt.SourceFailed → HasRisen (S.faults source.old) (S.faults source.new) }
+    ensures sink_failed { result ≡ Err Halt.SinkFailed → HasRisen (K.faults sink.old) (K.faults sink.new) }
+    ensures later { K.faults sink.old ≤ K.faults sink.new }
+{
+    let mut readings = TickReadings::new();
+    for number in 2..u64::MAX {
+        match take_next(world, teller, reader, source, number, &mut readings, text) {
+            Ok(true) => match send_full(sink, text) {
+                Ok(()) => {}
+                Err(halt) => return Err(halt),
+            },
+            Ok(false) => return end_lines(teller, world, text),
+            Err(halt) => return Err(halt),
+        }
+    }
+    Err(Halt::OutOfMemory)
+}
+
 /// Takes the lines behind line 1, and writes what is told of them.
 fn take_lines<T: Teller, S: Source, K: Sink>(
     alloc: Global,
@@ -81,30 +111,10 @@ fn take_lines<T: Teller, S: Source, K: Sink>(
     ensures sink_failed { result ≡ Err Halt.SinkFailed → HasRisen (K.faults sink.old) (K.faults sink.new) }
     ensures later { K.faults sink.old ≤ K.faults sink.new }
 {
-    let mut world = match World::new(alloc, config) {
-        Ok(world) => world,
-        Err(_) => return Err(Halt::OutOfMemory),
-    };
-    let mut readings = TickReadings::new();
-    for number in 2..u64::MAX {
-        match take_next(
-            &mut world,
-            teller,
-            reader,
-            source,
-            number,
-            &mut readings,
-            text,
-        ) {
-            Ok(true) => match send_full(sink, text) {
-                Ok(()) => {}
-                Err(halt) => return Err(halt),
-            },
-            Ok(false) => return end_lines(teller, &world, text),
-            Err(halt) => return Err(halt),
-        }
+    match World::new(alloc, config) {
+        Ok(mut world) => take_rest(&mut world, teller, reader, source, text, sink),
+        Err(_) => Err(Halt::OutOfMemory),
     }
-    Err(Halt::OutOfMemory)
 }
 
 /// Takes all lines, and writes what is told of them.
