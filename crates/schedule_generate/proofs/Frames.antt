@@ -1,5 +1,5 @@
 -- A frame is considered: it is lost, given once or given twice.
-use Rattle.std.proofs.Common.{◌≡◌, ◌≢◌, ℕ, ◌+◌, zero, suc, List, [], ◌∷◌, All, refl, ap, sym, subst, ◌∙◌, map}
+use Rattle.std.proofs.Common.{◌≡◌, ◌≢◌, ◌≤◌, ◌<◌, ℕ, ◌+◌, zero, suc, List, [], ◌∷◌, All, refl, ap, sym, subst, ◌∙◌, arith, map}
 use Rattle.std.specs.Prelude.{◌%◌}
 use Rattle.std.proofs.lemmas.List.Elements.{All-nil, All-cons, All-head, All-tail}
 use Rattle.fabric_terms.specs.Ranges.{Fits, IsReading}
@@ -25,6 +25,10 @@ considered_on w knows n a b text before g sent at here is drawn =
       known = at.known;
       told = at.told;
     })
+
+-- the next frame was sent where more frames were sent than were considered
+pub next_sent : (before frame count : ℕ) → frame ≡ before + 1 → before < count → (1 ≤ frame) × (frame ≤ count)
+next_sent before frame count is more = (omega arith, omega arith)
 
 by_draw : (c : FabricConfig) (g : Course) (draw k : ℕ) → (pcg32 g.draws).0 ≡ draw → draw % 8 ≡ k
     → considered_next c g ≡ taken_all c (gives_of (g.considered + 1) k) (record g { considered = g.considered + 1; draws = (pcg32 g.draws).1 })

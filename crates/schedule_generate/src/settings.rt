@@ -4,7 +4,7 @@ ghost use Rattle.fabric_terms.specs.Sound.{IsSound};
 ghost use Rattle.schedule_generate.specs.Settings.{config_line, generated_config, node_text, nodes_text, point_of_node};
 
 use crate::lines::push_counted;
-use fabric_config::read_config;
+use fabric_config::{ConfigError, read_config};
 use fabric_terms::{FabricConfig, OutOfMemory};
 use std::alloc::Global;
 use text_fields::{push_bytes, push_point};
@@ -72,6 +72,7 @@ pub fn config_of(alloc: Global, nodes: u16) -> Result<FabricConfig, OutOfMemory>
     push_config_line(&mut line, nodes)?;
     match read_config(alloc, &line) {
         Ok(config) => Ok(config),
-        Err(_) => Err(OutOfMemory),
+        Err(ConfigError::OutOfMemory) => Err(OutOfMemory),
+        Err(_) => unreachable!(),
     }
 }
