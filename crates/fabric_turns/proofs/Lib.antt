@@ -1,6 +1,7 @@
 mod Doing
 mod Acting
 mod Starting
+mod Through
 mod Stepping
 mod Coming
 mod Places

@@ -8,6 +8,7 @@ use Rattle.fabric_terms.specs.declared.report.Why.{Why}
 use Rattle.fabric_turns.specs.Runs.{Run}
 use Rattle.outside.specs.Told.{Told, ReadsClock}
 use Rattle.ring_rules.specs.declared.input.Input.{Input}
+use Rattle.turn_effects.specs.Carried.{CarriesOut}
 use Rattle.turn_members.specs.Members.{Does, IsDeedOf, IsOf, seen}
 use Rattle.turn_members.specs.declared.deed.Deed.{Deed}
 use Rattle.turn_members.specs.declared.member.Member.{Member}
@@ -61,6 +62,12 @@ why_of (Some m) = left_of (seen m)
 
 abbrev pub left_at : List Member → ℕ → Option Why
 left_at members place = why_of (slice_get members place)
+
+-- This work is done, and its actor goes on or has left; or it is cut short.
+abbrev pub CarriesThrough : Work → Option Why → Told → Told → Result (Unit {0}) Stop → Type 0
+CarriesThrough work left b c (Ok done) = CarriesOut work b c (Ok done) × (left ≡ None)
+CarriesThrough work left b c (Err (stop.Left why)) = CarriesOut work b c (Ok tt) × (left ≡ Some why)
+CarriesThrough work left b c (Err stopped) = CarriesOut work b c (Err stopped)
 
 -- The clock was read: this counts, and is the last reading from now on.
 pub record ReadOn (told : ℕ) (old : Run) (b : Told) (new : Run) (c : Told) : Type 0 where

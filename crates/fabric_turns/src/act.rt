@@ -4,7 +4,7 @@ ghost use Rattle.edge_io.specs.Arrivals.{IsListening};
 ghost use Rattle.fabric_terms.specs.declared.record.Record.{Record};
 ghost use Rattle.fabric_turns.specs.Moves.{Reaches};
 ghost use Rattle.fabric_turns.specs.Runs.{IsReady, IsStep, Meets};
-ghost use Rattle.fabric_turns.specs.Steps.{work_in};
+ghost use Rattle.fabric_turns.specs.Steps.{CarriesThrough, left_at, work_in};
 ghost use Rattle.node_core.specs.Nodes.{FitsInput};
 ghost use Rattle.outside.specs.Told.{Told};
 ghost use Rattle.turn_effects.specs.Carried.{CarriesOut};
@@ -24,7 +24,7 @@ use turn_members::{ArbiterError, Deed};
 use turn_rules::Stop;
 
 /// Does what a deed leaves to do.
-pub(crate) fn carry_deed<O: Outside>(
+fn carry_deed<O: Outside>(
     outside: &mut O,
     alloc: Global,
     config: &FabricConfig,
@@ -44,6 +44,27 @@ pub(crate) fn carry_deed<O: Outside>(
         outcome.frames.as_slice(),
         outcome.reports.as_slice(),
     )
+}
+
+/// Does what a deed of the actor at a place leaves to do, and ends the run where the actor has left.
+pub(crate) fn carry_through<O: Outside>(
+    outside: &mut O,
+    alloc: Global,
+    plan: &Plan,
+    run: &Run,
+    place: usize,
+    deed: &Deed,
+) -> Result<(), Stop>
+    requires place { place < length run.now.members }
+    requires listens { IsListening deed.now.head.who.actor (O.told outside.old).opened }
+    requires deed { (actor : ℕ) × IsDeedOf actor deed.now }
+    ensures { CarriesThrough (work_in plan.now.config deed.now) (left_at run.now.members place) (O.told outside.old) (O.told outside.new) result }
+{
+    carry_deed(outside, alloc, plan.config(), deed)?;
+    match run.left_at(place) {
+        None => Ok(()),
+        Some(why) => Err(Stop::Left(why)),
+    }
 }
 
 /// The step of an actor in a turn, carried out.
@@ -68,12 +89,6 @@ pub(crate) fn act<O: Outside>(
     match run.step(alloc, turn, place, input) {
         Err(ArbiterError::OutOfMemory) => Err(Stop::OutOfMemory),
         Err(ArbiterError::TableFull) => Err(Stop::TableFull),
-        Ok(deed) => {
-            carry_deed(outside, alloc, plan.config(), &deed)?;
-            match run.left_at(place) {
-                None => Ok(()),
-                Some(why) => Err(Stop::Left(why)),
-            }
-        }
+        Ok(deed) => carry_through(outside, alloc, plan, run, place, &deed),
     }
 }

@@ -1,10 +1,11 @@
 // What is kept of the actors, and their endpoints.
-ghost use Rattle.std.specs.Prelude.{◌≡◌, ◌==◌, if◌then◌else◌, length, map, vec_items};
+ghost use Rattle.std.specs.Prelude.{◌≡◌, ◌==◌, ◌++◌, ◌∷◌, [], OnOk, Some, if◌then◌else◌, length, map, vec_items};
 ghost use Rattle.fabric_turns.specs.Opening.{RecallsAll, RecallsOne, ReadsFor, OpensAll};
 ghost use Rattle.world_rules.specs.Events.{is_arbiter_actor};
 
 use crate::plan::Plan;
 use edge_io::EdgeRefusal;
+use fabric_terms::OutOfMemory;
 use keep_log::{Kept, KeptError, read_records};
 use outside::Outside;
 use ring_points::ARBITRATORS;
@@ -52,6 +53,14 @@ fn recall<O: Outside>(outside: &mut O, alloc: Global, actor: u16) -> Result<Kept
     }
 }
 
+/// Adds what is kept of an actor.
+fn push_kept(kept: Kept, into: &mut Vec<Option<Kept>>) -> Result<(), OutOfMemory>
+    ensures { OnOk result (into.new.items ≡ into.old.items ++ Some kept ∷ []) }
+{
+    into.push(Some(kept))?;
+    Ok(())
+}
+
 /// What is kept of each actor.
 pub(crate) fn recall_all<O: Outside>(
     outside: &mut O,
@@ -63,7 +72,7 @@ pub(crate) fn recall_all<O: Outside>(
     let mut all = Vec::new(alloc);
     for place in 0..plan.len() {
         let kept = recall(outside, alloc, plan.actor_at(place))?;
-        match all.push(Some(kept)) {
+        match push_kept(kept, &mut all) {
             Ok(()) => {}
             Err(_) => return Err(Stop::OutOfMemory),
         }

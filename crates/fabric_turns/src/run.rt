@@ -8,7 +8,7 @@ ghost use Rattle.turn_rules.specs.Plans.{Plan as PlanOf};
 ghost use Rattle.turn_rules.specs.Steps.{present};
 
 use crate::plan::Plan;
-use fabric_terms::Why;
+use fabric_terms::{OutOfMemory, Why};
 use keep_log::Kept;
 use ring_node::Input;
 use std::alloc::Global;
@@ -81,6 +81,14 @@ impl Run {
         self.members[place].step(alloc, turn, now, input)
     }
 
+    /// Puts an actor behind those that run.
+    fn add(&mut self, member: Member) -> Result<(), OutOfMemory>
+        ensures { OnOk result (self.new ≡ record { members = self.old.members ++ member ∷ []; last = self.old.last }) }
+    {
+        self.members.push(member)?;
+        Ok(())
+    }
+
     /// Starts the actor of the plan at a place, behind those that run.
     pub(crate) fn join(
         &mut self,
@@ -98,10 +106,8 @@ impl Run {
     {
         let now = self.present();
         let (member, deed) = Member::begin(alloc, plan.config(), plan.actor_at(place), kept, now)?;
-        match self.members.push(member) {
-            Ok(()) => Ok(deed),
-            Err(_) => Err(ArbiterError::OutOfMemory),
-        }
+        self.add(member)?;
+        Ok(deed)
     }
 
     /// Why the actor at a place has left the ring, if it has.

@@ -9,7 +9,7 @@ ghost use Rattle.turn_rules.specs.Order.{Place, Starting, Turning, Busy, Firing,
 ghost use Rattle.turn_rules.specs.Plans.{is_node_at, orders_at, commands_in};
 ghost use Rattle.turn_rules.specs.Whole.{setting};
 
-use crate::act::carry_deed;
+use crate::act::carry_through;
 use crate::clock::read_clock;
 use crate::plan::Plan;
 use crate::run::Run;
@@ -42,13 +42,7 @@ fn join<O: Outside>(
     match run.join(alloc, plan, kept, place) {
         Err(ArbiterError::OutOfMemory) => Err(Stop::OutOfMemory),
         Err(ArbiterError::TableFull) => Err(Stop::TableFull),
-        Ok(deed) => {
-            carry_deed(outside, alloc, plan.config(), &deed)?;
-            match run.left_at(place) {
-                None => Ok(()),
-                Some(why) => Err(Stop::Left(why)),
-            }
-        }
+        Ok(deed) => carry_through(outside, alloc, plan, run, place, &deed),
     }
 }
 

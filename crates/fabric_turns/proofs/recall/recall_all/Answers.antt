@@ -14,4 +14,4 @@ returns-in_err-kept g c =
 pub loop-place-preserved : goal.loop-place-preserved
 loop-place-preserved g c =
     let e = c.actor_at.ensures in
-    so_far_more c.args.plan.now _ _ _ c.loop-place.place c.actor_at.result e.0 c.loop-place.all.items c.push.new.self.items c.in_ok-kept.kept c.loop-place.invariant e.1.0 e.1.1 c.in_ok-kept.ensures c.in-Ok.ensures.items
+    so_far_more c.args.plan.now _ _ _ c.loop-place.place c.actor_at.result e.0 c.loop-place.all.items c.push_kept.new.into.items c.in_ok-kept.kept c.loop-place.invariant e.1.0 e.1.1 c.in_ok-kept.ensures c.in-Ok.ensures

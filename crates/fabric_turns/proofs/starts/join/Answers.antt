@@ -1,9 +1,9 @@
-use Rattle.std.proofs.Common.{rules, arith, length, ◌+◌, ◌≡◌, ◌∙◌, sym}
-use Rattle.std.proofs.lemmas.Result.{err_from_is_err_and}
-use Rattle.fabric_turns.proofs.Acting.{short_at, carried_opened}
-use Rattle.fabric_turns.proofs.Starting.{join_broken, join_done, join_full, join_left, length_join, named_join, ready_join}
+use Rattle.std.proofs.Common.{rules, arith, length, ◌+◌, ◌≡◌}
+use Rattle.fabric_turns.proofs.Acting.{short_at}
+use Rattle.fabric_turns.proofs.Starting.{join_full, length_join, named_join, ready_join}
+use Rattle.fabric_turns.proofs.Through.{join_through, on_ok, through_opened}
 use Rattle.fabric_turns.proofs.starts.join.Goals as goal
-use Rattle.fabric_turns.specs.Steps.{work_in}
+use Rattle.fabric_turns.specs.Steps.{left_at, work_in}
 use Rattle.turn_rules.specs.Whole.{setting}
 
 pub returns-in-Err-OutOfMemory-clause-done : goal.returns-in-Err-OutOfMemory-clause-done
@@ -13,40 +13,41 @@ pub returns-in-Err-TableFull-clause-done : goal.returns-in-Err-TableFull-clause-
 returns-in-Err-TableFull-clause-done g c = λ list records a h x p here is m.
     join_full (setting c.args.plan.now list) a _ c.args.run.now h x p c.args.place records here m (c.join.ensures.full (search rules) records is)
 
-pub carry_deed-requires-clause-listens : goal.carry_deed-requires-clause-listens
-carry_deed-requires-clause-listens g c =
+pub carry_through-requires-clause-place : goal.carry_through-requires-clause-place
+carry_through-requires-clause-place g c =
+    let k = c.requires.kept in
+    let more : length c.join.new.self.members ≡ c.args.place + 1 = length_join c.args.plan.now k.0 c.args.run.now c.args.place c.in-Ok.deed c.join.new.self (c.in-Ok.ensures.does k.0 k.1) c.requires.next in
+    omega (arith, more)
+
+pub carry_through-requires-clause-listens : goal.carry_through-requires-clause-listens
+carry_through-requires-clause-listens g c =
     let k = c.requires.kept in
     named_join c.args.plan.now k.0 c.args.run.now _ c.args.place c.in-Ok.deed c.join.new.self c.requires.ready (c.in-Ok.ensures.does k.0 k.1)
 
-pub carry_deed-requires-clause-deed : goal.carry_deed-requires-clause-deed
-carry_deed-requires-clause-deed g c = let k = c.requires.kept in let t = c.in-Ok.ensures.does k.0 k.1 in (t.endpoint.actor, t.own)
+pub carry_through-requires-clause-deed : goal.carry_through-requires-clause-deed
+carry_through-requires-clause-deed g c = let k = c.requires.kept in let t = c.in-Ok.ensures.does k.0 k.1 in (t.endpoint.actor, t.own)
 
-pub returns-in_err-carry_deed-in-Ok-clause-done : goal.returns-in_err-carry_deed-in-Ok-clause-done
-returns-in_err-carry_deed-in-Ok-clause-done g c =
-    let p = err_from_is_err_and c.from_residual.result c.from_residual.ensures.1 in
-    λ list records a h x q here is m. rw (p.1, p.2)
-    (join_broken (setting c.args.plan.now list) a _ _ c.args.run.now c.join.new.self h x q c.args.place records c.in-Ok.deed c.config.result.now _ c.config.ensures here m (c.in-Ok.ensures.does records is) c.in_err-carry_deed-in-Ok.ensures)
+pub returns-in-Ok-clause-done : goal.returns-in-Ok-clause-done
+returns-in-Ok-clause-done g c = λ list records a h x q here is m.
+    join_through (setting c.args.plan.now list) a _ _ c.args.run.now c.join.new.self h x q c.args.place records c.in-Ok.deed here m (c.in-Ok.ensures.does records is) c.carry_through.result c.carry_through.ensures
 
-pub returns-in-None-clause-done : goal.returns-in-None-clause-done
-returns-in-None-clause-done g c = λ list records a h x q here is m.
-    join_done (setting c.args.plan.now list) a _ _ c.args.run.now c.join.new.self h x q c.args.place records c.in-Ok.deed c.config.result.now c.config.ensures here m (c.in-Ok.ensures.does records is) _ c.in_ok-carry_deed-in-Ok.ensures (sym c.left_at.ensures ∙ c.in-None.is)
-
-pub returns-in-None-clause-ready : goal.returns-in-None-clause-ready
-returns-in-None-clause-ready g c =
+pub returns-in-Ok-clause-ready : goal.returns-in-Ok-clause-ready
+returns-in-Ok-clause-ready g c =
     let k = c.requires.kept in
-    ready_join c.args.plan.now k.0 c.args.run.now _ c.args.place c.in-Ok.deed c.join.new.self _ c.requires.next c.requires.ready (c.in-Ok.ensures.does k.0 k.1) (carried_opened (work_in c.config.result.now c.in-Ok.deed) _ _ c.carry_deed.result c.carry_deed.ensures)
+    on_ok c.carry_through.result
+    (ready_join c.args.plan.now k.0 c.args.run.now _ c.args.place c.in-Ok.deed c.join.new.self _ c.requires.next c.requires.ready (c.in-Ok.ensures.does k.0 k.1)
+    (through_opened (work_in c.args.plan.now.config c.in-Ok.deed) (left_at c.join.new.self.members c.args.place) _ _ c.carry_through.result c.carry_through.ensures))
 
-pub returns-in-None-clause-more : goal.returns-in-None-clause-more
-returns-in-None-clause-more g c =
+pub returns-in-Ok-clause-more : goal.returns-in-Ok-clause-more
+returns-in-Ok-clause-more g c =
     let k = c.requires.kept in
-    length_join c.args.plan.now k.0 c.args.run.now c.args.place c.in-Ok.deed c.join.new.self (c.in-Ok.ensures.does k.0 k.1) c.requires.next
+    on_ok c.carry_through.result (length_join c.args.plan.now k.0 c.args.run.now c.args.place c.in-Ok.deed c.join.new.self (c.in-Ok.ensures.does k.0 k.1) c.requires.next)
 
-pub returns-clause-done : goal.returns-clause-done
-returns-clause-done g c = λ list records a h x q here is m.
-    join_left (setting c.args.plan.now list) a _ _ c.args.run.now c.join.new.self h x q c.args.place records c.in-Ok.deed c.config.result.now c.in-Some.why c.config.ensures here m (c.in-Ok.ensures.does records is) _ c.in_ok-carry_deed-in-Ok.ensures (sym c.left_at.ensures ∙ c.in-Some.is)
+pub join-requires-clause-plan : goal.join-requires-clause-plan
+join-requires-clause-plan g c = c.requires.ready.good
 
-pub left_at-requires : goal.left_at-requires
-left_at-requires g c =
-    let k = c.requires.kept in
-    let more : length c.join.new.self.members ≡ c.args.place + 1 = length_join c.args.plan.now k.0 c.args.run.now c.args.place c.in-Ok.deed c.join.new.self (c.in-Ok.ensures.does k.0 k.1) c.requires.next in
-    omega arith
+pub join-requires-clause-last : goal.join-requires-clause-last
+join-requires-clause-last g c = c.requires.ready.last
+
+pub join-requires-clause-kept : goal.join-requires-clause-kept
+join-requires-clause-kept g c = c.requires.kept

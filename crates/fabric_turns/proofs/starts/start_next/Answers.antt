@@ -12,3 +12,9 @@ returns-clause-done g c = λ list are.
 
 pub returns-clause-kept : goal.returns-clause-kept
 returns-clause-kept g c = λ list are. kept_next c.args.plan.now c.args.place list c.args.kept.now.items _ c.take.new.self refl are
+
+pub start-requires-clause-kept : goal.start-requires-clause-kept
+start-requires-clause-kept g c =
+    let are = c.requires.kept in
+    let k = kept_here c.args.plan.now c.args.place are.0 c.args.kept.now.items c.requires.place are.1 in
+    (k.records, kept_taken c.args.plan.now c.args.place are.0 c.args.kept.now.items c.index_mut.result.now c.in-Some.kept c.requires.place c.index_mut.ensures.value (sym c.take.ensures.value ∙ c.in-Some.is) are.1 k)

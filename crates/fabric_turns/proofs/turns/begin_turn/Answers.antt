@@ -1,4 +1,6 @@
+use Rattle.std.proofs.Common.{ap, length}
 use Rattle.turn_rules.specs.Whole.{setting}
+use Rattle.fabric_turns.specs.Runs.{Run}
 use Rattle.fabric_turns.proofs.Coming.{ready_read, turn_began, turn_stopped}
 use Rattle.fabric_turns.proofs.turns.begin_turn.Goals as goal
 
@@ -12,3 +14,6 @@ returns-in-Ok-clause-done g c = λ kept turn a h t.
 
 pub returns-in-Ok-clause-ready : goal.returns-in-Ok-clause-ready
 returns-in-Ok-clause-ready g c = ready_read c.args.plan.now c.args.run.now c.read_clock.new.run _ _ c.in-Ok.field-0 c.requires.ready c.in-Ok.ensures
+
+pub returns-in-Ok-clause-same : goal.returns-in-Ok-clause-same
+returns-in-Ok-clause-same g c = ap (λ (r : Run). length r.members) c.in-Ok.ensures.now
