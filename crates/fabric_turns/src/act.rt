@@ -28,11 +28,11 @@ fn carry_deed<O: Outside>(
     outside: &mut O,
     alloc: Global,
     config: &FabricConfig,
-    deed: &Deed,
+    deed: Deed,
 ) -> Result<(), Stop>
-    requires listens { IsListening deed.now.head.who.actor (O.told outside.old).opened }
-    requires deed { (actor : ℕ) × IsDeedOf actor deed.now }
-    ensures { CarriesOut (work_in config.now deed.now) (O.told outside.old) (O.told outside.new) result }
+    requires listens { IsListening deed.head.who.actor (O.told outside.old).opened }
+    requires deed { (actor : ℕ) × IsDeedOf actor deed }
+    ensures { CarriesOut (work_in config.now deed) (O.told outside.old) (O.told outside.new) result }
 {
     let outcome = &deed.outcome;
     carry_out(
@@ -53,12 +53,12 @@ pub(crate) fn carry_through<O: Outside>(
     plan: &Plan,
     run: &Run,
     place: usize,
-    deed: &Deed,
+    deed: Deed,
 ) -> Result<(), Stop>
     requires place { place < length run.now.members }
-    requires listens { IsListening deed.now.head.who.actor (O.told outside.old).opened }
-    requires deed { (actor : ℕ) × IsDeedOf actor deed.now }
-    ensures { CarriesThrough (work_in plan.now.config deed.now) (left_at run.now.members place) (O.told outside.old) (O.told outside.new) result }
+    requires listens { IsListening deed.head.who.actor (O.told outside.old).opened }
+    requires deed { (actor : ℕ) × IsDeedOf actor deed }
+    ensures { CarriesThrough (work_in plan.now.config deed) (left_at run.now.members place) (O.told outside.old) (O.told outside.new) result }
 {
     carry_deed(outside, alloc, plan.config(), deed)?;
     match run.left_at(place) {
@@ -89,6 +89,6 @@ pub(crate) fn act<O: Outside>(
     match run.step(alloc, turn, place, input) {
         Err(ArbiterError::OutOfMemory) => Err(Stop::OutOfMemory),
         Err(ArbiterError::TableFull) => Err(Stop::TableFull),
-        Ok(deed) => carry_through(outside, alloc, plan, run, place, &deed),
+        Ok(deed) => carry_through(outside, alloc, plan, run, place, deed),
     }
 }

@@ -42,7 +42,7 @@ fn join<O: Outside>(
     match run.join(alloc, plan, kept, place) {
         Err(ArbiterError::OutOfMemory) => Err(Stop::OutOfMemory),
         Err(ArbiterError::TableFull) => Err(Stop::TableFull),
-        Ok(deed) => carry_through(outside, alloc, plan, run, place, &deed),
+        Ok(deed) => carry_through(outside, alloc, plan, run, place, deed),
     }
 }
 
