@@ -70,28 +70,7 @@ fn start_node<O: Outside>(
     }
 }
 
-/// The start of the arbitrator at a place.
-fn start_arbiter<O: Outside>(
-    outside: &mut O,
-    alloc: Global,
-    plan: &Plan,
-    kept: Kept,
-    run: &mut Run,
-    place: usize,
-) -> Result<(), Stop>
-    requires place { place < length plan.now.actors }
-    requires arbiter { is_node_at plan.now place ≡ false }
-    requires kept { (records : List Record) × IsKeptAt plan.now place records kept }
-    requires next { length run.old.members ≡ place }
-    requires ready { IsReady plan.now run.old (O.told outside.old) }
-    ensures done { (list : List (List Record)) (records : List Record) → slice_get list place ≡ Some records → IsKeptAt plan.now place records kept → Goes (setting plan.now list) (O.told outside.old) run.old (at_place 0 place Starting) (O.told outside.new) run.new (onward plan.now 0 place) result }
-    ensures ready { OnOk result (IsReady plan.now run.new (O.told outside.new)) }
-    ensures more { OnOk result (length run.new.members ≡ place + 1) }
-{
-    join(outside, alloc, plan, kept, run, place)
-}
-
-/// The start of the actor at a place.
+/// The start of the actor at a place: a node reads the clock first.
 fn start<O: Outside>(
     outside: &mut O,
     alloc: Global,
@@ -111,7 +90,7 @@ fn start<O: Outside>(
     if plan.is_node_at(place) {
         start_node(outside, alloc, plan, kept, run, place)
     } else {
-        start_arbiter(outside, alloc, plan, kept, run, place)
+        join(outside, alloc, plan, kept, run, place)
     }
 }
 

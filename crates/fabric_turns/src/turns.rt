@@ -80,28 +80,7 @@ fn node_turn<O: Outside>(
     fire(outside, alloc, plan, run, turn, place)
 }
 
-/// The turn of the arbitrator at a place.
-fn arbiter_turn<O: Outside>(
-    outside: &mut O,
-    alloc: Global,
-    plan: &Plan,
-    run: &mut Run,
-    turn: u64,
-    place: usize,
-    buffer: &mut [u8; 1500],
-) -> Result<(), Stop>
-    requires place { place < length run.old.members }
-    requires ready { IsReady plan.now run.old (O.told outside.old) }
-    requires within { place < length plan.now.actors }
-    requires arbiter { is_node_at plan.now place ≡ false }
-    ensures done { (kept : List (List Record)) → Goes (setting plan.now kept) (O.told outside.old) run.old (at_place turn place (Busy [] 0)) (O.told outside.new) run.new (onward plan.now turn place) result }
-    ensures ready { IsReady plan.now run.new (O.told outside.new) }
-    ensures same { length run.new.members ≡ length run.old.members }
-{
-    hear(outside, alloc, plan, run, turn, place, buffer)
-}
-
-/// The turn of the actor at a place. Turns count from 1.
+/// The turn of the actor at a place: an arbitrator only hears. Turns count from 1.
 fn take_turn<O: Outside>(
     outside: &mut O,
     alloc: Global,
@@ -122,7 +101,7 @@ fn take_turn<O: Outside>(
     if plan.is_node_at(place) {
         node_turn(outside, alloc, plan, run, turn, place, buffer)
     } else {
-        arbiter_turn(outside, alloc, plan, run, turn, place, buffer)
+        hear(outside, alloc, plan, run, turn, place, buffer)
     }
 }
 
