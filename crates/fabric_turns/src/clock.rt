@@ -1,3 +1,4 @@
+ghost use Rattle.std.specs.Prelude.{◌≡◌, OnOk, length};
 ghost use Rattle.fabric_turns.specs.Steps.{ReadsNow};
 
 use crate::run::Run;
@@ -9,7 +10,8 @@ const LATEST: u64 = 1_000_000_000_000_000;
 
 /// Reads the clock.
 pub(crate) fn read_clock<O: Outside>(outside: &mut O, run: &mut Run) -> Result<u64, Stop>
-    ensures { ReadsNow run.old (O.told outside.old) run.new (O.told outside.new) result }
+    ensures reads { ReadsNow run.old (O.told outside.old) run.new (O.told outside.new) result }
+    ensures same { OnOk result (length run.new.members ≡ length run.old.members) }
 {
     let told = outside.now();
     let reading = told.min(LATEST);

@@ -20,24 +20,6 @@ use ring_node::Input;
 use std::alloc::Global;
 use turn_rules::Stop;
 
-/// The reading with which a node's turn begins.
-fn begin_turn<O: Outside>(
-    outside: &mut O,
-    plan: &Plan,
-    run: &mut Run,
-    place: usize,
-) -> Result<(), Stop>
-    requires ready { IsReady plan.now run.old (O.told outside.old) }
-    ensures done { (kept : List (List Record)) (turn : ℕ) → Goes (setting plan.now kept) (O.told outside.old) run.old (at_place turn place Turning) (O.told outside.new) run.new (at_place turn place (Busy (orders_at plan.now turn place) 0)) result }
-    ensures ready { OnOk result (IsReady plan.now run.new (O.told outside.new)) }
-    ensures same { OnOk result (length run.new.members ≡ length run.old.members) }
-{
-    match read_clock(outside, run) {
-        Err(stop) => Err(stop),
-        Ok(_) => Ok(()),
-    }
-}
-
 /// The firing of the node at a place.
 fn fire<O: Outside>(
     outside: &mut O,
@@ -74,7 +56,7 @@ fn node_turn<O: Outside>(
     ensures ready { OnOk result (IsReady plan.now run.new (O.told outside.new)) }
     ensures same { OnOk result (length run.new.members ≡ length run.old.members) }
 {
-    begin_turn(outside, plan, run, place)?;
+    read_clock(outside, run)?;
     bid_all(outside, alloc, plan, run, turn, place)?;
     hear(outside, alloc, plan, run, turn, place, buffer)?;
     fire(outside, alloc, plan, run, turn, place)
