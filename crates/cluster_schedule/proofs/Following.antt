@@ -5,7 +5,8 @@ use Rattle.world_rules.specs.Runs.{History, world_after}
 use Rattle.world_rules.specs.Schedules.{Valid}
 use Rattle.world_rules.specs.Uppers.{Upper}
 use Rattle.cluster_schedule.specs.Events.{Cluster, Comes, Begins, Stands, Turns, Bids, Hears, Fires, MayArrive, IsCluster, cluster_after, comes, events_for, events_of, on_lines}
-use Rattle.cluster_schedule.proofs.Mirrors.{Mirrors, mirrors_first, tick_mirrors, tick_may, fire_mirrors, fire_may, bid_mirrors, bid_may, give_mirrors, give_may, begin_mirrors, start_may, stand_mirrors, stand_may}
+use Rattle.cluster_schedule.proofs.Allowed.{fire_may, bid_may, give_may, start_may, stand_may}
+use Rattle.cluster_schedule.proofs.Mirrors.{Mirrors, mirrors_first, tick_mirrors, tick_may, fire_mirrors, bid_mirrors, give_mirrors, begin_mirrors, stand_mirrors}
 
 -- the world mirrors the cluster, and the schedule is valid
 pub record Follows (a : Upper) (is_frame : List ℕ → Bool) (c : FabricConfig) (p : Cluster a) (h : History) : Type 0 where

@@ -12,7 +12,8 @@ use Rattle.wire_fields.specs.Texts.{unit_bytes, config_bytes}
 use Rattle.wire_fields.specs.Readers.{such, pair, unit_at, config_at}
 use Rattle.frame_format.specs.Partitions.{prepare_of, prepared_of, no_prepare_of, vote_of, voted_of, no_vote_of, done_ask_of, done_kept_of, no_done_of, partitions_of}
 use Rattle.wire_fields.proofs.Forms.{IsField, pair_is, such_is}
-use Rattle.wire_fields.proofs.FieldLaws.{config_is, done_is, epoch_is, unit_is}
+use Rattle.wire_fields.proofs.ConfigLaws.{config_is, done_is}
+use Rattle.wire_fields.proofs.FieldLaws.{epoch_is, unit_is}
 use Rattle.frame_format.proofs.BodyForms.{Finds, kind_found, kind_again, case_found}
 use Rattle.frame_format.proofs.ReplicasLaws.{replicas_found}
 

@@ -8,7 +8,8 @@ use Rattle.fabric_terms.specs.Messages.{is_sound_body}
 use Rattle.frame_format.specs.Frames.{body_bytes}
 use Rattle.frame_format.specs.Replicas.{promise_of, promised_of, sync_of, fetch_of, piece_of, adopted_of, activate_of, activated_of, append_of, appended_of, older_of, replicas_of}
 use Rattle.wire_fields.proofs.Forms.{pair_is}
-use Rattle.wire_fields.proofs.FieldLaws.{config_is, epoch_is, last_is, node_is, payload_is, unit_is, word_is}
+use Rattle.wire_fields.proofs.ConfigLaws.{config_is, payload_is}
+use Rattle.wire_fields.proofs.FieldLaws.{epoch_is, last_is, node_is, unit_is, word_is}
 use Rattle.frame_format.proofs.BodyForms.{Finds, kind_found, kind_again, case_found, none_finds}
 
 promise_found : Finds 1 48 promise_of

@@ -10,7 +10,8 @@ use Rattle.fabric_terms.specs.declared.record.Record.TheVariants.{Boot, AccusedB
 use Rattle.fabric_terms.specs.Fields.{is_unit, is_word}
 use Rattle.wire_fields.proofs.Forms.{IsField, pair_is, such_is, byte_is, whole_again}
 use Rattle.wire_fields.specs.Texts.{one_byte}
-use Rattle.wire_fields.proofs.FieldLaws.{config_is, counted_is, epoch_is, flag_is, last_is, payload_is, unit_is, who_is, word_is}
+use Rattle.wire_fields.proofs.ConfigLaws.{config_is, payload_is}
+use Rattle.wire_fields.proofs.FieldLaws.{counted_is, epoch_is, flag_is, last_is, unit_is, who_is, word_is}
 use Rattle.keep_log.specs.Spellings.{is_later_round, is_sound, kind_of, fields_of}
 use Rattle.keep_log.specs.Readings.{later_round_at, boot_of, accused_by_of, prepared_by_of, voted_for_of, done_for_of, promised_at_of, wrote_of, incoming_of, adopted_at_of, claimed_by_of, fields_read}
 use Rattle.keep_log.proofs.RecordForms.{Finds, kind_found, case_found, none_finds}

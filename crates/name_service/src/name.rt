@@ -1,4 +1,4 @@
-ghost use Rattle.std.specs.Prelude.{◌≡◌, ◌≤◌, length, IfOk, IfSome, IfNone, true, false};
+ghost use Rattle.std.specs.Prelude.{◌≡◌, ◌≤◌, length, IfOk, true};
 ghost use Rattle.name_rules.specs.Grammar.{every, is_name, is_name_byte};
 
 use fabric_terms::OutOfMemory;
@@ -50,17 +50,6 @@ pub(crate) fn is_name(bytes: &[u8]) -> bool
 }
 
 impl Name {
-    /// A copy of these bytes; None exactly where they are no name.
-    pub fn read(alloc: Global, bytes: &[u8]) -> Result<Option<Name>, OutOfMemory>
-        ensures some { IfOk result (λ found. IfSome found (λ name. (name ≡ bytes.now) × (is_name bytes.now ≡ true))) }
-        ensures none { IfOk result (λ found. IfNone found (is_name bytes.now ≡ false)) }
-    {
-        if !is_name(bytes) {
-            return Ok(None);
-        }
-        Ok(Some(Name::of(alloc, bytes)?))
-    }
-
     /// A copy of these bytes, which are a name.
     pub(crate) fn of(alloc: Global, bytes: &[u8]) -> Result<Name, OutOfMemory>
         requires { is_name bytes.now ≡ true }

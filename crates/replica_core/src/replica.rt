@@ -1,7 +1,9 @@
-ghost use Rattle.std.specs.Prelude.{◌≡◌, ◌≤◌, ◌∷◌, ◌++◌, [], false, length, Ok, Err};
+ghost use Rattle.std.specs.Prelude.{◌≡◌, ◌≤◌, false, length};
 ghost use Rattle.ring_points.specs.Epochs.{is_older};
-ghost use Rattle.replica_core.specs.Replicas.{first_replica, raised, adopted, settled, uncollected, begun_again, collected_in, collecting, IsLog, IsSound};
-ghost use Rattle.replica_core.specs.Calls.{Answers, admission, is_gap, is_collected, promise_call, append_call, adopt_own_call, adopt_call, adopt_collected_call, idle_call, activate_call};
+ghost use Rattle.replica_core.specs.Replicas.{first_replica, raised, begun_again, IsSound};
+ghost use Rattle.replica_core.specs.Calls.{Answers, admission, promise_call, append_call, adopt_own_call, idle_call, activate_call};
+
+mod collecting;
 
 use crate::entry::{Entry, EntryBytes};
 use crate::epoch::{first_epoch, is_older, same_epoch};
@@ -10,7 +12,6 @@ use crate::role::Role;
 use ring_points::{Config, Epoch};
 use std::alloc::Global;
 use std::marker::Model;
-use std::mem;
 
 /// How many entries a log can have.
 pub const MOST_ENTRIES: u32 = 100_000;
@@ -93,14 +94,6 @@ impl Replica {
         ensures { result ≡ self.now.role }
     {
         self.role
-    }
-
-    /// How many entries are collected in the promised epoch and not yet made the log.
-    pub fn collected(&self) -> u32
-        ensures count { result ≡ length self.now.collected }
-        ensures sound { IsSound self.now }
-    {
-        self.collected.len() as u32
     }
 
     /// A call of an epoch below the promised one is refused.
@@ -220,110 +213,6 @@ impl Replica {
         self.raise(e);
         self.at = e;
         Ok(Done::New)
-    }
-
-    /// How many entries are collected for an epoch that is not below the promised one.
-    fn collected_in(&self, e: Epoch) -> u32
-        ensures { result ≡ length (collected_in e self.now) }
-    {
-        if is_older(self.promised, e) {
-            0
-        } else {
-            self.collected.len() as u32
-        }
-    }
-
-    /// Whether this is the one entry that is collected for the epoch.
-    fn is_collected(&self, e: Epoch, entry: &Entry) -> bool
-        ensures { result ≡ is_collected e entry.now self.now }
-    {
-        same_epoch(self.promised, e)
-            && entry.lsn == 1
-            && match self.collected.as_slice() {
-                [only] => entry.is_same(only),
-                _ => false,
-            }
-    }
-
-    /// Collects an entry: the first one begins anew.
-    fn collect(&mut self, e: Epoch, entry: &Entry) -> Result<(), ReplicaRefusal>
-        requires not_older { is_older e self.old.promised ≡ false }
-        requires next { is_gap e entry.now.lsn self.old ≡ false }
-        requires room { entry.now.lsn ≤ 100000 }
-        ensures { Answers (Ok tt, collecting e entry.now self.old) self.old self.new result }
-    {
-        let copy = entry.copy(self.alloc)?;
-        if entry.lsn == 1 {
-            let mut anew = Vec::new(self.alloc);
-            anew.push(copy)?;
-            self.raise(e);
-            self.collected = anew;
-        } else {
-            self.collected.push(copy)?;
-            self.raise(e);
-        }
-        Ok(())
-    }
-
-    /// Makes what is collected the log of the promised epoch.
-    fn settle(&mut self)
-        ensures { self.new ≡ settled self.old.promised self.old }
-    {
-        let nothing = Vec::new(self.alloc);
-        self.log = mem::replace(&mut self.collected, nothing);
-        self.at = self.promised;
-    }
-
-    /// Collects an entry of the log that is to be adopted for the epoch; the one of number `last` makes what is collected
-    /// the log. It is `Older` where a greater epoch is promised; `Held` where the log is of the epoch already, or this is
-    /// the one entry that is collected; else `Gap` with the number of those collected in the epoch where the entry is
-    /// neither number 1, which begins anew, nor the next.
-    pub fn adopt(&mut self, e: Epoch, entry: &Entry, last: u32) -> Result<Done, ReplicaRefusal>
-        requires { entry.now.lsn ≤ 100000 }
-        ensures { Answers (adopt_call e entry.now last self.old) self.old self.new result }
-    {
-        self.admit(e)?;
-        if same_epoch(self.at, e) {
-            return Ok(Done::Held);
-        }
-        let count = self.collected_in(e);
-        if entry.lsn != 1 && entry.lsn != count + 1 {
-            return Err(ReplicaRefusal::Gap(count));
-        }
-        if entry.lsn == last {
-            self.collect(e, entry)?;
-            self.settle();
-            return Ok(Done::New);
-        }
-        if self.is_collected(e, entry) {
-            return Ok(Done::Held);
-        }
-        self.collect(e, entry)?;
-        Ok(Done::New)
-    }
-
-    /// Makes what is collected in the epoch the log. It is `Older` where a greater epoch is promised; `Held` where the
-    /// log is of the epoch already; else `Gap` with 0 where nothing is collected in it.
-    pub fn adopt_collected(&mut self, e: Epoch) -> Result<Done, ReplicaRefusal>
-        ensures { (result, self.new) ≡ adopt_collected_call e self.old }
-    {
-        self.admit(e)?;
-        if same_epoch(self.at, e) {
-            return Ok(Done::Held);
-        }
-        if self.collected_in(e) == 0 {
-            return Err(ReplicaRefusal::Gap(0));
-        }
-        self.raise(e);
-        self.settle();
-        Ok(Done::New)
-    }
-
-    /// Forgets what is collected.
-    pub fn drop_collected(&mut self)
-        ensures { self.new ≡ uncollected self.old }
-    {
-        self.collected.clear();
     }
 
     /// Begins again with the next instance of its node: the role is lost, and what was collected. The promise and the

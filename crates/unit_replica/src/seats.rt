@@ -190,6 +190,7 @@ impl Seats {
         };
         write_commanded(text, seat, desk)
     }
+
     /// Resolve: the partition's primary tells what a name stands for. It is refused where the node has no replica of the
     /// partition, and where that answers nothing. It is an error where memory is short, and then nothing is changed.
     pub fn resolve(

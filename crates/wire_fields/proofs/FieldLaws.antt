@@ -1,23 +1,20 @@
--- The law of each field.
-use Rattle.std.proofs.Common.{◌≡◌, ℕ, ◌+◌, ◌^◌, ◌<◌, ◌≤◌, Bool, true, false, cond, ◌&&◌, ◌||◌, nat_le, nat_lt, ⊎_elim, List, [], ◌∷◌, ◌++◌, length, take, drop, Option, Some, None, refl, ap, sym, subst, ◌∙◌, arith, length-append}
+-- The law of each field, of configurations and payloads apart.
+use Rattle.std.proofs.Common.{◌≡◌, ℕ, ◌+◌, ◌^◌, ◌<◌, ◌≤◌, Bool, true, false, cond, ◌&&◌, ◌||◌, nat_le, nat_lt, ⊎_elim, List, [], ◌∷◌, ◌++◌, length, Option, Some, None, refl, ap, sym, subst, ◌∙◌, arith}
 use Rattle.std.specs.Prelude.{IsTrue, ◌==◌}
-use Rattle.std.specs.List.{list_all, list_any}
-use Rattle.std.proofs.lemmas.List.{append_assoc, take-append-drop, drop_at, take_at, length-take-le}
-use Rattle.std.proofs.lemmas.Bool.{leb-true, le-leb, lt-ltb, ltb-true, eqb-true, eqb-false, and_parts, and_from, or_cases}
+use Rattle.std.specs.List.{list_all}
+use Rattle.std.proofs.lemmas.Bool.{leb-true, lt-ltb, ltb-true, eqb-true, eqb-false, and_parts, and_from, or_cases}
 use Rattle.ring_points.specs.declared.who.Who.{Who}
 use Rattle.ring_points.specs.declared.who.Ruling.{Ruling}
 use Rattle.ring_points.specs.declared.who.Ruling.TheVariants.{Granted, Taken, Refused}
-use Rattle.ring_points.specs.declared.unit.Config.{Config}
 use Rattle.ring_points.specs.declared.interval.Interval.{Interval}
 use Rattle.ring_points.specs.Ranges.{is_proper, rises_from, fits}
-use Rattle.fabric_terms.specs.Fields.{is_short, is_word, is_long, is_counted, is_session, is_stamp, is_lease, is_last, is_hops, is_round, is_node, is_who, is_arbiter, is_sender, is_addressee, is_some, is_part, is_epoch, is_unit, rises_above, has_members, is_config, is_done, is_payload}
-use Rattle.wire_fields.specs.Readers.{◌>>=◌, Field, such, pair, made, number_at, byte_at, bytes_at, list_at, word_at, counted_at, last_at, stamp_at, lease_at, node_at, hops_at, round_at, flag_at, ruling_of, ruling_at, point_at, session_at, actor_at, is_numbered, who_at, sender_at, addressee_at, epoch_at, unit_at, interval_at, intervals_at, ranges_at, part_at, config_from, config_at, done_at, payload_at}
-use Rattle.wire_fields.specs.Texts.{number_bytes, one_byte, session_bytes, who_bytes, epoch_bytes, unit_bytes, interval_bytes, list_bytes, ranges_bytes, config_bytes, payload_bytes, flag_code, flag_bytes, ruling_code, ruling_bytes, done_bytes}
-use Rattle.wire_fields.proofs.Numbers.{AreBytes, bytes_behind}
-use Rattle.wire_fields.proofs.Forms.{IsField, any, some_same, bind_some, tested, resound, such_is, pair_is, made_is, byte_is, number_is, list_is}
+use Rattle.fabric_terms.specs.Fields.{is_short, is_word, is_long, is_counted, is_session, is_stamp, is_lease, is_last, is_hops, is_round, is_node, is_who, is_arbiter, is_sender, is_addressee, is_some, is_part, is_epoch, is_unit}
+use Rattle.wire_fields.specs.Readers.{◌>>=◌, Field, byte_at, word_at, counted_at, last_at, stamp_at, lease_at, node_at, hops_at, round_at, flag_at, ruling_of, ruling_at, point_at, session_at, actor_at, is_numbered, who_at, sender_at, addressee_at, epoch_at, unit_at, interval_at, intervals_at, ranges_at, part_at}
+use Rattle.wire_fields.specs.Texts.{number_bytes, one_byte, session_bytes, who_bytes, epoch_bytes, unit_bytes, interval_bytes, ranges_bytes, flag_code, flag_bytes, ruling_code, ruling_bytes}
+use Rattle.wire_fields.proofs.Forms.{IsField, any, some_same, bind_some, resound, such_is, pair_is, made_is, byte_is, number_is, list_is}
 
 -- what is at most a bound is below a greater one
-below : (n most limit : ℕ) → nat_le n most ≡ true → most < limit → nat_lt n limit ≡ true
+pub below : (n most limit : ℕ) → nat_le n most ≡ true → most < limit → nat_lt n limit ≡ true
 below n most limit h b = lt-ltb n limit (let l = leb-true n most h in omega arith)
 
 pub word_is : IsField word_at is_word (number_bytes 4)
@@ -225,95 +222,3 @@ ranges_is = such_is intervals_is is_proper is_proper (λ is a b. b) (λ is h. (p
 
 pub part_is : IsField part_at is_part ranges_bytes
 part_is = such_is intervals_is is_part is_part (λ is a b. b) (λ is h. (proper_long is (and_parts (is_proper is) (is_some is) h).0, h))
-
-rising_short : (low : ℕ) (ns : List ℕ) → IsTrue (rises_above low ns) → IsTrue (list_all is_short ns)
-rising_short low [] h = refl
-rising_short low (n ∷ ns) h =
-    let p = and_parts (nat_lt low n && nat_le n 999) (rises_above n ns) h in
-    let q = and_parts (nat_lt low n) (nat_le n 999) p.0 in
-    and_from (is_short n) (list_all is_short ns) (below n 999 65536 q.1 (omega arith)) (rising_short n ns p.1)
-
-pub config_is : IsField config_at is_config config_bytes
-unfolding config_at config_bytes
-config_is = such_is base has_members is_config into back
-  where
-    base : IsField (made config_from (pair (pair unit_at (number_at 2)) (list_at 7 (number_at 2)))) (λ c. (is_unit c.partition c.epoch && is_short c.primary) && (nat_le (length c.members) 7 && list_all is_short c.members)) (λ c. (unit_bytes c.partition c.epoch ++ number_bytes 2 c.primary) ++ list_bytes (number_bytes 2) c.members)
-    base = made_is (pair_is (pair_is unit_is (number_is 2)) (list_is (number_is 2) 7)) config_from (λ c. (((c.partition, c.epoch), c.primary), c.members)) (λ x h. refl) (λ c. refl)
-
-    into : (c : Config) → IsTrue ((is_unit c.partition c.epoch && is_short c.primary) && (nat_le (length c.members) 7 && list_all is_short c.members)) → IsTrue (has_members c) → IsTrue (is_config c)
-    into c a b =
-        let u = is_unit c.partition c.epoch && is_short c.primary in
-        let few = nat_le (length c.members) 7 in
-        let p = and_parts u (few && list_all is_short c.members) a in
-        let q = and_parts few (list_all is_short c.members) p.1 in
-        and_from (u && few) (has_members c) (and_from u few p.0 q.0) b
-
-    back : (c : Config) → IsTrue (is_config c) → IsTrue ((is_unit c.partition c.epoch && is_short c.primary) && (nat_le (length c.members) 7 && list_all is_short c.members)) × IsTrue (has_members c)
-    back c h =
-        let u = is_unit c.partition c.epoch && is_short c.primary in
-        let few = nat_le (length c.members) 7 in
-        let p = and_parts (u && few) (has_members c) h in
-        let q = and_parts u few p.0 in
-        let r = and_parts (rises_above 0 c.members) (list_any (λ n. n == c.primary) c.members) p.1 in
-        (and_from u (few && list_all is_short c.members) q.0 (and_from few (list_all is_short c.members) q.1 (rising_short 0 c.members r.0)), p.1)
-
-abbrev after_flag : Bool × List ℕ → Field (Option Config)
-after_flag x = elim x.0 [ true ↦ made Some config_at x.1 | false ↦ Some (None, x.1) ]
-
-pub done_is : IsField done_at is_done done_bytes
-unfolding done_at done_bytes
-done_is = record {
-  found = λ bytes x h e.
-      let a = bind_some (flag_at bytes) after_flag x e in
-      let f = flag_is.found bytes a.0 h a.1 in
-      found bytes a.0.0 a.0.1 x f.1 (bytes_behind bytes (flag_bytes a.0.0) a.0.1 h f.1) a.2;
-  again = again;
-}
-  where
-    found : (bytes : List ℕ) (flag : Bool) (rest : List ℕ) (x : Option Config × List ℕ) → bytes ≡ flag_bytes flag ++ rest → AreBytes rest → after_flag (flag, rest) ≡ Some x → IsTrue (is_done x.0) × (bytes ≡ done_bytes x.0 ++ x.1)
-    found bytes true rest x e h s =
-        let c = bind_some (config_at rest) (λ (z : Config × List ℕ). Some (Some z.0, z.1)) x s in
-        let f = config_is.found rest c.0 h c.1 in
-        let P : Option Config × List ℕ → Type 0 = λ z. IsTrue (is_done z.0) × (bytes ≡ done_bytes z.0 ++ z.1) in
-        subst P (some_same (Some c.0.0, c.0.1) x c.2) (
-          f.0,
-          e ∙ (ap (λ r. flag_bytes true ++ r) f.1 ∙ sym (append_assoc (flag_bytes true) (config_bytes c.0.0) c.0.1)),
-        )
-    found bytes false rest x e h s =
-        let P : Option Config × List ℕ → Type 0 = λ z. IsTrue (is_done z.0) × (bytes ≡ done_bytes z.0 ++ z.1) in
-        subst P (some_same (None, rest) x s) (refl, e)
-
-    again : (d : Option Config) (rest : List ℕ) → IsTrue (is_done d) → done_at (done_bytes d ++ rest) ≡ Some (d, rest)
-    again None rest h = ap (λ (o : Field Bool). o >>= after_flag) (flag_is.again false rest refl)
-    again (Some c) rest h =
-        ap done_at (append_assoc (flag_bytes true) (config_bytes c) rest)
-        ∙ (ap (λ (o : Field Bool). o >>= after_flag) (flag_is.again true (config_bytes c ++ rest) refl)
-        ∙ ap (λ (o : Field Config). o >>= λ z. Some (Some z.0, z.1)) (config_is.again c rest h))
-
-pub payload_is : IsField payload_at is_payload payload_bytes
-unfolding payload_at payload_bytes bytes_at
-payload_is = record {
-  found = λ bytes x h e.
-      let a = bind_some (such (λ n. nat_le n 512) (number_at 2) bytes) (λ (z : ℕ × List ℕ). bytes_at z.0 z.1) x e in
-      let f = count.found bytes a.0 h a.1 in
-      let t = tested (nat_le a.0.0 (length a.0.1)) (take a.0.0 a.0.1, drop a.0.0 a.0.1) x a.2 in
-      let fits = leb-true a.0.0 (length a.0.1) t.0 in
-      let long : length (take a.0.0 a.0.1) ≡ a.0.0 = length-take-le a.0.0 a.0.1 fits in
-      let P : List ℕ × List ℕ → Type 0 = λ z. IsTrue (is_payload z.0) × (bytes ≡ (number_bytes 2 (length z.0) ++ z.0) ++ z.1) in
-      subst P t.1 (
-        le-leb (length (take a.0.0 a.0.1)) 512 (let l = leb-true a.0.0 512 f.0 in omega arith),
-        f.1
-            ∙ (ap (λ n. number_bytes 2 n ++ a.0.1) (sym long)
-            ∙ (ap (λ r. number_bytes 2 (length (take a.0.0 a.0.1)) ++ r) (sym (take-append-drop a.0.0 a.0.1))
-            ∙ sym (append_assoc (number_bytes 2 (length (take a.0.0 a.0.1))) (take a.0.0 a.0.1) (drop a.0.0 a.0.1)))),
-      );
-  again = λ text rest h.
-      let whole : length text ≤ length (text ++ rest) = omega (arith, length-append text rest) in
-      ap payload_at (append_assoc (number_bytes 2 (length text)) text rest)
-      ∙ (ap (λ (o : Field ℕ). o >>= λ z. bytes_at z.0 z.1) (count.again (length text) (text ++ rest) h)
-      ∙ (ap (λ b. cond b (Some (take (length text) (text ++ rest), drop (length text) (text ++ rest))) None) (le-leb (length text) (length (text ++ rest)) whole)
-      ∙ (ap (λ t. Some (t, drop (length text) (text ++ rest))) (take_at text rest (length text) refl) ∙ ap (λ r. Some (text, r)) (drop_at text rest (length text) refl))));
-}
-  where
-    count : IsField (such (λ n. nat_le n 512) (number_at 2)) (λ n. nat_le n 512) (number_bytes 2)
-    count = such_is (number_is 2) (λ n. nat_le n 512) (λ n. nat_le n 512) (λ n a b. b) (λ n h. (below n 512 65536 h (omega arith), h))

@@ -1,5 +1,5 @@
 use Rattle.std.proofs.Common.{arith}
-use Rattle.wire_fields.proofs.FieldLaws.{config_is}
+use Rattle.wire_fields.proofs.ConfigLaws.{config_is}
 use Rattle.wire_fields.proofs.Standing.{stands_found, stands_none, rest_fits}
 use Rattle.wire_fields.proofs.fields.read_config_field.Goals as goal
 

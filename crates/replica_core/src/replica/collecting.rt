@@ -1,0 +1,126 @@
+// How the log of another replica is collected, entry by entry, and made the own one.
+ghost use Rattle.std.specs.Prelude.{◌≡◌, ◌≤◌, false, length, Ok};
+ghost use Rattle.ring_points.specs.Epochs.{is_older};
+ghost use Rattle.replica_core.specs.Replicas.{settled, uncollected, collected_in, collecting, IsSound};
+ghost use Rattle.replica_core.specs.Calls.{Answers, is_gap, is_collected, adopt_call, adopt_collected_call};
+
+use crate::entry::Entry;
+use crate::epoch::{is_older, same_epoch};
+use crate::refusal::{Done, ReplicaRefusal};
+use crate::replica::Replica;
+use ring_points::Epoch;
+use std::mem;
+
+impl Replica {
+    /// How many entries are collected in the promised epoch and not yet made the log.
+    pub fn collected(&self) -> u32
+        ensures count { result ≡ length self.now.collected }
+        ensures sound { IsSound self.now }
+    {
+        self.collected.len() as u32
+    }
+
+    /// How many entries are collected for an epoch that is not below the promised one.
+    fn collected_in(&self, e: Epoch) -> u32
+        ensures { result ≡ length (collected_in e self.now) }
+    {
+        if is_older(self.promised, e) {
+            0
+        } else {
+            self.collected.len() as u32
+        }
+    }
+
+    /// Whether this is the one entry that is collected for the epoch.
+    fn is_collected(&self, e: Epoch, entry: &Entry) -> bool
+        ensures { result ≡ is_collected e entry.now self.now }
+    {
+        same_epoch(self.promised, e)
+            && entry.lsn == 1
+            && match self.collected.as_slice() {
+                [only] => entry.is_same(only),
+                _ => false,
+            }
+    }
+
+    /// Collects an entry: the first one begins anew.
+    fn collect(&mut self, e: Epoch, entry: &Entry) -> Result<(), ReplicaRefusal>
+        requires not_older { is_older e self.old.promised ≡ false }
+        requires next { is_gap e entry.now.lsn self.old ≡ false }
+        requires room { entry.now.lsn ≤ 100000 }
+        ensures { Answers (Ok tt, collecting e entry.now self.old) self.old self.new result }
+    {
+        let copy = entry.copy(self.alloc)?;
+        if entry.lsn == 1 {
+            let mut anew = Vec::new(self.alloc);
+            anew.push(copy)?;
+            self.raise(e);
+            self.collected = anew;
+        } else {
+            self.collected.push(copy)?;
+            self.raise(e);
+        }
+        Ok(())
+    }
+
+    /// Makes what is collected the log of the promised epoch.
+    fn settle(&mut self)
+        ensures { self.new ≡ settled self.old.promised self.old }
+    {
+        let nothing = Vec::new(self.alloc);
+        self.log = mem::replace(&mut self.collected, nothing);
+        self.at = self.promised;
+    }
+
+    /// Collects an entry of the log that is to be adopted for the epoch; the one of number `last` makes what is collected
+    /// the log. It is `Older` where a greater epoch is promised; `Held` where the log is of the epoch already, or this is
+    /// the one entry that is collected; else `Gap` with the number of those collected in the epoch where the entry is
+    /// neither number 1, which begins anew, nor the next.
+    pub fn adopt(&mut self, e: Epoch, entry: &Entry, last: u32) -> Result<Done, ReplicaRefusal>
+        requires { entry.now.lsn ≤ 100000 }
+        ensures { Answers (adopt_call e entry.now last self.old) self.old self.new result }
+    {
+        self.admit(e)?;
+        if same_epoch(self.at, e) {
+            return Ok(Done::Held);
+        }
+        let count = self.collected_in(e);
+        if entry.lsn != 1 && entry.lsn != count + 1 {
+            return Err(ReplicaRefusal::Gap(count));
+        }
+        if entry.lsn == last {
+            self.collect(e, entry)?;
+            self.settle();
+            return Ok(Done::New);
+        }
+        if self.is_collected(e, entry) {
+            return Ok(Done::Held);
+        }
+        self.collect(e, entry)?;
+        Ok(Done::New)
+    }
+
+    /// Makes what is collected in the epoch the log. It is `Older` where a greater epoch is promised; `Held` where the
+    /// log is of the epoch already; else `Gap` with 0 where nothing is collected in it.
+    pub fn adopt_collected(&mut self, e: Epoch) -> Result<Done, ReplicaRefusal>
+        ensures { (result, self.new) ≡ adopt_collected_call e self.old }
+    {
+        self.admit(e)?;
+        if same_epoch(self.at, e) {
+            return Ok(Done::Held);
+        }
+        if self.collected_in(e) == 0 {
+            return Err(ReplicaRefusal::Gap(0));
+        }
+        self.raise(e);
+        self.settle();
+        Ok(Done::New)
+    }
+
+    /// Forgets what is collected.
+    pub fn drop_collected(&mut self)
+        ensures { self.new ≡ uncollected self.old }
+    {
+        self.collected.clear();
+    }
+}
