@@ -2,7 +2,10 @@
 use Rattle.std.proofs.Common.{◌≡◌, ℕ, ◌+◌, ◌-◌, ◌≤◌, ◌<◌, zero, suc, Bool, true, false, List, [], ◌∷◌, ◌++◌, ◌⊎◌, length, get_or, take, drop, All, Option, Result, Ok, Err, refl, ap, sym, subst, ◌∙◌, arith, append_assoc, inl, inr}
 use Rattle.std.proofs.lemmas.List.{append-nil, map-append, take-append-drop, take_more}
 use Rattle.edge_io.specs.Edge.{Grew, GrewByFront}
+use Rattle.edge_io.specs.declared.refusal.EdgeRefusal.{EdgeRefusal}
+use Rattle.edge_io.specs.declared.refusal.EdgeRefusal.TheVariants as refusal
 use Rattle.fabric_terms.specs.declared.config.FabricConfig.{FabricConfig}
+use Rattle.schedule_rules.specs.Halts.{Sends}
 use Rattle.schedule_rules.proofs.Fronts.{front_behind, front_of, grew_none}
 use Rattle.world_rules.specs.Runs.{History}
 use Rattle.fabric_terms.specs.Ranges.{Fits}
@@ -11,7 +14,7 @@ use Rattle.ring_world.specs.Answers.{ruled}
 use Rattle.schedule_generate.specs.Course.{Course, considered_next, considers, is_full, next_line, round, round_unless, rounds, running, taken, taken_all}
 use Rattle.schedule_generate.specs.Due.{AreDue}
 use Rattle.schedule_generate.specs.Shown.{nodes_of}
-use Rattle.schedule_generate.specs.Goes.{At, HasMore, HasShown, IsAt, IsDue, Known, Passes, Rounded, Sends, Went, WentAll}
+use Rattle.schedule_generate.specs.Goes.{At, HasMore, HasShown, IsAt, IsDue, Known, Passes, Rounded, Went, WentAll}
 use Rattle.schedule_generate.specs.Moves.{event_for, events_for}
 use Rattle.schedule_generate.specs.Settings.{generated_config}
 use Rattle.schedule_generate.specs.Texts.{Writing, lines_written}
@@ -169,14 +172,19 @@ pub round_halted : (w : ℕ → Writing) (knows known : Known) (n : ℕ) (stop :
 round_halted w knows known n stop a b text g sent held full is went =
     subst (λ f. Rounded w known n (Err stop) b text (round_unless (generated_config n) n g f) sent held held) (sym is) (halted w knows known n stop a b text (round (generated_config n) n g) sent held went)
 
-sent_on : (w : ℕ → Writing) (knows : Known) (n : ℕ) (r : Result (Unit {0}) Halt) (a : Generator) (text rest : List ℕ) (g : Course) (sent : List ℕ) (old new : Option (List ℕ)) → At w knows n a text g sent → Sends r old new text rest → Rounded w knows n r a rest g sent old new
+-- why a round halts, if it does, where its text is sent so
+abbrev pub sending : Result (Unit {0}) EdgeRefusal → Result (Unit {0}) Halt
+sending (Ok u) = Ok u
+sending (Err refusal.Failed) = Err halt.SinkFailed
+sending (Err refusal.OutOfMemory) = Err halt.OutOfMemory
+
+sent_on : (w : ℕ → Writing) (knows : Known) (n : ℕ) (r : Result (Unit {0}) EdgeRefusal) (a : Generator) (text rest : List ℕ) (g : Course) (sent : List ℕ) (old new : Option (List ℕ)) → At w knows n a text g sent → Sends r old new text rest → Rounded w knows n (sending r) a rest g sent old new
 sent_on w knows n (Ok u) a text rest g sent old new at sends =
     (sends.0, sends.1, record { goes = at.goes; known = at.known; told = append_assoc sent sends.0 rest ∙ (ap (λ t. sent ++ t) sends.2 ∙ at.told) })
-sent_on w knows n (Err (halt.TooLarge line)) a text rest g sent old new at sends = absurd sends
-sent_on w knows n (Err halt.OutOfMemory) a text rest g sent old new at sends = inr (text, at.told, sends)
-sent_on w knows n (Err halt.SinkFailed) a text rest g sent old new at sends = (text, at.told, sends)
+sent_on w knows n (Err refusal.Failed) a text rest g sent old new at sends = (text, at.told, sends)
+sent_on w knows n (Err refusal.OutOfMemory) a text rest g sent old new at sends = inr (text, at.told, sends)
 
-pub round_sent : (w : ℕ → Writing) (knows : Known) (n : ℕ) (r : Result (Unit {0}) Halt) (a : Generator) (text rest : List ℕ) (g : Course) (sent : List ℕ) (old new : Option (List ℕ)) (full : Bool) → full ≡ false → At w knows n a text (round (generated_config n) n g) sent → Sends r old new text rest
-    → Rounded w knows n r a rest (round_unless (generated_config n) n g full) sent old new
+pub round_sent : (w : ℕ → Writing) (knows : Known) (n : ℕ) (r : Result (Unit {0}) EdgeRefusal) (a : Generator) (text rest : List ℕ) (g : Course) (sent : List ℕ) (old new : Option (List ℕ)) (full : Bool) → full ≡ false → At w knows n a text (round (generated_config n) n g) sent → Sends r old new text rest
+    → Rounded w knows n (sending r) a rest (round_unless (generated_config n) n g full) sent old new
 round_sent w knows n r a text rest g sent old new full is at sends =
-    subst (λ f. Rounded w knows n r a rest (round_unless (generated_config n) n g f) sent old new) (sym is) (sent_on w knows n r a text rest (round (generated_config n) n g) sent old new at sends)
+    subst (λ f. Rounded w knows n (sending r) a rest (round_unless (generated_config n) n g f) sent old new) (sym is) (sent_on w knows n r a text rest (round (generated_config n) n g) sent old new at sends)

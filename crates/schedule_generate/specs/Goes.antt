@@ -132,10 +132,3 @@ abbrev pub IsSettled : Status → Type 0
 IsSettled status.Ok = Unit {0}
 IsSettled (status.TooLarge line) = Unit {0}
 IsSettled _ = ⊥
-
--- the text was written in part and the rest waits, or a front of it was written before a halt
-abbrev pub Sends : Result (Unit {0}) Halt → Option (List ℕ) → Option (List ℕ) → List ℕ → List ℕ → Type 0
-Sends (Ok u) old new text rest = Wrote old new rest text
-Sends (Err (halt.TooLarge line)) old new text rest = ⊥
-Sends (Err halt.OutOfMemory) old new text rest = GrewByFront old new text
-Sends (Err halt.SinkFailed) old new text rest = GrewByFront old new text

@@ -14,7 +14,6 @@ mod lines;
 mod listener;
 mod moves;
 mod opening;
-mod page;
 mod settings;
 mod summary;
 mod text;

@@ -15,9 +15,9 @@ use crate::halt::Halt;
 use crate::listener::Listener;
 use crate::moves::Move;
 use crate::opening::opening_moves;
-use crate::page::send_full;
-use edge_io::Sink;
+use edge_io::{EdgeRefusal, Sink};
 use fabric_status::{Status, push_fault, write_last};
+use schedule_rules::send_full;
 use std::alloc::Global;
 
 /// Goes one more round, unless none may begin, and writes what waits where it is long.
@@ -42,7 +42,11 @@ fn go_round<L: Listener, K: Sink>(
         return Ok(());
     }
     match generator.round(moves, listener, text) {
-        Ok(()) => send_full(sink, text),
+        Ok(()) => match send_full(sink, text) {
+            Ok(()) => Ok(()),
+            Err(EdgeRefusal::Failed) => Err(Halt::SinkFailed),
+            Err(EdgeRefusal::OutOfMemory) => Err(Halt::OutOfMemory),
+        },
         Err(halt) => Err(halt),
     }
 }

@@ -9,7 +9,6 @@
 mod brief;
 mod clocks;
 mod ending;
-mod page;
 mod reports;
 mod run;
 mod schedule;

@@ -12,16 +12,15 @@ ghost use Rattle.schedule_rules.specs.Schedule.{judge, judge_from};
 ghost use Rattle.schedule_rules.specs.Telling.{IsTold, lines_judged};
 ghost use Rattle.world_rules.specs.Runs.{History};
 
-use crate::page::send_full;
 use crate::schedule::take_line;
 use crate::teller::Teller;
-use edge_io::{Sink, Source};
+use edge_io::{EdgeRefusal, Sink, Source};
 use fabric_config::{ConfigError, read_config};
 use fabric_status::{Refusal, Status, push_fault, write_last};
 use fabric_terms::FabricConfig;
 use ring_world::World;
 use sched_text::TickReadings;
-use schedule_rules::Halt;
+use schedule_rules::{Halt, send_full};
 use source_lines::{LineReader, MOST_FIRST_LINE, MOST_LINE, Taken};
 use std::alloc::Global;
 
@@ -84,7 +83,8 @@ fn take_rest<T: Teller, S: Source, K: Sink>(
         match take_next(world, teller, reader, source, number, &mut readings, text) {
             Ok(true) => match send_full(sink, text) {
                 Ok(()) => {}
-                Err(halt) => return Err(halt),
+                Err(EdgeRefusal::Failed) => return Err(Halt::SinkFailed),
+                Err(EdgeRefusal::OutOfMemory) => return Err(Halt::OutOfMemory),
             },
             Ok(false) => return end_lines(teller, world, text),
             Err(halt) => return Err(halt),

@@ -1,5 +1,5 @@
 -- Where a run over the lines of a source stands after some of them, and how it halts.
-use Rattle.std.proofs.Common.{◌≡◌, ℕ, ◌+◌, List, [], ◌++◌, Option, Some, None, Result, Ok, Err, refl, ap, sym, subst, ◌∙◌, append_assoc}
+use Rattle.std.proofs.Common.{◌≡◌, ℕ, ◌+◌, Bool, true, List, [], ◌++◌, Option, Some, None, Result, Ok, Err, refl, ap, sym, subst, ◌∙◌, append_assoc}
 use Rattle.edge_io.specs.Edge.{GrewByFront}
 use Rattle.fabric_terms.specs.declared.config.FabricConfig.{FabricConfig}
 use Rattle.fabric_status.specs.declared.status.Refusal.{Refusal}
@@ -8,7 +8,7 @@ use Rattle.ring_world.specs.declared.world.World.{World}
 use Rattle.line_format.specs.Lines.{lines_of}
 use Rattle.world_rules.specs.Runs.{History}
 use Rattle.schedule_rules.specs.Follows.{Known, At, LeadsTo, TookLine, TookNone, RefusesLine, FailsBefore, TakesNext}
-use Rattle.schedule_rules.specs.Halts.{Wrote, HaltsAt, Sends, EndsLines}
+use Rattle.schedule_rules.specs.Halts.{Wrote, HaltsAt, EndsLines}
 use Rattle.schedule_rules.specs.Schedule.{Judged, judge_from, judged_at}
 use Rattle.schedule_rules.specs.Telling.{Telling, lines_told, lines_judged}
 use Rattle.schedule_rules.specs.declared.halt.Halt.{Halt}
@@ -36,16 +36,20 @@ along_first t c a knows first left held text stands known is = record {
   wrote = ([], grew_none held, is);
 }
 
-pub along_took : (t : Telling) (c : FabricConfig) (a b : World) (knows known : Known) (n : ℕ) (first : List ℕ) (before : Option (List ℕ)) (waits : List ℕ) (after : Option (List ℕ)) (waiting : List ℕ) (left old new : Option (List ℕ)) (text now : List ℕ) (along : Along t c a knows n first before waits after old new text) → TookLine t c along.history n b known text now waits after waiting left → Along t c b known (n + 1) first before waiting left old new now
-along_took t c a b knows known n first before waits after waiting left old new text now along took = record {
-  history = took.history;
-  at = took.at;
-  leads = λ bytes e.
-      let led = along.leads bytes e in
-      let on = took.leads led.0 led.1 in
-      (on.0, on.1, on.2 ∙ led.2);
-  wrote = wrote_more old new text took.more now (lines_told t c along.history) (lines_told t c took.history) took.text took.lines along.wrote;
-}
+-- the next line was taken
+pub along_took : (t : Telling) (c : FabricConfig) (a b : World) (knows known : Known) (n : ℕ) (first : List ℕ) (before : Option (List ℕ)) (waits : List ℕ) (after : Option (List ℕ)) (waiting : List ℕ) (left old new : Option (List ℕ)) (text now : List ℕ) (more : Bool) → more ≡ true → (along : Along t c a knows n first before waits after old new text) → TakesNext t c along.history n (Ok more) b known text now waits after waiting left → Along t c b known (n + 1) first before waiting left old new now
+along_took t c a b knows known n first before waits after waiting left old new text now more is along takes = taken (subst (λ m. TakesNext t c along.history n (Ok m) b known text now waits after waiting left) is takes)
+  where
+    taken : TookLine t c along.history n b known text now waits after waiting left → Along t c b known (n + 1) first before waiting left old new now
+    taken took = record {
+      history = took.history;
+      at = took.at;
+      leads = λ bytes e.
+          let led = along.leads bytes e in
+          let on = took.leads led.0 led.1 in
+          (on.0, on.1, on.2 ∙ led.2);
+      wrote = wrote_more old new text took.more now (lines_told t c along.history) (lines_told t c took.history) took.text took.lines along.wrote;
+    }
 
 pub along_sent : (t : Telling) (c : FabricConfig) (a : World) (knows : Known) (n : ℕ) (first : List ℕ) (before : Option (List ℕ)) (waits : List ℕ) (after old mid new : Option (List ℕ)) (text now : List ℕ) → Along t c a knows n first before waits after old mid text → Wrote mid new now text → Along t c a knows n first before waits after old new now
 along_sent t c a knows n first before waits after old mid new text now along sent = record {
@@ -117,13 +121,6 @@ at_halt t c a b knows known n first before waits after old new text now waiting 
 at_halt t c a b knows known n first before waits after old new text now waiting left halt.SourceFailed along takes = at_failure t c a knows n first before waits after old new text now waiting left along takes
 at_halt t c a b knows known n first before waits after old new text now waiting left halt.OutOfMemory along takes = short_memory t c a knows n first before waits after old new text along
 at_halt t c a b knows known n first before waits after old new text now waiting left halt.SinkFailed along takes = absurd takes
-
--- the sink made a halt
-pub at_send : (t : Telling) (c : FabricConfig) (a : World) (knows : Known) (n : ℕ) (first : List ℕ) (before : Option (List ℕ)) (waits : List ℕ) (after old mid new : Option (List ℕ)) (text now : List ℕ) (left : Option (List ℕ)) (stop : Halt) → Along t c a knows n first before waits after old mid text → Sends (Err stop) mid new text now → (bytes : List ℕ) → before ≡ Some bytes → HaltsAt t (Err stop) (all_of c (first ++ bytes)) left old new now
-at_send t c a knows n first before waits after old mid new text now left (halt.Refused refusal) along sends = absurd sends
-at_send t c a knows n first before waits after old mid new text now left halt.SourceFailed along sends = absurd sends
-at_send t c a knows n first before waits after old mid new text now left halt.OutOfMemory along sends = short_sink t c a knows n first before waits after old mid new text along sends
-at_send t c a knows n first before waits after old mid new text now left halt.SinkFailed along sends = short_sink t c a knows n first before waits after old mid new text along sends
 
 -- no line was left, and the ending was told, or memory was short
 pub at_last : (t : Telling) (c : FabricConfig) (a b : World) (knows known : Known) (n : ℕ) (first : List ℕ) (before : Option (List ℕ)) (waits : List ℕ) (after old new : Option (List ℕ)) (text now last : List ℕ) (left : Option (List ℕ)) (result : Result (Unit {0}) Halt) (along : Along t c a knows n first before waits after old new text) → TookNone c along.history b known text now waits after left → EndsLines result t c along.history now last → (bytes : List ℕ) → before ≡ Some bytes → HaltsAt t result (all_of c (first ++ bytes)) left old new last

@@ -1,6 +1,7 @@
 -- Where a run over the lines of a source halts, and what is written then.
 use Rattle.std.specs.Prelude.{◌≡◌, ◌⊎◌, ℕ, List, [], ◌++◌, Option, Some, None, Result, Ok, Err}
 use Rattle.edge_io.specs.Edge.{Grew, GrewByFront}
+use Rattle.edge_io.specs.declared.refusal.EdgeRefusal.{EdgeRefusal}
 use Rattle.fabric_terms.specs.declared.config.FabricConfig.{FabricConfig}
 use Rattle.world_rules.specs.Runs.{History}
 use Rattle.fabric_status.specs.declared.status.Status.{Status}
@@ -32,13 +33,10 @@ HaltsAt t (Err halt.SourceFailed) j left old new text = (config : Option FabricC
 HaltsAt t (Err halt.OutOfMemory) j left old new text = GrewByFront old new (lines_judged t j.config j.history)
 HaltsAt t (Err halt.SinkFailed) j left old new text = GrewByFront old new (lines_judged t j.config j.history)
 
--- the text was written in part and the rest waits, or a front of it was written before a halt
-abbrev pub Sends : Result (Unit {0}) Halt → Option (List ℕ) → Option (List ℕ) → List ℕ → List ℕ → Type 0
+-- the text was written in part and the rest waits, or a front of it was written before a refusal
+abbrev pub Sends : Result (Unit {0}) EdgeRefusal → Option (List ℕ) → Option (List ℕ) → List ℕ → List ℕ → Type 0
 Sends (Ok u) old new text rest = Wrote old new rest text
-Sends (Err (halt.Refused refusal)) old new text rest = ⊥
-Sends (Err halt.SourceFailed) old new text rest = ⊥
-Sends (Err halt.OutOfMemory) old new text rest = GrewByFront old new text
-Sends (Err halt.SinkFailed) old new text rest = GrewByFront old new text
+Sends (Err refusal) old new text rest = GrewByFront old new text
 
 -- what waited and the line of a status were written, with that status, or a front of them
 abbrev pub WroteFault : Status → List ℕ → Status → Option (List ℕ) → Option (List ℕ) → ℕ → ℕ → Type 0

@@ -5,7 +5,6 @@ use Rattle.fabric_terms.specs.Reports.{told}
 use Rattle.fabric_terms.specs.Runs.{Entry, Run}
 use Rattle.fabric_terms.specs.declared.config.FabricConfig.{FabricConfig}
 use Rattle.fabric_terms.specs.declared.report.Head.{Head}
-use Rattle.fabric_terms.specs.declared.report.Report.{Report}
 use Rattle.point_places.specs.Lines.{IsText}
 use Rattle.ring_points.specs.Whos.{node_instance}
 use Rattle.ring_world.specs.Answers.{ruled}

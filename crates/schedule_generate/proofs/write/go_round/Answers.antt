@@ -1,4 +1,5 @@
-use Rattle.std.proofs.Common.{◌≡◌, true, false, sym, ◌∙◌}
+use Rattle.std.proofs.Common.{◌≡◌, true, false, Ok, Err, sym, ◌∙◌}
+use Rattle.edge_io.specs.declared.refusal.EdgeRefusal.TheVariants as refusal
 use Rattle.schedule_generate.specs.Course.{is_full, round}
 use Rattle.schedule_generate.specs.Settings.{generated_config}
 use Rattle.schedule_generate.proofs.Loops.{full_round, no_failure, own_number, round_halted, round_sent}
@@ -10,12 +11,26 @@ returns-then-is_full-clause-went g c k sent at =
     let full : is_full (generated_config n) k ≡ true = sym (c.is_full.ensures n k at.goes) ∙ c.if-is_full.true in
     full_round g.L.Listener.writing (g.L.Listener.knows c.args.listener.now) n c.args.generator.now c.args.text.now.items k sent (g.K.Sink.held c.args.sink.now) tt (is_full (generated_config n) k) full at
 
-pub returns-in-Ok-clause-went : goal.returns-in-Ok-clause-went
-returns-in-Ok-clause-went g c k sent at =
+pub returns-in-Ok-send_full-clause-went : goal.returns-in-Ok-send_full-clause-went
+returns-in-Ok-send_full-clause-went g c k sent at =
     let n = c.args.generator.now.nodes in
     let open_still : is_full (generated_config n) k ≡ false = sym (c.is_full.ensures n k at.goes) ∙ c.if-is_full.false in
-    round_sent g.L.Listener.writing (g.L.Listener.knows c.round.new.listener) n c.send_full.result c.round.new.self c.round.new.text.items c.send_full.new.text.items k sent (g.K.Sink.held c.args.sink.now) (g.K.Sink.held c.send_full.new.sink) (is_full (generated_config n) k) open_still
-    (c.in-Ok.ensures.went k sent at) c.send_full.ensures.sent
+    round_sent g.L.Listener.writing (g.L.Listener.knows c.round.new.listener) n (Ok tt) c.round.new.self c.round.new.text.items c.send_full.new.text.items k sent (g.K.Sink.held c.args.sink.now) (g.K.Sink.held c.send_full.new.sink) (is_full (generated_config n) k) open_still
+    (c.in-Ok.ensures.went k sent at) c.in-Ok-send_full.ensures.sent
+
+pub returns-in-Err-Failed-clause-went : goal.returns-in-Err-Failed-clause-went
+returns-in-Err-Failed-clause-went g c k sent at =
+    let n = c.args.generator.now.nodes in
+    let open_still : is_full (generated_config n) k ≡ false = sym (c.is_full.ensures n k at.goes) ∙ c.if-is_full.false in
+    round_sent g.L.Listener.writing (g.L.Listener.knows c.round.new.listener) n (Err refusal.Failed) c.round.new.self c.round.new.text.items c.send_full.new.text.items k sent (g.K.Sink.held c.args.sink.now) (g.K.Sink.held c.send_full.new.sink) (is_full (generated_config n) k) open_still
+    (c.in-Ok.ensures.went k sent at) c.in-Err-Failed.ensures.sent
+
+pub returns-in-Err-OutOfMemory-clause-went : goal.returns-in-Err-OutOfMemory-clause-went
+returns-in-Err-OutOfMemory-clause-went g c k sent at =
+    let n = c.args.generator.now.nodes in
+    let open_still : is_full (generated_config n) k ≡ false = sym (c.is_full.ensures n k at.goes) ∙ c.if-is_full.false in
+    round_sent g.L.Listener.writing (g.L.Listener.knows c.round.new.listener) n (Err refusal.OutOfMemory) c.round.new.self c.round.new.text.items c.send_full.new.text.items k sent (g.K.Sink.held c.args.sink.now) (g.K.Sink.held c.send_full.new.sink) (is_full (generated_config n) k) open_still
+    (c.in-Ok.ensures.went k sent at) c.in-Err-OutOfMemory.ensures.sent
 
 pub returns-in-Err-clause-went : goal.returns-in-Err-clause-went
 returns-in-Err-clause-went g c k sent at =
