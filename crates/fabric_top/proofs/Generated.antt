@@ -1,5 +1,5 @@
 -- What is written of a generated schedule does not end as other words do.
-use Rattle.std.proofs.Common.{◌≡◌, ◌≢◌, ◌⊎◌, ℕ, List, Option, Some, None, inl, inr, sym, ◌∙◌}
+use Rattle.std.proofs.Common.{◌≢◌, ℕ, List, Option, Some, None, inl, inr, sym, ◌∙◌}
 use Rattle.fabric_status.specs.Writes.{Wrote}
 use Rattle.fabric_status.specs.declared.status.Status.{Status}
 use Rattle.fabric_status.specs.declared.status.Status.TheVariants as status
