@@ -1,12 +1,18 @@
-ghost use Rattle.std.specs.Prelude.{◌≡◌, ◌+◌, ◌≤◌};
+ghost use Rattle.std.specs.Prelude.{◌≡◌, ◌≤◌, IsTrue};
+ghost use Rattle.ring_node.specs.Steps.{is_sound_input};
 ghost use Rattle.ring_points.specs.Whos.{arbiter_actor, node_instance};
 
-use crate::ring::{from, instance, started, step_at};
+use crate::ring::{from, instance, started};
 use fabric_terms::{Body, Command, Outbox, Report};
-use ring_node::{Input, Reports, RingNode};
+use ring_node::{Input, RingNode};
 use ring_points::{RangeSet, Ruling, Who};
 use std::alloc::Global;
 use std::process::Abort;
+
+/// A word for all that a step sends and reports, with how many messages it sends or the reading that it names.
+type Seen = (&'static str, u64);
+
+const NOTHING: Seen = ("nothing", 0);
 
 fn arbitrator(number: u16) -> Who
     requires { number ≤ 9 }
@@ -18,36 +24,6 @@ fn arbitrator(number: u16) -> Who
     }
 }
 
-/// What a ruling of this arbitrator about node 1 brings about.
-fn rule(ring: &mut RingNode, number: u16, ruling: Ruling) -> (Outbox, Reports)
-    requires first { 1 ≤ number }
-    requires last { number ≤ 3 }
-{
-    let victim = instance(1);
-    step_at(
-        ring,
-        3150,
-        &from(arbitrator(number), 2, Body::Ruled { victim, ruling }),
-    )
-}
-
-/// What an answer of this arbitrator to a claim about node 1 brings about.
-fn keep(ring: &mut RingNode, number: u16, round: u8, claimer: u16) -> (Outbox, Reports)
-    requires first { 1 ≤ number }
-    requires last { number ≤ 3 }
-    requires rounds { 1 ≤ round }
-    requires limit { round ≤ 2 }
-    requires low { 2 ≤ claimer }
-    requires high { claimer ≤ 4 }
-{
-    let kept = Body::Kept {
-        victim: instance(1),
-        round,
-        claimer: instance(claimer),
-    };
-    step_at(ring, 3300, &from(arbitrator(number), 2, kept))
-}
-
 /// How many claims are sent, each of this round, to arbitrators in their order.
 fn claims(out: &Outbox, round: u8) -> usize {
     let claims = out.messages().iter().filter(|(to, body)| {
@@ -56,12 +32,69 @@ fn claims(out: &Outbox, round: u8) -> usize {
     claims.count()
 }
 
-/// Node 2, bound at reading 100 to node 1, which holds the ring.
-fn bound(rt: &impl Abort, alloc: Global) -> RingNode {
-    let mut ring = started(rt, alloc, instance(2));
-    let _ = step_at(&mut ring, 100, &Input::Do(Command::Link(1)));
+/// What is sent where nothing is reported.
+fn sent(out: &Outbox) -> Seen {
+    let count = out.messages().len();
+    if count == 0 {
+        NOTHING
+    } else if claims(out, 1) == count {
+        ("claims of round 1", count as u64)
+    } else if claims(out, 2) == count {
+        ("claims of round 2", count as u64)
+    } else {
+        ("other messages", count as u64)
+    }
+}
+
+fn word(out: &Outbox, told: &[Report]) -> Seen {
+    match told {
+        [] => sent(out),
+        [Report::Accused(_)] => ("accused", out.messages().len() as u64),
+        [Report::Discharged(_), Report::Own(_, None)] => ("discharged, without a fence", 0),
+        [Report::Heir(_, at)] => ("heir", *at),
+        [Report::TookOver(..), Report::Own(_, None)] => ("took over, without a fence", 0),
+        _ => ("other reports", 0),
+    }
+}
+
+fn seen(ring: &mut RingNode, now: u64, input: &Input) -> Seen
+    requires now { now ≤ 1_000_000_000_000_000 }
+    requires sound { IsTrue (is_sound_input input.now) }
+{
+    let mut out = Outbox::new();
+    let told = ring.step(now, input, &mut out);
+    word(&out, told.as_slice())
+}
+
+fn fire(ring: &mut RingNode, now: u32) -> Seen {
+    seen(ring, now as u64, &Input::Fire)
+}
+
+/// What a ruling of this arbitrator about node 1 brings about.
+fn rule(rt: &impl Abort, ring: &mut RingNode, number: u16, ruling: Ruling) -> Seen {
+    assert!(rt; 1 <= number && number <= 3);
+    let victim = instance(1);
+    let ruled = Body::Ruled { victim, ruling };
+    seen(ring, 3150, &from(arbitrator(number), 2, ruled))
+}
+
+/// What an answer of this arbitrator to a claim about node 1 brings about.
+fn keep(rt: &impl Abort, ring: &mut RingNode, number: u16, round: u8, claimer: u16) -> Seen {
+    assert!(rt; 1 <= number && number <= 3);
+    assert!(rt; 1 <= round && round <= 2 && 2 <= claimer && claimer <= 4);
+    let kept = Body::Kept {
+        victim: instance(1),
+        round,
+        claimer: instance(claimer),
+    };
+    seen(ring, 3300, &from(arbitrator(number), 2, kept))
+}
+
+/// Binds node 2 to node 1, which holds the ring.
+fn bind(ring: &mut RingNode) {
+    seen(ring, 100, &Input::Do(Command::Link(1)));
     let offer = Body::Offer { mine: 1, yours: 1 };
-    let _ = step_at(&mut ring, 100, &from(instance(1), 2, offer));
+    seen(ring, 100, &from(instance(1), 2, offer));
     let renew = Body::Renew {
         mine: 1,
         yours: 1,
@@ -71,63 +104,72 @@ fn bound(rt: &impl Abort, alloc: Global) -> RingNode {
         want: false,
         ranges: RangeSet::whole(),
     };
-    let _ = step_at(&mut ring, 100, &from(instance(1), 2, renew));
+    seen(ring, 100, &from(instance(1), 2, renew));
+}
+
+/// Node 2, bound at reading 100 to node 1, once it has accused node 1.
+fn accuser(rt: &impl Abort, alloc: Global) -> RingNode {
+    let mut ring = started(rt, alloc, instance(2));
+    bind(&mut ring);
+    assert_eq!(rt; fire(&mut ring, 3100), ("accused", 3));
+    assert_eq!(rt; ring.fence(), Some(4100));
     ring
+}
+
+/// The arbitrators rule each for another, and the second refusal frees node 2.
+fn split(rt: &impl Abort, ring: &mut RingNode) {
+    assert_eq!(rt; rule(rt, ring, 1, Ruling::Granted), NOTHING);
+    let discharged = rule(rt, ring, 2, Ruling::Taken);
+    assert_eq!(rt; discharged, ("discharged, without a fence", 0));
+    assert_eq!(rt; rule(rt, ring, 3, Ruling::Taken), NOTHING);
 }
 
 /// Node 2 once it has accused node 1, and is discharged by a split of the arbitrators.
 fn discharged(rt: &impl Abort, alloc: Global) -> RingNode {
-    let mut ring = bound(rt, alloc);
-    let (out, told) = step_at(&mut ring, 3100, &Input::Fire);
-    assert!(rt; matches!(told.as_slice(), [Report::Accused(_)]));
-    assert_eq!(rt; (out.messages().len(), ring.fence()), (3, Some(4100)));
-    let (_, told) = rule(&mut ring, 1, Ruling::Granted);
-    assert_eq!(rt; told.as_slice().len(), 0);
-    let (_, told) = rule(&mut ring, 2, Ruling::Taken);
-    assert!(rt;
-        matches!(
-            told.as_slice(),
-            [Report::Discharged(_), Report::Own(_, None)]
-        )
-    );
-    let (_, told) = rule(&mut ring, 3, Ruling::Taken);
-    assert_eq!(rt; told.as_slice().len(), 0);
+    let mut ring = accuser(rt, alloc);
+    split(rt, &mut ring);
     ring
+}
+
+/// Each arbitrator keeps another claimer for the first round, and the last answer begins the second.
+fn first_round(rt: &impl Abort, ring: &mut RingNode) {
+    for (number, claimer, want) in [
+        (1, 2, NOTHING),
+        (2, 3, NOTHING),
+        (3, 4, ("claims of round 2", 3)),
+    ] {
+        let seen = keep(rt, ring, number, 1, claimer);
+        assert_eq!(rt; seen, want, "{number} keeps {claimer}");
+    }
+}
+
+/// Two arbitrators keep node 2 for the second round, which makes it the heir.
+fn second_round(rt: &impl Abort, ring: &mut RingNode) {
+    assert_eq!(rt; keep(rt, ring, 1, 2, 2), NOTHING);
+    // 3,300 and the wait for 4,000 ticks: 4,001 * 1,010 / 990 rounded up, and 1.
+    assert_eq!(rt; keep(rt, ring, 2, 2, 2), ("heir", 7383));
+}
+
+/// The heir takes over at its reading, and not one tick before.
+fn inherits(rt: &impl Abort, ring: &mut RingNode) {
+    assert_eq!(rt; fire(ring, 7382), NOTHING);
+    assert_eq!(rt; fire(ring, 7383), ("took over, without a fence", 0));
+    assert_eq!(rt; ring.ranges().intervals().len(), 1);
 }
 
 #[test]
 fn a_split_is_settled_by_the_second_round(rt: HostRuntime) {
     let mut ring = discharged(&rt, rt.alloc());
-    let (out, _) = step_at(&mut ring, 3200, &Input::Fire);
-    assert_eq!(rt; claims(&out, 1), 3);
-    let _ = keep(&mut ring, 1, 1, 2);
-    let (out, _) = keep(&mut ring, 2, 1, 3);
-    assert_eq!(rt; out.messages().len(), 0);
-    let (out, _) = keep(&mut ring, 3, 1, 4);
-    assert_eq!(rt; claims(&out, 2), 3);
-    let (_, told) = keep(&mut ring, 1, 2, 2);
-    assert_eq!(rt; told.as_slice().len(), 0);
-    let (_, told) = keep(&mut ring, 2, 2, 2);
-    // 3,300 and the wait for 4,000 ticks: 4,001 * 1,010 / 990 rounded up, and 1.
-    assert!(rt; matches!(told.as_slice(), [Report::Heir(_, 7383)]));
-    let (_, told) = step_at(&mut ring, 7382, &Input::Fire);
-    assert_eq!(rt; told.as_slice().len(), 0);
-    let (_, told) = step_at(&mut ring, 7383, &Input::Fire);
-    assert!(rt;
-        matches!(
-            told.as_slice(),
-            [Report::TookOver(..), Report::Own(_, None)]
-        )
-    );
-    assert_eq!(rt; ring.ranges().intervals().len(), 1);
+    assert_eq!(rt; fire(&mut ring, 3200), ("claims of round 1", 3));
+    first_round(&rt, &mut ring);
+    second_round(&rt, &mut ring);
+    inherits(&rt, &mut ring);
 }
 
 #[test]
 fn claims_end_with_the_time_of_the_rounds(rt: HostRuntime) {
     let mut ring = discharged(&rt, rt.alloc());
     // The fence 4,100, and 4,000 for the second round.
-    let (out, _) = step_at(&mut ring, 8099, &Input::Fire);
-    assert_eq!(rt; claims(&out, 1), 3);
-    let (out, _) = step_at(&mut ring, 8100, &Input::Fire);
-    assert_eq!(rt; out.messages().len(), 0);
+    assert_eq!(rt; fire(&mut ring, 8099), ("claims of round 1", 3));
+    assert_eq!(rt; fire(&mut ring, 8100), NOTHING);
 }

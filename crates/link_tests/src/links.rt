@@ -3,8 +3,9 @@ ghost use Rattle.link_core.specs.Frames.{may_come};
 
 use drift_clock::Bound;
 use fabric_terms::{Body, Message, Outbox};
-use link_core::{Announce, LinkNote, LinkNotes, LinkRefusal, Links16};
+use link_core::{Announce, LinkNote, LinkRefusal, Links16};
 use ring_points::{Flight, RangeSet, Who};
+use std::process::Abort;
 
 fn instance(actor: u16) -> Who
     ensures { result ≡ record { actor = actor; instance = 1 } }
@@ -25,8 +26,31 @@ fn wanting() -> Announce {
     }
 }
 
-/// What the links answer to this frame of the node, and what they leave to do.
-fn hear(links: &mut Links16, now: u64, node: u16, body: Body) -> (Outbox, LinkNotes)
+/// The only frame that is sent: its word, and its first two numbers, or the stamp and the last flight of a Renew.
+type Said = (&'static str, u64, u32);
+
+fn said(out: &Outbox) -> Said {
+    match out.messages() {
+        [(_, Body::Hello { mine })] => ("hello", *mine as u64, 0),
+        [(_, Body::Offer { mine, yours })] => ("offer", *mine as u64, *yours),
+        [(_, Body::Take { mine, yours })] => ("take", *mine as u64, *yours),
+        [
+            (
+                _,
+                Body::Renew {
+                    stamp,
+                    got,
+                    want,
+                    ..
+                },
+            ),
+        ] if *want => ("wanting renewal", *stamp, *got),
+        _ => ("something else", 0, 0),
+    }
+}
+
+/// What the links answer to this frame of the node, and whether a link that is bound is all that they leave to do.
+fn hear(links: &mut Links16, now: u64, node: u16, body: Body) -> (Said, bool)
     requires now { now ≤ 1_000_000_000_000_000 }
     requires frame { IsTrue (may_come links.old.arbitrators (record { actor = node; instance = 1 }) body) }
 {
@@ -35,72 +59,62 @@ fn hear(links: &mut Links16, now: u64, node: u16, body: Body) -> (Outbox, LinkNo
     let to = from;
     let message = Message { from, to, body };
     let notes = links.on_frame(now, &message, &wanting(), &mut out);
-    (out, notes)
+    (said(&out), matches!(notes.as_slice(), [LinkNote::BoundNow]))
+}
+
+/// What the links say at reading 0 as they ask this node for a link.
+fn greet(links: &mut Links16, node: u16, span: Option<u64>) -> (Result<(), LinkRefusal>, Said) {
+    let mut out = Outbox::new();
+    let asked = links.hello(node, 0, span, &mut out);
+    (asked, said(&out))
+}
+
+/// What the links say at reading 100 as their first slot is due.
+fn renewal(links: &mut Links16) -> Said {
+    let mut out = Outbox::new();
+    let _ = links.due(0, 100, &wanting(), &mut out);
+    said(&out)
+}
+
+/// Binds the links of node 1 to those of node 2, which ask for it.
+fn bind(rt: &impl Abort, one: &mut Links16, two: &mut Links16) {
+    assert_eq!(rt; greet(two, 1, None), (Ok(()), ("hello", 1, 0)));
+    let (offer, _) = hear(one, 0, 2, Body::Hello { mine: 1 });
+    assert_eq!(rt; offer, ("offer", 1, 1));
+    assert_eq!(rt; (one.fence(), two.fence()), (Some(4000), None));
+    let take = hear(two, 0, 1, Body::Offer { mine: 1, yours: 1 });
+    assert_eq!(rt; take, (("take", 1, 1), true));
 }
 
 #[test]
 fn a_link_is_bound_and_renewed(rt: HostRuntime) {
     let (mut one, mut two) = (links(1), links(2));
-    let mut out = Outbox::new();
-    assert_eq!(rt; two.hello(1, 0, None, &mut out), Ok(()));
-    assert!(rt; matches!(out.messages(), [(_, Body::Hello { mine: 1 })]));
-    let (out, _) = hear(&mut one, 0, 2, Body::Hello { mine: 1 });
-    assert!(rt; matches!(out.messages(), [(_, Body::Offer { mine: 1, yours: 1 })]));
-    assert_eq!(rt; (one.fence(), two.fence()), (Some(4000), None));
-    let (out, notes) = hear(&mut two, 0, 1, Body::Offer { mine: 1, yours: 1 });
-    assert!(rt; matches!(out.messages(), [(_, Body::Take { mine: 1, yours: 1 })]));
-    assert!(rt; matches!(notes.as_slice(), [LinkNote::BoundNow]));
-    let (out, _) = hear(&mut one, 0, 2, Body::Take { mine: 1, yours: 1 });
-    assert!(rt;
-        matches!(
-            out.messages(),
-            [(
-                _,
-                Body::Renew {
-                    stamp: 0,
-                    got: 0,
-                    ..
-                }
-            )]
-        )
-    );
-    let mut out = Outbox::new();
-    let _ = two.due(0, 100, &wanting(), &mut out);
-    assert!(rt;
-        matches!(
-            out.messages(),
-            [(
-                _,
-                Body::Renew {
-                    stamp: 100,
-                    want: true,
-                    ..
-                }
-            )]
-        )
-    );
+    bind(&rt, &mut one, &mut two);
+    let (renew, _) = hear(&mut one, 0, 2, Body::Take { mine: 1, yours: 1 });
+    assert_eq!(rt; renew, ("wanting renewal", 0, 0));
+    assert_eq!(rt; renewal(&mut two), ("wanting renewal", 100, 0));
     let ack = Body::RenewAck {
         mine: 1,
         yours: 1,
         stamp: 100,
         version: 1,
     };
-    let _ = hear(&mut two, 250, 1, ack);
+    hear(&mut two, 250, 1, ack);
     assert_eq!(rt; two.fence(), Some(4100));
 }
 
 /// The fences of both sides of a link that node 2 asked for with this length.
 fn fences(span: u64) -> (Option<u64>, Option<u64>) {
     let (mut one, mut two) = (links(1), links(2));
-    let _ = two.hello(1, 0, Some(span), &mut Outbox::new());
+    let _ = greet(&mut two, 1, Some(span));
     let length = span.min(3000);
-    let _ = hear(&mut one, 0, 2, Body::HelloFor { mine: 1, length });
+    hear(&mut one, 0, 2, Body::HelloFor { mine: 1, length });
     let offer = Body::OfferFor {
         mine: 1,
         yours: 1,
         length,
     };
-    let _ = hear(&mut two, 0, 1, offer);
+    hear(&mut two, 0, 1, offer);
     (one.fence(), two.fence())
 }
 
@@ -110,8 +124,8 @@ fn the_smaller_length_counts(rt: HostRuntime) {
     assert_eq!(rt; fences(9000), (Some(4000), Some(4000)));
 }
 
-#[test]
-fn the_fence_is_the_least_of_all(rt: HostRuntime) {
+/// The links of node 1 with nodes 2 to 5, in the slots from 0 on.
+fn with_four(rt: &impl Abort) -> Links16 {
     let mut one = links(1);
     for (node, length, fence) in [
         (2, 2000, 3000),
@@ -119,41 +133,61 @@ fn the_fence_is_the_least_of_all(rt: HostRuntime) {
         (4, 2500, 1900),
         (5, 900, 1900),
     ] {
-        let _ = hear(&mut one, 0, node, Body::HelloFor { mine: 1, length });
+        hear(&mut one, 0, node, Body::HelloFor { mine: 1, length });
         assert_eq!(rt; one.fence(), Some(fence), "with {node}");
     }
-    // Slot i is that of node i + 2. What the peers say to a Gone ends a slot, and the next least end counts.
+    one
+}
+
+#[test]
+fn the_fence_is_the_least_of_all(rt: HostRuntime) {
+    let mut one = with_four(&rt);
+    // What the peers say to a Gone ends a slot, and the next least end counts.
     for (slot, fence) in [(1, Some(1900)), (3, Some(3000)), (0, Some(3500)), (2, None)] {
         one.close(slot, false, &mut Outbox::new());
         assert_eq!(rt; one.fence(), fence, "without {slot}");
     }
 }
 
-#[test]
-fn calls_are_refused_in_order(rt: HostRuntime) {
-    let mut two = links(2);
-    let mut out = Outbox::new();
-    assert_eq!(rt; two.part(1, &mut out), Err(LinkRefusal::NotLinked));
-    let _ = hear(&mut two, 0, 1, Body::Hello { mine: 1 });
-    assert_eq!(rt;
-        two.hello(1, 0, None, &mut out),
-        Err(LinkRefusal::AlreadyLinked)
-    );
+fn parted(links: &mut Links16) -> Result<(), LinkRefusal> {
+    links.part(1, &mut Outbox::new())
+}
+
+/// A flight is under way to the peer of the first slot.
+fn put_flight(links: &mut Links16) {
     let flight = Flight {
         number: 1,
         part: RangeSet::whole(),
     };
-    two.put_flight(0, &flight, &mut out);
-    assert_eq!(rt; two.part(1, &mut out), Err(LinkRefusal::Busy));
+    links.put_flight(0, &flight, &mut Outbox::new());
+}
+
+/// The links of node 2 with node 1.
+fn linked() -> Links16 {
+    let mut two = links(2);
+    hear(&mut two, 0, 1, Body::Hello { mine: 1 });
+    two
+}
+
+#[test]
+fn a_part_needs_a_link_without_a_flight(rt: HostRuntime) {
+    assert_eq!(rt; parted(&mut links(2)), Err(LinkRefusal::NotLinked));
+    let mut two = linked();
+    put_flight(&mut two);
+    assert_eq!(rt; parted(&mut two), Err(LinkRefusal::Busy));
+}
+
+#[test]
+fn a_hello_needs_a_new_node_and_a_free_slot(rt: HostRuntime) {
+    let mut two = linked();
+    let (asked, _) = greet(&mut two, 1, None);
+    assert_eq!(rt; asked, Err(LinkRefusal::AlreadyLinked));
+    put_flight(&mut two);
     for node in 3..18 {
-        let _ = two.hello(node, 0, None, &mut Outbox::new());
+        let _ = greet(&mut two, node, None);
     }
-    assert_eq!(rt;
-        two.hello(18, 0, None, &mut Outbox::new()),
-        Err(LinkRefusal::Full)
-    );
-    assert_eq!(rt;
-        two.slots().iter().filter(|slot| slot.is_some()).count(),
-        16
-    );
+    let (asked, _) = greet(&mut two, 18, None);
+    assert_eq!(rt; asked, Err(LinkRefusal::Full));
+    let taken = two.slots().iter().filter(|slot| slot.is_some());
+    assert_eq!(rt; taken.count(), 16);
 }

@@ -1,54 +1,18 @@
-use crate::ring::{HIGH, LOWER, from, instance, started, step_at};
+ghost use Rattle.std.specs.Prelude.{◌≡◌, IsTrue};
+ghost use Rattle.ring_node.specs.Steps.{is_sound_input};
+
+use crate::ring::{HIGH, LOWER, from, instance, started};
 use fabric_terms::{Body, Command, Outbox, Reason, Report, Verb};
 use join_phases::Phase;
-use ring_node::{Input, Reports, RingNode};
+use ring_node::{Input, RingNode};
 use ring_points::{Point, Who};
 use std::alloc::Global;
 use std::process::Abort;
 
 /// Node 1, which owns the ring, or seeks its place in it.
 fn one_of_three(rt: &impl Abort, alloc: Global, first: bool) -> RingNode {
-    started(
-        rt,
-        alloc,
-        Who {
-            actor: 1,
-            instance: if first { 1 } else { 2 },
-        },
-    )
-}
-
-/// What a node that has heard node 3, or owns the ring, does with a Seek of node 2.
-fn seek(rt: &impl Abort, alloc: Global, first: bool, key: u64) -> (Outbox, Reports) {
-    let mut ring = one_of_three(rt, alloc, first);
-    let stamp = 100;
-    let _ = step_at(
-        &mut ring,
-        100,
-        &from(
-            instance(3),
-            1,
-            Body::RenewAck {
-                mine: 1,
-                yours: 1,
-                stamp,
-                version: 1,
-            },
-        ),
-    );
-    step_at(
-        &mut ring,
-        100,
-        &from(
-            instance(2),
-            1,
-            Body::Seek {
-                origin: instance(2),
-                key: Point(key),
-                hops: 0,
-            },
-        ),
-    )
+    let instance = if first { 1 } else { 2 };
+    started(rt, alloc, Who { actor: 1, instance })
 }
 
 /// To which node the only frame goes, and how many hops a Seek in it has made, 0 for a Found.
@@ -60,61 +24,133 @@ fn sent_to(out: &Outbox) -> Option<(u16, u8)> {
     }
 }
 
+/// Where the only frame goes that the node sends at reading 100, and how many reports it makes.
+fn taken(ring: &mut RingNode, input: &Input) -> (Option<(u16, u8)>, usize)
+    requires { IsTrue (is_sound_input input.now) }
+{
+    let mut out = Outbox::new();
+    let told = ring.step(100, input, &mut out);
+    (sent_to(&out), told.as_slice().len())
+}
+
+/// The node hears that node 3 is up.
+fn hear_from_three(ring: &mut RingNode) {
+    let ack = Body::RenewAck {
+        mine: 1,
+        yours: 1,
+        stamp: 100,
+        version: 1,
+    };
+    taken(ring, &from(instance(3), 1, ack));
+}
+
+/// What the node does with a Seek of node 2.
+fn sought(ring: &mut RingNode, key: u64) -> (Option<(u16, u8)>, usize) {
+    let seek = Body::Seek {
+        origin: instance(2),
+        key: Point(key),
+        hops: 0,
+    };
+    taken(ring, &from(instance(2), 1, seek))
+}
+
+/// What a node that has heard node 3, or owns the ring, does with a Seek of node 2.
+fn seek(rt: &impl Abort, alloc: Global, first: bool, key: u64) -> (Option<(u16, u8)>, usize) {
+    let mut ring = one_of_three(rt, alloc, first);
+    hear_from_three(&mut ring);
+    sought(&mut ring, key)
+}
+
 #[test]
 fn a_seek_goes_on_by_the_nearer_node(rt: HostRuntime) {
-    for (first, key, to, nowhere) in [
-        (true, LOWER, Some((2, 0)), 0),
-        (false, LOWER, Some((3, 1)), 0),
-        (false, 1 << 60, None, 1),
+    for (first, key, want) in [
+        (true, LOWER, (Some((2, 0)), 0)),
+        (false, LOWER, (Some((3, 1)), 0)),
+        (false, 1 << 60, (None, 1)),
     ] {
-        let (out, told) = seek(&rt, rt.alloc(), first, key);
-        assert_eq!(rt; sent_to(&out), to, "for {key}");
-        assert_eq!(rt; told.as_slice().len(), nowhere, "for {key}");
+        assert_eq!(rt; seek(&rt, rt.alloc(), first, key), want, "for {key}");
     }
 }
 
 /// The only report of a command, where it is a refusal.
 fn refusal(ring: &mut RingNode, command: Command) -> Option<(Verb, Reason)> {
-    let (_, told) = step_at(ring, 100, &Input::Do(command));
+    let told = ring.step(100, &Input::Do(command), &mut Outbox::new());
     match told.as_slice() {
         [Report::Refused(verb, reason)] => Some((*verb, *reason)),
         _ => None,
     }
 }
 
+/// The command of this verb about node 2.
+fn about_two(verb: Verb) -> Command {
+    match verb {
+        Verb::Link => Command::Link(2),
+        Verb::Part => Command::Part(2),
+        Verb::Give => Command::GiveNear(2),
+        _ => Command::Join(2),
+    }
+}
+
 #[test]
 fn commands_are_refused(rt: HostRuntime) {
-    let (mut first, mut seeking) = (
-        one_of_three(&rt, rt.alloc(), true),
-        one_of_three(&rt, rt.alloc(), false),
-    );
-    assert_eq!(rt; refusal(&mut first, Command::Link(2)), None);
-    for (command, want) in [
-        (Command::Link(2), (Verb::Link, Reason::Linked)),
-        (Command::Part(2), (Verb::Part, Reason::NotLinked)),
-        (Command::GiveNear(2), (Verb::Give, Reason::NotLinked)),
-        (Command::Join(2), (Verb::Join, Reason::Busy)),
+    let mut first = one_of_three(&rt, rt.alloc(), true);
+    assert_eq!(rt; refusal(&mut first, about_two(Verb::Link)), None);
+    for (verb, reason) in [
+        (Verb::Link, Reason::Linked),
+        (Verb::Part, Reason::NotLinked),
+        (Verb::Give, Reason::NotLinked),
+        (Verb::Join, Reason::Busy),
     ] {
-        assert_eq!(rt; refusal(&mut first, command), Some(want));
+        let refused = refusal(&mut first, about_two(verb));
+        assert_eq!(rt; refused, Some((verb, reason)));
     }
+}
+
+#[test]
+fn a_seeking_node_gives_nothing(rt: HostRuntime) {
+    let mut seeking = one_of_three(&rt, rt.alloc(), false);
     let give = refusal(&mut seeking, Command::GiveAll(2));
     assert_eq!(rt; give, Some((Verb::Give, Reason::NotRouting)));
 }
 
-#[test]
-fn a_node_knows_what_it_holds_and_who_is_up(rt: HostRuntime) {
-    let mut ring = one_of_three(&rt, rt.alloc(), true);
-    assert!(rt; ring.holds(100, Point(HIGH)));
-    assert_eq!(rt; ring.up_nodes(100).as_slice(), [1].as_slice());
+/// Whether a Found of node 3 is all that the node reports.
+fn finds(ring: &mut RingNode) -> bool {
     let found = Body::Found {
         key: Point(HIGH),
         holder: instance(1),
     };
-    let (_, told) = step_at(&mut ring, 100, &from(instance(3), 1, found));
-    assert!(rt; matches!(told.as_slice(), [Report::Found(..)]));
-    assert_eq!(rt; ring.up_nodes(6100).as_slice(), [1, 3].as_slice());
-    assert_eq!(rt; ring.up_nodes(6101).as_slice(), [1].as_slice());
+    let told = ring.step(100, &from(instance(3), 1, found), &mut Outbox::new());
+    matches!(told.as_slice(), [Report::Found(..)])
+}
+
+/// How many nodes are up, and the first two.
+fn up(ring: &RingNode, now: u64) -> (usize, Option<u16>, Option<u16>) {
+    let nodes = ring.up_nodes(now);
+    let nodes = nodes.as_slice();
+    (nodes.len(), nodes.get(0).copied(), nodes.get(1).copied())
+}
+
+/// The node has its place, with the whole ring and no fence.
+fn holds_all(rt: &impl Abort, ring: &RingNode) {
     assert_eq!(rt; (ring.me(), ring.fence()), (instance(1), None));
     assert_eq!(rt; ring.ranges().intervals().len(), 1);
     assert!(rt; matches!(ring.phase(), Phase::Routing(_)));
+}
+
+#[test]
+fn a_node_is_up_until_it_is_not_heard_for_long(rt: HostRuntime) {
+    let mut ring = one_of_three(&rt, rt.alloc(), true);
+    assert_eq!(rt; up(&ring, 100), (1, Some(1), None));
+    assert!(rt; finds(&mut ring));
+    for (now, want) in [(6100, (2, Some(1), Some(3))), (6101, (1, Some(1), None))] {
+        assert_eq!(rt; up(&ring, now), want, "at {now}");
+    }
+    holds_all(&rt, &ring);
+}
+
+#[test]
+fn the_first_node_holds_the_ring(rt: HostRuntime) {
+    let ring = one_of_three(&rt, rt.alloc(), true);
+    assert!(rt; ring.holds(100, Point(HIGH)));
+    holds_all(&rt, &ring);
 }

@@ -1,11 +1,10 @@
-ghost use Rattle.std.specs.Prelude.{◌≡◌, ◌≤◌, IsTrue};
+ghost use Rattle.std.specs.Prelude.{◌≡◌};
 ghost use Rattle.fabric_terms.specs.Sound.{IsSound};
-ghost use Rattle.ring_node.specs.Steps.{is_sound_input};
 ghost use Rattle.ring_points.specs.Whos.{node_instance};
 
 use fabric_config::read_config;
-use fabric_terms::{Body, FabricConfig, Message, Outbox};
-use ring_node::{Input, Reports, RingNode};
+use fabric_terms::{Body, FabricConfig, Message};
+use ring_node::{Input, RingNode};
 use ring_points::Who;
 use std::alloc::Global;
 use std::process::Abort;
@@ -47,16 +46,6 @@ fn begun(rt: &impl Abort, alloc: Global, config: &FabricConfig, me: Who) -> Ring
 pub(crate) fn started(rt: &impl Abort, alloc: Global, me: Who) -> RingNode {
     let config = config(rt, alloc);
     begun(rt, alloc, &config, me)
-}
-
-/// What the node sends and tells at this reading.
-pub(crate) fn step_at(ring: &mut RingNode, now: u64, input: &Input) -> (Outbox, Reports)
-    requires now { now ≤ 1_000_000_000_000_000 }
-    requires sound { IsTrue (is_sound_input input.now) }
-{
-    let mut out = Outbox::new();
-    let told = ring.step(now, input, &mut out);
-    (out, told)
 }
 
 /// A frame of this actor's first instance to whichever instance of this node runs.
