@@ -1,24 +1,32 @@
 use crate::questions::{accusation, arbitrator, node};
 use arbiter_core::{Answer, Arbiter};
 use fabric_terms::{Body, Message};
-use std::test::Fail;
+use ring_points::Who;
 
-#[test]
-fn answers_no_other_message(rt: HostRuntime) -> Result<(), Fail> {
-    let mut arbiter = Arbiter::new(rt.alloc(), 1);
+fn is_unanswered(arbiter: &mut Arbiter, message: &Message) -> bool {
+    matches!(&arbiter.on_frame(message), Ok(Answer::Nothing))
+}
+
+// Whether an accusation of 2.1 gets no answer.
+fn accuses_in_vain(arbiter: &mut Arbiter, accuser: Who, to: Who) -> bool {
+    is_unanswered(arbiter, &accusation(accuser, to, node(2)))
+}
+
+fn greets_in_vain(arbiter: &mut Arbiter) -> bool {
     let hello = Message {
         from: node(1),
         to: arbitrator(1),
         body: Body::Hello { mine: 1 },
     };
-    for message in [
-        accusation(node(1), arbitrator(2), node(2)),
-        accusation(arbitrator(2), arbitrator(1), node(2)),
-        accusation(node(1), node(3), node(2)),
-        hello,
-    ] {
-        assert!(rt; matches!(arbiter.on_frame(&message), Ok(Answer::Nothing)));
-    }
+    is_unanswered(arbiter, &hello)
+}
+
+#[test]
+fn answers_no_other_message(rt: HostRuntime) {
+    let mut arbiter = Arbiter::new(rt.alloc(), 1);
+    assert!(rt; accuses_in_vain(&mut arbiter, node(1), arbitrator(2)));
+    assert!(rt; accuses_in_vain(&mut arbiter, arbitrator(2), arbitrator(1)));
+    assert!(rt; accuses_in_vain(&mut arbiter, node(1), node(3)));
+    assert!(rt; greets_in_vain(&mut arbiter));
     assert_eq!(rt; arbiter.first_accuser(node(2)), None);
-    Ok(())
 }

@@ -2,35 +2,30 @@ use crate::questions::{accusation, arbitrator, node};
 use arbiter_core::{Answer, Arbiter, ArbiterError, MOST_ENTRIES};
 use ring_points::Who;
 use std::process::Abort;
-use std::test::Fail;
 
-// Whether a first accusation of this instance of node 2 is recorded.
-fn is_recorded(
-    rt: &impl Abort,
-    arbiter: &mut Arbiter,
-    instance: u32,
-) -> Result<bool, ArbiterError> {
+// What becomes of a first accusation of this instance of node 2.
+fn accused(arbiter: &mut Arbiter, instance: u32) -> &'static str {
     let victim = Who { actor: 2, instance };
-    match arbiter.on_frame(&accusation(node(1), arbitrator(1), victim))? {
-        Answer::Reply { kept, .. } => Ok(kept.is_some()),
-        Answer::Nothing => panic!(rt; "no answer"),
+    match &arbiter.on_frame(&accusation(node(1), arbitrator(1), victim)) {
+        Ok(Answer::Reply { kept: Some(_), .. }) => "recorded",
+        Ok(Answer::Reply { kept: None, .. }) => "answered",
+        Ok(Answer::Nothing) => "not answered",
+        Err(ArbiterError::TableFull) => "full",
+        Err(ArbiterError::OutOfMemory) => "no memory",
     }
 }
 
-// So many accusations are recorded, the next is refused, and what is recorded is still answered.
-#[test]
-fn is_full_at_its_last_entry(rt: HostRuntime) -> Result<(), Fail> {
-    let mut arbiter = Arbiter::new(rt.alloc(), 1);
-    let most = MOST_ENTRIES as u32;
+// Fills the arbitrator with so many entries. The next accusation is refused, and what is recorded is still answered.
+fn fill(rt: &impl Abort, arbiter: &mut Arbiter, most: u32) {
     for instance in 0..most {
-        assert!(rt; is_recorded(&rt, &mut arbiter, instance)?);
+        assert_eq!(rt; accused(arbiter, instance), "recorded");
     }
-    assert!(rt;
-        matches!(
-            is_recorded(&rt, &mut arbiter, most),
-            Err(ArbiterError::TableFull)
-        )
-    );
-    assert!(rt; !is_recorded(&rt, &mut arbiter, 0)?);
-    Ok(())
+    assert_eq!(rt; accused(arbiter, most), "full");
+    assert_eq!(rt; accused(arbiter, 0), "answered");
+}
+
+#[test]
+fn is_full_at_its_last_entry(rt: HostRuntime) {
+    let mut arbiter = Arbiter::new(rt.alloc(), 1);
+    fill(&rt, &mut arbiter, MOST_ENTRIES as u32);
 }

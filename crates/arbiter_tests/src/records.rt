@@ -1,6 +1,9 @@
+ghost use Rattle.std.specs.Prelude.{IsTrue};
+ghost use Rattle.keep_log.specs.Spellings.{is_sound};
+
 use keep_log::{RECORD_LIMIT, Record, encode_record};
 use ring_points::Who;
-use std::test::Fail;
+use std::process::Abort;
 
 const BOOT: &[u8] = b"\x01\x00\x00\x00\x01";
 
@@ -9,11 +12,23 @@ const ACCUSED: &[u8] = b"\x02\x00\x02\x00\x00\x00\x01\x00\x01\x00\x00\x00\x01";
 // The claimer 3.1 of the second round about 1.1.
 const CLAIMED: &[u8] = b"\x0a\x00\x01\x00\x00\x00\x01\x02\x00\x03\x00\x00\x00\x01";
 
-#[test]
-fn writes_a_boot_and_a_first_accuser(rt: HostRuntime) -> Result<(), Fail> {
+// The record is written as these bytes, and no more.
+fn is_written(rt: &impl Abort, record: &Record, want: &[u8])
+    requires { IsTrue (is_sound record.now) }
+{
     let mut into = [0; RECORD_LIMIT];
-    assert_eq!(rt; encode_record(&Record::Boot { instance: 1 }, &mut into), 5);
-    assert_eq!(rt; &into[..5], BOOT);
+    let count = encode_record(record, &mut into);
+    assert_eq!(rt; count, want.len());
+    assert_eq!(rt; &into[..count], want);
+}
+
+#[test]
+fn writes_a_boot(rt: HostRuntime) {
+    is_written(&rt, &Record::Boot { instance: 1 }, BOOT);
+}
+
+#[test]
+fn writes_a_first_accuser(rt: HostRuntime) {
     let accused = Record::AccusedBy {
         victim: Who {
             actor: 2,
@@ -24,14 +39,11 @@ fn writes_a_boot_and_a_first_accuser(rt: HostRuntime) -> Result<(), Fail> {
             instance: 1,
         },
     };
-    assert_eq!(rt; encode_record(&accused, &mut into), 13);
-    assert_eq!(rt; &into[..13], ACCUSED);
-    Ok(())
+    is_written(&rt, &accused, ACCUSED);
 }
 
 #[test]
-fn writes_a_claimer(rt: HostRuntime) -> Result<(), Fail> {
-    let mut into = [0; RECORD_LIMIT];
+fn writes_a_claimer(rt: HostRuntime) {
     let claimed = Record::ClaimedBy {
         victim: Who {
             actor: 1,
@@ -43,7 +55,5 @@ fn writes_a_claimer(rt: HostRuntime) -> Result<(), Fail> {
             instance: 1,
         },
     };
-    assert_eq!(rt; encode_record(&claimed, &mut into), 14);
-    assert_eq!(rt; &into[..14], CLAIMED);
-    Ok(())
+    is_written(&rt, &claimed, CLAIMED);
 }

@@ -1,9 +1,9 @@
 use crate::questions::{arbitrator, node};
-use arbiter_core::{Answer, Arbiter, ArbiterError};
+use arbiter_core::{Answer, Arbiter};
 use fabric_terms::{Body, Message};
 use ring_points::{Config, Epoch, Members};
+use std::alloc::Global;
 use std::process::Abort;
-use std::test::Fail;
 
 // What an arbitrator is asked about partition 1.
 #[derive(Clone, Copy)]
@@ -67,49 +67,71 @@ fn answered(
     rt: &impl Abort,
     arbiter: &mut Arbiter,
     asker: u16,
-    body: Body,
-) -> Result<(bool, (&'static str, u32)), ArbiterError> {
+    ask: Ask,
+    configuration: u32,
+) -> (bool, (&'static str, u32)) {
     let asked = Message {
         from: node(asker),
         to: arbitrator(1),
-        body,
+        body: question(ask, configuration),
     };
-    match arbiter.on_frame(&asked)? {
-        Answer::Reply { kept, body, .. } => Ok((kept.is_some(), said(rt, &body))),
+    match &arbiter.on_frame(&asked) {
+        Ok(Answer::Reply { kept, body, .. }) => (kept.is_some(), said(rt, body)),
         _ => panic!(rt; "no answer"),
     }
 }
 
-// An epoch is prepared for one node; a vote below it is refused; what is done is told to who prepares a greater one.
-#[test]
-fn keeps_what_is_prepared_and_done(rt: HostRuntime) -> Result<(), Fail> {
-    let mut arbiter = Arbiter::new(rt.alloc(), 1);
+// An epoch is prepared for one node.
+fn prepares(rt: &impl Abort, arbiter: &mut Arbiter) {
+    for (asker, wanted) in [
+        (1, (true, ("prepared", 0))),
+        (1, (false, ("prepared", 0))),
+        (2, (false, ("no prepare", 2))),
+    ] {
+        let answer = answered(rt, arbiter, asker, Ask::Prepare, 2);
+        assert_eq!(rt; answer, wanted, "for {asker}");
+    }
+}
+
+// A vote below what is prepared is refused; what is done is told to who prepares a greater epoch.
+fn goes_on(rt: &impl Abort, arbiter: &mut Arbiter) {
     for (asker, ask, configuration, wanted) in [
-        (1, Ask::Prepare, 2, (true, ("prepared", 0))),
-        (1, Ask::Prepare, 2, (false, ("prepared", 0))),
-        (2, Ask::Prepare, 2, (false, ("no prepare", 2))),
         (1, Ask::Vote, 1, (false, ("no vote", 2))),
         (1, Ask::Done, 2, (true, ("done", 0))),
         (2, Ask::Prepare, 3, (true, ("prepared", 2))),
     ] {
-        let answer = answered(&rt, &mut arbiter, asker, question(ask, configuration))?;
-        assert_eq!(rt; answer, wanted);
+        let answer = answered(rt, arbiter, asker, ask, configuration);
+        assert_eq!(rt; answer, wanted, "for {asker} at {configuration}");
     }
-    Ok(())
 }
 
-// Two preparers of one epoch: who comes first at two of three arbitrators has a majority, and the other is told the epoch.
 #[test]
-fn prepares_an_epoch_for_one(rt: HostRuntime) -> Result<(), Fail> {
-    for (first, second) in [(1, 2), (1, 2), (2, 1)] {
-        let mut arbiter = Arbiter::new(rt.alloc(), 1);
-        for (asker, wanted) in [
-            (first, (true, ("prepared", 0))),
-            (second, (false, ("no prepare", 5))),
-        ] {
-            let answer = answered(&rt, &mut arbiter, asker, question(Ask::Prepare, 5))?;
-            assert_eq!(rt; answer, wanted);
-        }
+fn keeps_what_is_prepared_and_done(rt: HostRuntime) {
+    let mut arbiter = Arbiter::new(rt.alloc(), 1);
+    prepares(&rt, &mut arbiter);
+    goes_on(&rt, &mut arbiter);
+}
+
+// Two preparers of one epoch: the first has it, and the other is told the epoch.
+fn prepared_in_turn(rt: &impl Abort, arbiter: &mut Arbiter, first: u16, second: u16) {
+    for (asker, wanted) in [
+        (first, (true, ("prepared", 0))),
+        (second, (false, ("no prepare", 5))),
+    ] {
+        let answer = answered(rt, arbiter, asker, Ask::Prepare, 5);
+        assert_eq!(rt; answer, wanted, "for {asker}");
     }
-    Ok(())
+}
+
+fn decides(rt: &impl Abort, alloc: Global, first: u16, second: u16) {
+    let mut arbiter = Arbiter::new(alloc, 1);
+    prepared_in_turn(rt, &mut arbiter, first, second);
+}
+
+// Who comes first at two of three arbitrators has a majority.
+#[test]
+fn prepares_an_epoch_for_one(rt: HostRuntime) {
+    for (first, second) in [(1, 2), (1, 2), (2, 1)] {
+        decides(&rt, rt.alloc(), first, second);
+    }
 }
