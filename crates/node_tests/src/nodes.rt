@@ -7,11 +7,11 @@ use fabric_terms::{
     Address, Arbiters, Body, Command, FabricConfig, Message, NodeEntry, Nodes, OutOfMemory, Record,
     Report, Why,
 };
-use node_core::{NodeCore, NodeKept};
+use node_core::{NodeCore, NodeKept, Outcome};
 use ring_node::Input;
 use ring_points::{Point, RangeSet, Who};
 use std::alloc::Global;
-use std::test::Fail;
+use std::process::Abort;
 
 fn entry(alloc: Global, node: u16, point: u64) -> NodeEntry
     ensures { result ≡ record { node = node; point = record { 0 = point }; domain = 1; at = []; longest = 3000 } }
@@ -44,58 +44,120 @@ fn two_nodes(alloc: Global) -> Result<FabricConfig, OutOfMemory>
     })
 }
 
-// A command that is refused for want of memory has done nothing, and can be given again.
+fn config(rt: &impl Abort, alloc: Global) -> FabricConfig
+    ensures sound { IsSound result }
+    ensures first { is_configured_node result 1 ≡ true }
+{
+    match two_nodes(alloc) {
+        Ok(config) => config,
+        Err(OutOfMemory) => panic!(rt; "no memory"),
+    }
+}
+
+/// The instance whose boot is all that is recorded, or 0 where nothing is.
+fn booted(begun: &Outcome) -> Option<u32> {
+    match begun.records.as_slice() {
+        [] => Some(0),
+        [Record::Boot { instance }] => Some(*instance),
+        _ => None,
+    }
+}
+
+fn told(begun: &Outcome) -> &'static str {
+    match begun.reports.as_slice() {
+        [Report::Own(_, None)] => "an owner without a fence",
+        [Report::LeftRing(Why::Counters), Report::Own(..)] => "has left for want of numbers",
+        _ => "something else",
+    }
+}
+
+/// Node 1 as it begins at reading 7 with what it has kept, whose boot it records, and what it tells.
+fn begun(
+    rt: &impl Abort,
+    alloc: Global,
+    kept: &mut NodeKept,
+) -> (Box<NodeCore>, Option<u32>, &'static str) {
+    let config = config(rt, alloc);
+    match NodeCore::begin(alloc, &config, 1, kept, 7) {
+        Ok((node, begun)) => (node, booted(&begun), told(&begun)),
+        Err(OutOfMemory) => panic!(rt; "no memory"),
+    }
+}
+
+/// What a command to link with node 2 leaves. One that is refused for want of memory has done nothing, and can be given
+/// again.
+fn linked(rt: &impl Abort, node: &mut NodeCore) -> Outcome {
+    let command = Input::Do(Command::Link(2));
+    if let Ok(linked) = node.step(100, &command) {
+        return linked;
+    }
+    match node.step(100, &command) {
+        Ok(linked) => linked,
+        Err(OutOfMemory) => panic!(rt; "no memory"),
+    }
+}
+
+/// From and to whom the only frame of a command to link goes, where it is a Hello, and its number.
+fn greeting(rt: &impl Abort, node: &mut NodeCore) -> Option<(Who, (u16, u32), u32)> {
+    match linked(rt, node).frames.as_slice() {
+        [Message { from, to, body }] => match body {
+            Body::Hello { mine } => Some((*from, (to.actor, to.instance), *mine)),
+            _ => None,
+        },
+        _ => None,
+    }
+}
+
+/// Whether the node records and reports nothing as its time comes.
+fn is_quiet(rt: &impl Abort, node: &mut NodeCore) -> bool {
+    match &node.step(200, &Input::Fire) {
+        Ok(fired) => fired.records.as_slice().is_empty() && fired.reports.as_slice().is_empty(),
+        Err(OutOfMemory) => panic!(rt; "no memory"),
+    }
+}
+
 #[test]
-fn the_first_node_greets_another(rt: HostRuntime) -> Result<(), Fail> {
-    let config = two_nodes(rt.alloc())?;
+fn the_first_node_owns_the_ring(rt: HostRuntime) {
     let mut kept = NodeKept::new(rt.alloc());
-    let (mut node, begun) = NodeCore::begin(rt.alloc(), &config, 1, &mut kept, 7)?;
-    assert!(rt; matches!(begun.records.as_slice(), [Record::Boot { instance: 1 }]));
-    assert!(rt; matches!(begun.reports.as_slice(), [Report::Own(_, None)]));
+    let (node, boot, told) = begun(&rt, rt.alloc(), &mut kept);
+    assert_eq!(rt; (boot, told), (Some(1), "an owner without a fence"));
     assert_eq!(rt; node.ranges().intervals(), RangeSet::whole().intervals());
     assert_eq!(rt; node.fence(), None);
-    let command = Input::Do(Command::Link(2));
-    let linked = match node.step(100, &command) {
-        Ok(linked) => linked,
-        Err(OutOfMemory) => node.step(100, &command)?,
-    };
-    let [Message { from, to, body }] = linked.frames.as_slice() else {
-        panic!(rt; "not one frame");
-    };
-    assert_eq!(rt; *from, node.me());
-    assert_eq!(rt; (to.actor, to.instance), (2, 0));
-    assert!(rt; matches!(body, Body::Hello { mine: 1 }));
-    let fired = node.step(200, &Input::Fire)?;
-    assert!(rt; fired.records.as_slice().is_empty() && fired.reports.as_slice().is_empty());
-    Ok(())
 }
 
 #[test]
-fn a_node_without_numbers_has_left(rt: HostRuntime) -> Result<(), Fail> {
-    let config = two_nodes(rt.alloc())?;
+fn the_first_node_greets_another(rt: HostRuntime) {
+    let mut kept = NodeKept::new(rt.alloc());
+    let (mut node, _, _) = begun(&rt, rt.alloc(), &mut kept);
+    let greeting = greeting(&rt, &mut node);
+    assert_eq!(rt; greeting, Some((node.me(), (2, 0), 1)));
+    assert!(rt; is_quiet(&rt, &mut node));
+}
+
+#[test]
+fn a_node_without_numbers_has_left(rt: HostRuntime) {
     let mut spent = NodeKept::new(rt.alloc());
     spent.boots = u32::MAX;
-    let (mut node, begun) = NodeCore::begin(rt.alloc(), &config, 1, &mut spent, 7)?;
+    let (mut node, boot, told) = begun(&rt, rt.alloc(), &mut spent);
     assert_eq!(rt; node.me().instance, u32::MAX);
-    assert!(rt; begun.records.as_slice().is_empty());
-    let reports = begun.reports.as_slice();
-    assert!(rt; matches!(reports, [Report::LeftRing(Why::Counters), Report::Own(..)]));
-    let linked = node.step(100, &Input::Do(Command::Link(2)))?;
-    assert!(rt; linked.frames.as_slice().is_empty() && node.ranges().intervals().is_empty());
-    Ok(())
+    assert_eq!(rt; (boot, told), (Some(0), "has left for want of numbers"));
+    assert!(rt; linked(&rt, &mut node).frames.as_slice().is_empty());
+    assert!(rt; node.ranges().intervals().is_empty());
 }
 
-// What a node has at its stop is what its next start is made of.
+/// This instance begins with what is kept and stops, which leaves what its next start is made of.
+fn start_and_stop(rt: &impl Abort, alloc: Global, kept: &mut NodeKept, instance: u32) {
+    let (mut node, boot, _) = begun(rt, alloc, kept);
+    assert_eq!(rt; node.me(), Who { actor: 1, instance });
+    assert_eq!(rt; boot, Some(instance));
+    *kept = node.take_kept();
+    assert_eq!(rt; kept.boots, instance);
+}
+
 #[test]
-fn a_node_starts_again_from_what_it_gave_back(rt: HostRuntime) -> Result<(), Fail> {
-    let config = two_nodes(rt.alloc())?;
+fn a_node_starts_again_from_what_it_gave_back(rt: HostRuntime) {
     let mut kept = NodeKept::new(rt.alloc());
     for instance in 1..4 {
-        let (mut node, begun) = NodeCore::begin(rt.alloc(), &config, 1, &mut kept, 7)?;
-        assert_eq!(rt; node.me(), Who { actor: 1, instance });
-        assert_eq!(rt; begun.records.as_slice().len(), 1);
-        kept = node.take_kept();
-        assert_eq!(rt; kept.boots, instance);
+        start_and_stop(&rt, rt.alloc(), &mut kept, instance);
     }
-    Ok(())
 }
