@@ -76,31 +76,41 @@ fn renewal(links: &mut Links16) -> Said {
     said(&out)
 }
 
-/// Binds the links of node 1 to those of node 2, which ask for it.
-fn bind(rt: &impl Abort, one: &mut Links16, two: &mut Links16) {
+/// The links of node 2 ask those of node 1 for a link, which offer it.
+fn offer(rt: &impl Abort, one: &mut Links16, two: &mut Links16) {
     assert_eq!(rt; greet(two, 1, None), (Ok(()), ("hello", 1, 0)));
     let (offer, _) = hear(one, 0, 2, Body::Hello { mine: 1 });
     assert_eq!(rt; offer, ("offer", 1, 1));
     assert_eq!(rt; (one.fence(), two.fence()), (Some(4000), None));
-    let take = hear(two, 0, 1, Body::Offer { mine: 1, yours: 1 });
-    assert_eq!(rt; take, (("take", 1, 1), true));
 }
 
-#[test]
-fn a_link_is_bound_and_renewed(rt: HostRuntime) {
-    let (mut one, mut two) = (links(1), links(2));
-    bind(&rt, &mut one, &mut two);
-    let (renew, _) = hear(&mut one, 0, 2, Body::Take { mine: 1, yours: 1 });
+/// The links of node 2 take the offer, and those of node 1 answer with a renewal.
+fn take(rt: &impl Abort, one: &mut Links16, two: &mut Links16) {
+    let take = hear(two, 0, 1, Body::Offer { mine: 1, yours: 1 });
+    assert_eq!(rt; take, (("take", 1, 1), true));
+    let (renew, _) = hear(one, 0, 2, Body::Take { mine: 1, yours: 1 });
     assert_eq!(rt; renew, ("wanting renewal", 0, 0));
-    assert_eq!(rt; renewal(&mut two), ("wanting renewal", 100, 0));
+}
+
+/// The fence of the links of node 2 is behind the stamp of what they renew.
+fn renew(rt: &impl Abort, two: &mut Links16) {
+    assert_eq!(rt; renewal(two), ("wanting renewal", 100, 0));
     let ack = Body::RenewAck {
         mine: 1,
         yours: 1,
         stamp: 100,
         version: 1,
     };
-    hear(&mut two, 250, 1, ack);
+    hear(two, 250, 1, ack);
     assert_eq!(rt; two.fence(), Some(4100));
+}
+
+#[test]
+fn a_link_is_bound_and_renewed(rt: HostRuntime) {
+    let (mut one, mut two) = (links(1), links(2));
+    offer(&rt, &mut one, &mut two);
+    take(&rt, &mut one, &mut two);
+    renew(&rt, &mut two);
 }
 
 /// The fences of both sides of a link that node 2 asked for with this length.
@@ -124,29 +134,32 @@ fn the_smaller_length_counts(rt: HostRuntime) {
     assert_eq!(rt; fences(9000), (Some(4000), Some(4000)));
 }
 
-/// The links of node 1 with nodes 2 to 5, in the slots from 0 on.
-fn with_four(rt: &impl Abort) -> Links16 {
-    let mut one = links(1);
+/// Node 1 gets links with nodes 2 to 5, in the slots from 0 on.
+fn bind_four(rt: &impl Abort, one: &mut Links16) {
     for (node, length, fence) in [
         (2, 2000, 3000),
         (3, 900, 1900),
         (4, 2500, 1900),
         (5, 900, 1900),
     ] {
-        hear(&mut one, 0, node, Body::HelloFor { mine: 1, length });
+        hear(one, 0, node, Body::HelloFor { mine: 1, length });
         assert_eq!(rt; one.fence(), Some(fence), "with {node}");
     }
-    one
 }
 
-#[test]
-fn the_fence_is_the_least_of_all(rt: HostRuntime) {
-    let mut one = with_four(&rt);
-    // What the peers say to a Gone ends a slot, and the next least end counts.
+/// What the peers say to a Gone ends a slot, and the next least end counts.
+fn close_four(rt: &impl Abort, one: &mut Links16) {
     for (slot, fence) in [(1, Some(1900)), (3, Some(3000)), (0, Some(3500)), (2, None)] {
         one.close(slot, false, &mut Outbox::new());
         assert_eq!(rt; one.fence(), fence, "without {slot}");
     }
+}
+
+#[test]
+fn the_fence_is_the_least_of_all(rt: HostRuntime) {
+    let mut one = links(1);
+    bind_four(&rt, &mut one);
+    close_four(&rt, &mut one);
 }
 
 fn parted(links: &mut Links16) -> Result<(), LinkRefusal> {
@@ -177,17 +190,25 @@ fn a_part_needs_a_link_without_a_flight(rt: HostRuntime) {
     assert_eq!(rt; parted(&mut two), Err(LinkRefusal::Busy));
 }
 
+/// The links ask nodes 3 to 17.
+fn fill(links: &mut Links16) {
+    for node in 3..18 {
+        let _ = greet(links, node, None);
+    }
+}
+
+fn taken(links: &Links16) -> usize {
+    links.slots().iter().filter(|slot| slot.is_some()).count()
+}
+
 #[test]
 fn a_hello_needs_a_new_node_and_a_free_slot(rt: HostRuntime) {
     let mut two = linked();
     let (asked, _) = greet(&mut two, 1, None);
     assert_eq!(rt; asked, Err(LinkRefusal::AlreadyLinked));
     put_flight(&mut two);
-    for node in 3..18 {
-        let _ = greet(&mut two, node, None);
-    }
+    fill(&mut two);
     let (asked, _) = greet(&mut two, 18, None);
     assert_eq!(rt; asked, Err(LinkRefusal::Full));
-    let taken = two.slots().iter().filter(|slot| slot.is_some());
-    assert_eq!(rt; taken.count(), 16);
+    assert_eq!(rt; taken(&two), 16);
 }

@@ -91,19 +91,24 @@ fn about_two(verb: Verb) -> Command {
     }
 }
 
-#[test]
-fn commands_are_refused(rt: HostRuntime) {
-    let mut first = one_of_three(&rt, rt.alloc(), true);
-    assert_eq!(rt; refusal(&mut first, about_two(Verb::Link)), None);
+/// The commands about node 2, with which it is not bound yet, in this order.
+fn refuses_each(rt: &impl Abort, ring: &mut RingNode) {
     for (verb, reason) in [
         (Verb::Link, Reason::Linked),
         (Verb::Part, Reason::NotLinked),
         (Verb::Give, Reason::NotLinked),
         (Verb::Join, Reason::Busy),
     ] {
-        let refused = refusal(&mut first, about_two(verb));
+        let refused = refusal(ring, about_two(verb));
         assert_eq!(rt; refused, Some((verb, reason)));
     }
+}
+
+#[test]
+fn commands_are_refused(rt: HostRuntime) {
+    let mut first = one_of_three(&rt, rt.alloc(), true);
+    assert_eq!(rt; refusal(&mut first, Command::Link(2)), None);
+    refuses_each(&rt, &mut first);
 }
 
 #[test]
@@ -130,6 +135,21 @@ fn up(ring: &RingNode, now: u64) -> (usize, Option<u16>, Option<u16>) {
     (nodes.len(), nodes.get(0).copied(), nodes.get(1).copied())
 }
 
+/// Node 3 is up for two leases from the reading on at which it was heard.
+fn forgets_three(rt: &impl Abort, ring: &RingNode) {
+    for (now, want) in [(6100, (2, Some(1), Some(3))), (6101, (1, Some(1), None))] {
+        assert_eq!(rt; up(ring, now), want, "at {now}");
+    }
+}
+
+#[test]
+fn a_node_is_up_until_it_is_not_heard_for_long(rt: HostRuntime) {
+    let mut ring = one_of_three(&rt, rt.alloc(), true);
+    assert_eq!(rt; up(&ring, 100), (1, Some(1), None));
+    assert!(rt; finds(&mut ring));
+    forgets_three(&rt, &ring);
+}
+
 /// The node has its place, with the whole ring and no fence.
 fn holds_all(rt: &impl Abort, ring: &RingNode) {
     assert_eq!(rt; (ring.me(), ring.fence()), (instance(1), None));
@@ -138,19 +158,9 @@ fn holds_all(rt: &impl Abort, ring: &RingNode) {
 }
 
 #[test]
-fn a_node_is_up_until_it_is_not_heard_for_long(rt: HostRuntime) {
-    let mut ring = one_of_three(&rt, rt.alloc(), true);
-    assert_eq!(rt; up(&ring, 100), (1, Some(1), None));
-    assert!(rt; finds(&mut ring));
-    for (now, want) in [(6100, (2, Some(1), Some(3))), (6101, (1, Some(1), None))] {
-        assert_eq!(rt; up(&ring, now), want, "at {now}");
-    }
-    holds_all(&rt, &ring);
-}
-
-#[test]
 fn the_first_node_holds_the_ring(rt: HostRuntime) {
-    let ring = one_of_three(&rt, rt.alloc(), true);
+    let mut ring = one_of_three(&rt, rt.alloc(), true);
     assert!(rt; ring.holds(100, Point(HIGH)));
+    assert!(rt; finds(&mut ring));
     holds_all(&rt, &ring);
 }
