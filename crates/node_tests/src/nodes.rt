@@ -116,13 +116,17 @@ fn is_quiet(rt: &impl Abort, node: &mut NodeCore) -> bool {
     }
 }
 
+fn owns_all(rt: &impl Abort, node: &NodeCore) {
+    assert_eq!(rt; node.ranges().intervals(), RangeSet::whole().intervals());
+    assert_eq!(rt; node.fence(), None);
+}
+
 #[test]
 fn the_first_node_owns_the_ring(rt: HostRuntime) {
     let mut kept = NodeKept::new(rt.alloc());
     let (node, boot, told) = begun(&rt, rt.alloc(), &mut kept);
     assert_eq!(rt; (boot, told), (Some(1), "an owner without a fence"));
-    assert_eq!(rt; node.ranges().intervals(), RangeSet::whole().intervals());
-    assert_eq!(rt; node.fence(), None);
+    owns_all(&rt, &node);
 }
 
 #[test]
@@ -134,15 +138,20 @@ fn the_first_node_greets_another(rt: HostRuntime) {
     assert!(rt; is_quiet(&rt, &mut node));
 }
 
+/// The node has no number left. It links with no other, and owns nothing.
+fn is_out(rt: &impl Abort, node: &mut NodeCore) {
+    assert_eq!(rt; node.me().instance, u32::MAX);
+    assert!(rt; linked(rt, node).frames.as_slice().is_empty());
+    assert!(rt; node.ranges().intervals().is_empty());
+}
+
 #[test]
 fn a_node_without_numbers_has_left(rt: HostRuntime) {
     let mut spent = NodeKept::new(rt.alloc());
     spent.boots = u32::MAX;
     let (mut node, boot, told) = begun(&rt, rt.alloc(), &mut spent);
-    assert_eq!(rt; node.me().instance, u32::MAX);
     assert_eq!(rt; (boot, told), (Some(0), "has left for want of numbers"));
-    assert!(rt; linked(&rt, &mut node).frames.as_slice().is_empty());
-    assert!(rt; node.ranges().intervals().is_empty());
+    is_out(&rt, &mut node);
 }
 
 /// This instance begins with what is kept and stops, which leaves what its next start is made of.
