@@ -1,11 +1,15 @@
 // Transcripts over devices in memory: what is traced of a schedule, and the verdict on what is read.
 
-use crate::schedules::{ONE, called, text_of};
-use edge_io::{MemSink, MemSource, Sink};
+use crate::calls::{text_of, written};
+use crate::schedules::ONE;
+use std::alloc::Global;
+use std::process::Abort;
 use std::test::Fail;
 
 /// The word, the first line that it reads, the lines behind it, the exit status, and what is written.
-const CALLS: [(&str, &str, &str, u8, &str); 11] = [
+type Call = (&'static str, &'static str, &'static str, u8, &'static str);
+
+const CALLS: [Call; 11] = [
     (
         "trace",
         ONE,
@@ -85,15 +89,18 @@ const CALLS: [(&str, &str, &str, u8, &str); 11] = [
     ),
 ];
 
+fn expect_call(rt: &impl Abort, alloc: Global, call: &Call) -> Result<(), Fail> {
+    let text = text_of(alloc, &[&[call.1, call.2]])?;
+    let left = written(alloc, &[call.0], text, Vec::new(alloc), Vec::new(alloc))?;
+    let wanted = text_of(alloc, &[&[call.4]])?;
+    left.expect(rt, call.3, wanted.as_slice());
+    Ok(())
+}
+
 #[test]
 fn transcripts_are_traced_and_judged(rt: HostRuntime) -> Result<(), Fail> {
-    let alloc = rt.alloc();
-    for (word, first, lines, code, written) in CALLS {
-        let mut source = MemSource::new(text_of(alloc, &[&[first, lines]])?, Vec::new(alloc));
-        let mut sink = MemSink::new(alloc, Vec::new(alloc));
-        let wanted = text_of(alloc, &[&[written]])?;
-        assert_eq!(rt; called(alloc, word, &mut source, &mut sink)?, code);
-        assert_eq!(rt; sink.held(), wanted.as_slice());
+    for call in &CALLS {
+        expect_call(&rt, rt.alloc(), call)?;
     }
     Ok(())
 }

@@ -1,33 +1,34 @@
-use crate::schedules::{ONE, called, text_of};
-use edge_io::{EdgeRefusal, MemSink, MemSource, Sink};
+use crate::calls::{called, text_of, written};
+use crate::schedules::ONE;
+use edge_io::{EdgeRefusal, MemSource, Sink};
 use fabric_top::Status;
+use std::alloc::Global;
+use std::process::Abort;
 use std::test::Fail;
+
+/// Replays the start of one node, where these reads and these writes fail, and expects the status and what is written.
+fn expect_start(
+    rt: &impl Abort,
+    alloc: Global,
+    reads: Vec<u64>,
+    writes: Vec<u64>,
+    code: u8,
+    text: &[u8],
+) -> Result<(), Fail> {
+    let lines = text_of(alloc, &[&[ONE, "start 1 0"]])?;
+    written(alloc, &["replay"], lines, reads, writes)?.expect(rt, code, text);
+    Ok(())
+}
 
 #[test]
 fn faults_of_devices_are_told(rt: HostRuntime) -> Result<(), Fail> {
     let alloc = rt.alloc();
-    let written = [
-        b"fault read\n".as_slice(),
-        b"2 0 1.1 0 own 0000000000000000-ffffffffffffffff -\nfault read\n".as_slice(),
-    ];
-    for (call, text) in [1, 2].into_iter().zip(written) {
-        let mut source = MemSource::new(
-            text_of(alloc, &[&[ONE, "start 1 0"]])?,
-            vec![in alloc; call]?,
-        );
-        let mut sink = MemSink::new(alloc, Vec::new(alloc));
-        assert_eq!(rt;
-            called(alloc, "replay", &mut source, &mut sink)?,
-            3,
-            "read {call} fails"
-        );
-        assert_eq!(rt; sink.held(), text);
-    }
-    let mut source = MemSource::new(text_of(alloc, &[&[ONE, "start 1 0"]])?, Vec::new(alloc));
-    let mut sink = MemSink::new(alloc, vec![in alloc; 1]?);
-    assert_eq!(rt; called(alloc, "replay", &mut source, &mut sink)?, 4);
-    assert_eq!(rt; sink.held(), b"".as_slice());
-    Ok(())
+    let none = Vec::new(alloc);
+    expect_start(&rt, alloc, vec![in alloc; 1]?, none, 3, b"fault read\n")?;
+    let none = Vec::new(alloc);
+    let before = b"2 0 1.1 0 own 0000000000000000-ffffffffffffffff -\nfault read\n";
+    expect_start(&rt, alloc, vec![in alloc; 2]?, none, 3, before)?;
+    expect_start(&rt, alloc, Vec::new(alloc), vec![in alloc; 1]?, 4, b"")
 }
 
 /// Takes one byte a call, and fails from the call of this number on.
@@ -64,41 +65,50 @@ impl Sink for Narrow {
     }
 }
 
+const START: &[u8] = b"2 0 1.1 0 own 0000000000000000-ffffffffffffffff -\nend 1 0\n";
+
+/// A sink that fails behind so many bytes.
+fn narrow_sink(alloc: Global, last: u64) -> Narrow {
+    Narrow {
+        held: Vec::new(alloc),
+        calls: 0,
+        last,
+        faults: 0,
+    }
+}
+
+fn expect_front(rt: &impl Abort, alloc: Global, last: u64) -> Result<(), Fail> {
+    let mut source = MemSource::new(text_of(alloc, &[&[ONE, "start 1 0"]])?, Vec::new(alloc));
+    let mut sink = narrow_sink(alloc, last);
+    let code = called(alloc, &["replay"], &mut source, &mut sink)?;
+    let fits = last >= START.len() as u64;
+    assert_eq!(rt; code, if fits { 0 } else { 4 }, "after {last} writes");
+    assert!(rt;
+        START.starts_with(sink.held.as_slice()),
+        "after {last} writes"
+    );
+    Ok(())
+}
+
 #[test]
 fn a_sink_that_fails_midway_has_a_front(rt: HostRuntime) -> Result<(), Fail> {
-    let alloc = rt.alloc();
-    let whole = b"2 0 1.1 0 own 0000000000000000-ffffffffffffffff -\nend 1 0\n";
     for last in 0..60 {
-        let mut source = MemSource::new(text_of(alloc, &[&[ONE, "start 1 0"]])?, Vec::new(alloc));
-        let mut sink = Narrow {
-            held: Vec::new(alloc),
-            calls: 0,
-            last,
-            faults: 0,
-        };
-        let code = called(alloc, "replay", &mut source, &mut sink)?;
-        let fits = last >= whole.len() as u64;
-        assert_eq!(rt; code, if fits { 0 } else { 4 }, "after {last} writes");
-        assert!(rt;
-            whole.starts_with(sink.held.as_slice()),
-            "after {last} writes"
-        );
+        expect_front(&rt, rt.alloc(), last)?;
     }
+    Ok(())
+}
+
+fn expect_usage(rt: &impl Abort, alloc: Global, word: &str) -> Result<(), Fail> {
+    let text = text_of(alloc, &[&[ONE]])?;
+    let left = written(alloc, &[word], text, Vec::new(alloc), Vec::new(alloc))?;
+    left.expect(rt, 2, b"fault usage\n");
     Ok(())
 }
 
 #[test]
 fn other_words_are_usage(rt: HostRuntime) -> Result<(), Fail> {
-    let alloc = rt.alloc();
     for word in ["", "replays", "--help"] {
-        let mut source = MemSource::new(text_of(alloc, &[&[ONE]])?, Vec::new(alloc));
-        let mut sink = MemSink::new(alloc, Vec::new(alloc));
-        assert_eq!(rt;
-            called(alloc, word, &mut source, &mut sink)?,
-            2,
-            "the word {word}"
-        );
-        assert_eq!(rt; sink.held(), b"fault usage\n".as_slice());
+        expect_usage(&rt, rt.alloc(), word)?;
     }
     assert_eq!(rt; Status::TableFull.code(), 15);
     Ok(())

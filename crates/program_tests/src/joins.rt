@@ -1,4 +1,5 @@
-use crate::schedules::{DUO, TRIO, expect_replay, expect_text, text_of};
+use crate::calls::text_of;
+use crate::schedules::{DUO, TRIO, expect_replay, expect_text};
 use std::test::Fail;
 
 /// Node 2 asks node 1 for a link, wants points, and gets its flight: lines 2 to 20.

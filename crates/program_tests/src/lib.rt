@@ -1,11 +1,16 @@
-//! Tests of the whole program over devices in memory: schedules with what is written of them and the status.
+//! Tests of the whole program over devices in memory: schedules with what is written of them and the status; and what
+//! `node`, `arbiter` and `cluster` write, keep and send, which sources they refuse, and what is left where one call of a
+//! device fails, at each call in turn.
 //!
-//! What is written is proved to be the run that the rules define; here that run is compared with lines that were written
-//! down by hand, and each refusal is met once. The crate has no code of its own.
+//! What is written is proved to be the run that the rules define; here that run is compared with lines, records and
+//! datagrams that were written down by hand, each refusal is met once, and runs that a device ended are followed by another
+//! on the same records. The crate has no code of its own.
 #![tactic(auto)]
 
 #[cfg(test)]
 mod audits;
+#[cfg(test)]
+mod calls;
 #[cfg(test)]
 mod cluster;
 #[cfg(test)]
@@ -30,5 +35,7 @@ mod small;
 mod streams;
 #[cfg(test)]
 mod take_overs;
+#[cfg(test)]
+mod turns;
 #[cfg(test)]
 mod writes;

@@ -1,4 +1,5 @@
-use crate::schedules::{ONE, expect_text, text_of};
+use crate::calls::text_of;
+use crate::schedules::{ONE, expect_text};
 use std::alloc::Global;
 use std::test::Fail;
 

@@ -96,8 +96,9 @@ const SCHEDULES: [(&str, &str, u8, &str); 19] = [
 
 #[test]
 fn schedules_are_answered(rt: HostRuntime) -> Result<(), Fail> {
-    for (first, lines, code, written) in SCHEDULES {
-        expect_replay(&rt, rt.alloc(), &[&[first, lines]], code, &[&[written]])?;
+    for (first, lines, code, written) in &SCHEDULES {
+        let events: [&[&str]; 1] = [&[*first, *lines]];
+        expect_replay(&rt, rt.alloc(), &events, *code, &[&[*written]])?;
     }
     Ok(())
 }

@@ -1,8 +1,7 @@
 // The committed writes of schedules.
 
+use crate::calls::{text_of, written};
 use crate::partitions::{ALONE, CREATED, LOST};
-use crate::schedules::{called, text_of};
-use edge_io::{MemSink, MemSource, Sink};
 use std::alloc::Global;
 use std::process::Abort;
 use std::test::Fail;
@@ -19,13 +18,11 @@ fn expect_writes(
     reads: Vec<u64>,
     writes: Vec<u64>,
     code: u8,
-    written: &[&[&str]],
+    lines: &[&[&str]],
 ) -> Result<(), Fail> {
-    let mut source = MemSource::new(text_of(alloc, events)?, reads);
-    let mut sink = MemSink::new(alloc, writes);
-    let wanted = text_of(alloc, written)?;
-    assert_eq!(rt; called(alloc, "writes", &mut source, &mut sink)?, code);
-    assert_eq!(rt; sink.held(), wanted.as_slice());
+    let left = written(alloc, &["writes"], text_of(alloc, events)?, reads, writes)?;
+    let wanted = text_of(alloc, lines)?;
+    left.expect(rt, code, wanted.as_slice());
     Ok(())
 }
 

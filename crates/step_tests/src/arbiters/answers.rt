@@ -1,4 +1,4 @@
-use crate::questions::{accusation, arbitrator, node};
+use crate::arbiters::questions::{accusation, arbitrator, node};
 use arbiter_core::{Answer, Arbiter};
 use fabric_terms::{Body, Message};
 use ring_points::Who;

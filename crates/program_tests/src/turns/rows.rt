@@ -1,6 +1,7 @@
-use crate::configs::{ACCUSE, ACCUSED_BY, BOOT, DUO, HELLO, ONE, ONE_WITHOUT_A3, RULED};
-use crate::memory::{Call, NONE, expect_kept, keeper};
-use edge_io::MemKeeper;
+use crate::turns::configs::{ACCUSE, ACCUSED_BY, BOOT, DUO, HELLO, ONE, ONE_WITHOUT_A3, RULED};
+use crate::turns::memory::{Call, NONE, expect_kept, keeper};
+use edge_io::{Datagram, Endpoint, MemKeeper};
+use std::process::Abort;
 use std::test::Fail;
 
 /// What a first node with the whole ring tells at its start.
@@ -73,6 +74,27 @@ fn an_address_that_is_missing_is_told(rt: HostRuntime) -> Result<(), Fail> {
     expect_kept(&rt, &mut keeps, 1, &[])
 }
 
+/// What both nodes tell at their start, and node 1 once it has heard node 2.
+const GREETED: &[u8] =
+    b"0 - 1.1 0 own 0000000000000000-ffffffffffffffff -\n0 - 2.1 0 own - -\n2 - 1.1 0 own 0000000000000000-ffffffffffffffff 4000\nend 2\n";
+
+/// Expects who sent each datagram, and of which kind it is.
+fn expect_senders(rt: &impl Abort, sent: &[Datagram], wanted: &[(u16, u8)]) {
+    assert_eq!(rt; sent.len(), wanted.len());
+    for (datagram, want) in sent.iter().zip(wanted) {
+        assert_eq!(rt; datagram.from, want.0);
+        assert_eq!(rt; datagram.bytes.as_slice().get(2), Some(&(want.1)));
+    }
+}
+
+/// Expects whose endpoints were opened.
+fn expect_opened(rt: &impl Abort, opened: &[Endpoint], wanted: &[u16]) {
+    assert_eq!(rt; opened.len(), wanted.len());
+    for (endpoint, want) in opened.iter().zip(wanted) {
+        assert_eq!(rt; endpoint.actor, *want);
+    }
+}
+
 #[test]
 fn a_cluster_of_two_greets(rt: HostRuntime) -> Result<(), Fail> {
     let alloc = rt.alloc();
@@ -84,26 +106,21 @@ fn a_cluster_of_two_greets(rt: HostRuntime) -> Result<(), Fail> {
         readings: &[0],
     };
     let left = duo.run(alloc, &mut keeps, NONE)?;
-    assert_eq!(rt; left.code, 0);
-    assert_eq!(rt;
-        left.sink.held(),
-        b"0 - 1.1 0 own 0000000000000000-ffffffffffffffff -\n0 - 2.1 0 own - -\n2 - 1.1 0 own 0000000000000000-ffffffffffffffff 4000\nend 2\n".as_slice()
+    left.expect(&rt, 0, GREETED, 5);
+    expect_senders(
+        &rt,
+        left.links.sent(),
+        &[(2, 1), (2, 1), (1, 2), (1, 2), (2, 1)],
     );
-    assert_eq!(rt; left.links.sent().len(), 5);
-    for (datagram, want) in left
-        .links
-        .sent()
-        .iter()
-        .zip([(2, 1), (2, 1), (1, 2), (1, 2), (2, 1)])
-    {
-        assert_eq!(rt; datagram.from, want.0);
-        assert_eq!(rt; datagram.bytes.as_slice().get(2), Some(&(want.1)));
-    }
-    for (endpoint, want) in left.links.opened().iter().zip([1, 2, 32769, 32770, 32771]) {
-        assert_eq!(rt; endpoint.actor, want);
-    }
+    expect_opened(&rt, left.links.opened(), &[1, 2, 32769, 32770, 32771]);
     expect_kept(&rt, &mut keeps, 1, &[BOOT])?;
     expect_kept(&rt, &mut keeps, 2, &[BOOT])
+}
+
+/// Expects where a datagram goes, and its bytes.
+fn expect_datagram(rt: &impl Abort, datagram: &Datagram, to: &str, bytes: &[u8]) {
+    assert_eq!(rt; datagram.to.as_str(), to);
+    assert_eq!(rt; datagram.bytes.as_slice(), bytes);
 }
 
 #[test]
@@ -117,12 +134,9 @@ fn an_arbitrator_rules(rt: HostRuntime) -> Result<(), Fail> {
         readings: &[0],
     };
     let left = arbiter.run(alloc, &mut keeps, NONE)?;
-    assert_eq!(rt; left.code, 0);
-    assert_eq!(rt; left.sink.held(), b"end 1\n".as_slice());
-    assert_eq!(rt; left.links.sent().len(), 1);
+    left.expect(&rt, 0, b"end 1\n", 1);
     for datagram in left.links.sent() {
-        assert_eq!(rt; datagram.bytes.as_slice(), RULED);
-        assert_eq!(rt; datagram.to.as_str(), "n1");
+        expect_datagram(&rt, datagram, "n1", RULED);
     }
     expect_kept(&rt, &mut keeps, 32769, &[ACCUSED_BY])
 }

@@ -1,4 +1,4 @@
-use crate::questions::{arbitrator, node};
+use crate::arbiters::questions::{arbitrator, node};
 use arbiter_core::{Answer, Arbiter};
 use fabric_terms::{Body, Message};
 use ring_points::{Config, Epoch, Members};

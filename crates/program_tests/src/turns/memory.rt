@@ -1,7 +1,8 @@
 // Devices in memory, a call of the program over them, and what they have then.
 
+use crate::calls::{text_of, words_of};
 use edge_io::{Keeper, MemClock, MemKeeper, MemLinks, MemSink, MemSource};
-use fabric_top::fabric_main;
+use fabric_top::{Status, fabric_main};
 use std::alloc::Global;
 use std::process::Abort;
 use std::test::Fail;
@@ -49,17 +50,25 @@ fn arriving(alloc: Global, arrivals: &[Arrival]) -> Result<Vec<(u16, Option<Vec<
     Ok(all)
 }
 
-fn text_of(alloc: Global, lines: &[&str]) -> Result<Vec<u8>, Fail> {
-    let mut text = Vec::new(alloc);
-    for line in lines {
-        text.extend_from_slice(line.as_bytes())?;
-        text.push(b'\n')?;
-    }
-    Ok(text)
+fn source_of(alloc: Global, lines: &[&str]) -> Result<MemSource, Fail> {
+    Ok(MemSource::new(text_of(alloc, &[lines])?, Vec::new(alloc)))
+}
+
+fn clock_of(alloc: Global, readings: &[u64]) -> Result<MemClock, Fail> {
+    Ok(MemClock::new(readings.to_vec(alloc)?))
+}
+
+fn sink_of(alloc: Global, failing: u64) -> Result<MemSink, Fail> {
+    Ok(MemSink::new(alloc, calls(alloc, failing)?))
+}
+
+fn links_of(alloc: Global, arrivals: &[Arrival], failing: u64) -> Result<MemLinks, Fail> {
+    let failing = calls(alloc, failing)?;
+    Ok(MemLinks::new(alloc, arriving(alloc, arrivals)?, failing))
 }
 
 /// A call of the program: its words, the lines of its source, what arrives, and what its clock reads.
-#[derive(Drop)]
+#[derive(Clone, Copy)]
 pub(crate) struct Call<'a> {
     pub(crate) words: &'a [&'a str],
     pub(crate) lines: &'a [&'a str],
@@ -75,7 +84,40 @@ pub(crate) struct Left {
     pub(crate) links: MemLinks,
 }
 
+impl Left {
+    /// Expects the status, what is written, and how many datagrams are sent.
+    pub(crate) fn expect(&self, rt: &impl Abort, code: u8, text: &[u8], sent: usize) {
+        assert_eq!(rt; self.code, code);
+        assert_eq!(rt; self.sink.held(), text);
+        assert_eq!(rt; self.links.sent().len(), sent);
+    }
+}
+
 impl Call<'_> {
+    /// A sink and links before the call.
+    fn unused(&self, alloc: Global, failing: Failing) -> Result<Left, Fail> {
+        let links = links_of(alloc, self.arrivals, failing.links)?;
+        Ok(Left {
+            code: 0,
+            sink: sink_of(alloc, failing.sink)?,
+            links,
+        })
+    }
+
+    /// The status of a call over these records, this sink and these links.
+    fn status(
+        &self,
+        alloc: Global,
+        keeps: &mut MemKeeper,
+        sink: &mut MemSink,
+        links: &mut MemLinks,
+    ) -> Result<Status, Fail> {
+        let words = words_of(alloc, self.words)?;
+        let mut source = source_of(alloc, self.lines)?;
+        let mut clock = clock_of(alloc, self.readings)?;
+        Ok(fabric_main(alloc, &words, &mut source, sink, links, keeps, &mut clock))
+    }
+
     /// Calls the program over these records.
     pub(crate) fn run(
         &self,
@@ -83,32 +125,11 @@ impl Call<'_> {
         keeps: &mut MemKeeper,
         failing: Failing,
     ) -> Result<Left, Fail> {
-        let mut words = Vec::new(alloc);
-        for word in self.words {
-            words.push(String::from_str(alloc, word)?)?;
-        }
-        let mut source = MemSource::new(text_of(alloc, self.lines)?, Vec::new(alloc));
-        let mut sink = MemSink::new(alloc, calls(alloc, failing.sink)?);
-        let mut links = MemLinks::new(
-            alloc,
-            arriving(alloc, self.arrivals)?,
-            calls(alloc, failing.links)?,
-        );
-        let mut clock = MemClock::new(self.readings.to_vec(alloc)?);
-        let status = fabric_main(
-            alloc,
-            &words,
-            &mut source,
-            &mut sink,
-            &mut links,
-            keeps,
-            &mut clock,
-        );
-        Ok(Left {
-            code: status.code(),
-            sink,
-            links,
-        })
+        let mut left = self.unused(alloc, failing)?;
+        left.code = self
+            .status(alloc, keeps, &mut left.sink, &mut left.links)?
+            .code();
+        Ok(left)
     }
 
     /// Calls the program, and expects its status, the lines that it writes, and how many datagrams it sends.
@@ -121,10 +142,8 @@ impl Call<'_> {
         wanted: (u8, &[&str], usize),
     ) -> Result<(), Fail> {
         let left = self.run(alloc, keeps, failing)?;
-        let text = text_of(alloc, wanted.1)?;
-        assert_eq!(rt; left.code, wanted.0);
-        assert_eq!(rt; left.sink.held(), text.as_slice());
-        assert_eq!(rt; left.links.sent().len(), wanted.2);
+        let text = text_of(alloc, &[wanted.1])?;
+        left.expect(rt, wanted.0, text.as_slice(), wanted.2);
         Ok(())
     }
 }
@@ -137,13 +156,15 @@ pub(crate) fn expect_kept(
     records: &[&[u8]],
 ) -> Result<(), Fail> {
     match keeps.records(actor) {
-        Ok(kept) => {
-            assert_eq!(rt; kept.len(), records.len(), "records of {actor}");
-            for (have, want) in kept.iter().zip(records) {
-                assert_eq!(rt; have.as_slice(), *want, "a record of {actor}");
-            }
-        }
+        Ok(kept) => expect_records(rt, actor, &kept, records),
         Err(_) => assert!(rt; false, "the keeper fails at {actor}"),
     }
     Ok(())
+}
+
+fn expect_records(rt: &impl Abort, actor: u16, kept: &[Vec<u8>], records: &[&[u8]]) {
+    assert_eq!(rt; kept.len(), records.len(), "records of {actor}");
+    for (have, want) in kept.iter().zip(records) {
+        assert_eq!(rt; have.as_slice(), *want, "a record of {actor}");
+    }
 }

@@ -1,9 +1,19 @@
-use crate::configs::DUO;
-use crate::memory::{Call, NONE, expect_kept, keeper};
+use crate::turns::configs::DUO;
+use crate::turns::memory::{Call, NONE, expect_kept, keeper};
+use std::alloc::Global;
+use std::process::Abort;
 use std::test::Fail;
 
 /// The words, a line behind the configuration of two nodes, the next line, the status and what is written.
-const SOURCES: [(&[&str], &str, &str, u8, &str); 12] = [
+type Source = (
+    &'static [&'static str],
+    &'static str,
+    &'static str,
+    u8,
+    &'static str,
+);
+
+const SOURCES: [Source; 12] = [
     (&["node", "3", "1"], "x", "", 8, "fault nosuch 1"),
     (&["arbiter", "4", "1"], "x", "", 8, "fault nosuch 1"),
     (&["arbiter", "1", "1"], "#", "1 link 2", 6, "fault line 3"),
@@ -36,19 +46,23 @@ const SOURCES: [(&[&str], &str, &str, u8, &str); 12] = [
     (&["node", "0", "1"], "", "", 2, "fault usage"),
 ];
 
+/// Expects that the call is refused so, and that nothing is kept.
+fn expect_refused(rt: &impl Abort, alloc: Global, source: &Source) -> Result<(), Fail> {
+    let mut keeps = keeper(alloc, NONE)?;
+    let refused = Call {
+        words: source.0,
+        lines: &[DUO, source.1, source.2],
+        arrivals: &[],
+        readings: &[0],
+    };
+    refused.expect(rt, alloc, &mut keeps, NONE, (source.3, &[source.4], 0))?;
+    expect_kept(rt, &mut keeps, 1, &[])
+}
+
 #[test]
 fn sources_are_refused(rt: HostRuntime) -> Result<(), Fail> {
-    let alloc = rt.alloc();
-    for (words, first, second, code, written) in SOURCES {
-        let mut keeps = keeper(alloc, NONE)?;
-        let refused = Call {
-            words,
-            lines: &[DUO, first, second],
-            arrivals: &[],
-            readings: &[0],
-        };
-        refused.expect(&rt, alloc, &mut keeps, NONE, (code, &[written], 0))?;
-        expect_kept(&rt, &mut keeps, 1, &[])?;
+    for source in &SOURCES {
+        expect_refused(&rt, rt.alloc(), source)?;
     }
     Ok(())
 }

@@ -1,4 +1,4 @@
-use crate::questions::{accusation, arbitrator, claim, node};
+use crate::arbiters::questions::{accusation, arbitrator, claim, node};
 use arbiter_core::{Answer, Arbiter};
 use fabric_terms::{Body, Record};
 use std::process::Abort;

@@ -1,0 +1,5 @@
+mod configs;
+mod faults;
+mod memory;
+mod rows;
+mod sources;

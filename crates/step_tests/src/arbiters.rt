@@ -1,0 +1,6 @@
+mod answers;
+mod full;
+mod questions;
+mod records;
+mod registers;
+mod rounds;

@@ -1,0 +1,19 @@
+//! Tests of steps, by their public calls: links and the ring at one node, whole nodes, and arbitrators.
+//!
+//! What each call answers is proved where it stands; here are worked rows from outside: each call once on its way, what a
+//! node says and reports as its peers and the arbitrators answer, to what an arbitrator gives no answer, when it is full,
+//! and what its records are as bytes. The crate has no code of its own.
+#![tactic(auto)]
+
+#[cfg(test)]
+mod arbiters;
+#[cfg(test)]
+mod heirs;
+#[cfg(test)]
+mod links;
+#[cfg(test)]
+mod nodes;
+#[cfg(test)]
+mod ring;
+#[cfg(test)]
+mod whole_nodes;
