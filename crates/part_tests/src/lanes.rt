@@ -1,3 +1,5 @@
+ghost use Rattle.std.specs.Prelude.{◌≤◌, length};
+
 use lane_scan::{mask_in, nearest};
 
 const STEP: u64 = 1 << 60;
@@ -37,25 +39,34 @@ fn finds_the_nearest(rt: HostRuntime) {
     }
 }
 
+/// What two words are once they are the mask of these points.
+fn masked(points: &[u64], lo: u64, hi: u64, before: [u64; 2]) -> [u64; 2]
+    requires { length points.now ≤ 128 }
+{
+    let mut words = before;
+    mask_in(points, lo, hi, &mut words);
+    words
+}
+
 #[test]
 fn masks_a_range(rt: HostRuntime) {
-    let mut one = [u64::MAX];
-    mask_in(&[5, 10, 15], 5, 10, &mut one);
-    assert_eq!(rt; one[0], 3);
-
     let mut points = [0; 65];
     for (i, point) in points.iter_mut().enumerate() {
         *point = i as u64;
     }
-    let mut two = [7, 7];
-    mask_in(&points, 63, 64, &mut two);
-    assert_eq!(rt; two, [1 << 63, 1]);
-    mask_in(&points, 9, 3, &mut two);
-    assert_eq!(rt; two, [0, 0]);
-    mask_in(&points, 0, u64::MAX, &mut two);
-    assert_eq!(rt; two, [u64::MAX, 1]);
+    for (lo, hi, before, want) in [
+        (63, 64, [7, 7], [1 << 63, 1]),
+        (9, 3, [1 << 63, 1], [0, 0]),
+        (0, u64::MAX, [0, 0], [u64::MAX, 1]),
+    ] {
+        assert_eq!(rt; masked(&points, lo, hi, before), want, "{lo} to {hi}");
+    }
+}
 
-    let mut none = [7, 7];
-    mask_in(&[], 0, u64::MAX, &mut none);
-    assert_eq!(rt; none, [0, 0]);
+#[test]
+fn masks_few_points_or_none(rt: HostRuntime) {
+    let mut one = [u64::MAX];
+    mask_in(&[5, 10, 15], 5, 10, &mut one);
+    assert_eq!(rt; one[0], 3);
+    assert_eq!(rt; masked(&[], 0, u64::MAX, [7, 7]), [0, 0]);
 }

@@ -1,6 +1,5 @@
 use ring_points::{Interval, Point, RangeSet, TooMany, distance, nearer};
 use std::process::Abort;
-use std::test::Fail;
 
 fn span(lo: u64, hi: u64) -> Interval {
     Interval { lo, hi }
@@ -8,6 +7,10 @@ fn span(lo: u64, hi: u64) -> Interval {
 
 fn set(rt: &impl Abort, pairs: &[Interval]) -> RangeSet {
     RangeSet::from_pairs(pairs).expect(rt, "the intervals of a set")
+}
+
+fn are(rt: &impl Abort, found: &RangeSet, want: &[Interval]) {
+    assert_eq!(rt; found.intervals(), want);
 }
 
 #[test]
@@ -19,8 +22,8 @@ fn distances_go_the_shorter_way(rt: HostRuntime) {
         (0, 1 << 63, 1 << 63),
         (1, 0xc000_0000_0000_0000, 0x4000_0000_0000_0001),
     ] {
-        assert_eq!(rt; distance(Point(a), Point(b)), want, "from {a} to {b}");
-        assert_eq!(rt; distance(Point(b), Point(a)), want, "from {b} to {a}");
+        let (a, b) = (Point(a), Point(b));
+        assert_eq!(rt; [distance(a, b), distance(b, a)], [want; 2], "{a:?}, {b:?}");
     }
 }
 
@@ -33,49 +36,78 @@ fn the_lower_of_two_equally_far_is_nearer(rt: HostRuntime) {
         (0xbfff_ffff_ffff_ffff, false),
         (0xc000_0000_0000_0000, true),
     ] {
-        assert_eq!(rt; nearer(Point(p), low, high), low_is_nearer, "at {p}");
-        assert_eq!(rt; nearer(Point(p), high, low), !low_is_nearer, "at {p}");
+        let p = Point(p);
+        let found = [nearer(p, low, high), nearer(p, high, low)];
+        assert_eq!(rt; found, [low_is_nearer, !low_is_nearer], "at {p:?}");
     }
 }
 
+/// The part of the ring that is nearer to the opposite point than to 0.
+fn far_half(rt: &impl Abort) -> RangeSet {
+    let part = RangeSet::whole().nearer_part(Point(0), Point(1 << 63));
+    part.expect(rt, "room")
+}
+
 #[test]
-fn half_of_the_ring_is_nearer_to_the_opposite_point(rt: HostRuntime) -> Result<(), Fail> {
-    let part = RangeSet::whole().nearer_part(Point(0), Point(1 << 63))?;
+fn half_of_the_ring_is_nearer_to_the_opposite_point(rt: HostRuntime) {
     let want = [span(0x4000_0000_0000_0001, 0xbfff_ffff_ffff_ffff)];
-    assert_eq!(rt; part.intervals(), want.as_slice());
-    let rest = RangeSet::whole().minus(&part)?;
+    are(&rt, &far_half(&rt), &want);
+}
+
+#[test]
+fn the_other_half_of_the_ring_stands_across_0(rt: HostRuntime) {
+    let rest = RangeSet::whole().minus(&far_half(&rt)).expect(&rt, "room");
     let want = [
         span(0, 0x4000_0000_0000_0000),
         span(0xc000_0000_0000_0000, u64::MAX),
     ];
-    assert_eq!(rt; rest.intervals(), want.as_slice());
-    Ok(())
+    are(&rt, &rest, &want);
+}
+
+fn union_of(rt: &impl Abort, one: &RangeSet, other: Interval) -> RangeSet {
+    one.union(&set(rt, &[other])).expect(rt, "room")
 }
 
 #[test]
-fn touching_intervals_are_joined(rt: HostRuntime) -> Result<(), Fail> {
-    let union = set(&rt, &[span(0, 4)]).union(&set(&rt, &[span(5, 9)]))?;
-    assert_eq!(rt; union.intervals(), [span(0, 9)].as_slice());
-    assert_eq!(rt; union.copy().intervals(), [span(0, 9)].as_slice());
-    Ok(())
+fn touching_intervals_are_joined(rt: HostRuntime) {
+    let union = union_of(&rt, &set(&rt, &[span(0, 4)]), span(5, 9));
+    are(&rt, &union, &[span(0, 9)]);
+    are(&rt, &union.copy(), &[span(0, 9)]);
 }
 
-#[test]
-fn a_33rd_interval_is_too_many(rt: HostRuntime) -> Result<(), Fail> {
+/// A set of 32 intervals of two points each, from 0 on.
+fn full(rt: &impl Abort) -> RangeSet {
     let mut full = RangeSet::new();
     for i in 0..32 {
-        full = full.union(&set(&rt, &[span(4 * i, 4 * i + 1)]))?;
+        full = union_of(rt, &full, span(4 * i, 4 * i + 1));
     }
+    full
+}
+
+#[test]
+fn a_33rd_interval_is_too_many(rt: HostRuntime) {
+    let full = full(&rt);
     assert_eq!(rt; full.intervals().len(), 32);
     let more = set(&rt, &[span(200, 201)]);
     assert!(rt; matches!(full.union(&more), Err(TooMany)));
-    let first = set(&rt, &[span(0, 1)]);
-    let moved = full.union_without(&more, &first)?;
-    assert_eq!(rt; moved.intervals().len(), 32);
-    assert!(rt; moved.contains(Point(201)) && !moved.contains(Point(1)));
-    let middle = full.meet(&set(&rt, &[span(5, 9)]))?;
-    assert_eq!(rt; middle.intervals(), [span(5, 5), span(8, 9)].as_slice());
-    Ok(())
+}
+
+#[test]
+fn another_interval_has_room_where_one_goes(rt: HostRuntime) {
+    let (more, first) = (set(&rt, &[span(200, 201)]), set(&rt, &[span(0, 1)]));
+    let moved = full(&rt).union_without(&more, &first).expect(&rt, "room");
+    let found = (
+        moved.intervals().len(),
+        moved.contains(Point(201)),
+        moved.contains(Point(1)),
+    );
+    assert_eq!(rt; found, (32, true, false));
+}
+
+#[test]
+fn what_meets_an_interval_is_cut_to_it(rt: HostRuntime) {
+    let middle = full(&rt).meet(&set(&rt, &[span(5, 9)])).expect(&rt, "room");
+    are(&rt, &middle, &[span(5, 5), span(8, 9)]);
 }
 
 #[test]

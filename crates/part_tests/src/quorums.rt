@@ -29,26 +29,50 @@ fn said(verdict: VoteVerdict) -> Result<u16, &'static str> {
     }
 }
 
+/// The verdicts about node 1 of a tally of three, one after each of these rulings, and whether the accuser may be heir
+/// then.
+fn verdicts(accuser: u16, rulings: [Ruling; 3]) -> ([Verdict; 3], bool) {
+    let mut tally = Tally::new(node(accuser), node(1), 3);
+    let first = tally.note(1, rulings[0]);
+    let second = tally.note(2, rulings[1]);
+    let third = tally.note(3, rulings[2]);
+    ([first, second, third], tally.may_be_heir())
+}
+
+/// Whether arbitrator 1 has answered before and after its ruling.
+fn answered(accuser: u16, ruling: Ruling) -> (bool, bool) {
+    let mut tally = Tally::new(node(accuser), node(1), 3);
+    let before = tally.answered(1);
+    let _ = tally.note(1, ruling);
+    (before, tally.answered(1))
+}
+
 #[test]
 fn three_accusers_of_one_node_have_no_heir(rt: HostRuntime) {
     let (g, t) = (Ruling::Granted, Ruling::Taken);
+    let want = [Verdict::Open, Verdict::Discharged, Verdict::Discharged];
     for (accuser, rulings) in [(2, [g, t, t]), (3, [t, g, t]), (4, [t, t, g])] {
-        let mut tally = Tally::new(node(accuser), node(1), 3);
-        assert!(rt; !tally.answered(1));
-        assert_eq!(rt; tally.note(1, rulings[0]), Verdict::Open, "of {accuser}");
-        assert!(rt; tally.answered(1));
-        assert_eq!(rt;
-            tally.note(2, rulings[1]),
-            Verdict::Discharged,
-            "of {accuser}"
-        );
-        assert_eq!(rt;
-            tally.note(3, rulings[2]),
-            Verdict::Discharged,
-            "of {accuser}"
-        );
-        assert!(rt; !tally.may_be_heir());
+        assert_eq!(rt; verdicts(accuser, rulings), (want, false), "of {accuser}");
     }
+}
+
+#[test]
+fn an_arbitrator_has_answered_once_it_has_ruled(rt: HostRuntime) {
+    let (g, t) = (Ruling::Granted, Ruling::Taken);
+    for (accuser, ruling) in [(2, g), (3, t), (4, t)] {
+        assert_eq!(rt; answered(accuser, ruling), (false, true), "of {accuser}");
+    }
+}
+
+/// The verdict after these rulings and that after a later answer, and whether the accuser may be heir before and after.
+fn settled(rulings: [Ruling; 3]) -> ([Verdict; 2], [bool; 2]) {
+    let mut tally = Tally::new(node(2), node(1), 3);
+    let before = tally.may_be_heir();
+    let _ = tally.note(1, rulings[0]);
+    let _ = tally.note(2, rulings[1]);
+    let verdict = tally.note(3, rulings[2]);
+    let later = tally.note(3, Ruling::Granted);
+    ([verdict, later], [before, tally.may_be_heir()])
 }
 
 #[test]
@@ -59,23 +83,23 @@ fn rulings_settle_an_accusation(rt: HostRuntime) {
         ([r, r, g], Verdict::Lost, false),
         ([r, g, t], Verdict::Discharged, false),
     ] {
-        let mut tally = Tally::new(node(2), node(1), 3);
-        assert!(rt; tally.may_be_heir());
-        let _ = tally.note(1, rulings[0]);
-        let _ = tally.note(2, rulings[1]);
-        assert_eq!(rt; tally.note(3, rulings[2]), want);
-        assert_eq!(rt; tally.note(3, Ruling::Granted), want, "a later answer");
-        assert_eq!(rt; tally.may_be_heir(), may);
+        assert_eq!(rt; settled(rulings), ([want; 2], [true, may]), "{rulings:?}");
     }
+}
+
+/// What a tally of three says after each of these configurations, of which the third has this primary.
+fn said_of_three(third: u16) -> [Result<u16, &'static str>; 3] {
+    let mut tally = VoteTally::new(3);
+    let one = said(tally.note(1, &config(1)));
+    let two = said(tally.note(2, &config(2)));
+    [one, two, said(tally.note(3, &config(third)))]
 }
 
 #[test]
 fn kept_configurations_decide_or_split(rt: HostRuntime) {
     for (third, want) in [(1, Ok(1)), (3, Err("split"))] {
-        let mut tally = VoteTally::new(3);
-        assert_eq!(rt; said(tally.note(1, &config(1))), Err("open"));
-        assert_eq!(rt; said(tally.note(2, &config(2))), Err("open"));
-        assert_eq!(rt; said(tally.note(3, &config(third))), want);
+        let open = Err("open");
+        assert_eq!(rt; said_of_three(third), [open, open, want]);
     }
     majorities_meet();
     one_decision();

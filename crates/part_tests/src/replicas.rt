@@ -4,7 +4,6 @@ use replica_core::{Done, Entry, EntryBytes, MOST_ENTRIES, Replica, ReplicaRefusa
 use ring_points::{Config, Epoch, Members};
 use std::alloc::Global;
 use std::process::Abort;
-use std::test::Fail;
 
 fn epoch(data_loss: u32, configuration: u32) -> Epoch {
     Epoch {
@@ -48,6 +47,8 @@ enum Call {
     Adopt(Epoch, u32, u32),
     AdoptOwn(Epoch, u32),
     AdoptCollected(Epoch),
+    /// The same, once what was collected is dropped.
+    AdoptDropped(Epoch),
 }
 
 fn answer(
@@ -66,6 +67,19 @@ fn answer(
         }
         Call::AdoptOwn(epoch, last) => replica.adopt_own(epoch, last),
         Call::AdoptCollected(epoch) => replica.adopt_collected(epoch),
+        Call::AdoptDropped(epoch) => {
+            replica.drop_collected();
+            replica.adopt_collected(epoch)
+        }
+    }
+}
+
+/// These calls, one after another, and what the replica answers to each.
+type Course<'a> = &'a [(Call, Result<Done, ReplicaRefusal>)];
+
+fn answers(rt: &impl Abort, alloc: Global, replica: &mut Replica, course: Course<'_>) {
+    for &(call, want) in course {
+        assert_eq!(rt; answer(rt, alloc, replica, call), want);
     }
 }
 
@@ -73,7 +87,7 @@ fn answer(
 fn a_promise_refuses_older_entries(rt: HostRuntime) {
     let (older, now, next) = (epoch(0, 6), epoch(0, 7), epoch(0, 8));
     let mut replica = Replica::new(rt.alloc(), 5);
-    for (call, want) in [
+    let course = [
         (Call::Promise(now), Ok(Done::New)),
         (Call::Promise(now), Ok(Done::Held)),
         (
@@ -85,17 +99,15 @@ fn a_promise_refuses_older_entries(rt: HostRuntime) {
         (Call::Append(now, 1, b'x'), Ok(Done::New)),
         (Call::Append(now, 1, b'y'), Ok(Done::Held)),
         (Call::Adopt(next, 2, 3), Err(ReplicaRefusal::Gap(0))),
-    ] {
-        assert_eq!(rt; answer(&rt, rt.alloc(), &mut replica, call), want);
-    }
+    ];
+    answers(&rt, rt.alloc(), &mut replica, &course);
     assert_eq!(rt; (replica.partition(), replica.log().len()), (5, 1));
     assert_eq!(rt; (replica.promised(), replica.at()), (now, now));
 }
 
-#[test]
-fn a_log_is_collected_and_activated(rt: HostRuntime) {
-    let new = epoch(0, 8);
-    let mut replica = Replica::new(rt.alloc(), 5);
+/// An idle secondary's replica whose log is collected: three entries at this epoch.
+fn collected(rt: &impl Abort, alloc: Global, new: Epoch) -> Replica {
+    let mut replica = Replica::new(alloc, 5);
     for (call, want, count) in [
         (Call::Idle(new), Done::New, 0),
         (Call::Adopt(new, 1, 3), Done::New, 1),
@@ -103,14 +115,36 @@ fn a_log_is_collected_and_activated(rt: HostRuntime) {
         (Call::Adopt(new, 2, 3), Done::New, 2),
         (Call::Adopt(new, 3, 3), Done::New, 0),
     ] {
-        assert_eq!(rt; answer(&rt, rt.alloc(), &mut replica, call), Ok(want));
-        assert_eq!(rt; replica.role(), Role::IdleSecondary);
-        assert_eq!(rt; replica.collected(), count);
+        let answered = answer(rt, alloc, &mut replica, call);
+        let after = (answered, replica.role(), replica.collected());
+        assert_eq!(rt; after, (Ok(want), Role::IdleSecondary, count));
     }
+    replica
+}
+
+/// What a replica answers that is activated at an epoch and then promises a greater one, and its role at the end.
+fn activated(
+    replica: &mut Replica,
+    at: Epoch,
+    greater: Epoch,
+) -> (
+    Result<Role, ReplicaRefusal>,
+    Result<Done, ReplicaRefusal>,
+    Role,
+) {
+    let role = replica.activate(1, &config(at));
+    let promised = replica.promise(greater);
+    (role, promised, replica.role())
+}
+
+#[test]
+fn a_log_is_collected_and_activated(rt: HostRuntime) {
+    let new = epoch(0, 8);
+    let mut replica = collected(&rt, rt.alloc(), new);
     assert_eq!(rt; (replica.log().len(), replica.at()), (3, new));
-    assert_eq!(rt; replica.activate(1, &config(new)), Ok(Role::Primary));
-    assert_eq!(rt; replica.promise(epoch(1, 1)), Ok(Done::New));
-    assert_eq!(rt; replica.role(), Role::ActiveSecondary);
+    let found = activated(&mut replica, new, epoch(1, 1));
+    let want = (Ok(Role::Primary), Ok(Done::New), Role::ActiveSecondary);
+    assert_eq!(rt; found, want);
 }
 
 // Of 100,001 entries one is collected, dropped, and collected again; then what was collected is adopted as it is.
@@ -118,17 +152,13 @@ fn a_log_is_collected_and_activated(rt: HostRuntime) {
 fn what_is_collected_is_dropped_or_adopted(rt: HostRuntime) {
     let new = epoch(1, 2);
     let mut replica = Replica::new(rt.alloc(), 5);
-    for (call, want) in [
+    let course = [
         (Call::Adopt(new, 1, 100_001), Ok(Done::New)),
-        (Call::AdoptCollected(new), Err(ReplicaRefusal::Gap(0))),
+        (Call::AdoptDropped(new), Err(ReplicaRefusal::Gap(0))),
         (Call::Adopt(new, 1, 100_001), Ok(Done::New)),
         (Call::AdoptCollected(new), Ok(Done::New)),
-    ] {
-        if want.is_err() {
-            replica.drop_collected();
-        }
-        assert_eq!(rt; answer(&rt, rt.alloc(), &mut replica, call), want);
-    }
+    ];
+    answers(&rt, rt.alloc(), &mut replica, &course);
     assert_eq!(rt; replica.log().len(), 1);
 }
 
@@ -147,7 +177,7 @@ fn refuses_what_does_not_fit(rt: HostRuntime) {
     let (first, old, now, new) = (epoch(0, 0), epoch(0, 9), epoch(1, 0), epoch(1, 1));
     let older = Err(ReplicaRefusal::Older(now));
     let gap = Err(ReplicaRefusal::Gap(MOST_ENTRIES));
-    for (call, want) in [
+    let course = [
         (
             Call::Append(first, MOST_ENTRIES + 1, b'x'),
             Err(ReplicaRefusal::LogFull),
@@ -163,9 +193,8 @@ fn refuses_what_does_not_fit(rt: HostRuntime) {
         (Call::Append(new, 1, b'x'), gap),
         (Call::AdoptOwn(new, 1), gap),
         (Call::AdoptCollected(new), Err(ReplicaRefusal::Gap(0))),
-    ] {
-        assert_eq!(rt; answer(&rt, rt.alloc(), &mut replica, call), want);
-    }
+    ];
+    answers(&rt, rt.alloc(), &mut replica, &course);
 }
 
 #[test]
@@ -182,23 +211,32 @@ fn is_activated_at_its_epoch_alone(rt: HostRuntime) {
     }
 }
 
-// The same call again, where the first was refused for want of memory: it left nothing behind.
+/// Appends an entry to so many; again, where memory was wanting at first, which left nothing behind.
+fn append_again(rt: &impl Abort, replica: &mut Replica, held: u8) {
+    let lsn = u32::from(held) + 1;
+    if replica.append(epoch(0, 0), lsn, b"xyz") == Err(ReplicaRefusal::OutOfMemory) {
+        assert_eq!(rt; replica.log().len(), usize::from(held));
+        assert_eq!(rt; replica.append(epoch(0, 0), lsn, b"xyz"), Ok(Done::New));
+    }
+}
+
+/// Adopts an entry behind so many of ten; again, where memory was wanting at first, which left nothing behind.
+fn adopt_again(rt: &impl Abort, replica: &mut Replica, next: &mut Entry, held: u8) {
+    next.lsn = u32::from(held) + 1;
+    if replica.adopt(epoch(0, 1), next, 10) == Err(ReplicaRefusal::OutOfMemory) {
+        assert_eq!(rt; replica.collected(), u32::from(held));
+        assert_eq!(rt; replica.adopt(epoch(0, 1), next, 10), Ok(Done::New));
+    }
+}
+
 #[test]
-fn want_of_memory_changes_nothing(rt: HostRuntime) -> Result<(), Fail> {
+fn want_of_memory_changes_nothing(rt: HostRuntime) {
     let mut replica = Replica::new(rt.alloc(), 5);
-    for lsn in 1..=9 {
-        if replica.append(epoch(0, 0), lsn, b"xyz") == Err(ReplicaRefusal::OutOfMemory) {
-            assert_eq!(rt; replica.log().len() + 1, lsn as usize);
-            assert_eq!(rt; replica.append(epoch(0, 0), lsn, b"xyz"), Ok(Done::New));
-        }
+    for held in 0..9 {
+        append_again(&rt, &mut replica, held);
     }
     let mut next = entry(&rt, rt.alloc(), 1, b"xyz");
-    for lsn in 1..=9 {
-        next.lsn = lsn;
-        if replica.adopt(epoch(0, 1), &next, 10) == Err(ReplicaRefusal::OutOfMemory) {
-            assert_eq!(rt; replica.collected(), lsn - 1);
-            assert_eq!(rt; replica.adopt(epoch(0, 1), &next, 10), Ok(Done::New));
-        }
+    for held in 0..9 {
+        adopt_again(&rt, &mut replica, &mut next, held);
     }
-    Ok(())
 }

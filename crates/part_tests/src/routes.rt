@@ -12,47 +12,86 @@ fn node(actor: u16) -> Who
     Who { actor, instance: 1 }
 }
 
-#[test]
-fn a_search_goes_to_the_nearer_of_two_nodes(rt: HostRuntime) {
+/// The routes of node 1, which has heard nobody: node 2 stands on the other side of the ring.
+fn two_nodes() -> RouteTable {
+    RouteTable::new(node(1), &[(1, Point(0)), (2, Point(HIGH))])
+}
+
+/// The same routes once node 2 is heard.
+fn two_up() -> RouteTable {
     let mut table = RouteTable::new(node(1), &[(1, Point(0)), (2, Point(HIGH))]);
-    assert_eq!(rt;
-        table.next(Point(HIGH), false, None, &[]),
-        Hop::Nowhere,
-        "nobody is known"
-    );
     table.heard(node(2), 100);
-    for (key, holds, skip, want) in [
-        (0x7000_0000_0000_0000, false, None, Hop::To(node(2))),
-        (0x1000_0000_0000_0000, false, None, Hop::Nowhere),
-        (0x8000_0000_0000_0000, false, Some(2), Hop::Nowhere),
-        (0x8000_0000_0000_0000, true, None, Hop::Here),
-    ] {
-        assert_eq!(rt; table.next(Point(key), holds, skip, &[]), want, "for {key}");
-    }
-    assert_eq!(rt;
-        table.next(Point(HIGH), false, None, &[node(2)]),
-        Hop::Nowhere,
-        "accused"
-    );
+    table
+}
+
+#[test]
+fn a_search_goes_nowhere_where_nobody_is_known(rt: HostRuntime) {
+    let hop = two_nodes().next(Point(HIGH), false, None, &[]);
+    assert_eq!(rt; hop, Hop::Nowhere);
     chains_end();
 }
 
 #[test]
-fn the_latest_instance_counts(rt: HostRuntime) {
-    let mut table = RouteTable::new(node(1), &[(1, Point(0)), (2, Point(HIGH))]);
-    let second = Who {
+fn a_search_goes_to_the_nearer_of_two_nodes(rt: HostRuntime) {
+    let table = two_up();
+    for (key, holds, skip, accused, want) in [
+        (
+            0x7000_0000_0000_0000,
+            false,
+            None,
+            [].as_slice(),
+            Hop::To(node(2)),
+        ),
+        (
+            0x1000_0000_0000_0000,
+            false,
+            None,
+            [].as_slice(),
+            Hop::Nowhere,
+        ),
+        (
+            0x8000_0000_0000_0000,
+            false,
+            Some(2),
+            [].as_slice(),
+            Hop::Nowhere,
+        ),
+        (0x8000_0000_0000_0000, true, None, [].as_slice(), Hop::Here),
+        (HIGH, false, None, [node(2)].as_slice(), Hop::Nowhere),
+    ] {
+        let hop = table.next(Point(key), holds, skip, accused);
+        assert_eq!(rt; hop, want, "for {key}, accused {accused:?}");
+    }
+}
+
+fn second_instance() -> Who
+    ensures { result ≡ node_instance 2 2 }
+{
+    Who {
         actor: 2,
         instance: 2,
-    };
-    table.heard(second, 100);
+    }
+}
+
+/// The same routes once the second instance of node 2 is heard, and the first after it.
+fn two_up_again() -> RouteTable {
+    let mut table = RouteTable::new(node(1), &[(1, Point(0)), (2, Point(HIGH))]);
+    table.heard(second_instance(), 100);
     table.heard(node(2), 200);
-    assert_eq!(rt; table.up(2, 100), Some(second));
-    assert_eq!(rt; table.up(2, 101), None);
-    assert_eq!(rt; table.up(1, 0), None);
+    table
 }
 
 #[test]
-fn near_nodes_stand_on_both_sides(rt: HostRuntime) {
+fn the_latest_instance_counts(rt: HostRuntime) {
+    let second = second_instance();
+    let table = two_up_again();
+    for (actor, since, want) in [(2, 100, Some(second)), (2, 101, None), (1, 0, None)] {
+        assert_eq!(rt; table.up(actor, since), want, "{actor} since {since}");
+    }
+}
+
+/// The routes of node 1, at 10, which has heard the nodes at 5, 20 and 30.
+fn four_nodes() -> RouteTable {
     let points = [
         (1, Point(10)),
         (2, Point(20)),
@@ -63,8 +102,20 @@ fn near_nodes_stand_on_both_sides(rt: HostRuntime) {
     table.heard(node(3), 0);
     table.heard(node(2), 0);
     table.heard(node(4), 0);
-    assert_eq!(rt; table.near(1, &[]).as_slice(), [2, 4].as_slice());
-    assert_eq!(rt; table.near(2, &[]).as_slice(), [2, 3, 4].as_slice());
-    assert_eq!(rt; table.near(2, &[node(2)]).as_slice(), [3, 4].as_slice());
-    assert_eq!(rt; table.near(0, &[]).as_slice(), [].as_slice());
+    table
+}
+
+#[test]
+fn near_nodes_stand_on_both_sides(rt: HostRuntime) {
+    let table = four_nodes();
+    for (count, accused, want) in [
+        (1, [].as_slice(), [2, 4].as_slice()),
+        (2, [].as_slice(), [2, 3, 4].as_slice()),
+        (2, [node(2)].as_slice(), [3, 4].as_slice()),
+        (0, [].as_slice(), [].as_slice()),
+    ] {
+        assert!(rt; count <= 4);
+        let near = table.near(count, accused);
+        assert_eq!(rt; near.as_slice(), want, "{count} without {accused:?}");
+    }
 }

@@ -1,6 +1,7 @@
 use failover_units::{MOST_UNITS, UnitRefusal, Units};
 use ring_points::{Config, Epoch, Interval, Members};
-use std::test::Fail;
+use std::alloc::Global;
+use std::process::Abort;
 
 fn epoch(data_loss: u32, configuration: u32) -> Epoch {
     Epoch {
@@ -22,42 +23,83 @@ fn config(partition: u16, epoch: Epoch, primary: u16, other: u16) -> Config {
     }
 }
 
+/// The highest epoch of partition 7 before it is created, and why it has no configuration then.
+fn created(rt: &impl Abort, units: &mut Units) -> (Epoch, Option<UnitRefusal>) {
+    let before = units.highest(7);
+    assert_eq!(rt; units.create(7), Ok(()));
+    (before, units.get(7).err())
+}
+
 #[test]
-fn keeps_the_newest_configuration_and_the_highest_epoch(rt: HostRuntime) -> Result<(), Fail> {
-    let mut units = Units::new(rt.alloc());
-    assert_eq!(rt; units.highest(7), epoch(0, 0));
-    units.create(7)?;
-    assert_eq!(rt; units.get(7).err(), Some(UnitRefusal::NoUnit));
+fn a_unit_that_is_created_has_no_configuration(rt: HostRuntime) {
+    let found = created(&rt, &mut Units::new(rt.alloc()));
+    assert_eq!(rt; found, (epoch(0, 0), Some(UnitRefusal::NoUnit)));
+}
+
+/// Partition 7 is created; then configurations of it and of partition 9 are noted, of which one is older.
+fn three_noted(rt: &impl Abort, alloc: Global) -> Units {
+    let mut units = Units::new(alloc);
+    assert_eq!(rt; units.create(7), Ok(()));
     for (partition, at, primary, other) in [
         (7, epoch(0, 3), 1, 2),
         (7, epoch(0, 2), 3, 4),
         (9, epoch(1, 0), 2, 3),
     ] {
-        units.note(&config(partition, at, primary, other))?;
+        let noted = units.note(&config(partition, at, primary, other));
+        assert_eq!(rt; noted, Ok(()));
     }
+    units
+}
+
+/// The highest epoch of a partition once this one is seen, and its primary.
+fn after_seen(rt: &impl Abort, units: &mut Units, partition: u16, seen: Epoch) -> (Epoch, u16) {
+    assert_eq!(rt; units.seen(partition, seen), Ok(()));
+    let known = units.get(partition).map(|known| known.primary);
+    (
+        units.highest(partition),
+        known.expect(rt, "a configuration"),
+    )
+}
+
+#[test]
+fn keeps_the_newest_configuration_and_the_highest_epoch(rt: HostRuntime) {
+    let mut units = three_noted(&rt, rt.alloc());
     for (partition, seen, highest, primary) in [
         (7, epoch(0, 9), epoch(0, 9), 1),
         (9, epoch(0, 50), epoch(1, 0), 2),
     ] {
-        units.seen(partition, seen)?;
-        assert_eq!(rt; units.highest(partition), highest);
-        let known = units.get(partition).map(|known| known.primary);
-        assert_eq!(rt; known.ok(), Some(primary));
+        let found = after_seen(&rt, &mut units, partition, seen);
+        assert_eq!(rt; found, (highest, primary), "of {partition}");
     }
     assert_eq!(rt; units.create(7), Err(UnitRefusal::Exists));
-    for (node, load) in [(1, 1), (2, 2), (3, 1), (4, 0)] {
-        assert_eq!(rt; units.load(node), load, "of {node}");
-    }
-    Ok(())
 }
 
 #[test]
-fn lists_the_partitions_of_a_range(rt: HostRuntime) -> Result<(), Fail> {
-    let mut units = Units::new(rt.alloc());
-    units.create(3)?;
-    for partition in [65535, 1, 8, 0] {
-        units.note(&config(partition, epoch(0, 1), 1, 2))?;
+fn the_load_of_a_node_is_in_how_many_configurations_it_is(rt: HostRuntime) {
+    let units = three_noted(&rt, rt.alloc());
+    for (node, load) in [(1, 1), (2, 2), (3, 1), (4, 0)] {
+        assert_eq!(rt; units.load(node), load, "of {node}");
     }
+}
+
+/// Configurations of four partitions, and partition 3, which has none.
+fn four_noted(rt: &impl Abort, alloc: Global) -> Units {
+    let mut units = Units::new(alloc);
+    assert_eq!(rt; units.create(3), Ok(()));
+    for partition in [65535, 1, 8, 0] {
+        let noted = units.note(&config(partition, epoch(0, 1), 1, 2));
+        assert_eq!(rt; noted, Ok(()));
+    }
+    units
+}
+
+fn in_range(rt: &impl Abort, units: &Units, lo: u64, hi: u64) -> Vec<u16> {
+    units.in_range(&Interval { lo, hi }).expect(rt, "memory")
+}
+
+#[test]
+fn lists_the_partitions_of_a_range(rt: HostRuntime) {
+    let units = four_noted(&rt, rt.alloc());
     for (lo, hi, want) in [
         (0, u64::MAX, [0, 1, 8, 65535].as_slice()),
         (
@@ -68,27 +110,38 @@ fn lists_the_partitions_of_a_range(rt: HostRuntime) -> Result<(), Fail> {
         (0x0001_0000_0000_0001, 0x0007_ffff_ffff_ffff, [].as_slice()),
         (0xffff_0000_0000_0000, u64::MAX, [65535].as_slice()),
     ] {
-        let found = units.in_range(&Interval { lo, hi })?;
+        let found = in_range(&rt, &units, lo, hi);
         assert_eq!(rt; found.as_slice(), want, "from {lo:x} to {hi:x}");
     }
-    Ok(())
+}
+
+/// As many units as there is room for.
+fn full(rt: &impl Abort, alloc: Global) -> Units {
+    let mut units = Units::new(alloc);
+    for partition in 0..MOST_UNITS {
+        assert_eq!(rt; units.create(partition as u16), Ok(()));
+    }
+    units
+}
+
+/// What is answered to calls about a partition that has no place.
+fn of_another(units: &mut Units) -> [Result<(), UnitRefusal>; 3] {
+    let created = units.create(4096);
+    let seen = units.seen(4096, epoch(0, 1));
+    [created, seen, units.note(&config(4096, epoch(0, 1), 1, 2))]
+}
+
+/// What is answered to calls about partitions that have one.
+fn of_known(units: &mut Units) -> [Result<(), UnitRefusal>; 3] {
+    let created = units.create(4095);
+    let seen = units.seen(0, epoch(0, 1));
+    [created, seen, units.note(&config(1, epoch(0, 1), 1, 2))]
 }
 
 #[test]
-fn has_no_place_for_another_partition(rt: HostRuntime) -> Result<(), Fail> {
-    let mut units = Units::new(rt.alloc());
-    for partition in 0..MOST_UNITS {
-        units.create(partition as u16)?;
-    }
-    assert_eq!(rt; units.create(4096), Err(UnitRefusal::Full));
-    assert_eq!(rt; units.seen(4096, epoch(0, 1)), Err(UnitRefusal::Full));
-    assert_eq!(rt;
-        units.note(&config(4096, epoch(0, 1), 1, 2)),
-        Err(UnitRefusal::Full)
-    );
+fn has_no_place_for_another_partition(rt: HostRuntime) {
+    let mut units = full(&rt, rt.alloc());
+    assert_eq!(rt; of_another(&mut units), [Err(UnitRefusal::Full); 3]);
     assert_eq!(rt; units.highest(4096), epoch(0, 0));
-    assert_eq!(rt; units.create(4095), Ok(()));
-    assert_eq!(rt; units.seen(0, epoch(0, 1)), Ok(()));
-    assert_eq!(rt; units.note(&config(1, epoch(0, 1), 1, 2)), Ok(()));
-    Ok(())
+    assert_eq!(rt; of_known(&mut units), [Ok(()); 3]);
 }
