@@ -1,25 +1,36 @@
+ghost use Rattle.std.specs.Prelude.{◌≡◌};
+ghost use Rattle.edge_io.specs.Arrivals.{IsListening};
+
+use crate::records::kept_are;
 use edge_io::{
-    Clock, EdgeRefusal, Failed, Keeper, Links, MemClock, MemKeeper, MemLinks, MemSink, MemSource,
-    Sink, Source, write_all,
+    Clock, Datagram, EdgeRefusal, Endpoint, Failed, Keeper, Links, MemClock, MemKeeper, MemLinks,
+    MemSink, MemSource, Sink, Source, write_all,
 };
 use std::alloc::Global;
-use std::test::Fail;
+use std::process::Abort;
+
+/// The numbers of the calls that fail, or readings.
+fn numbers(rt: &impl Abort, alloc: Global, numbers: &[u64]) -> Vec<u64> {
+    numbers.to_vec(alloc).expect(rt, "memory")
+}
+
+fn bytes(rt: &impl Abort, alloc: Global, bytes: &[u8]) -> Vec<u8> {
+    bytes.to_vec(alloc).expect(rt, "memory")
+}
 
 #[test]
-fn a_source_fails_at_its_listed_calls(rt: HostRuntime) -> Result<(), Fail> {
-    let bytes = b"abcde".to_vec(rt.alloc())?;
-    let mut source = MemSource::new(bytes, vec![in rt.alloc(); 2, 3]?);
+fn a_source_fails_at_its_listed_calls(rt: HostRuntime) {
+    let fail = numbers(&rt, rt.alloc(), &[2, 3]);
+    let mut source = MemSource::new(bytes(&rt, rt.alloc(), b"abcde"), fail);
     let mut buffer = [0; 3];
     for want in [Ok(3), Err(Failed), Err(Failed), Ok(2), Ok(0)] {
         assert_eq!(rt; source.read(&mut buffer), want);
     }
     assert_eq!(rt; &buffer, b"dec");
-    Ok(())
 }
 
-#[test]
-fn a_sink_fails_at_its_listed_calls(rt: HostRuntime) -> Result<(), Fail> {
-    let mut sink = MemSink::new(rt.alloc(), vec![in rt.alloc(); 2, 3]?);
+/// The sink fails at its second and third call, each of them of another function.
+fn fails_twice(rt: &impl Abort, sink: &mut MemSink) {
     for (bytes, want) in [(b"ab", Ok(2)), (b"cd", Err(EdgeRefusal::Failed))] {
         assert_eq!(rt; sink.write(bytes), want);
     }
@@ -28,37 +39,28 @@ fn a_sink_fails_at_its_listed_calls(rt: HostRuntime) -> Result<(), Fail> {
         (b"".as_slice(), Ok(())),
         (b"gh".as_slice(), Ok(())),
     ] {
-        assert_eq!(rt; write_all(&mut sink, bytes), want);
+        assert_eq!(rt; write_all(sink, bytes), want);
     }
-    assert_eq!(rt; sink.held(), b"abgh".as_slice());
-    Ok(())
-}
-
-/// The records of an actor, each behind its length; None where the keeper fails.
-fn kept(alloc: Global, keeper: &mut MemKeeper, actor: u16) -> Result<Option<Vec<u8>>, Fail> {
-    let Ok(records) = keeper.records(actor) else {
-        return Ok(None);
-    };
-    let mut all = Vec::new(alloc);
-    for record in records {
-        all.extend_from_slice(&record)?;
-        all.push(b';')?;
-    }
-    Ok(Some(all))
-}
-
-/// A keeper that has a record of actor 7, and fails at its calls 2, 3 and 5.
-fn failing_keeper(alloc: Global) -> Result<MemKeeper, Fail> {
-    let mut first = Vec::new(alloc);
-    first.push(b"old".to_vec(alloc)?)?;
-    let mut lists = Vec::new(alloc);
-    lists.push((7, first))?;
-    Ok(MemKeeper::new(alloc, lists, vec![in alloc; 2, 3, 5]?))
 }
 
 #[test]
-fn a_failing_append_keeps_its_record_at_even_calls(rt: HostRuntime) -> Result<(), Fail> {
-    let mut keeper = failing_keeper(rt.alloc())?;
+fn a_sink_fails_at_its_listed_calls(rt: HostRuntime) {
+    let mut sink = MemSink::new(rt.alloc(), numbers(&rt, rt.alloc(), &[2, 3]));
+    fails_twice(&rt, &mut sink);
+    assert_eq!(rt; sink.held(), b"abgh".as_slice());
+}
+
+/// A keeper that has a record of actor 7, and fails at its calls 2, 3 and 5.
+fn failing_keeper(rt: &impl Abort, alloc: Global) -> MemKeeper {
+    let mut first = Vec::new(alloc);
+    first.push(bytes(rt, alloc, b"old")).expect(rt, "memory");
+    let mut lists = Vec::new(alloc);
+    lists.push((7, first)).expect(rt, "memory");
+    MemKeeper::new(alloc, lists, numbers(rt, alloc, &[2, 3, 5]))
+}
+
+/// Two of three appends fail: the second and the third call.
+fn appends_fail(rt: &impl Abort, keeper: &mut MemKeeper) {
     for (actor, record, want) in [
         (7, b"a", Ok(())),
         (8, b"b", Err(EdgeRefusal::Failed)),
@@ -66,64 +68,97 @@ fn a_failing_append_keeps_its_record_at_even_calls(rt: HostRuntime) -> Result<()
     ] {
         assert_eq!(rt; keeper.append_synced(actor, record), want);
     }
+}
+
+#[test]
+fn a_failing_append_keeps_its_record_at_even_calls(rt: HostRuntime) {
+    let mut keeper = failing_keeper(&rt, rt.alloc());
+    appends_fail(&rt, &mut keeper);
     for (actor, want) in [
         (7, Some(b"old;a;".as_slice())),
         (8, None),
         (8, Some(b"b;".as_slice())),
         (9, Some(b"".as_slice())),
     ] {
-        let found = kept(rt.alloc(), &mut keeper, actor)?;
-        assert_eq!(rt; found.as_deref(), want, "of {actor}");
+        kept_are(&rt, rt.alloc(), &mut keeper, actor, want);
     }
-    Ok(())
 }
 
 /// Links that find nothing, then a datagram for each of two actors, and fail at these calls.
-fn links(alloc: Global, failing: Vec<u64>) -> Result<MemLinks, Fail> {
+fn links(rt: &impl Abort, alloc: Global, failing: &[u64]) -> MemLinks {
     let mut arrivals = Vec::new(alloc);
-    arrivals.push((1, None))?;
-    arrivals.push((2, Some(b"two".to_vec(alloc)?)))?;
-    arrivals.push((1, Some(b"one".to_vec(alloc)?)))?;
-    Ok(MemLinks::new(alloc, arrivals, failing))
+    for (actor, arrival) in [
+        (1, None),
+        (2, Some(b"two".as_slice())),
+        (1, Some(b"one".as_slice())),
+    ] {
+        let arrival = arrival.map(|sent| bytes(rt, alloc, sent));
+        arrivals.push((actor, arrival)).expect(rt, "memory");
+    }
+    MemLinks::new(alloc, arrivals, numbers(rt, alloc, failing))
 }
 
-#[test]
-fn endpoints_and_datagrams_fail_at_their_listed_calls(rt: HostRuntime) -> Result<(), Fail> {
-    let mut links = links(rt.alloc(), vec![in rt.alloc(); 1, 3]?)?;
-    assert_eq!(rt; links.listen(1, "here"), Err(EdgeRefusal::Failed));
+/// Actor 1 listens, which is refused so often before.
+fn listens(rt: &impl Abort, links: &mut MemLinks, refusals: u32)
+    ensures { IsListening 1 links.new.opened }
+{
+    for _ in 0..refusals {
+        assert_eq!(rt; links.listen(1, "here"), Err(EdgeRefusal::Failed));
+    }
     assert_eq!(rt; links.listen(1, "here"), Ok(()));
+}
+
+/// The first of two datagrams that actor 1 sends is refused.
+fn sends(rt: &impl Abort, links: &mut MemLinks)
+    requires { IsListening 1 links.old.opened }
+{
     assert_eq!(rt; links.send(1, "there", b"lost"), Err(EdgeRefusal::Failed));
     assert_eq!(rt; links.send(1, "there", b"sent"), Ok(()));
-    for opened in links.opened() {
-        assert_eq!(rt; opened.at.as_str(), "here");
-    }
-    for sent in links.sent() {
-        assert_eq!(rt; sent.to.as_str(), "there");
-        assert_eq!(rt; sent.bytes.as_slice(), b"sent".as_slice());
-    }
-    assert_eq!(rt; (links.opened().len(), links.sent().len()), (1, 1));
-    Ok(())
+}
+
+fn one_is_open(rt: &impl Abort, opened: &[Endpoint]) {
+    assert_eq!(rt; opened.len(), 1);
+    assert_eq!(rt; opened[0].at.as_str(), "here");
+}
+
+fn one_is_sent(rt: &impl Abort, sent: &[Datagram]) {
+    assert_eq!(rt; sent.len(), 1);
+    assert_eq!(rt; sent[0].to.as_str(), "there");
+    assert_eq!(rt; sent[0].bytes.as_slice(), b"sent".as_slice());
 }
 
 #[test]
-fn arrivals_fail_at_their_listed_calls(rt: HostRuntime) -> Result<(), Fail> {
-    let mut links = links(rt.alloc(), vec![in rt.alloc(); 2]?)?;
-    assert_eq!(rt; links.listen(1, "here"), Ok(()));
+fn endpoints_and_datagrams_fail_at_their_listed_calls(rt: HostRuntime) {
+    let mut links = links(&rt, rt.alloc(), &[1, 3]);
+    listens(&rt, &mut links, 1);
+    sends(&rt, &mut links);
+    one_is_open(&rt, links.opened());
+    one_is_sent(&rt, links.sent());
+}
+
+/// What the next of the listed receives of actor 1 give.
+fn receives(rt: &impl Abort, links: &mut MemLinks, into: &mut [u8; 1500])
+    requires { IsListening 1 links.old.opened }
+{
+    for want in [Err(Failed), Ok(None), Ok(Some(3)), Ok(None)] {
+        assert_eq!(rt; links.receive(1, into), want);
+    }
+}
+
+#[test]
+fn arrivals_fail_at_their_listed_calls(rt: HostRuntime) {
+    let mut links = links(&rt, rt.alloc(), &[2]);
+    listens(&rt, &mut links, 0);
     let mut buffer = [0; 1500];
-    assert_eq!(rt; links.receive(1, &mut buffer), Err(Failed));
-    assert_eq!(rt; links.receive(1, &mut buffer), Ok(None));
-    assert_eq!(rt; links.receive(1, &mut buffer), Ok(Some(3)));
-    assert_eq!(rt; links.receive(1, &mut buffer), Ok(None));
+    receives(&rt, &mut links, &mut buffer);
     assert_eq!(rt; &buffer[..3], b"one".as_slice());
-    Ok(())
 }
 
 #[test]
-fn a_clock_repeats_its_last_reading(rt: HostRuntime) -> Result<(), Fail> {
-    let mut clock = MemClock::new(vec![in rt.alloc(); 5, 3, 9]?);
+fn a_clock_repeats_its_last_reading(rt: HostRuntime) {
+    let mut clock = MemClock::new(numbers(&rt, rt.alloc(), &[5, 3, 9]));
     for want in [5, 3, 9, 9, 9] {
         assert_eq!(rt; clock.now(), want);
     }
     assert_eq!(rt; MemClock::new(Vec::new(rt.alloc())).now(), 0);
-    Ok(())
 }

@@ -13,4 +13,6 @@ mod in_memory;
 #[cfg(test)]
 mod machines;
 #[cfg(test)]
+mod records;
+#[cfg(test)]
 mod sockets;

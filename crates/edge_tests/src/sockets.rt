@@ -3,10 +3,28 @@ ghost use Rattle.edge_io.specs.Arrivals.{IsListening};
 
 use edge_io::{EdgeRefusal, Failed, Links};
 use fabric_edge::UdpLinks;
+use std::alloc::Global;
 use std::net::{Net, UdpSocket};
+use std::process::Abort;
 use std::rt::Clock;
 use std::test::Fail;
 use std::time::{Duration, Instant};
+
+const FRAME: &[u8] = b"\x53\x01\0\x01\0\0\0\x01\0\x02\0\0\0\x01\0\0\0\0\0";
+
+/// Links with an endpoint of this actor at this address.
+fn listening<'a, R: Net + Clock + Abort>(
+    rt: &'a R,
+    alloc: Global,
+    actor: u16,
+    at: &str,
+) -> UdpLinks<'a, R>
+    ensures { IsListening actor result.opened }
+{
+    let mut links = UdpLinks::new(rt, alloc);
+    assert_eq!(rt; links.listen(actor, at), Ok(()));
+    links
+}
 
 /// What the first of these calls of `receive` gives that finds something.
 fn first_of<R: Net + Clock>(
@@ -27,62 +45,136 @@ fn first_of<R: Net + Clock>(
     Ok(None)
 }
 
-#[test]
-fn datagrams_go_both_ways_over_udp(rt: HostRuntime) -> Result<(), Fail> {
-    let frame = b"\x53\x01\0\x01\0\0\0\x01\0\x02\0\0\0\x01\0\0\0\0\0";
-    let (here, there) = ("127.0.0.1:47611", "127.0.0.1:47612");
-    let mut links = UdpLinks::new(&rt, rt.alloc());
-    assert_eq!(rt; links.listen(1, here), Ok(()));
-    let socket = UdpSocket::bind(&rt, there)?;
+/// A socket that is not of the links. It waits for 5 seconds.
+fn other_socket(rt: &HostRuntime, at: &str) -> Result<UdpSocket, Fail> {
+    let socket = UdpSocket::bind(rt, at)?;
     socket.set_read_timeout(Some(Duration::from_secs(5)))?;
-    socket.send_to(frame, here)?;
+    Ok(socket)
+}
+
+/// The frame comes to actor 1.
+fn frame_comes<R: Net + Clock>(rt: &impl Abort, links: &mut UdpLinks<'_, R>)
+    requires { IsListening 1 links.old.opened }
+    ensures { links.new.opened ≡ links.old.opened }
+{
     let mut buffer = [0; 1500];
-    assert_eq!(rt; first_of(100, &mut links, 1, &mut buffer), Ok(Some(19)));
-    assert_eq!(rt; &buffer[..19], frame.as_slice());
-    assert_eq!(rt; links.send(1, there, frame), Ok(()));
+    assert_eq!(rt; first_of(100, links, 1, &mut buffer), Ok(Some(19)));
+    assert_eq!(rt; &buffer[..19], FRAME);
+}
+
+/// The frame comes to the socket.
+fn frame_came(rt: &impl Abort, socket: &UdpSocket) -> Result<(), Fail> {
     let mut buffer = [0; 1500];
     assert_eq!(rt; socket.recv(&mut buffer)?, 19);
-    assert_eq!(rt; &buffer[..19], frame.as_slice());
+    assert_eq!(rt; &buffer[..19], FRAME);
     Ok(())
 }
 
 #[test]
-fn datagrams_of_every_size_come_in_their_order(rt: HostRuntime) -> Result<(), Fail> {
-    let here = "127.0.0.1:47613";
-    let mut links = UdpLinks::new(&rt, rt.alloc());
-    assert_eq!(rt; links.listen(2, here), Ok(()));
-    assert_eq!(rt; links.listen(3, here), Err(EdgeRefusal::Failed));
-    let bytes = [7; 2000];
+fn datagrams_go_both_ways_over_udp(rt: HostRuntime) -> Result<(), Fail> {
+    let (here, there) = ("127.0.0.1:47611", "127.0.0.1:47612");
+    let mut links = listening(&rt, rt.alloc(), 1, here);
+    let socket = other_socket(&rt, there)?;
+    socket.send_to(FRAME, here)?;
+    frame_comes(&rt, &mut links);
+    assert_eq!(rt; links.send(1, there, FRAME), Ok(()));
+    frame_came(&rt, &socket)
+}
+
+/// Links with an endpoint of actor 2, at an address that actor 3 is refused.
+fn alone_listening<'a, R: Net + Clock + Abort>(
+    rt: &'a R,
+    alloc: Global,
+    at: &str,
+) -> UdpLinks<'a, R>
+    ensures { IsListening 2 result.opened }
+{
+    let mut links = UdpLinks::new(rt, alloc);
+    assert_eq!(rt; links.listen(2, at), Ok(()));
+    assert_eq!(rt; links.listen(3, at), Err(EdgeRefusal::Failed));
+    links
+}
+
+/// What is answered where actor 2 sends itself these bytes and then two, and receives twice.
+fn two_sent<R: Net + Clock>(
+    links: &mut UdpLinks<'_, R>,
+    at: &str,
+    bytes: &[u8],
+) -> (
+    [Result<(), EdgeRefusal>; 2],
+    [Result<Option<usize>, Failed>; 2],
+)
+    requires { IsListening 2 links.old.opened }
+    ensures { links.new.opened ≡ links.old.opened }
+{
     let mut buffer = [0; 1500];
+    let first = links.send(2, at, bytes);
+    let second = links.send(2, at, &[7, 7]);
+    let came = links.receive(2, &mut buffer);
+    ([first, second], [came, links.receive(2, &mut buffer)])
+}
+
+#[test]
+fn datagrams_of_every_size_come_in_their_order(rt: HostRuntime) {
+    let here = "127.0.0.1:47613";
+    let mut links = alone_listening(&rt, rt.alloc(), here);
+    let bytes = [7; 2000];
     for length in [0, 1, 1200, 1500, 1501, 2000] {
-        assert_eq!(rt; links.send(2, here, &bytes[..length]), Ok(()));
-        assert_eq!(rt; links.send(2, here, &bytes[..2]), Ok(()));
-        assert_eq!(rt; links.receive(2, &mut buffer), Ok(Some(length.min(1500))));
-        assert_eq!(rt; links.receive(2, &mut buffer), Ok(Some(2)));
+        let found = two_sent(&mut links, here, &bytes[..length]);
+        let want = ([Ok(()); 2], [Ok(Some(length.min(1500))), Ok(Some(2))]);
+        assert_eq!(rt; found, want, "of {length} bytes");
     }
-    assert_eq!(rt; links.receive(2, &mut buffer), Ok(None));
-    let too_long = vec![in rt.alloc(); 7; 65_508]?;
-    assert_eq!(rt; links.send(2, here, &too_long), Err(EdgeRefusal::Failed));
+    assert_eq!(rt; links.receive(2, &mut [0; 1500]), Ok(None));
+}
+
+#[test]
+fn what_is_too_long_or_goes_nowhere_is_not_sent(rt: HostRuntime) -> Result<(), Fail> {
+    let here = "127.0.0.1:47616";
+    let mut links = listening(&rt, rt.alloc(), 2, here);
+    let bytes = vec![in rt.alloc(); 7; 65_508]?;
+    assert_eq!(rt; links.send(2, here, &bytes), Err(EdgeRefusal::Failed));
     assert_eq!(rt; links.send(2, "nowhere", b"lost"), Err(EdgeRefusal::Failed));
     Ok(())
 }
 
+const FIRST: &str = "127.0.0.1:47614";
+
+/// Links with endpoints of actors 4 and 5.
+fn both_listening<R: Net + Clock + Abort>(rt: &R, alloc: Global) -> UdpLinks<'_, R>
+    ensures first { IsListening 4 result.opened }
+    ensures other { IsListening 5 result.opened }
+{
+    let mut links = UdpLinks::new(rt, alloc);
+    assert_eq!(rt; links.listen(4, FIRST), Ok(()));
+    assert_eq!(rt; links.listen(5, "127.0.0.1:47615"), Ok(()));
+    links
+}
+
+/// What is answered in a turn of actors 4 and 5: where 5 sends 4 a datagram, 4 receives twice, and 5 up to 20 times.
+fn turn<R: Net + Clock>(
+    links: &mut UdpLinks<'_, R>,
+) -> (Result<(), EdgeRefusal>, [Result<Option<usize>, Failed>; 3])
+    requires first { IsListening 4 links.old.opened }
+    requires other { IsListening 5 links.old.opened }
+    ensures { links.new.opened ≡ links.old.opened }
+{
+    let mut buffer = [0; 1500];
+    let sent = links.send(5, FIRST, b"ab");
+    let came = links.receive(4, &mut buffer);
+    let again = links.receive(4, &mut buffer);
+    (sent, [came, again, first_of(20, links, 5, &mut buffer)])
+}
+
 #[test]
 fn a_turn_waits_once_and_takes_what_comes(rt: HostRuntime) -> Result<(), Fail> {
-    let (first, other) = ("127.0.0.1:47614", "127.0.0.1:47615");
-    let mut links = UdpLinks::new(&rt, rt.alloc());
-    assert_eq!(rt; links.listen(4, first), Ok(()));
-    assert_eq!(rt; links.listen(5, other), Ok(()));
-    let mut buffer = [0; 1500];
+    let mut links = both_listening(&rt, rt.alloc());
     let start = Instant::now(&rt)?;
     for _ in 0..8 {
-        assert_eq!(rt; links.send(5, first, b"ab"), Ok(()));
-        assert_eq!(rt; links.receive(4, &mut buffer), Ok(Some(2)));
-        assert_eq!(rt; links.receive(4, &mut buffer), Ok(None));
-        assert_eq!(rt; first_of(20, &mut links, 5, &mut buffer), Ok(None));
+        let want = (Ok(()), [Ok(Some(2)), Ok(None), Ok(None)]);
+        assert_eq!(rt; turn(&mut links), want);
     }
     let passed = start.elapsed(&rt)?;
-    assert!(rt; passed >= Duration::from_millis(40));
-    assert!(rt; passed < Duration::from_millis(400));
+    let (least, most) = (Duration::from_millis(40), Duration::from_millis(400));
+    assert!(rt; least <= passed && passed < most, "{passed:?}");
     Ok(())
 }
