@@ -1,3 +1,4 @@
+use crate::rows::agree;
 use drift_clock::{
     Bound, Drift, DriftBroken, MAX_DRIFT, MAX_GRAIN, MAX_READING, MAX_TRUE_TIME, wait_of,
 };
@@ -20,6 +21,7 @@ fn last_answer(rt: &impl Abort, bound: Bound, pairs: &[(u64, u64)]) -> Result<()
     answer
 }
 
+/// How long the wait is for so many ticks at this drift and grain.
 fn wait(rt: &impl Abort, d: u64, grain: u64, x: u64) -> u64 {
     assert!(rt; d <= MAX_DRIFT && grain <= MAX_GRAIN && x <= MAX_READING);
     wait_of(Bound { d, grain }, x)
@@ -27,20 +29,21 @@ fn wait(rt: &impl Abort, d: u64, grain: u64, x: u64) -> u64 {
 
 #[test]
 fn waits(rt: HostRuntime) {
-    for (d, grain, x, want) in [
-        (10, 1, 4000, 4083),
-        (0, 0, 4000, 4000),
-        (10, 1, 35_000, 35_710),
-        (10, 1, 2000, 2043),
-        (100, 0, 0, 0),
-        (100, 0, 9, 11),
-        (100, 0, 10, 13),
-        (0, 1_000_000, MAX_READING, 1_000_000_002_000_000),
-        (100, 1_000_000, MAX_READING, 1_222_222_224_444_445),
-    ] {
-        let found = wait(&rt, d, grain, x);
-        assert_eq!(rt; found, want, "{x} ticks at drift {d} and grain {grain}");
-    }
+    let rows = [
+        (wait(&rt, 10, 1, 4000), 4083),
+        (wait(&rt, 0, 0, 4000), 4000),
+        (wait(&rt, 10, 1, 35_000), 35_710),
+        (wait(&rt, 10, 1, 2000), 2043),
+        (wait(&rt, 100, 0, 0), 0),
+        (wait(&rt, 100, 0, 9), 11),
+        (wait(&rt, 100, 0, 10), 13),
+        (wait(&rt, 0, 1_000_000, MAX_READING), 1_000_000_002_000_000),
+        (
+            wait(&rt, 100, 1_000_000, MAX_READING),
+            1_222_222_224_444_445,
+        ),
+    ];
+    agree(&rt, &rows);
 }
 
 /// True times and readings.

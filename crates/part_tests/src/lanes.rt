@@ -1,5 +1,6 @@
 ghost use Rattle.std.specs.Prelude.{◌≤◌, length};
 
+use crate::rows::agree;
 use lane_scan::{mask_in, nearest};
 
 const STEP: u64 = 1 << 60;
@@ -17,26 +18,24 @@ fn finds_the_nearest(rt: HostRuntime) {
         7 * STEP,
         8 * STEP,
     ];
-    let cases: [(&[u64], u64, Option<usize>); 12] = [
-        (&[], 7, None),
+    let rows = [
+        (nearest(&[], 7), None),
         // The two are equally far: the lower.
-        (&[0, 1 << 63], 1 << 62, Some(0)),
-        (&[1 << 63, 0], 1 << 62, Some(1)),
-        (&[1 << 63, 0], 3 << 62, Some(1)),
-        (&nine, 0x1800_0000_0000_0000, Some(1)),
+        (nearest(&[0, 1 << 63], 1 << 62), Some(0)),
+        (nearest(&[1 << 63, 0], 1 << 62), Some(1)),
+        (nearest(&[1 << 63, 0], 3 << 62), Some(1)),
+        (nearest(&nine, 0x1800_0000_0000_0000), Some(1)),
         // Across 0.
-        (&nine, u64::MAX, Some(0)),
-        (&nine, 0xffff_ffff_ffff_fff0, Some(0)),
-        (&nine, 8 * STEP + 5, Some(8)),
-        (&nine, 12 * STEP, Some(0)),
-        (&nine, 12 * STEP - 1, Some(8)),
+        (nearest(&nine, u64::MAX), Some(0)),
+        (nearest(&nine, 0xffff_ffff_ffff_fff0), Some(0)),
+        (nearest(&nine, 8 * STEP + 5), Some(8)),
+        (nearest(&nine, 12 * STEP), Some(0)),
+        (nearest(&nine, 12 * STEP - 1), Some(8)),
         // The first of equals, in a block and in the rest.
-        (&[5, 9, 9, 5, 5, 9, 5, 5, 9, 9], 8, Some(1)),
-        (&[5, 6, 5, 6, 5, 6, 5, 5, 9, 9], 8, Some(8)),
+        (nearest(&[5, 9, 9, 5, 5, 9, 5, 5, 9, 9], 8), Some(1)),
+        (nearest(&[5, 6, 5, 6, 5, 6, 5, 5, 9, 9], 8), Some(8)),
     ];
-    for (points, key, want) in cases {
-        assert_eq!(rt; nearest(points, key), want, "key {key:x} in {points:?}");
-    }
+    agree(&rt, &rows);
 }
 
 /// What two words are once they are the mask of these points.
@@ -54,13 +53,12 @@ fn masks_a_range(rt: HostRuntime) {
     for (i, point) in points.iter_mut().enumerate() {
         *point = i as u64;
     }
-    for (lo, hi, before, want) in [
-        (63, 64, [7, 7], [1 << 63, 1]),
-        (9, 3, [1 << 63, 1], [0, 0]),
-        (0, u64::MAX, [0, 0], [u64::MAX, 1]),
-    ] {
-        assert_eq!(rt; masked(&points, lo, hi, before), want, "{lo} to {hi}");
-    }
+    let rows = [
+        (masked(&points, 63, 64, [7, 7]), [1 << 63, 1]),
+        (masked(&points, 9, 3, [1 << 63, 1]), [0, 0]),
+        (masked(&points, 0, u64::MAX, [0, 0]), [u64::MAX, 1]),
+    ];
+    agree(&rt, &rows);
 }
 
 #[test]

@@ -24,6 +24,8 @@ mod rounds;
 #[cfg(test)]
 mod routes;
 #[cfg(test)]
+mod rows;
+#[cfg(test)]
 mod tokens;
 #[cfg(test)]
 mod units;

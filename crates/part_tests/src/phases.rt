@@ -1,17 +1,20 @@
+use crate::rows::agree;
 use join_phases::{Booting, Phase, Why};
 use ring_points::RangeSet;
 
+fn founds(first: bool, instance: u32) -> bool {
+    Booting::new(first, instance).found().is_ok()
+}
+
 #[test]
 fn only_the_first_start_of_the_first_node_has_the_ring(rt: HostRuntime) {
-    for (first, instance, founds) in [
-        (true, 1, true),
-        (true, 2, false),
-        (false, 1, false),
-        (false, 2, false),
-    ] {
-        let begun = Booting::new(first, instance).found();
-        assert_eq!(rt; begun.is_ok(), founds, "first {first}, instance {instance}");
-    }
+    let rows = [
+        (founds(true, 1), true),
+        (founds(true, 2), false),
+        (founds(false, 1), false),
+        (founds(false, 2), false),
+    ];
+    agree(&rt, &rows);
 }
 
 #[test]

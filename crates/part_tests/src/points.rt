@@ -1,3 +1,4 @@
+use crate::rows::agree;
 use ring_points::{Interval, Point, RangeSet, TooMany, distance, nearer};
 use std::process::Abort;
 
@@ -13,33 +14,42 @@ fn are(rt: &impl Abort, found: &RangeSet, want: &[Interval]) {
     assert_eq!(rt; found.intervals(), want);
 }
 
+/// The distance of two points, from either.
+fn distances(a: u64, b: u64) -> [u64; 2] {
+    let (a, b) = (Point(a), Point(b));
+    [distance(a, b), distance(b, a)]
+}
+
 #[test]
 fn distances_go_the_shorter_way(rt: HostRuntime) {
-    for (a, b, want) in [
-        (0, 0, 0),
-        (3, 10, 7),
-        (0, u64::MAX, 1),
-        (0, 1 << 63, 1 << 63),
-        (1, 0xc000_0000_0000_0000, 0x4000_0000_0000_0001),
-    ] {
-        let (a, b) = (Point(a), Point(b));
-        assert_eq!(rt; [distance(a, b), distance(b, a)], [want; 2], "{a:?}, {b:?}");
-    }
+    let rows = [
+        (distances(0, 0), [0; 2]),
+        (distances(3, 10), [7; 2]),
+        (distances(0, u64::MAX), [1; 2]),
+        (distances(0, 1 << 63), [1 << 63; 2]),
+        (
+            distances(1, 0xc000_0000_0000_0000),
+            [0x4000_0000_0000_0001; 2],
+        ),
+    ];
+    agree(&rt, &rows);
+}
+
+/// Which of 0 and its opposite point is nearer to this one: whether 0, and whether the other.
+fn nearest(p: u64) -> [bool; 2] {
+    let (p, low, high) = (Point(p), Point(0), Point(1 << 63));
+    [nearer(p, low, high), nearer(p, high, low)]
 }
 
 #[test]
 fn the_lower_of_two_equally_far_is_nearer(rt: HostRuntime) {
-    let (low, high) = (Point(0), Point(1 << 63));
-    for (p, low_is_nearer) in [
-        (0x4000_0000_0000_0000, true),
-        (0x4000_0000_0000_0001, false),
-        (0xbfff_ffff_ffff_ffff, false),
-        (0xc000_0000_0000_0000, true),
-    ] {
-        let p = Point(p);
-        let found = [nearer(p, low, high), nearer(p, high, low)];
-        assert_eq!(rt; found, [low_is_nearer, !low_is_nearer], "at {p:?}");
-    }
+    let rows = [
+        (nearest(0x4000_0000_0000_0000), [true, false]),
+        (nearest(0x4000_0000_0000_0001), [false, true]),
+        (nearest(0xbfff_ffff_ffff_ffff), [false, true]),
+        (nearest(0xc000_0000_0000_0000), [true, false]),
+    ];
+    agree(&rt, &rows);
 }
 
 /// The part of the ring that is nearer to the opposite point than to 0.
@@ -110,19 +120,21 @@ fn what_meets_an_interval_is_cut_to_it(rt: HostRuntime) {
     are(&rt, &middle, &[span(5, 5), span(8, 9)]);
 }
 
+fn is_set(pairs: &[Interval]) -> bool {
+    RangeSet::from_pairs(pairs).is_some()
+}
+
 #[test]
 fn only_the_intervals_of_a_set_are_read(rt: HostRuntime) {
-    let cases: [(&[Interval], bool); 8] = [
-        (&[], true),
-        (&[span(7, 7)], true),
-        (&[span(0, 4), span(6, u64::MAX)], true),
-        (&[span(0, 4), span(5, 9)], false),
-        (&[span(6, 9), span(0, 4)], false),
-        (&[span(0, 4), span(2, 9)], false),
-        (&[span(5, 4)], false),
-        (&[span(0, u64::MAX), span(2, 3)], false),
+    let rows = [
+        (is_set(&[]), true),
+        (is_set(&[span(7, 7)]), true),
+        (is_set(&[span(0, 4), span(6, u64::MAX)]), true),
+        (is_set(&[span(0, 4), span(5, 9)]), false),
+        (is_set(&[span(6, 9), span(0, 4)]), false),
+        (is_set(&[span(0, 4), span(2, 9)]), false),
+        (is_set(&[span(5, 4)]), false),
+        (is_set(&[span(0, u64::MAX), span(2, 3)]), false),
     ];
-    for (pairs, want) in cases {
-        assert_eq!(rt; RangeSet::from_pairs(pairs).is_some(), want, "{pairs:?}");
-    }
+    agree(&rt, &rows);
 }

@@ -1,3 +1,4 @@
+use crate::rows::agree;
 use arbiter_quorum::{Tally, Verdict, VoteTally, VoteVerdict, majorities_meet, one_decision};
 use ring_points::{Config, Epoch, Members, Ruling, Who};
 
@@ -51,17 +52,23 @@ fn answered(accuser: u16, ruling: Ruling) -> (bool, bool) {
 fn three_accusers_of_one_node_have_no_heir(rt: HostRuntime) {
     let (g, t) = (Ruling::Granted, Ruling::Taken);
     let want = [Verdict::Open, Verdict::Discharged, Verdict::Discharged];
-    for (accuser, rulings) in [(2, [g, t, t]), (3, [t, g, t]), (4, [t, t, g])] {
-        assert_eq!(rt; verdicts(accuser, rulings), (want, false), "of {accuser}");
-    }
+    let rows = [
+        (verdicts(2, [g, t, t]), (want, false)),
+        (verdicts(3, [t, g, t]), (want, false)),
+        (verdicts(4, [t, t, g]), (want, false)),
+    ];
+    agree(&rt, &rows);
 }
 
 #[test]
 fn an_arbitrator_has_answered_once_it_has_ruled(rt: HostRuntime) {
-    let (g, t) = (Ruling::Granted, Ruling::Taken);
-    for (accuser, ruling) in [(2, g), (3, t), (4, t)] {
-        assert_eq!(rt; answered(accuser, ruling), (false, true), "of {accuser}");
-    }
+    let want = (false, true);
+    let rows = [
+        (answered(2, Ruling::Granted), want),
+        (answered(3, Ruling::Taken), want),
+        (answered(4, Ruling::Taken), want),
+    ];
+    agree(&rt, &rows);
 }
 
 /// The verdict after these rulings and that after a later answer, and whether the accuser may be heir before and after.
@@ -78,13 +85,15 @@ fn settled(rulings: [Ruling; 3]) -> ([Verdict; 2], [bool; 2]) {
 #[test]
 fn rulings_settle_an_accusation(rt: HostRuntime) {
     let (g, t, r) = (Ruling::Granted, Ruling::Taken, Ruling::Refused);
-    for (rulings, want, may) in [
-        ([g, g, r], Verdict::Heir, true),
-        ([r, r, g], Verdict::Lost, false),
-        ([r, g, t], Verdict::Discharged, false),
-    ] {
-        assert_eq!(rt; settled(rulings), ([want; 2], [true, may]), "{rulings:?}");
-    }
+    let rows = [
+        (settled([g, g, r]), ([Verdict::Heir; 2], [true, true])),
+        (settled([r, r, g]), ([Verdict::Lost; 2], [true, false])),
+        (
+            settled([r, g, t]),
+            ([Verdict::Discharged; 2], [true, false]),
+        ),
+    ];
+    agree(&rt, &rows);
 }
 
 /// What a tally of three says after each of these configurations, of which the third has this primary.
@@ -97,10 +106,12 @@ fn said_of_three(third: u16) -> [Result<u16, &'static str>; 3] {
 
 #[test]
 fn kept_configurations_decide_or_split(rt: HostRuntime) {
-    for (third, want) in [(1, Ok(1)), (3, Err("split"))] {
-        let open = Err("open");
-        assert_eq!(rt; said_of_three(third), [open, open, want]);
-    }
+    let open = Err("open");
+    let rows = [
+        (said_of_three(1), [open, open, Ok(1)]),
+        (said_of_three(3), [open, open, Err("split")]),
+    ];
+    agree(&rt, &rows);
     majorities_meet();
     one_decision();
 }

@@ -1,6 +1,7 @@
 ghost use Rattle.std.specs.Prelude.{◌≡◌};
 ghost use Rattle.ring_points.specs.Whos.{node_instance};
 
+use crate::rows::agree;
 use ring_points::{Point, Who};
 use ring_route::{Hop, RouteTable, chains_end};
 
@@ -34,34 +35,19 @@ fn a_search_goes_nowhere_where_nobody_is_known(rt: HostRuntime) {
 #[test]
 fn a_search_goes_to_the_nearer_of_two_nodes(rt: HostRuntime) {
     let table = two_up();
-    for (key, holds, skip, accused, want) in [
+    let low = Point(0x1000_0000_0000_0000);
+    let middle = Point(0x7000_0000_0000_0000);
+    let rows = [
+        (table.next(middle, false, None, &[]), Hop::To(node(2))),
+        (table.next(low, false, None, &[]), Hop::Nowhere),
+        (table.next(Point(HIGH), false, Some(2), &[]), Hop::Nowhere),
+        (table.next(Point(HIGH), true, None, &[]), Hop::Here),
         (
-            0x7000_0000_0000_0000,
-            false,
-            None,
-            [].as_slice(),
-            Hop::To(node(2)),
-        ),
-        (
-            0x1000_0000_0000_0000,
-            false,
-            None,
-            [].as_slice(),
+            table.next(Point(HIGH), false, None, &[node(2)]),
             Hop::Nowhere,
         ),
-        (
-            0x8000_0000_0000_0000,
-            false,
-            Some(2),
-            [].as_slice(),
-            Hop::Nowhere,
-        ),
-        (0x8000_0000_0000_0000, true, None, [].as_slice(), Hop::Here),
-        (HIGH, false, None, [node(2)].as_slice(), Hop::Nowhere),
-    ] {
-        let hop = table.next(Point(key), holds, skip, accused);
-        assert_eq!(rt; hop, want, "for {key}, accused {accused:?}");
-    }
+    ];
+    agree(&rt, &rows);
 }
 
 fn second_instance() -> Who
@@ -85,9 +71,12 @@ fn two_up_again() -> RouteTable {
 fn the_latest_instance_counts(rt: HostRuntime) {
     let second = second_instance();
     let table = two_up_again();
-    for (actor, since, want) in [(2, 100, Some(second)), (2, 101, None), (1, 0, None)] {
-        assert_eq!(rt; table.up(actor, since), want, "{actor} since {since}");
-    }
+    let rows = [
+        (table.up(2, 100), Some(second)),
+        (table.up(2, 101), None),
+        (table.up(1, 0), None),
+    ];
+    agree(&rt, &rows);
 }
 
 /// The routes of node 1, at 10, which has heard the nodes at 5, 20 and 30.

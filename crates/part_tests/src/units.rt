@@ -1,3 +1,4 @@
+use crate::rows::agree;
 use failover_units::{MOST_UNITS, UnitRefusal, Units};
 use ring_points::{Config, Epoch, Interval, Members};
 use std::alloc::Global;
@@ -64,22 +65,23 @@ fn after_seen(rt: &impl Abort, units: &mut Units, partition: u16, seen: Epoch) -
 #[test]
 fn keeps_the_newest_configuration_and_the_highest_epoch(rt: HostRuntime) {
     let mut units = three_noted(&rt, rt.alloc());
-    for (partition, seen, highest, primary) in [
-        (7, epoch(0, 9), epoch(0, 9), 1),
-        (9, epoch(0, 50), epoch(1, 0), 2),
-    ] {
-        let found = after_seen(&rt, &mut units, partition, seen);
-        assert_eq!(rt; found, (highest, primary), "of {partition}");
-    }
+    let seven = after_seen(&rt, &mut units, 7, epoch(0, 9));
+    let nine = after_seen(&rt, &mut units, 9, epoch(0, 50));
+    let rows = [(seven, (epoch(0, 9), 1)), (nine, (epoch(1, 0), 2))];
+    agree(&rt, &rows);
     assert_eq!(rt; units.create(7), Err(UnitRefusal::Exists));
 }
 
 #[test]
 fn the_load_of_a_node_is_in_how_many_configurations_it_is(rt: HostRuntime) {
     let units = three_noted(&rt, rt.alloc());
-    for (node, load) in [(1, 1), (2, 2), (3, 1), (4, 0)] {
-        assert_eq!(rt; units.load(node), load, "of {node}");
-    }
+    let rows = [
+        (units.load(1), 1),
+        (units.load(2), 2),
+        (units.load(3), 1),
+        (units.load(4), 0),
+    ];
+    agree(&rt, &rows);
 }
 
 /// Configurations of four partitions, and partition 3, which has none.
