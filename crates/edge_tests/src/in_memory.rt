@@ -2,6 +2,7 @@ ghost use Rattle.std.specs.Prelude.{◌≡◌};
 ghost use Rattle.edge_io.specs.Arrivals.{IsListening};
 
 use crate::records::kept_are;
+use crate::rows::agree;
 use edge_io::{
     Clock, Datagram, EdgeRefusal, Endpoint, Failed, Keeper, Links, MemClock, MemKeeper, MemLinks,
     MemSink, MemSource, Sink, Source, write_all,
@@ -23,24 +24,30 @@ fn a_source_fails_at_its_listed_calls(rt: HostRuntime) {
     let fail = numbers(&rt, rt.alloc(), &[2, 3]);
     let mut source = MemSource::new(bytes(&rt, rt.alloc(), b"abcde"), fail);
     let mut buffer = [0; 3];
-    for want in [Ok(3), Err(Failed), Err(Failed), Ok(2), Ok(0)] {
-        assert_eq!(rt; source.read(&mut buffer), want);
-    }
+    let rows = [
+        (source.read(&mut buffer), Ok(3)),
+        (source.read(&mut buffer), Err(Failed)),
+        (source.read(&mut buffer), Err(Failed)),
+        (source.read(&mut buffer), Ok(2)),
+        (source.read(&mut buffer), Ok(0)),
+    ];
+    agree(&rt, &rows);
     assert_eq!(rt; &buffer, b"dec");
 }
 
 /// The sink fails at its second and third call, each of them of another function.
 fn fails_twice(rt: &impl Abort, sink: &mut MemSink) {
-    for (bytes, want) in [(b"ab", Ok(2)), (b"cd", Err(EdgeRefusal::Failed))] {
-        assert_eq!(rt; sink.write(bytes), want);
-    }
-    for (bytes, want) in [
-        (b"ef".as_slice(), Err(EdgeRefusal::Failed)),
-        (b"".as_slice(), Ok(())),
-        (b"gh".as_slice(), Ok(())),
-    ] {
-        assert_eq!(rt; write_all(sink, bytes), want);
-    }
+    let failed = Err(EdgeRefusal::Failed);
+    agree(
+        rt,
+        &[(sink.write(b"ab"), Ok(2)), (sink.write(b"cd"), failed)],
+    );
+    let rows = [
+        (write_all(sink, b"ef"), Err(EdgeRefusal::Failed)),
+        (write_all(sink, b""), Ok(())),
+        (write_all(sink, b"gh"), Ok(())),
+    ];
+    agree(rt, &rows);
 }
 
 #[test]
@@ -61,13 +68,13 @@ fn failing_keeper(rt: &impl Abort, alloc: Global) -> MemKeeper {
 
 /// Two of three appends fail: the second and the third call.
 fn appends_fail(rt: &impl Abort, keeper: &mut MemKeeper) {
-    for (actor, record, want) in [
-        (7, b"a", Ok(())),
-        (8, b"b", Err(EdgeRefusal::Failed)),
-        (7, b"c", Err(EdgeRefusal::Failed)),
-    ] {
-        assert_eq!(rt; keeper.append_synced(actor, record), want);
-    }
+    let failed = Err(EdgeRefusal::Failed);
+    let rows = [
+        (keeper.append_synced(7, b"a"), Ok(())),
+        (keeper.append_synced(8, b"b"), failed),
+        (keeper.append_synced(7, b"c"), failed),
+    ];
+    agree(rt, &rows);
 }
 
 #[test]
@@ -112,8 +119,11 @@ fn listens(rt: &impl Abort, links: &mut MemLinks, refusals: u32)
 fn sends(rt: &impl Abort, links: &mut MemLinks)
     requires { IsListening 1 links.old.opened }
 {
-    assert_eq!(rt; links.send(1, "there", b"lost"), Err(EdgeRefusal::Failed));
-    assert_eq!(rt; links.send(1, "there", b"sent"), Ok(()));
+    let rows = [
+        (links.send(1, "there", b"lost"), Err(EdgeRefusal::Failed)),
+        (links.send(1, "there", b"sent"), Ok(())),
+    ];
+    agree(rt, &rows);
 }
 
 fn one_is_open(rt: &impl Abort, opened: &[Endpoint]) {
@@ -140,9 +150,13 @@ fn endpoints_and_datagrams_fail_at_their_listed_calls(rt: HostRuntime) {
 fn receives(rt: &impl Abort, links: &mut MemLinks, into: &mut [u8; 1500])
     requires { IsListening 1 links.old.opened }
 {
-    for want in [Err(Failed), Ok(None), Ok(Some(3)), Ok(None)] {
-        assert_eq!(rt; links.receive(1, into), want);
-    }
+    let rows = [
+        (links.receive(1, into), Err(Failed)),
+        (links.receive(1, into), Ok(None)),
+        (links.receive(1, into), Ok(Some(3))),
+        (links.receive(1, into), Ok(None)),
+    ];
+    agree(rt, &rows);
 }
 
 #[test]
@@ -157,8 +171,14 @@ fn arrivals_fail_at_their_listed_calls(rt: HostRuntime) {
 #[test]
 fn a_clock_repeats_its_last_reading(rt: HostRuntime) {
     let mut clock = MemClock::new(numbers(&rt, rt.alloc(), &[5, 3, 9]));
-    for want in [5, 3, 9, 9, 9] {
-        assert_eq!(rt; clock.now(), want);
-    }
-    assert_eq!(rt; MemClock::new(Vec::new(rt.alloc())).now(), 0);
+    let mut none = MemClock::new(Vec::new(rt.alloc()));
+    let rows = [
+        (clock.now(), 5),
+        (clock.now(), 3),
+        (clock.now(), 9),
+        (clock.now(), 9),
+        (clock.now(), 9),
+        (none.now(), 0),
+    ];
+    agree(&rt, &rows);
 }

@@ -15,4 +15,6 @@ mod machines;
 #[cfg(test)]
 mod records;
 #[cfg(test)]
+mod rows;
+#[cfg(test)]
 mod sockets;

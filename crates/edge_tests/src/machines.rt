@@ -1,4 +1,5 @@
 use crate::fakes::{Keyboard, Machine, Terminal};
+use crate::rows::agree;
 use edge_io::{Clock, EdgeRefusal, Failed, Sink, Source};
 use fabric_edge::{MonoClock, StdinSource, StdoutSink};
 use std::cell::Cell;
@@ -10,35 +11,47 @@ fn a_clock_stepped_back_is_never_seen(rt: HostRuntime) {
         given: Cell::new(0),
     };
     let mut clock = MonoClock::new(&machine);
-    for want in [7, 7, 7, 7, 20, 20] {
-        assert_eq!(rt; clock.now(), want);
-    }
+    let rows = [
+        (clock.now(), 7),
+        (clock.now(), 7),
+        (clock.now(), 7),
+        (clock.now(), 7),
+        (clock.now(), 20),
+        (clock.now(), 20),
+    ];
+    agree(&rt, &rows);
+}
+
+/// What a write of these bytes gives where the terminal takes so many, or fails.
+fn written(takes: Option<usize>, bytes: &[u8]) -> Result<usize, EdgeRefusal> {
+    StdoutSink::new(&Terminal { takes }).write(bytes)
 }
 
 #[test]
 fn a_terminal_that_takes_nothing_has_failed(rt: HostRuntime) {
     let failed = Err(EdgeRefusal::Failed);
-    for (takes, want) in [
-        (Some(9), Ok(2)),
-        (Some(1), Ok(1)),
-        (Some(0), failed),
-        (None, failed),
-    ] {
-        let terminal = Terminal { takes };
-        assert_eq!(rt; StdoutSink::new(&terminal).write(b"ab"), want);
-    }
-    assert_eq!(rt;
-        StdoutSink::new(&Terminal { takes: Some(0) }).write(b""),
-        Ok(0)
-    );
+    let rows = [
+        (written(Some(9), b"ab"), Ok(2)),
+        (written(Some(1), b"ab"), Ok(1)),
+        (written(Some(0), b"ab"), failed),
+        (written(None, b"ab"), failed),
+        (written(Some(0), b""), Ok(0)),
+    ];
+    agree(&rt, &rows);
+}
+
+/// What a read gives where this is the next key, and the first byte of what was read.
+fn typed(key: Option<u8>) -> (Result<usize, Failed>, u8) {
+    let mut buffer = [0; 2];
+    let count = StdinSource::new(&Keyboard { key }).read(&mut buffer);
+    (count, buffer[0])
 }
 
 #[test]
 fn a_keyboard_that_fails_has_failed(rt: HostRuntime) {
-    let mut buffer = [0; 2];
-    let keyboard = Keyboard { key: Some(7) };
-    assert_eq!(rt; StdinSource::new(&keyboard).read(&mut buffer), Ok(1));
-    assert_eq!(rt; buffer[0], 7);
-    let broken = Keyboard { key: None };
-    assert_eq!(rt; StdinSource::new(&broken).read(&mut buffer), Err(Failed));
+    let rows = [
+        (typed(Some(7)), (Ok(1), 7)),
+        (typed(None), (Err(Failed), 0)),
+    ];
+    agree(&rt, &rows);
 }

@@ -1,6 +1,7 @@
 ghost use Rattle.std.specs.Prelude.{◌≡◌};
 ghost use Rattle.edge_io.specs.Arrivals.{IsListening};
 
+use crate::rows::agree;
 use edge_io::{EdgeRefusal, Failed, Links};
 use fabric_edge::UdpLinks;
 use std::alloc::Global;
@@ -95,15 +96,19 @@ fn alone_listening<'a, R: Net + Clock + Abort>(
     links
 }
 
-/// What is answered where actor 2 sends itself these bytes and then two, and receives twice.
-fn two_sent<R: Net + Clock>(
-    links: &mut UdpLinks<'_, R>,
-    at: &str,
-    bytes: &[u8],
-) -> (
+/// What is answered to two datagrams that are sent, and to two receives.
+type Answers = (
     [Result<(), EdgeRefusal>; 2],
     [Result<Option<usize>, Failed>; 2],
-)
+);
+
+/// Both are sent, so many bytes of the first come, and then the two of the second.
+fn came(count: usize) -> Answers {
+    ([Ok(()); 2], [Ok(Some(count)), Ok(Some(2))])
+}
+
+/// What is answered where actor 2 sends itself these bytes and then two, and receives twice.
+fn two_sent<R: Net + Clock>(links: &mut UdpLinks<'_, R>, at: &str, bytes: &[u8]) -> Answers
     requires { IsListening 2 links.old.opened }
     ensures { links.new.opened ≡ links.old.opened }
 {
@@ -119,11 +124,15 @@ fn datagrams_of_every_size_come_in_their_order(rt: HostRuntime) {
     let here = "127.0.0.1:47613";
     let mut links = alone_listening(&rt, rt.alloc(), here);
     let bytes = [7; 2000];
-    for length in [0, 1, 1200, 1500, 1501, 2000] {
-        let found = two_sent(&mut links, here, &bytes[..length]);
-        let want = ([Ok(()); 2], [Ok(Some(length.min(1500))), Ok(Some(2))]);
-        assert_eq!(rt; found, want, "of {length} bytes");
-    }
+    let rows = [
+        (two_sent(&mut links, here, &bytes[..0]), came(0)),
+        (two_sent(&mut links, here, &bytes[..1]), came(1)),
+        (two_sent(&mut links, here, &bytes[..1200]), came(1200)),
+        (two_sent(&mut links, here, &bytes[..1500]), came(1500)),
+        (two_sent(&mut links, here, &bytes[..1501]), came(1500)),
+        (two_sent(&mut links, here, &bytes), came(1500)),
+    ];
+    agree(&rt, &rows);
     assert_eq!(rt; links.receive(2, &mut [0; 1500]), Ok(None));
 }
 
@@ -165,14 +174,22 @@ fn turn<R: Net + Clock>(
     (sent, [came, again, first_of(20, links, 5, &mut buffer)])
 }
 
+/// In each of eight turns actor 4 finds what was sent to it and then nothing, and 5 nothing.
+fn turns<R: Net + Clock>(rt: &impl Abort, links: &mut UdpLinks<'_, R>)
+    requires first { IsListening 4 links.old.opened }
+    requires other { IsListening 5 links.old.opened }
+{
+    let want = (Ok(()), [Ok(Some(2)), Ok(None), Ok(None)]);
+    for _ in 0..8 {
+        assert_eq!(rt; turn(links), want);
+    }
+}
+
 #[test]
 fn a_turn_waits_once_and_takes_what_comes(rt: HostRuntime) -> Result<(), Fail> {
     let mut links = both_listening(&rt, rt.alloc());
     let start = Instant::now(&rt)?;
-    for _ in 0..8 {
-        let want = (Ok(()), [Ok(Some(2)), Ok(None), Ok(None)]);
-        assert_eq!(rt; turn(&mut links), want);
-    }
+    turns(&rt, &mut links);
     let passed = start.elapsed(&rt)?;
     let (least, most) = (Duration::from_millis(40), Duration::from_millis(400));
     assert!(rt; least <= passed && passed < most, "{passed:?}");
