@@ -1,3 +1,4 @@
+use crate::rows::agree;
 use join_phases::{Booting, Routing};
 use ring_points::{Interval, RangeSet};
 use std::process::Abort;
@@ -103,9 +104,12 @@ fn a_half_is_given_once(rt: HostRuntime) {
 /// A token of 0 to 12, of which 5 to 9 is frozen: it was so before it took 10 to 12.
 fn frozen_and_taken(rt: &impl Abort) -> Token {
     let mut token = Token::new(set(rt, &[(0, 9)]));
-    assert_eq!(rt; token.undo(), Err(TokenRefusal::NoFreeze));
-    assert_eq!(rt; frozen(rt, &mut token, (5, 20), 0), Ok(()));
-    assert_eq!(rt; token.take(&set(rt, &[(10, 12)])), Ok(()));
+    let rows = [
+        (token.undo(), Err(TokenRefusal::NoFreeze)),
+        (frozen(rt, &mut token, (5, 20), 0), Ok(())),
+        (token.take(&set(rt, &[(10, 12)])), Ok(())),
+    ];
+    agree(rt, &rows);
     token
 }
 

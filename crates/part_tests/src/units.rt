@@ -40,15 +40,13 @@ fn a_unit_that_is_created_has_no_configuration(rt: HostRuntime) {
 /// Partition 7 is created; then configurations of it and of partition 9 are noted, of which one is older.
 fn three_noted(rt: &impl Abort, alloc: Global) -> Units {
     let mut units = Units::new(alloc);
-    assert_eq!(rt; units.create(7), Ok(()));
-    for (partition, at, primary, other) in [
-        (7, epoch(0, 3), 1, 2),
-        (7, epoch(0, 2), 3, 4),
-        (9, epoch(1, 0), 2, 3),
-    ] {
-        let noted = units.note(&config(partition, at, primary, other));
-        assert_eq!(rt; noted, Ok(()));
-    }
+    let rows = [
+        (units.create(7), Ok(())),
+        (units.note(&config(7, epoch(0, 3), 1, 2)), Ok(())),
+        (units.note(&config(7, epoch(0, 2), 3, 4)), Ok(())),
+        (units.note(&config(9, epoch(1, 0), 2, 3)), Ok(())),
+    ];
+    agree(rt, &rows);
     units
 }
 
@@ -95,26 +93,19 @@ fn four_noted(rt: &impl Abort, alloc: Global) -> Units {
     units
 }
 
-fn in_range(rt: &impl Abort, units: &Units, lo: u64, hi: u64) -> Vec<u16> {
-    units.in_range(&Interval { lo, hi }).expect(rt, "memory")
+fn are_in_range(rt: &impl Abort, units: &Units, lo: u64, hi: u64, want: &[u16]) {
+    let found = units.in_range(&Interval { lo, hi }).expect(rt, "memory");
+    assert_eq!(rt; found.as_slice(), want, "from {lo:x} to {hi:x}");
 }
 
 #[test]
 fn lists_the_partitions_of_a_range(rt: HostRuntime) {
     let units = four_noted(&rt, rt.alloc());
-    for (lo, hi, want) in [
-        (0, u64::MAX, [0, 1, 8, 65535].as_slice()),
-        (
-            0x0001_0000_0000_0000,
-            0x0008_0000_0000_0000,
-            [1, 8].as_slice(),
-        ),
-        (0x0001_0000_0000_0001, 0x0007_ffff_ffff_ffff, [].as_slice()),
-        (0xffff_0000_0000_0000, u64::MAX, [65535].as_slice()),
-    ] {
-        let found = in_range(&rt, &units, lo, hi);
-        assert_eq!(rt; found.as_slice(), want, "from {lo:x} to {hi:x}");
-    }
+    let (one, eight) = (0x0001_0000_0000_0000, 0x0008_0000_0000_0000);
+    are_in_range(&rt, &units, 0, u64::MAX, &[0, 1, 8, 65535]);
+    are_in_range(&rt, &units, one, eight, &[1, 8]);
+    are_in_range(&rt, &units, one + 1, eight - 1, &[]);
+    are_in_range(&rt, &units, 0xffff_0000_0000_0000, u64::MAX, &[65535]);
 }
 
 /// As many units as there is room for.
@@ -143,7 +134,11 @@ fn of_known(units: &mut Units) -> [Result<(), UnitRefusal>; 3] {
 #[test]
 fn has_no_place_for_another_partition(rt: HostRuntime) {
     let mut units = full(&rt, rt.alloc());
-    assert_eq!(rt; of_another(&mut units), [Err(UnitRefusal::Full); 3]);
+    let another = of_another(&mut units);
     assert_eq!(rt; units.highest(4096), epoch(0, 0));
-    assert_eq!(rt; of_known(&mut units), [Ok(()); 3]);
+    let rows = [
+        (another, [Err(UnitRefusal::Full); 3]),
+        (of_known(&mut units), [Ok(()); 3]),
+    ];
+    agree(&rt, &rows);
 }
