@@ -14,7 +14,7 @@ fn joined(rt: &impl Abort, alloc: Global, records: &[Vec<u8>]) -> Vec<u8> {
 }
 
 /// Asserts that these are the records of an actor, each with a semicolon behind it; None where the keeper fails.
-pub fn kept_are<K: Keeper>(
+pub(crate) fn kept_are<K: Keeper>(
     rt: &impl Abort,
     alloc: Global,
     keeper: &mut K,

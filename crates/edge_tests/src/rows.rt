@@ -3,7 +3,7 @@ use std::fmt::Debug;
 use std::process::Abort;
 
 /// Asserts that each row has the same on both sides: what is found, then what is wanted.
-pub fn agree<T: PartialEq + Debug>(rt: &impl Abort, rows: &[(T, T)]) {
+pub(crate) fn agree<T: PartialEq + Debug>(rt: &impl Abort, rows: &[(T, T)]) {
     for (row, (found, want)) in rows.iter().enumerate() {
         assert_eq!(rt; found, want, "in row {row}, from 0");
     }
