@@ -3,7 +3,6 @@ use Rattle.std.specs.Prelude.{ℕ, ◌+◌, ◌-◌, Bool, true, false, ◌&&◌
 use Rattle.std.specs.List.{list_any}
 use lib.Pointwise.{pointwise}
 use Rattle.ring_points.specs.Epochs.{same_epoch}
-use Rattle.ring_points.specs.declared.unit.Epoch.{Epoch}
 use Rattle.ring_points.specs.declared.unit.Config.{Config}
 use Rattle.arbiter_quorum.specs.declared.verdict.VoteVerdict.{VoteVerdict}
 use Rattle.arbiter_quorum.specs.declared.verdict.VoteVerdict.TheVariants as verdict

@@ -1,15 +1,11 @@
 -- From a keeper that holds nothing, nothing is recalled.
-use Rattle.std.proofs.Common.{arith, ◌≡◌, ℕ, List, [], ◌∷◌, length, map, Option, Some, None, refl, sym, ◌∙◌}
+use Rattle.std.proofs.Common.{arith, ◌≡◌, ℕ, List, [], ◌∷◌, map, Option, Some, None, refl}
 use Rattle.std.specs.Prelude.{slice_get}
 use Rattle.std.proofs.lemmas.Option.{slice_get_within}
 use Rattle.edge_io.specs.declared.endpoint.Endpoint.{Endpoint}
 use Rattle.fabric_terms.specs.declared.record.Record.{Record}
 use Rattle.keep_log.specs.Spellings.{spelling}
-use Rattle.outside.specs.Told.{Told}
-use Rattle.turn_rules.specs.Plans.{Plan}
-use Rattle.turn_rules.specs.Recalled.{Recalled}
 use Rattle.cluster_safety.specs.Laws.{NothingIsRecalled}
-use Rattle.cluster_safety.specs.Plans.{HoldsNothing}
 use Rattle.cluster_safety.proofs.Acts.{none_past}
 
 no_records : (records : List Record) → map spelling records ≡ [] → records ≡ []

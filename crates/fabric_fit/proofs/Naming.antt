@@ -1,5 +1,5 @@
 -- What a primary answers about names has a line: each name and each value that entries leave is in its range.
-use Rattle.std.proofs.Common.{◌≡◌, ◌≢◌, ◌==◌, ◌&&◌, ◌≤◌, ℕ, Bool, true, false, not, cond, IsTrue, List, [], ◌∷◌, filter, length, map, take, min, Option, Some, None, Ok, Err, nat_le, if◌then◌else◌, arith, refl, ap, sym, subst, ◌∙◌}
+use Rattle.std.proofs.Common.{◌≡◌, ◌≢◌, ◌==◌, ◌&&◌, ◌≤◌, ℕ, Bool, true, false, not, cond, List, [], ◌∷◌, filter, length, take, Option, Some, None, Ok, Err, nat_le, if◌then◌else◌, arith, refl, ap, sym, subst, ◌∙◌}
 use Rattle.std.specs.List.{All}
 use Rattle.std.specs.FinMap.{empty, entries, entries-insert, find, get, get-entries, keys, len-empty, len-entries, put}
 use Rattle.std.specs.FinMap as finite
@@ -17,9 +17,7 @@ use Rattle.fabric_terms.specs.declared.report.Reason.TheVariants as reason
 use Rattle.fabric_terms.specs.declared.report.Verb.{Verb}
 use Rattle.fabric_terms.specs.declared.report.Verb.TheVariants as verb
 use Rattle.name_rules.specs.Grammar.{Change, Deletes, Sets, change_of, every, is_name, is_name_byte, is_value, is_value_byte}
-use Rattle.name_rules.specs.Laws.{IsChange}
-use Rattle.name_rules.specs.Names.{NameMap, applied, changed, is_within, name_cmp, name_list, names_from, names_of}
-use Rattle.name_rules.specs.Rows.{map_of}
+use Rattle.name_rules.specs.Names.{NameMap, applied, changed, is_within, name_cmp, names_from, names_of}
 use Rattle.name_rules.proofs.Order.{name_total}
 use Rattle.name_rules.proofs.Places.{others}
 use Rattle.name_rules.proofs.Spelling.{found}

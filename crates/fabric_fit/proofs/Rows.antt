@@ -1,5 +1,5 @@
 -- Each row of a manager and of replicas keeps what runs above the ring in range.
-use Rattle.std.proofs.Common.{◌≡◌, ℕ, ◌&&◌, List, [], ◌∷◌, length, Option, Some, None, IsTrue, refl, sym, subst, arith}
+use Rattle.std.proofs.Common.{◌≡◌, ℕ, ◌&&◌, List, [], ◌∷◌, length, Option, Some, None, IsTrue, refl, arith}
 use Rattle.std.specs.Prelude.{All, flat_map, unwrap_or}
 use Rattle.std.proofs.lemmas.Bool.{and_parts, le-leb, lt-ltb}
 use Rattle.std.proofs.lemmas.List.Elements.{All-append, All-head, All-tail}

@@ -1,15 +1,11 @@
 -- Lists of intervals as sets of points: what a token's calls do to its image.
-use Rattle.std.proofs.Common.{◌≡◌, ℕ, ◌+◌, ◌-◌, ◌/◌, ◌%◌, ◌^◌, ◌<◌, ◌≤◌, Bool, true, false, cond, nat_le, nat_lt, List, ◌++◌, Option, Some, None, IsTrue, refl, ap, ◌∙◌, arith}
-use Rattle.std.proofs.lemmas.Bool.Decides.{nat_tests}
+use Rattle.std.proofs.Common.{◌≡◌, ℕ, ◌+◌, List, Option, Some, None, IsTrue, refl, ap, ◌∙◌}
 use Rattle.ring_points.specs.declared.interval.Interval.{Interval}
 use Rattle.ring_points.specs.Ranges.{rises_from}
-use Rattle.ring_points.specs.Distances.{ahead_of}
-use Rattle.ring_points.specs.Sets.{span, arc, nearer_from, nearer_arc, union_of, minus_of, meet_of, nearer_part_of}
+use Rattle.ring_points.specs.Sets.{union_of, minus_of, meet_of}
 use Rattle.ring_points.proofs.Cuts.{in_ranges-minus_of, rises_from-minus_of}
 use Rattle.ring_points.proofs.Joins.{in_ranges-union_of, rises_from-union_of}
 use Rattle.ring_points.proofs.Meets.{in_ranges-meet_of, rises_from-meet_of}
-use Rattle.ring_points.proofs.Rising.{rises_from-append}
-use Rattle.ring_points.proofs.Spans.{in_ranges-span, rises_from-span}
 use Rattle.token_core.specs.Tokens as token
 use Rattle.token_core.specs.Tokens.{Freeze}
 use Rattle.token_core.specs.Laws.{IsRising}

@@ -1,5 +1,5 @@
 -- The nodes next upwards and next downwards.
-use Rattle.std.proofs.Common.{◌≡◌, ◌∙◌, ℕ, List, ◌++◌, refl, sym, ap, map, take, filter, None}
+use Rattle.std.proofs.Common.{◌≡◌, ◌∙◌, ℕ, List, ◌++◌, sym, ap, map, take, filter, None}
 use Rattle.std.proofs.lemmas.List.{map-append}
 use Rattle.ring_points.specs.declared.who.Who.{Who}
 use Rattle.ring_route.specs.declared.known.Known.{Known}

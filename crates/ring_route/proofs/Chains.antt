@@ -1,5 +1,5 @@
 -- A chain of points, each nearer to the key than the one before, repeats none.
-use Rattle.std.proofs.Common.{◌≡◌, ℕ, ◌==◌, Bool, true, false, not, ◌&&◌, List, [], ◌∷◌, refl, arith, IsTrue, map, ap, sym, ◌∙◌, ◌||◌, nat_lt, subst, eqb-true}
+use Rattle.std.proofs.Common.{◌≡◌, ℕ, ◌==◌, Bool, true, false, ◌&&◌, List, [], ◌∷◌, refl, arith, IsTrue, map, ap, sym, ◌∙◌, ◌||◌, nat_lt, subst, eqb-true}
 use Rattle.std.specs.List.{list_any}
 use Rattle.std.proofs.lemmas.Bool.Decides.{nat_tests}
 use Rattle.ring_points.specs.Distances.{distance_of, is_nearer}

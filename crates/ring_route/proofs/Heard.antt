@@ -1,5 +1,5 @@
 -- The entries after a node was heard.
-use Rattle.std.proofs.Common.{◌≡◌, ◌∙◌, ℕ, ◌+◌, Bool, true, false, List, [], ◌∷◌, ◌++◌, length, refl, sym, ap, arith, IsTrue}
+use Rattle.std.proofs.Common.{◌≡◌, ◌∙◌, ℕ, true, false, List, [], ◌∷◌, ◌++◌, length, refl, sym, ap, arith}
 use Rattle.std.specs.List.{list_any, refill}
 use Rattle.ring_points.specs.declared.who.Who.{Who}
 use Rattle.ring_route.specs.declared.known.Known.{Known}

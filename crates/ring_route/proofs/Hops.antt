@@ -1,5 +1,5 @@
 -- The nearest of the known nodes is the one at the place that the search of their points finds.
-use Rattle.std.proofs.Common.{◌≡◌, ℕ, zero, suc, ◌<◌, ◌≤◌, ◌==◌, ◌&&◌, Bool, true, false, not, List, [], ◌∷◌, length, refl, sym, ap, ◌∙◌, arith, IsTrue, map, get_or, Option, Some, None, filter, if◌then◌else◌, eqb-true, subst}
+use Rattle.std.proofs.Common.{◌≡◌, ℕ, suc, ◌<◌, ◌==◌, Bool, true, false, List, [], ◌∷◌, length, refl, sym, ap, ◌∙◌, arith, IsTrue, map, get_or, Option, Some, None, filter, if◌then◌else◌, eqb-true, subst}
 use Rattle.std.specs.List.{find}
 use Rattle.std.proofs.lemmas.List.{get_or-map, length-map}
 use Rattle.ring_points.specs.Distances.{is_nearer}
@@ -7,7 +7,7 @@ use Rattle.lane_scan.specs.Nearest.{nearest_place, nearer_place}
 use Rattle.ring_points.specs.declared.who.Who.{Who}
 use Rattle.ring_route.specs.declared.known.Known.{Known}
 use Rattle.ring_route.specs.declared.hop.Hop.TheVariants.{To, Nowhere}
-use Rattle.ring_route.specs.Entries.{is_known, has_its_point, are_entries}
+use Rattle.ring_route.specs.Entries.{has_its_point, are_entries}
 use Rattle.ring_route.specs.Routes.{point_of, nearest_of, nearer_known, hop_to}
 
 -- the point of the entry that a search found

@@ -1,12 +1,11 @@
 -- Entries are no more than the configured nodes, and hearing a node keeps them.
-use Rattle.std.proofs.Common.{◌≡◌, ℕ, suc, ◌+◌, ◌<◌, ◌≤◌, ◌==◌, ◌||◌, ◌&&◌, Bool, true, false, not, cond, List, [], ◌∷◌, ◌++◌, length, refl, sym, ap, ◌∙◌, arith, IsTrue, eqb-true, nat_le}
+use Rattle.std.proofs.Common.{◌≡◌, ℕ, ◌+◌, ◌<◌, ◌≤◌, ◌==◌, ◌||◌, Bool, true, false, cond, List, [], ◌∷◌, length, refl, ap, ◌∙◌, arith, IsTrue, eqb-true, nat_le}
 use Rattle.std.specs.Prelude.{count_by}
-use Rattle.std.specs.List.{list_any}
 use Rattle.std.proofs.lemmas.List.Sums.{sum_by-cons, count_by-le-length}
 use Rattle.std.proofs.lemmas.Bool.Decides.{nat_tests}
 use Rattle.ring_points.specs.declared.who.Who.{Who}
 use Rattle.ring_route.specs.declared.known.Known.{Known}
-use Rattle.ring_route.specs.Entries.{is_node, is_known, has_its_point, are_entries}
+use Rattle.ring_route.specs.Entries.{is_node, is_known, are_entries}
 use Rattle.ring_route.specs.Routes.{point_of, heard_in, heard_again}
 
 abbrev count : (ℕ → Bool) → List (ℕ × ℕ) → ℕ

@@ -1,26 +1,16 @@
 -- What the laws of this crate say, of whatever runs above the ring.
-use Rattle.std.specs.Prelude.{◌≡◌, ◌↔◌, ℕ, Bool, List, ◌∷◌, ◌++◌, Some}
+use Rattle.std.specs.Prelude.{◌≡◌, ℕ, Bool, List}
 use Rattle.fabric_terms.specs.declared.config.FabricConfig.{FabricConfig}
-use Rattle.fabric_terms.specs.declared.event.Event.{Event}
-use Rattle.fabric_terms.specs.declared.record.Record.{Record}
-use Rattle.fabric_terms.specs.Places.{PlaceKept, has_left}
-use Rattle.fabric_terms.specs.Reports.{told}
-use Rattle.fabric_terms.specs.Runs.{RingSafe, clocks_of, own_of, reading_of}
+use Rattle.fabric_terms.specs.Places.{PlaceKept}
+use Rattle.fabric_terms.specs.Runs.{RingSafe}
 use Rattle.fabric_terms.specs.Sound.{IsSound}
 use Rattle.fabric_terms.specs.TakeOvers.{TakenAfterLeave}
-use Rattle.join_phases.specs.Phases.{is_left}
-use Rattle.ring_rules.specs.Arbiters.{no_table, table_after}
 use Rattle.ring_points.specs.declared.who.Who.{Who}
-use Rattle.ring_points.specs.Whos.{arbiter_actor, node_instance}
-use Rattle.world_rules.specs.Arbiters.{ArbiterState}
-use Rattle.fabric_lemmas.specs.Maps.{at}
-use Rattle.world_rules.specs.Nodes.{boots_of}
+use Rattle.ring_points.specs.Whos.{node_instance}
 use Rattle.world_rules.specs.Runs.{History, world_after, run_of}
 use Rattle.world_rules.specs.Schedules.{Valid}
 use Rattle.world_rules.specs.Uppers.{Upper}
-use Rattle.world_rules.specs.Worlds.{Running, kept_of}
 use Rattle.ring_safety.specs.Answers.{MajorityKept, MajorityAnswered}
-use Rattle.run_facts.specs.Held.{RunsAt, owned_by}
 
 -- it holds of every valid history of every sound configuration
 abbrev pub OverValidRuns : Upper → (FabricConfig → History → Type 0) → Type 0

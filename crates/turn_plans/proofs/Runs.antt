@@ -1,5 +1,5 @@
 -- What is read can be run: each actor is configured, and there is one at least.
-use Rattle.std.proofs.Common.{◌≡◌, ◌<◌, ◌≤◌, ◌+◌, ℕ, zero, suc, Bool, true, false, cond, List, [], ◌∷◌, ◌++◌, length, Option, Some, None, arith, refl, ap, sym, subst, ◌∙◌, length-append}
+use Rattle.std.proofs.Common.{◌≡◌, ◌<◌, ◌≤◌, ◌+◌, ℕ, zero, suc, Bool, true, false, cond, List, [], ◌∷◌, length, Option, Some, None, arith, refl, ap, sym, subst, length-append}
 use Rattle.std.specs.Prelude.{All, ◌==◌, ◌||◌, find, option_map, slice_get}
 use Rattle.std.specs.List.{list_any}
 use Rattle.std.proofs.lemmas.Bool.{eq-eqb, eqb-true, ltb-false}
@@ -14,7 +14,6 @@ use Rattle.fabric_turns.specs.Runs.{IsPlan}
 use Rattle.ring_points.specs.Whos.{arbiter_actor}
 use Rattle.turn_members.specs.Lives.{IsConfigured}
 use Rattle.turn_rules.specs.declared.order.Order.{Order}
-use Rattle.world_rules.specs.Schedules.{is_configured_node}
 use Rattle.turn_plans.specs.Crews.{arbiter_at, arbiters_to, endpoints_of, is_crew, listener, node_at, nodes_to}
 use Rattle.turn_plans.specs.declared.crew.Crew.{Crew}
 use Rattle.turn_plans.specs.declared.crew.Crew.TheVariants.{Node, Arbiter, Cluster}

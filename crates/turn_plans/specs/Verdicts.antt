@@ -1,7 +1,6 @@
 -- What becomes of a line.
 use Rattle.std.specs.Prelude.{ℕ, Bool, true, false, ◌&&◌, ◌||◌, ◌==◌, List, length, Option, Some, None, nat_lt, position, unwrap_or, if◌then◌else◌}
 use Rattle.edge_io.specs.declared.endpoint.Endpoint.{Endpoint}
-use Rattle.fabric_status.specs.declared.status.Refusal.{Refusal}
 use Rattle.fabric_status.specs.declared.status.Refusal.TheVariants.{BadLine, NoSuch, TooLarge}
 use Rattle.fabric_terms.specs.Ranges.{FitsCommand}
 use Rattle.fabric_terms.specs.declared.config.FabricConfig.{FabricConfig}

@@ -1,11 +1,9 @@
 -- A reconfiguration comes to no configuration of another partition.
 use Rattle.std.proofs.Common.{◌≡◌, ℕ, ◌-◌, Bool, true, false, ◌&&◌, cond, List, [], ◌∷◌, ◌++◌, Option, Some, None, Result, Ok, Err, refl, sym, ap, subst, ◌∙◌}
-use Rattle.std.specs.Prelude.{◌==◌, All, IsTrue, option_map}
+use Rattle.std.specs.Prelude.{All, IsTrue, option_map}
 use Rattle.std.specs.List.{find}
 use Rattle.std.proofs.lemmas.Bool.{and_parts, eqb-true}
 use Rattle.std.proofs.lemmas.List.Elements.{All-append, All-cons, All-head, All-nil, All-tail}
-use Rattle.arbiter_quorum.specs.declared.verdict.VoteVerdict.{VoteVerdict}
-use Rattle.arbiter_quorum.specs.declared.verdict.VoteVerdict.TheVariants as verdict
 use Rattle.arbiter_quorum.specs.Tallies.{has_answered, with_answer}
 use Rattle.arbiter_quorum.specs.Votes.{VoteTally, decided_of, has_majority, one_may_win, verdict_by, vote_noted, vote_verdict_of}
 use Rattle.fabric_terms.specs.declared.message.Body.{Body}
@@ -30,8 +28,8 @@ use Rattle.unit_rules.specs.Deeds.{Acted, still}
 use Rattle.unit_rules.specs.Phases.{Choice, activate_ends, copy_ends, done_ends, is_arbiter_to, is_taken_up, prepare_ends, promise_ends, promised_with, swap_ends, vote_ends, voted_by, voted_with}
 use Rattle.failover_units.specs.declared.refusal.UnitRefusal.TheVariants as refusal
 use Rattle.unit_rules.specs.Polls.{answered, is_carried}
-use Rattle.unit_rules.specs.Reconfigs.{ActivatePhase, CopyPhase, Decide, DonePhase, Finished, Phase0, Phase1, Phase2, Phase3, Phase4, Prepare, PreparePhase, PromisePhase, Reconfig, Refused, Source, Stay, Step, Superseded, SwapPhase, VotePhase, task_of}
-use Rattle.unit_rules.specs.Transitions.{after_activate, after_copy, after_done, after_prepare, after_promise, after_swap, after_vote, answer_received, answered_by, asks_promises, carried, create_placed, enters, goes_on, is_refused, heal_placed, prepared_as, stays, swap_begun}
+use Rattle.unit_rules.specs.Reconfigs.{ActivatePhase, CopyPhase, Decide, DonePhase, Finished, Phase0, Phase1, Phase2, Phase3, Phase4, Prepare, PreparePhase, PromisePhase, Reconfig, Refused, Stay, Step, Superseded, SwapPhase, VotePhase, task_of}
+use Rattle.unit_rules.specs.Transitions.{after_activate, after_copy, after_done, after_prepare, after_promise, after_swap, after_vote, answer_received, answered_by, asks_promises, carried, create_placed, enters, goes_on, is_refused, heal_placed, prepared_as, stays}
 use Rattle.unit_manager.specs.Managers.{HasOwn}
 
 -- so it is with what becomes of it

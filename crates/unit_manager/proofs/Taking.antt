@@ -1,5 +1,5 @@
 -- How an answer is taken, step by step.
-use Rattle.std.proofs.Common.{◌≡◌, ℕ, true, List, [], ◌++◌, Option, Some, None, Result, IfOk, refl, sym, subst, ap, ◌∙◌}
+use Rattle.std.proofs.Common.{◌≡◌, ℕ, true, List, [], ◌++◌, Option, Some, None, refl, sym, subst, ap, ◌∙◌}
 use Rattle.std.proofs.lemmas.List.{append-nil}
 use Rattle.ring_points.specs.declared.unit.Epoch.{Epoch}
 use Rattle.fabric_lemmas.specs.Maps.{at, put, rises}
@@ -14,7 +14,7 @@ use Rattle.unit_rules.specs.Reconfigs.{task_of}
 use Rattle.unit_desk.specs.declared.desk.Desk.{Desk}
 use Rattle.unit_desk.specs.Desks.{Does, Left}
 use Rattle.reconfig_phases.specs.Answers.{answered_unit}
-use Rattle.reconfig_phases.specs.Views.{step_with, reconfig_of, IfFinished}
+use Rattle.reconfig_phases.specs.Views.{step_with, reconfig_of}
 use Rattle.reconfig_phases.specs.declared.reconfig.Reconfig.{Reconfig}
 use Rattle.reconfig_phases.specs.declared.step.Progress.{Progress}
 use Rattle.reconfig_phases.specs.declared.step.Progress.TheVariants.{Stays, Finished, Superseded, Refused}

@@ -1,5 +1,5 @@
 -- What contracts see of a manager, and what its calls say of it.
-use Rattle.std.specs.Prelude.{◌≡◌, ℕ, ◌≤◌, ◌+◌, Bool, true, false, ◌==◌, List, [], ◌∷◌, ◌++◌, All, length, map, flat_map, Option, Some, None, is_some}
+use Rattle.std.specs.Prelude.{◌≡◌, ℕ, ◌≤◌, ◌+◌, true, ◌==◌, List, [], ◌∷◌, ◌++◌, All, length, map, flat_map, Option, Some, None, is_some}
 use Rattle.std.specs.List.{position_or_len}
 use Rattle.ring_points.specs.declared.unit.Config.{Config}
 use Rattle.ring_points.specs.declared.unit.Epoch.{Epoch}

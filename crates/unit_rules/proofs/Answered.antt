@@ -1,5 +1,5 @@
 -- Questions about names are answered, and nothing else is done.
-use Rattle.std.specs.Prelude.{◌≡◌, refl, ℕ, true, List, [], ◌∷◌, take, Option, Some, None, Result, Ok, Err}
+use Rattle.std.specs.Prelude.{◌≡◌, refl, ℕ, true, List, take, Option, Some, None, Result, Ok, Err}
 use Rattle.std.specs.FinMap.{get}
 use Rattle.fabric_terms.specs.declared.report.Report.{Report}
 use Rattle.fabric_terms.specs.declared.report.Report.TheVariants as report
@@ -9,7 +9,6 @@ use Rattle.fabric_terms.specs.declared.report.Verb.TheVariants as verb
 use Rattle.ring_points.specs.declared.interval.Interval.{Interval}
 use Rattle.name_rules.specs.Names.{NameMap, names_of}
 use Rattle.unit_rules.specs.Answers.{ready, answered, resolved, resolution, listing, resolve_commanded, names_commanded, is_answer, OnlyAnswers}
-use Rattle.unit_rules.specs.Deeds.{Tell}
 use Rattle.unit_rules.specs.Leads.{lead_of}
 use Rattle.unit_rules.specs.Seats.{Seat}
 

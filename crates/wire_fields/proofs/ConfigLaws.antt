@@ -1,11 +1,10 @@
 -- The laws of the fields that have a configuration or a payload.
-use Rattle.std.proofs.Common.{◌≡◌, ℕ, ◌+◌, ◌≤◌, Bool, true, false, cond, ◌&&◌, nat_le, nat_lt, List, [], ◌∷◌, ◌++◌, length, take, drop, Option, Some, None, refl, ap, sym, subst, ◌∙◌, arith, length-append}
+use Rattle.std.proofs.Common.{◌≡◌, ℕ, ◌≤◌, Bool, true, false, cond, ◌&&◌, nat_le, nat_lt, List, [], ◌∷◌, ◌++◌, length, take, drop, Option, Some, None, refl, ap, sym, subst, ◌∙◌, arith, length-append}
 use Rattle.std.specs.Prelude.{IsTrue, ◌==◌}
 use Rattle.std.specs.List.{list_all, list_any}
 use Rattle.std.proofs.lemmas.List.{append_assoc, take-append-drop, drop_at, take_at, length-take-le}
 use Rattle.std.proofs.lemmas.Bool.{leb-true, le-leb, and_parts, and_from}
 use Rattle.ring_points.specs.declared.unit.Config.{Config}
-use Rattle.ring_points.specs.Ranges.{fits}
 use Rattle.fabric_terms.specs.Fields.{is_short, is_unit, rises_above, has_members, is_config, is_done, is_payload}
 use Rattle.wire_fields.specs.Readers.{◌>>=◌, Field, such, pair, made, number_at, bytes_at, list_at, flag_at, unit_at, config_from, config_at, done_at, payload_at}
 use Rattle.wire_fields.specs.Texts.{number_bytes, unit_bytes, list_bytes, config_bytes, payload_bytes, flag_bytes, done_bytes}

@@ -1,4 +1,4 @@
-use Rattle.std.proofs.Common.{◌≡◌, ◌∙◌, ◌<◌, sym, ap, Some, length, arith, get_or}
+use Rattle.std.proofs.Common.{◌∙◌, ◌<◌, sym, Some, length, arith, get_or}
 use Rattle.ring_route.specs.declared.known.Known.{Known}
 use Rattle.ring_route.proofs.Hops.{hop_at, place_in, to_nearer, nowhere_nearer}
 use Rattle.ring_route.proofs.table.nearest_hop.Goals as goal

@@ -2,10 +2,9 @@ use Rattle.std.proofs.Common.{◌≡◌, ℕ, ◌<◌, List, true, length, set, 
 use Rattle.std.specs.Prelude.{is_some}
 use Rattle.fabric_lemmas.specs.Maps.{at}
 use Rattle.unit_desk.specs.declared.desk.Desk.{Desk}
-use Rattle.unit_desk.specs.Desks.{Does}
 use Rattle.unit_rules.specs.Manager.{Managed}
 use Rattle.reconfig_phases.specs.declared.reconfig.Reconfig.{Reconfig}
-use Rattle.unit_manager.specs.Managers.{loaded, managed, place, reconfigs_of}
+use Rattle.unit_manager.specs.Managers.{loaded, managed, place}
 use Rattle.unit_manager.proofs.Answering.{does_there, ends_there, known_there, own_end, own_there, place_there, rise_there, whole_after}
 use Rattle.unit_manager.proofs.Owning.{EndsOwn}
 use Rattle.reconfig_phases.specs.Views.{step_with}

@@ -1,5 +1,4 @@
-use Rattle.std.proofs.Common.{◌≡◌, List, ◌++◌, ◌∙◌}
-use Rattle.fabric_terms.specs.declared.message.Message.{Message}
+use Rattle.std.proofs.Common.{◌≡◌, ◌++◌, ◌∙◌}
 use Rattle.fabric_terms.specs.Sent.{from_all}
 use Rattle.unit_manager.proofs.Firing.{few_next, fired_next}
 use Rattle.unit_manager.proofs.fire.fire_all.Goals as goal

@@ -1,7 +1,7 @@
-use Rattle.std.proofs.Common.{◌≡◌, ◌∙◌, ℕ, sym, ap, subst, true, false, IsTrue, refl, length, List, arith}
+use Rattle.std.proofs.Common.{◌≡◌, ◌∙◌, sym, ap, subst, true, false, IsTrue, length, List, arith}
 use Rattle.ring_route.specs.declared.known.Known.{Known}
 use Rattle.ring_route.specs.Entries.{is_node, is_known}
-use Rattle.ring_route.specs.Routes.{Routes, point_of, heard_in}
+use Rattle.ring_route.specs.Routes.{Routes, point_of}
 use Rattle.ring_route.proofs.Heard.{refill_same, pushed, changed, heard_table}
 use Rattle.ring_route.proofs.Pigeons.{room_for_node}
 use Rattle.ring_route.proofs.table.RouteTable.heard.Goals as goal

@@ -1,4 +1,4 @@
-use Rattle.std.proofs.Common.{◌≡◌, ◌∙◌, ℕ, sym, ap, refl, List, None, filter, map, take, ◌++◌, arith}
+use Rattle.std.proofs.Common.{◌∙◌, ℕ, ap, List, None, filter, map, take, ◌++◌}
 use Rattle.ring_route.specs.declared.known.Known.{Known}
 use Rattle.ring_route.specs.declared.near.Way.TheVariants.{Upwards, Downwards}
 use Rattle.ring_route.specs.Entries.{far_of}

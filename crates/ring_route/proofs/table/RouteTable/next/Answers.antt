@@ -1,6 +1,5 @@
-use Rattle.std.proofs.Common.{◌≡◌, ◌∙◌, ℕ, sym, ap, subst, List, filter, IsTrue}
+use Rattle.std.proofs.Common.{◌≡◌, ◌∙◌, sym, ap, List, filter, IsTrue}
 use Rattle.ring_points.specs.Distances.{is_nearer}
-use Rattle.ring_points.specs.declared.who.Who.{Who}
 use Rattle.ring_route.specs.declared.known.Known.{Known}
 use Rattle.ring_route.specs.declared.hop.Hop.TheVariants.{To}
 use Rattle.ring_route.specs.Routes.{Routes, hop_to, may_hop, nearest_of, point_of}
