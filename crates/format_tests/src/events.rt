@@ -1,7 +1,6 @@
+use crate::pieces::repeated;
 use ring_points::Interval;
 use sched_text::{Command, Event, OutOfMemory, TickReadings, read_command, read_event, read_tick};
-use std::alloc::Global;
-use std::test::Fail;
 
 #[test]
 fn starts_and_stops(rt: HostRuntime) {
@@ -26,37 +25,47 @@ fn starts_and_stops(rt: HostRuntime) {
     assert!(rt; matches!(read_event(b"stop a1"), Ok(Event::Stop { actor: 32769 })));
 }
 
-#[test]
-fn ticks(rt: HostRuntime) {
-    let mut list = TickReadings::new();
-    let wanted = [(1, 7182), (2, 0)];
-    assert!(rt;
-        match read_event(b"tick 4082 1:7182 2:0") {
-            Ok(
-                Event::Tick {
-                    advance: 4082,
-                    readings
-                }
-            ) => readings.as_slice() == wanted.as_slice(),
-            _ => false,
-        }
-    );
-    assert_eq!(rt; read_tick(b"tick 5 3:1", &mut list), Ok(Some(5)));
-    assert_eq!(rt;
-        read_tick(b"tick 4082 1:7182 2:0", &mut list),
-        Ok(Some(4082))
-    );
-    assert_eq!(rt; list.as_slice(), wanted.as_slice());
+const TICK: &[u8] = b"tick 4082 1:7182 2:0";
+
+/// What the clocks show at that tick.
+const READINGS: &[(u16, u64)] = &[(1, 7182), (2, 0)];
+
+fn is_tick(line: &[u8], wanted: &[(u16, u64)]) -> bool {
+    match read_event(line) {
+        Ok(
+            Event::Tick {
+                advance: 4082,
+                readings,
+            },
+        ) => readings.as_slice() == wanted,
+        _ => false,
+    }
 }
 
 #[test]
-fn junk(rt: HostRuntime) -> Result<(), Fail> {
-    let Ok(Event::Junk { actor, bytes }) = read_event(b"junk a3 0001af") else {
-        return Err("no junk".into());
-    };
-    assert_eq!(rt; actor, 32771);
-    assert_eq!(rt; bytes.as_slice(), [0, 1, 0xaf].as_slice());
-    Ok(())
+fn ticks(rt: HostRuntime) {
+    assert!(rt; is_tick(TICK, READINGS));
+    let mut list = TickReadings::new();
+    assert!(rt; read_tick(b"tick 5 3:1", &mut list) == Ok(Some(5)));
+    assert!(rt; read_tick(TICK, &mut list) == Ok(Some(4082)));
+    assert!(rt; list.as_slice() == READINGS);
+}
+
+fn is_junk(line: &[u8], wanted: &[u8]) -> bool {
+    match read_event(line) {
+        Ok(
+            Event::Junk {
+                actor: 32771,
+                bytes,
+            },
+        ) => bytes.as_slice() == wanted,
+        _ => false,
+    }
+}
+
+#[test]
+fn junk(rt: HostRuntime) {
+    assert!(rt; is_junk(b"junk a3 0001af", &[0, 1, 0xaf]));
 }
 
 /// Lines that are read, between bars.
@@ -139,32 +148,21 @@ fn bad_commands(rt: HostRuntime) {
     }
 }
 
-/// A text of this many pieces behind a start.
-fn repeated(alloc: Global, start: &str, piece: &str, times: u32) -> Result<Vec<u8>, OutOfMemory> {
-    let mut text = Vec::from_slice(alloc, start.as_bytes())?;
-    for _ in 0..times {
-        text.extend_from_slice(piece.as_bytes())?;
-    }
-    Ok(text)
-}
+/// The start of a line, the piece that it goes on with, and how often it does so at most.
+const LONGEST: &[(&str, &str, u32)] = &[
+    ("tick 1", " 1:1", 64),
+    ("junk 1 ", "af", 1200),
+    ("do 1 write 1 ", "~", 512),
+    ("do 1 resolve 1 ", "~", 64),
+];
 
 #[test]
 fn longest_lines(rt: HostRuntime) -> Result<(), OutOfMemory> {
-    let alloc = rt.alloc();
-    for (start, piece, most) in [
-        ("tick 1", " 1:1", 64),
-        ("junk 1 ", "af", 1200),
-        ("do 1 write 1 ", "~", 512),
-        ("do 1 resolve 1 ", "~", 64),
-    ] {
-        assert!(rt;
-            read_event(&repeated(alloc, start, piece, most)?).is_ok(),
-            "{start}"
-        );
-        assert!(rt;
-            read_event(&repeated(alloc, start, piece, most + 1)?).is_err(),
-            "{start}"
-        );
+    for (start, piece, most) in LONGEST {
+        let mut line = repeated(rt.alloc(), start, piece, *most)?;
+        assert!(rt; read_event(&line).is_ok(), "{start}");
+        line.extend_from_slice(piece.as_bytes())?;
+        assert!(rt; read_event(&line).is_err(), "{start}");
     }
     Ok(())
 }

@@ -9,16 +9,24 @@
 #[cfg(test)]
 mod bags;
 #[cfg(test)]
+mod config_errors;
+#[cfg(test)]
 mod configurations;
 #[cfg(test)]
 mod events;
 #[cfg(test)]
 mod fields;
 #[cfg(test)]
+mod frame_fields;
+#[cfg(test)]
 mod frames;
+#[cfg(test)]
+mod pieces;
 #[cfg(test)]
 mod places;
 #[cfg(test)]
 mod records;
+#[cfg(test)]
+mod report_lines;
 #[cfg(test)]
 mod reports;
