@@ -3,4 +3,5 @@ mod full;
 mod questions;
 mod records;
 mod registers;
+mod restarts;
 mod rounds;

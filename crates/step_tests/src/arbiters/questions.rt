@@ -1,9 +1,11 @@
-ghost use Rattle.std.specs.Prelude.{◌≤◌};
+ghost use Rattle.std.specs.Prelude.{◌≡◌, ◌≤◌};
 
 use fabric_terms::{Body, Message};
 use ring_points::Who;
 
-pub(crate) fn node(actor: u16) -> Who {
+pub(crate) fn node(actor: u16) -> Who
+    ensures { result ≡ record { actor = actor; instance = 1 } }
+{
     Who { actor, instance: 1 }
 }
 

@@ -1,3 +1,5 @@
+ghost use Rattle.std.specs.Prelude.{◌≡◌, ◌∷◌, []};
+
 use crate::arbiters::questions::{arbitrator, node};
 use arbiter_core::{Answer, Arbiter};
 use fabric_terms::{Body, Message};
@@ -5,23 +7,27 @@ use ring_points::{Config, Epoch, Members};
 use std::alloc::Global;
 use std::process::Abort;
 
-// What an arbitrator is asked about partition 1.
+/// What an arbitrator is asked about partition 1.
 #[derive(Clone, Copy)]
-enum Ask {
+pub(crate) enum Ask {
     Prepare,
     Vote,
     Done,
 }
 
-fn epoch(configuration: u32) -> Epoch {
+pub(crate) fn epoch(configuration: u32) -> Epoch
+    ensures { result ≡ record { data_loss = 0; configuration = configuration } }
+{
     Epoch {
         data_loss: 0,
         configuration,
     }
 }
 
-// A configuration with node 1 alone.
-fn config(configuration: u32) -> Config {
+/// A configuration with node 1 alone.
+pub(crate) fn config(configuration: u32) -> Config
+    ensures { result ≡ record { partition = 1; epoch = record { data_loss = 0; configuration = configuration }; primary = 1; members = 1 ∷ [] } }
+{
     let mut members = Members::new();
     members.push(1);
     Config {
@@ -56,14 +62,15 @@ fn said(rt: &impl Abort, body: &Body) -> (&'static str, u32) {
             ..
         } => ("prepared", done.epoch.configuration),
         Body::NoPrepare { kept, .. } => ("no prepare", kept.configuration),
+        Body::Voted { kept, .. } => ("voted", kept.epoch.configuration),
         Body::NoVote { kept, .. } => ("no vote", kept.configuration),
         Body::DoneKept { .. } => ("done", 0),
         _ => panic!(rt; "another answer"),
     }
 }
 
-// Whether something is recorded, and what is answered.
-fn answered(
+/// Whether something is recorded, and what is answered.
+pub(crate) fn answered(
     rt: &impl Abort,
     arbiter: &mut Arbiter,
     asker: u16,

@@ -24,8 +24,8 @@ fn recorded(rt: &impl Abort, kept: &Option<Record>) -> Option<u16> {
     }
 }
 
-// In which round the answer to a claim about 1.1 keeps whom, and whom it records as the claimer, if it records one.
-fn claimed(
+/// In which round the answer to a claim about 1.1 keeps whom, and whom it records as the claimer, if it records one.
+pub(crate) fn claimed(
     rt: &impl Abort,
     arbiter: &mut Arbiter,
     claimer: u16,
