@@ -28,6 +28,8 @@ mod names;
 #[cfg(test)]
 mod partitions;
 #[cfg(test)]
+mod replicas;
+#[cfg(test)]
 mod schedules;
 #[cfg(test)]
 mod small;

@@ -1,5 +1,6 @@
 mod configs;
 mod faults;
 mod memory;
+mod replicas;
 mod rows;
 mod sources;

@@ -118,7 +118,7 @@ fn a_cluster_of_two_greets(rt: HostRuntime) -> Result<(), Fail> {
 }
 
 /// Expects where a datagram goes, and its bytes.
-fn expect_datagram(rt: &impl Abort, datagram: &Datagram, to: &str, bytes: &[u8]) {
+pub(crate) fn expect_datagram(rt: &impl Abort, datagram: &Datagram, to: &str, bytes: &[u8]) {
     assert_eq!(rt; datagram.to.as_str(), to);
     assert_eq!(rt; datagram.bytes.as_slice(), bytes);
 }
