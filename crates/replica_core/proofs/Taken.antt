@@ -12,7 +12,7 @@ use Rattle.replica_core.specs.declared.role.Role.{Role}
 use Rattle.replica_core.specs.Roles.{is_idle, is_member, role_of}
 use Rattle.ring_points.specs.declared.unit.Config.{Config}
 use Rattle.replica_core.specs.Calls.{Outcome, unless, held_if, own_adopted, collected_call, is_collected, is_ahead, is_gap, is_empty, promise_call, append_call, adopt_own_call, adopt_call, adopt_collected_call, idle_call, activate_call}
-use Rattle.replica_core.specs.Histories.{Promise, Append, AdoptOwn, Adopt, AdoptCollected, DropCollected, Idle, Activate, taken_epoch, after, after_all}
+use Rattle.replica_core.specs.Histories.{Promise, Append, AdoptOwn, Adopt, AdoptCollected, DropCollected, Idle, Activate, BeginAgain, taken_epoch, after, after_all}
 use Rattle.replica_core.specs.Laws.{IsNotAhead, Promising, NoOlderEntry}
 use Rattle.replica_core.proofs.Orders.{none_falls, same_is, is_between}
 use Rattle.replica_core.proofs.Risen.{never_falling}
@@ -113,6 +113,7 @@ promising (AdoptCollected e) s earlier behind taken = (adopt_collected_promises 
 promising DropCollected s earlier behind taken = absurd (cc)
 promising (Idle e) s earlier behind taken = (idle_promises s e).promised earlier taken
 promising (Activate me config) s earlier behind taken = (activate_promises s me config).promised earlier taken
+promising BeginAgain s earlier behind taken = absurd (cc)
 
 not_refused : (b : Bool) (refusal : ReplicaRefusal) (s : Replica) (next : Outcome Done) → (unless b refusal s next).0 ≡ Ok New → b ≡ false
 not_refused true refusal s next new = absurd (cc)

@@ -10,7 +10,7 @@ use Rattle.replica_core.specs.declared.refusal.ReplicaRefusal.{ReplicaRefusal}
 use Rattle.replica_core.specs.Replicas.{Replica, collected_in, collected_with}
 use Rattle.replica_core.specs.Calls.{Outcome, unless, held_if, own_adopted, collected_call, is_collected, is_ahead, is_gap, is_empty, promise_call, append_call, adopt_own_call, adopt_call, adopt_collected_call, idle_call, activate_call}
 use Rattle.replica_core.specs.Roles.{is_idle, is_member}
-use Rattle.replica_core.specs.Histories.{Call, Promise, Append, AdoptOwn, Adopt, AdoptCollected, DropCollected, Idle, Activate, after}
+use Rattle.replica_core.specs.Histories.{Call, Promise, Append, AdoptOwn, Adopt, AdoptCollected, DropCollected, Idle, Activate, BeginAgain, after}
 
 -- what is asked of the promised epoch, the epoch of the log, and the log, each way that a call can go
 pub record Ways (P : Epoch → Epoch → List Entry → Type 0) (s : Replica) : Type 0 where
@@ -94,3 +94,4 @@ ways P s w (AdoptCollected e) = (adopt_collected_way P s w e).way
 ways P s w DropCollected = w.stays
 ways P s w (Idle e) = (idle_way P s w e).way
 ways P s w (Activate me config) = (activate_way P s w me config).way
+ways P s w BeginAgain = w.stays

@@ -4,7 +4,7 @@ use Rattle.ring_points.specs.declared.unit.Config.{Config}
 use Rattle.ring_points.specs.declared.unit.Epoch.{Epoch}
 use Rattle.replica_core.specs.declared.entry.Entry.{Entry}
 use Rattle.replica_core.specs.declared.refusal.ReplicaRefusal.{ReplicaRefusal}
-use Rattle.replica_core.specs.Replicas.{Replica, uncollected}
+use Rattle.replica_core.specs.Replicas.{Replica, uncollected, begun_again}
 use Rattle.replica_core.specs.Calls.{Outcome, promise_call, append_call, adopt_own_call, adopt_call, adopt_collected_call, idle_call, activate_call}
 
 pub data Call : Type 0 where
@@ -16,6 +16,7 @@ pub data Call : Type 0 where
   DropCollected : Call
   Idle : (e : Epoch) → Call
   Activate : (me : ℕ) → (config : Config) → Call
+  BeginAgain : Call
 
 -- the epoch of a call, if it was taken
 abbrev pub taken_epoch : {A : Type 0} → Epoch → Result A ReplicaRefusal → Option Epoch
@@ -35,6 +36,7 @@ made (AdoptCollected e) s = of_epoch e (adopt_collected_call e s)
 made DropCollected s = (None, uncollected s)
 made (Idle e) s = of_epoch e (idle_call e s)
 made (Activate me config) s = of_epoch config.epoch (activate_call me config s)
+made BeginAgain s = (None, begun_again s)
 
 abbrev pub after : Call → Replica → Replica
 after call s = (made call s).1
