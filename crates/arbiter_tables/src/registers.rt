@@ -1,4 +1,4 @@
-ghost use Rattle.std.specs.Prelude.{◌≡◌, ◌≤◌, ◌+◌, [], None, option_map, true, OnOk, OnErr};
+ghost use Rattle.std.specs.Prelude.{◌≡◌, ◌≤◌, ◌+◌, [], None, option_map, true, is_some, IsTrue, IsOk, OnOk, OnErr};
 ghost use Rattle.fabric_terms.specs.declared.record.Record.TheVariants.{PreparedBy, VotedFor, DoneFor};
 ghost use Rattle.fabric_lemmas.specs.Maps.{rises};
 ghost use Rattle.unit_rules.specs.Registers.{register_of, register_after, vote_in};
@@ -78,7 +78,7 @@ impl Registers {
 
     /// Keeps an epoch as prepared for somebody, in place of what was prepared before. For a partition of which an epoch
     /// was prepared no memory is taken.
-    #[tactic(auto, using(crate::proofs::Views::as_changes, crate::proofs::Counts::as_counts))]
+    #[tactic(auto, using(crate::proofs::Views::as_changes, crate::proofs::LookUps::as_registers, crate::proofs::Counts::as_counts))]
     pub fn prepare(
         &mut self,
         partition: u16,
@@ -87,6 +87,7 @@ impl Registers {
     ) -> Result<(), OutOfMemory>
         ensures ok { OnOk result (self.new ≡ register_after self.old (PreparedBy partition epoch preparer)) }
         ensures entries { OnOk result (registered self.new + one_of (register_of partition self.old).prepared ≡ registered self.old + 1) }
+        ensures stands { IsTrue (is_some (register_of partition self.old).prepared) → IsOk result }
         ensures err { OnErr result (self.new ≡ self.old) }
     {
         let preparation = Preparation { epoch, preparer };
@@ -109,10 +110,11 @@ impl Registers {
 
     /// Keeps a configuration as done, in place of what was done before. For a partition of which one is done no memory
     /// is taken.
-    #[tactic(auto, using(crate::proofs::Views::as_changes, crate::proofs::Counts::as_counts))]
+    #[tactic(auto, using(crate::proofs::Views::as_changes, crate::proofs::LookUps::as_registers, crate::proofs::Counts::as_counts))]
     pub fn finish(&mut self, config: &Config) -> Result<(), OutOfMemory>
         ensures ok { OnOk result (self.new ≡ register_after self.old (DoneFor config.now)) }
         ensures entries { OnOk result (registered self.new + one_of (register_of config.now.partition self.old).done ≡ registered self.old + 1) }
+        ensures stands { IsTrue (is_some (register_of config.now.partition self.old).done) → IsOk result }
         ensures err { OnErr result (self.new ≡ self.old) }
     {
         match self.done.insert(config.partition, config.copy()) {
