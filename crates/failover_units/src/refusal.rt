@@ -16,7 +16,8 @@ pub enum UnitRefusal {
     NotMember,
     /// Fewer fault domains have an up node than replicas are to be placed: only this many.
     TooFewDomains(u8),
-    /// There was not enough memory. It may come in place of any other answer for a new partition.
+    /// There was not enough memory. It may come in place of any other answer for a new partition, and of `in_range`,
+    /// whose list takes memory too.
     OutOfMemory,
 }
 

@@ -1,4 +1,4 @@
-ghost use Rattle.std.specs.Prelude.{◌≡◌, [], None, Some, IsTrue, IsOk, is_some, MatchResult, IfOk, IsOkUnless, length, nat_eq, ◌≤◌};
+ghost use Rattle.std.specs.Prelude.{◌≡◌, ◌≢◌, [], None, Some, Err, IsTrue, IsOk, is_some, MatchResult, IfOk, IsOkUnless, length, nat_eq, ◌≤◌};
 ghost use Rattle.indexmap.specs.IndexMap.{IsUnique};
 ghost use Rattle.fabric_lemmas.specs.Maps.{at, put};
 ghost use Rattle.failover_units.specs.Units.{unit_of, changed, created, noted, seen_at, Answers, load_of, known_partitions, partitions_in};
@@ -86,9 +86,10 @@ impl Units {
     }
 
     /// Gives a new partition its place. `Exists` comes exactly where a configuration of it is known; else
-    /// `Full` exactly where it is new and 4,096 partitions stand.
+    /// `Full` exactly where it is new and 4,096 partitions stand. For one that stands no memory is taken.
     pub fn create(&mut self, partition: u16) -> Result<(), UnitRefusal>
         ensures created { Answers (created partition self.old) self.old self.new result }
+        ensures stands { IsTrue (is_some (at partition self.old)) → result ≢ Err UnitRefusal.OutOfMemory }
     {
         let unit = self.unit(partition);
         if unit.config.is_some() {
