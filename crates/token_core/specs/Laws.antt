@@ -14,8 +14,12 @@ abbrev pub Announcing : Type 0
 Announcing = (t : Token) (p : ℕ) → IsRising t → in_ranges p (announced t) ≡ (in_ranges p t.ranges && not (in_ranges p (frozen_part t.freeze)))
 
 -- a freeze keeps what is owned, and freezes the owned points of the part
+pub record IsFreeze (t : Token) (part : List Interval) (slot : ℕ) : Type 0 where
+  pub owned : (frozen t part slot).ranges ≡ t.ranges
+  pub frozen : (p : ℕ) → in_ranges p (frozen_part (frozen t part slot).freeze) ≡ (in_ranges p t.ranges && in_ranges p part)
+
 abbrev pub Freezing : Type 0
-Freezing = (t : Token) (part : List Interval) (slot p : ℕ) → IsRising t → in_ranges p (frozen_part (frozen t part slot).freeze) ≡ (in_ranges p t.ranges && in_ranges p part)
+Freezing = (t : Token) (part : List Interval) (slot : ℕ) → IsRising t → IsFreeze t part slot
 
 -- what is given is owned no more, and what is announced stays
 pub record IsGift (t : Token) (z : Freeze) : Type 0 where

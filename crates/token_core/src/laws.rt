@@ -5,7 +5,7 @@ pub fn frozen_points_are_not_announced()
     ensures { Announcing }
 {}
 
-/// A freeze freezes the owned points of its part.
+/// A freeze keeps what is owned, and freezes the owned points of its part.
 pub fn a_freeze_has_the_owned_points()
     ensures { Freezing }
 {}
