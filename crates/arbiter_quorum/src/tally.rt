@@ -1,7 +1,7 @@
 ghost use Rattle.std.specs.Prelude.{◌≡◌, ◌≤◌, length, not};
 ghost use Rattle.arbiter_quorum.specs.Tallies.{count_of, has_answered, is_granted, is_refused, may_be_heir, no_answers, noted, verdict_of};
 
-use crate::quorum::is_majority;
+use crate::quorum::{MAX_ARBITRATORS, is_majority};
 use crate::verdict::Verdict;
 use arrayvec::ArrayVec;
 use ring_points::{Ruling, Who};
@@ -14,7 +14,7 @@ pub struct Tally {
     me: Who,
     victim: Who,
     arbitrators: u8,
-    answers: ArrayVec<(u8, Ruling), 9>,
+    answers: ArrayVec<(u8, Ruling), MAX_ARBITRATORS>,
 }
 
 impl Model for Tally {
@@ -29,9 +29,9 @@ impl Model for Tally {
 }
 
 impl Tally {
-    /// No answers yet, of 1 to 9 arbitrators.
+    /// No answers yet, of at most 9 arbitrators.
     pub fn new(me: Who, victim: Who, arbitrators: u8) -> Self
-        requires { arbitrators ≤ 9 }
+        requires { arbitrators ≤ MAX_ARBITRATORS }
         ensures { result ≡ no_answers me victim arbitrators }
     {
         Tally {

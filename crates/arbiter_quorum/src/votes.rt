@@ -4,7 +4,7 @@ ghost use Rattle.arbiter_quorum.specs.Tallies.{has_answered};
 ghost use Rattle.ring_points.specs.Epochs.{same_epoch};
 ghost use Rattle.arbiter_quorum.specs.Votes.{has_majority, kept_count, may_win, no_votes, one_may_win, same_config, unanswered, vote_noted, vote_verdict_of};
 
-use crate::quorum::is_majority;
+use crate::quorum::{MAX_ARBITRATORS, is_majority};
 use crate::verdict::VoteVerdict;
 use arrayvec::ArrayVec;
 use ring_points::{Config, Epoch, Members};
@@ -36,7 +36,7 @@ impl Default for Vote {
 #[derive(Drop)]
 pub struct VoteTally {
     arbitrators: u8,
-    answers: ArrayVec<Vote, 9>,
+    answers: ArrayVec<Vote, MAX_ARBITRATORS>,
 }
 
 impl Model for VoteTally {
@@ -75,9 +75,9 @@ fn is_of_one(votes: &[Vote], arbitrator: u8) -> bool
 }
 
 impl VoteTally {
-    /// No answers yet, of 1 to 9 arbitrators.
+    /// No answers yet, of at most 9 arbitrators.
     pub fn new(arbitrators: u8) -> Self
-        requires { arbitrators ≤ 9 }
+        requires { arbitrators ≤ MAX_ARBITRATORS }
         ensures { result ≡ no_votes arbitrators }
     {
         VoteTally {
@@ -124,7 +124,7 @@ impl VoteTally {
 
     fn unanswered(&self) -> usize
         ensures count { result ≡ unanswered self.now }
-        ensures few { result ≤ 9 }
+        ensures few { result ≤ MAX_ARBITRATORS }
     {
         usize::from(self.arbitrators).saturating_sub(self.answers.len())
     }

@@ -5,6 +5,9 @@ ghost use Rattle.ring_route.specs.Routes.{heard_in, is_among, is_skipped, may_ho
 use arrayvec::ArrayVec;
 use ring_points::Who;
 
+/// How many nodes are configured at most.
+pub const MAX_NODES: usize = 64;
+
 /// A known node: its latest instance, its point, and the reading at which it was last heard.
 #[derive(Clone, Copy, Default)]
 pub(crate) struct Known {
@@ -67,8 +70,12 @@ fn may_hop(skip: Option<u16>, accused: &[Who], k: &Known) -> bool
 }
 
 /// Those that are neither skipped nor accused.
-pub(crate) fn hops(known: &[Known], skip: Option<u16>, accused: &[Who]) -> ArrayVec<Known, 64>
-    requires { length known.now ≤ 64 }
+pub(crate) fn hops(
+    known: &[Known],
+    skip: Option<u16>,
+    accused: &[Who],
+) -> ArrayVec<Known, MAX_NODES>
+    requires { length known.now ≤ MAX_NODES }
     ensures { result.items ≡ filter (may_hop skip accused.now) known.now }
 {
     let mut hops = ArrayVec::new();

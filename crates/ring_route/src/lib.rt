@@ -14,5 +14,6 @@ mod near;
 mod table;
 
 pub use hop::Hop;
+pub use known::MAX_NODES;
 pub use laws::chains_end;
-pub use table::{MAX_NODES, RouteTable};
+pub use table::RouteTable;

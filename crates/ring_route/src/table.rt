@@ -5,23 +5,20 @@ ghost use Rattle.ring_route.specs.Entries.{is_node, no_routes, points_of};
 ghost use Rattle.ring_route.specs.Routes.{heard, hop_to, near_nodes, nearest_of, next_hop, point_of, up_of};
 
 use crate::hop::Hop;
-use crate::known::{Known, hear_again, hops};
+use crate::known::{Known, MAX_NODES, hear_again, hops};
 use crate::near::{Way, add_nodes, sorted, without_repeats};
 use arrayvec::ArrayVec;
 use lane_scan::nearest;
 use ring_points::{Point, Who, nearer};
 use std::marker::Model;
 
-/// How many nodes are configured at most.
-pub const MAX_NODES: usize = 64;
-
 /// What a node knows of the others. Contracts see it as the record `Routes`: the points of the configured
 /// nodes, and whom it heard, in the order of first hearing.
 #[derive(Drop)]
 pub struct RouteTable {
     me: Who,
-    points: ArrayVec<(u16, u64), 64>,
-    known: ArrayVec<Known, 64>,
+    points: ArrayVec<(u16, u64), MAX_NODES>,
+    known: ArrayVec<Known, MAX_NODES>,
 }
 
 impl Model for RouteTable {
@@ -35,8 +32,8 @@ impl Model for RouteTable {
     ghost invariant = { λ a. IsTable a.points.items a.known.items };
 }
 
-fn copied(points: &[(u16, Point)]) -> ArrayVec<(u16, u64), 64>
-    requires { length points.now ≤ 64 }
+fn copied(points: &[(u16, Point)]) -> ArrayVec<(u16, u64), MAX_NODES>
+    requires { length points.now ≤ MAX_NODES }
     ensures { result.items ≡ points_of points.now }
 {
     let mut copy = ArrayVec::new();
@@ -61,8 +58,8 @@ fn point_of(points: &[(u16, u64)], node: u16) -> u64
     }
 }
 
-fn points_of_hops(hops: &[Known]) -> ArrayVec<u64, 64>
-    requires { length hops.now ≤ 64 }
+fn points_of_hops(hops: &[Known]) -> ArrayVec<u64, MAX_NODES>
+    requires { length hops.now ≤ MAX_NODES }
     ensures { result.items ≡ map (λ k. k.point) hops.now }
 {
     let mut points = ArrayVec::new();
@@ -74,7 +71,7 @@ fn points_of_hops(hops: &[Known]) -> ArrayVec<u64, 64>
 
 /// The hop to the nearest of these nodes, where it is nearer to the key than the own point.
 fn nearest_hop(hops: &[Known], key: u64, own: u64) -> Hop
-    requires { length hops.now ≤ 64 }
+    requires { length hops.now ≤ MAX_NODES }
     ensures { result ≡ hop_to key own (nearest_of key hops.now) }
 {
     let points = points_of_hops(hops);
@@ -90,10 +87,10 @@ fn nearest_hop(hops: &[Known], key: u64, own: u64) -> Hop
 }
 
 impl RouteTable {
-    /// The table of this node, which heard nobody. The points are those of the configured nodes: at most
-    /// 64, all distinct, its own among them.
+    /// The table of this node, which heard nobody. The points are those of the configured nodes, at most
+    /// 64: the caller gives all distinct ones, its own among them.
     pub fn new(me: Who, points: &[(u16, Point)]) -> Self
-        requires { length points.now ≤ 64 }
+        requires { length points.now ≤ MAX_NODES }
         ensures { result ≡ no_routes me points.now }
     {
         RouteTable {
