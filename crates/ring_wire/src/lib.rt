@@ -1,18 +1,17 @@
 //! Frames: what actors send each other, as bytes.
 //!
-//! A frame is one message in one spelling. This crate reads frames and writes them, and has the outbox in which a step
-//! gathers what it sends. It stands on the grammar of frames and on the readers and writers of their fields. What is
-//! read is in the grammar, what is written is in it, no frame has two messages and no message two frames; so the layers
-//! above speak of messages alone.
+//! A frame is one message in one spelling. This crate reads frames and writes them. It stands on the grammar of frames
+//! and on the readers and writers of their fields. What is read is in the grammar, what is written is in it, no frame
+//! has two messages and no message two frames; so the layers above speak of messages alone.
 #![tactic(auto)]
 
 mod not_frame;
 mod read;
 mod write;
 
-pub use fabric_terms::{Body, Message, OUTBOX_LIMIT, Outbox};
+pub use fabric_terms::{Body, Message};
 pub use frame_format::{one_spelling, short_spelling};
 pub use not_frame::NotFrame;
 pub use read::{decode, decode_into};
 pub use wire_fields::{read_config_field, read_epoch, read_ranges, read_who};
-pub use write::{FRAME_LIMIT, encode, encode_sent};
+pub use write::{FRAME_LIMIT, encode};

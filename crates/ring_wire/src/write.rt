@@ -19,7 +19,6 @@ use greetings::put_greeting;
 use links::put_link;
 use partitions::put_partition;
 use replicas::put_replica;
-use ring_points::Who;
 use roles::put_role;
 use rulings::put_ruling_body;
 use searches::put_search;
@@ -110,20 +109,6 @@ fn put_body(into: &mut [u8; FRAME_LIMIT], at: usize, body: &Body) -> usize
     }
 }
 
-/// Writes what an actor sends to another as a frame to the front of `into`, and gives the frame's length, which is at
-/// most 1,200. The bytes behind it are left as they were.
-pub fn encode_sent(from: Who, to: Who, body: &Body, into: &mut [u8; FRAME_LIMIT]) -> usize
-    requires { IsTrue (is_sound (record { from = from; to = to; body = body.now })) }
-    ensures written { into.new ≡ spelling (record { from = from; to = to; body = body.now }) ++ drop (length (spelling (record { from = from; to = to; body = body.now }))) into.old }
-    ensures length { result ≡ length (spelling (record { from = from; to = to; body = body.now })) }
-    ensures fits { result ≤ 1200 }
-{
-    let at = put_start(into, body);
-    let at = put_who(into, at, from);
-    let at = put_who(into, at, to);
-    put_body(into, at, body)
-}
-
 /// Writes the message as a frame to the front of `into`, and gives the frame's length, which is at most 1,200. The
 /// bytes behind it are left as they were.
 pub fn encode(message: &Message, into: &mut [u8; FRAME_LIMIT]) -> usize
@@ -132,5 +117,8 @@ pub fn encode(message: &Message, into: &mut [u8; FRAME_LIMIT]) -> usize
     ensures length { result ≡ length (spelling message.now) }
     ensures fits { result ≤ 1200 }
 {
-    encode_sent(message.from, message.to, &message.body, into)
+    let at = put_start(into, &message.body);
+    let at = put_who(into, at, message.from);
+    let at = put_who(into, at, message.to);
+    put_body(into, at, &message.body)
 }

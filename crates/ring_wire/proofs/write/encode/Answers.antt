@@ -1,5 +1,5 @@
 use Rattle.wire_fields.proofs.Puts.{puts_more, puts_front}
-use Rattle.ring_wire.proofs.write.encode_sent.Goals as goal
+use Rattle.ring_wire.proofs.write.encode.Goals as goal
 
 pub returns-clause-written : goal.returns-clause-written
 returns-clause-written c =
