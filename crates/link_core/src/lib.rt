@@ -28,7 +28,7 @@ pub use announce::{Announce, Announced};
 pub use laws::{
     a_firing_is_its_row, a_frame_is_its_row, a_greeting_is_its_row, parting_is_its_row,
 };
-pub use links::{LATEST_END, LONGEST_TIME, Links16, MAX_ACCUSED, SLOTS};
+pub use links::{LONGEST_TIME, Links16, MAX_ACCUSED, SLOTS};
 pub use notes::{LinkNote, LinkNotes};
 pub use refusal::LinkRefusal;
 pub use ring_rules::{Link, LinkState};

@@ -28,9 +28,6 @@ pub const MAX_ACCUSED: usize = 1024;
 /// The longest lease, length of a link, or time for an answer, in ticks.
 pub const LONGEST_TIME: u64 = 1_000_000_000;
 
-/// The end of the latest lease, in ticks.
-pub const LATEST_END: u64 = 1_000_001_000_000_000;
-
 /// The links of a node: 16 slots, the number of its next session, and whom it has accused. Contracts see it as the
 /// record `Links`.
 #[derive(Drop)]
@@ -70,9 +67,9 @@ fn free_slots() -> [Option<Link>; SLOTS]
 }
 
 impl Links16 {
-    /// No links. The lease is that of a link that names no length, the longest the longest that is granted; with the
-    /// time for an answer they are at most 1,000,000,000 ticks. There are at most nine arbitrators,
-    /// and at most eight rounds of heirs.
+    /// No links. The lease is that of a link that names no length, the longest the longest that is granted; each of them
+    /// and the time for an answer is at most 1,000,000,000 ticks. There are at most nine arbitrators, and at most eight
+    /// rounds of heirs.
     pub fn new(
         me: Who,
         lease: u64,

@@ -55,6 +55,7 @@ impl Links16 {
         ensures few { length out.new ≤ length out.old + 9 }
         ensures notes { length result ≤ 2 }
     {
+        // Whose the links are does not matter here: looking at them shows that there are at most nine arbitrators.
         let _ = &self.me;
         self.frame(now, message, announce, out)
     }
