@@ -39,7 +39,7 @@ pub struct Left {
     pub why: Why,
 }
 
-/// The phase of a node.
+/// The phase of a node, as the node keeps it: its steps are taken as its owner says.
 #[derive(Drop)]
 pub enum Phase {
     Seeking(Seeking),
@@ -49,7 +49,7 @@ pub enum Phase {
 }
 
 impl Phase {
-    /// A link is bound: a seeking node is linked.
+    /// A link is bound: a seeking node is linked. In any other phase nothing changes.
     pub fn bind(&mut self)
         ensures { self.new ≡ bound_phase self.old }
     {
@@ -58,7 +58,7 @@ impl Phase {
         }
     }
 
-    /// Ranges are owned: a linked node routes.
+    /// Ranges are owned: a linked node routes. In any other phase nothing changes.
     pub fn hold(&mut self)
         ensures { self.new ≡ holding_phase self.old }
     {
@@ -67,7 +67,7 @@ impl Phase {
         }
     }
 
-    /// The node leaves for good.
+    /// The node leaves for good, in whatever phase it is; of one that has left only the reason is another.
     pub fn leave(&mut self, why: Why)
         ensures { self.new ≡ left why }
     {
