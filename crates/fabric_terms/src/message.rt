@@ -91,7 +91,7 @@ pub enum Body {
         victim: Who,
         ruling: Ruling,
     },
-    /// Asks an arbitrator to be the receiver's in a round of heirs.
+    /// Asks an arbitrator to be the sender's in a round of heirs.
     Claim {
         victim: Who,
         round: u8,

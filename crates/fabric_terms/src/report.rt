@@ -69,7 +69,7 @@ pub enum Reason {
     TooFew(u8),
 }
 
-/// Partitions, rising. Contracts see them as their list.
+/// Partitions, in the order in which they were given. Contracts see them as their list.
 #[derive(Drop)]
 pub struct Partitions {
     numbers: Vec<u16>,

@@ -32,7 +32,7 @@ impl Model for RoundTally {
 }
 
 impl RoundTally {
-    /// The first round, without answers of 1 to 9 arbitrators.
+    /// The first round, without answers, of at most 9 arbitrators.
     pub fn new(me: Who, arbitrators: u8, limit: u8) -> Self
         requires { arbitrators ≤ 9 }
         ensures { result ≡ no_rounds me arbitrators limit }

@@ -24,7 +24,8 @@ pub enum ReplicaRefusal {
     Gap(u32),
     /// The log has 100,000 entries.
     LogFull,
-    /// There was not enough memory. It may come in place of any other answer.
+    /// There was not enough memory. It may come in place of any other answer of `append` and `adopt`, and of no other
+    /// call.
     OutOfMemory,
 }
 

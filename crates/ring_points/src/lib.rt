@@ -2,7 +2,7 @@
 //!
 //! The ring has 2^64 points, and of any two the lower or the nearer is told. A node owns a set of them
 //! as a list of intervals; a process of a node is an instance. This crate stands on nothing of the
-//! project, and every other crate stands on it. It promises that a range set is its set of points: two
+//! project, and most other crates stand on it. It promises that a range set is its set of points: two
 //! with the same points are equal, and each call says which points are in its result. No call takes
 //! memory, and each goes over the intervals once.
 #![tactic(auto)]

@@ -5,7 +5,7 @@ use crate::ranges::RangeSet;
 /// The greatest number of a node.
 pub const LAST_NODE: u16 = 999;
 
-/// Arbitrator a is actor a above this, and every actor up to it is a node.
+/// Arbitrator a is actor a above this. The actors above `LAST_NODE` and up to it are neither node nor arbitrator.
 pub const ARBITRATORS: u16 = 32768;
 
 /// A process: the actor, and which of its starts this is.
