@@ -1,5 +1,7 @@
-ghost use Rattle.std.specs.Prelude.{◌≡◌, ◌≤◌};
+ghost use Rattle.std.specs.Prelude.{◌≡◌, ◌≤◌, ◌↔◌};
+ghost use Rattle.std.specs.IoError.{error_kind};
 ghost use Rattle.edge_io.specs.Edge.{HasRisen};
+ghost use Rattle.edge_io.specs.Plan.{counted};
 
 use edge_io::EdgeRefusal;
 use std::io;
@@ -30,6 +32,7 @@ impl Failures {
 
     /// The device has failed once more.
     pub fn add(&mut self)
+        ensures counted { self.new ≡ counted self.old }
         ensures later { self.old ≤ self.new }
         ensures risen { HasRisen self.old self.new }
     {
@@ -38,6 +41,9 @@ impl Failures {
 
     /// What a refused call answers. Want of memory is no failure of the device, and anything else is.
     pub fn refusal(&mut self, error: io::Error) -> EdgeRefusal
+        ensures memory { result ≡ EdgeRefusal.OutOfMemory ↔ error_kind error ≡ ErrorKind.OutOfMemory }
+        ensures counted { result ≡ EdgeRefusal.Failed → self.new ≡ counted self.old }
+        ensures same { result ≡ EdgeRefusal.OutOfMemory → self.new ≡ self.old }
         ensures later { self.old ≤ self.new }
         ensures risen { result ≡ EdgeRefusal.Failed → HasRisen self.old self.new }
     {
