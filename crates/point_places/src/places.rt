@@ -56,6 +56,7 @@ impl Places {
     fn settle(&mut self) -> Result<(), OutOfMemory>
         ensures places { (p : ℕ) → p < 2 ^ 64 → place_at self.new p ≡ place_at self.old p }
         ensures ok { OnOk result (self.new.moves ≡ []) }
+        ensures room { self.old.room ≤ self.new.room }
         ensures refused { OnErr result (self.new ≡ self.old) }
     {
         self.segments = settled(self.alloc, &self.segments, &self.moves)?;
@@ -63,11 +64,13 @@ impl Places {
         Ok(())
     }
 
-    /// Makes room for so many moves more, at most 1,000. It is an error where memory is short. No point is moved.
+    /// Makes room for so many moves more, at most 1,000. It is an error where memory is short, and then the room is no
+    /// less than before. No point is moved.
     pub fn reserve(&mut self, count: usize) -> Result<(), OutOfMemory>
         requires { count ≤ 1000 }
         ensures places { (p : ℕ) → p < 2 ^ 64 → place_at self.new p ≡ place_at self.old p }
         ensures room { OnOk result (count ≤ self.new.room) }
+        ensures refused { OnErr result (self.old.room ≤ self.new.room) }
     {
         if !self.moves.is_empty() {
             // Where memory is short, the moves wait.
