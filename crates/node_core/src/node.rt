@@ -1,4 +1,4 @@
-ghost use Rattle.std.specs.Prelude.{◌≡◌, ◌≤◌, ◌+◌, List, IfOk, IsTrue, OnOk, OnErr, true};
+ghost use Rattle.std.specs.Prelude.{◌≡◌, ◌≤◌, ◌+◌, List, [], IfOk, IsTrue, OnOk, OnErr, true};
 ghost use Rattle.std.specs.Option.{option_copied};
 ghost use Rattle.fabric_lemmas.specs.Maps.{rises};
 ghost use Rattle.fabric_terms.specs.Sound.{IsSound};
@@ -152,9 +152,11 @@ impl NodeCore {
         Ok((Box::into_inner(core), outcome))
     }
 
-    /// Gives back what is kept of the node, for its next start: nothing else of a node is needed once it has stopped.
+    /// Gives back what is kept of the node, for its next start: nothing else of a node is needed once it has stopped. The
+    /// node has no replica then.
     pub fn take_kept(&mut self) -> NodeKept
-        ensures { result ≡ kept_in self.old.state }
+        ensures given { result ≡ kept_in self.old.state }
+        ensures left { self.new ≡ with_seats [] self.old }
     {
         NodeKept {
             boots: self.ring.me().instance,

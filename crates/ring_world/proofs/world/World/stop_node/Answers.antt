@@ -58,7 +58,7 @@ returns c w s =
     let at = placed a w place c.args.node k.value s k.here in
     let code : c.remove-ended.result ≡ at.code = read_at a.running.items place at.code c.remove-ended.result at.here c.remove-ended.ensures.value in
     let kept : c.take_kept.result ≡ kept_in k.value.node =
-    c.take_kept.ensures ∙ (ap (λ (n : Core). kept_in n.state) c.deref_mut.ensures.value ∙ (ap (λ (r : Running). kept_in r.node.value.state) code ∙ ap (λ (n : NodeState fabric). kept_in n) at.runs.node)) in (
+    c.take_kept.ensures.given ∙ (ap (λ (n : Core). kept_in n.state) c.deref_mut.ensures.value ∙ (ap (λ (r : Running). kept_in r.node.value.state) code ∙ ap (λ (n : NodeState fabric). kept_in n) at.runs.node)) in (
       record {
         there = stop_runs a w c.args.node true (node_runs_is a w c.args.node true c.requires.node (ap (λ o. is_some o) k.found));
         bound = bound-stop a w c.args.node;
