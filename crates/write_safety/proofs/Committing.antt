@@ -85,16 +85,19 @@ module _ (p d : ℕ) (committed : List Entry) (old : List KeptLog) (place : ℕ)
     changed m = ap (λ ls. set ls place m) here.split
         ∙ (ap (λ i. set (here.front ++ (here.log ∷ here.back)) i m) (sym here.here) ∙ set_at here.front here.log here.back m)
 
+    pub at_others : (m : KeptLog) → is_of p d m ≡ true → (q e : ℕ) → (q == p && e == d) ≡ false → entries_of q e (set old place m) ≡ entries_of q e old
+    at_others m is q e other =
+        ap (entries_of q e) (changed m)
+        ∙ (entries_more q e here.front m here.back (other_key p d q e m is other)
+        ∙ (sym (entries_more q e here.front here.log here.back (other_key p d q e here.log here.is other)) ∙ ap (entries_of q e) (sym here.split)))
+
     pub at_commits : (m : KeptLog) → m ≡ with_entries (longer committed here.log.entries) here.log → Commits p d committed old (set old place m)
     at_commits m is = record {
       here = ap (entries_of p d) (changed m)
           ∙ (entries_behind p d here.front (m ∷ here.back) here.others
           ∙ (entries_here p d m here.back (ap (is_of p d) is ∙ here.is)
           ∙ (ap (λ (l : KeptLog). l.entries) is ∙ ap (longer committed) (sym kept_here))));
-      others = λ q e other.
-          ap (entries_of q e) (changed m)
-          ∙ (entries_more q e here.front m here.back (other_key p d q e m (ap (is_of p d) is ∙ here.is) other)
-          ∙ (sym (entries_more q e here.front here.log here.back (other_key p d q e here.log here.is other)) ∙ ap (entries_of q e) (sym here.split)));
+      others = at_others m (ap (is_of p d) is ∙ here.is);
     }
 
     pub at_rises : (m : KeptLog) → m.partition ≡ here.log.partition → m.data_loss ≡ here.log.data_loss → logs_rise old ≡ true →

@@ -1,4 +1,4 @@
-ghost use Rattle.std.specs.Prelude.{◌≡◌, ◌++◌, ◌≤◌, [], length, take, true, OnOk, OnErr};
+ghost use Rattle.std.specs.Prelude.{◌≡◌, ℕ, ◌++◌, ◌≤◌, ◌&&◌, ◌==◌, [], length, take, true, false, OnOk, OnErr};
 ghost use Rattle.write_safety.specs.Books.{Agree, Commits, entries_of, logs_rise};
 ghost use Rattle.write_safety.specs.Lines.{kept_lines};
 ghost use Rattle.write_safety.specs.Places.{Finds, IsGap, Parts};
@@ -73,8 +73,8 @@ impl WriteBook {
     }
 
     /// The first entries of a log, so many, are committed in this epoch. The longer of them and of what is kept of the
-    /// partition and the epoch's data loss number is kept from then on; the two agree up to the shorter one's end. Only
-    /// entries that are new are copied. It is an error where memory is short, and then nothing is changed.
+    /// partition and the epoch's data loss number is kept from then on; the two agree up to the shorter one's end. It is
+    /// an error where memory is short, and then nothing is changed.
     pub fn commit(
         &mut self,
         partition: u16,
@@ -90,7 +90,8 @@ impl WriteBook {
         self.offer(partition, epoch, lsn, log)
     }
 
-    /// The same for a caller that knows of no agreement: what `commit` promises holds where the two agree.
+    /// The same for a caller that knows of no agreement: what `commit` promises holds where the two agree. What is kept of
+    /// other partitions and data loss numbers stays in any case.
     pub fn offer(
         &mut self,
         partition: u16,
@@ -99,6 +100,7 @@ impl WriteBook {
         log: &[Entry],
     ) -> Result<(), OutOfMemory>
         ensures ok { Agree (take lsn log.now) (entries_of partition epoch.data_loss self.old) → OnOk result (Commits partition epoch.data_loss (take lsn log.now) self.old self.new) }
+        ensures others { (p d : ℕ) → (p == partition && d == epoch.data_loss) ≡ false → entries_of p d self.new ≡ entries_of p d self.old }
         ensures refused { OnErr result (self.new ≡ self.old) }
     {
         let committed = front_of(log, lsn);
@@ -133,13 +135,6 @@ impl WriteBook {
             Ok(place) => self.logs[place].entries(),
             Err(_) => &[],
         }
-    }
-
-    /// All that is kept, rising by partition and then by data loss number.
-    pub fn logs(&self) -> &[KeptLog]
-        ensures { result.now ≡ self.now }
-    {
-        self.logs.as_slice()
     }
 
     /// Appends a line for each entry that is kept, rising by partition, data loss number and number. It is an error where

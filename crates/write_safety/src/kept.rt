@@ -35,7 +35,7 @@ fn push_copies(alloc: Global, entries: &mut Vec<Entry>, more: &[Entry]) -> Resul
 
 impl KeptLog {
     /// Copies of these entries. It is an error where memory is short.
-    pub fn of_entries(
+    pub(crate) fn of_entries(
         alloc: Global,
         partition: u16,
         data_loss: u32,
@@ -53,21 +53,21 @@ impl KeptLog {
     }
 
     /// The partition of which it is.
-    pub fn partition(&self) -> u16
+    pub(crate) fn partition(&self) -> u16
         ensures { result ≡ self.now.partition }
     {
         self.partition
     }
 
     /// The data loss number under which it was written.
-    pub fn data_loss(&self) -> u32
+    pub(crate) fn data_loss(&self) -> u32
         ensures { result ≡ self.now.data_loss }
     {
         self.data_loss
     }
 
     /// The entries, by number from 1.
-    pub fn entries(&self) -> &[Entry]
+    pub(crate) fn entries(&self) -> &[Entry]
         ensures { result.now ≡ self.now.entries }
     {
         self.entries.as_slice()

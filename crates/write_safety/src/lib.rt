@@ -3,7 +3,7 @@
 //! A book keeps the committed entries of each partition under each data loss number. Of two reports about the same ones it
 //! keeps the longer list, which begins with the shorter one. That two such lists always agree is a law of every valid run,
 //! which stands here on the laws of epochs; so a book that is fed with every report of a run has exactly its committed
-//! logs. It promises that of each list only what is new is copied, and that a refused call changes nothing.
+//! logs. It promises that a refused call changes nothing. Its code copies of each list only what is new.
 #![tactic(auto)]
 
 mod book;
@@ -13,6 +13,5 @@ mod lines;
 mod worked;
 
 pub use book::WriteBook;
-pub use kept::KeptLog;
 pub use laws::{commits_agree, fed_books_have_committed, logs_stand_beside, reports_feed_books};
 pub use worked::worked_book;
