@@ -15,6 +15,11 @@ in_one since r units (n ∷ ns) = ap (λ (ls : List NodeLoad). load_at since r u
 pub loads_are : (c : Site) (now : ℕ) (r : Ring) (units : Table) → loaded units (unloaded c now r) ≡ loads c now r units
 loads_are c now r units = in_one (long_ago now c.ring.lease) r units c.domains
 
+-- A load is by the node alone, so loading again changes nothing.
+pub loaded_again : (units : Table) (ns : List NodeLoad) → loaded units (loaded units ns) ≡ loaded units ns
+loaded_again units [] = refl
+loaded_again units (n ∷ ns) = ap (λ (ls : List NodeLoad). load_node units n ∷ ls) (loaded_again units ns)
+
 -- The first so many are loaded already.
 
 pub loaded_to : Table → ℕ → List NodeLoad → List NodeLoad

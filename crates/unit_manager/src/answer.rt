@@ -71,7 +71,7 @@ fn see(units: &mut Units, partition: u16, epoch: Epoch)
 }
 
 /// A reconfiguration takes an answer. How loaded the nodes are is read in its first phase alone.
-#[tactic(auto, using(crate::proofs::Asking::received_alike))]
+#[tactic(auto, using(crate::proofs::Asking::received_alike, crate::proofs::Loading::loaded_again))]
 fn go_on(
     units: &Units,
     reconfig: &mut Reconfig,
@@ -82,6 +82,7 @@ fn go_on(
     requires { length out.old + 9 ≤ 192 }
     ensures does { phases.Does (received (loaded units.now nodes.old) answer.now (reconfig_of reconfig.old)) (step_with reconfig.new result) out.old out.new }
     ensures task { task_of (reconfig_of reconfig.new) ≡ task_of (reconfig_of reconfig.old) }
+    ensures nodes { loaded units.now nodes.new ≡ loaded units.now nodes.old }
     ensures finished { IfFinished result ((reconfig.new ≡ reconfig.old) × (out.new ≡ out.old)) }
 {
     if let Reconfig::Prepare(_) = reconfig {
@@ -145,6 +146,7 @@ fn answered_by(
     requires whole { IsManaged (managed units.old reconfigs.old.items) }
     ensures does { Does (answer_taken (loaded units.old nodes.old) answer.now (managed units.old reconfigs.old.items) (at partition (reconfigs_of reconfigs.old.items))) (managed units.new reconfigs.new.items) desk.old desk.new }
     ensures whole { IsManaged (managed units.new reconfigs.new.items) }
+    ensures nodes { loaded units.old nodes.new ≡ loaded units.old nodes.old }
     ensures few { Few desk.old desk.new }
 {
     let Some(i) = find(reconfigs, partition) else {
@@ -166,6 +168,7 @@ impl Manager {
         requires sound { IsTrue (is_sound_body answer.now.body) }
         requires room { HasRoom desk.old }
         ensures does { Does (manager_received (loaded self.old.units nodes.old) answer.now self.old) self.new desk.old desk.new }
+        ensures nodes { loaded self.old.units nodes.new ≡ loaded self.old.units nodes.old }
         ensures few { Few desk.old desk.new }
     {
         if let Some((partition, _)) = answered_unit(&answer.body) {
