@@ -25,7 +25,7 @@ fn comes_after(last: Option<Who>, who: Who) -> bool
     }
 }
 
-/// Whether the clocks rise, so that each is the first of its instance.
+/// True only where each clock is the first of its instance, as where they rise. No reading is searched for then.
 pub fn rise(clocks: &[(Who, u64)]) -> bool
     ensures { OnTrue result (EachIsFirst clocks.now) }
 {
