@@ -1,6 +1,8 @@
 -- The clocks of a moment, as the auditor walks over them.
-use Rattle.std.specs.Prelude.{◌≡◌, ◌≢◌, ℕ, true, false, List, Option, Some, None, Contains}
+use Rattle.std.specs.Prelude.{◌≡◌, ◌≢◌, ℕ, Bool, true, false, ◌&&◌, if◌then◌else◌, List, [], ◌∷◌, map, Option, Some, None, Contains}
+use Rattle.std.specs.List.{list_all}
 use Rattle.ring_points.specs.declared.who.Who.{Who}
+use Rattle.ring_points.specs.Whos.{same_who}
 use Rattle.fabric_terms.specs.Runs.{Clocks, Owned, IsBelow, reading_of}
 use Rattle.run_audit.specs.declared.overlap.Holder.{Holder}
 use Rattle.run_audit.specs.declared.owners.Owners.{Owners}
@@ -37,3 +39,24 @@ pub record AreRows (owners : Owners) (clocks walked : Clocks) (lived : List Who)
   pub each : (h : Holder) → Contains hs h → HoldsNow owners clocks h
   pub all : (w : Who) (reading : ℕ) → Contains walked (w, reading) → Owns owners clocks w → (h : Holder) × Contains hs h × (h.who ≡ w)
   pub stale : (h : Holder) → Contains hs h → h.fresh ≡ false → Contains lived h.who × (actor ≢ Some h.who)
+
+-- each is below all later ones
+abbrev pub whos_rise : List Who → Bool
+whos_rise [] = true
+whos_rise (w ∷ ws) = list_all (is_below w) ws && whos_rise ws
+
+abbrev pub whos_of : Clocks → List Who
+whos_of clocks = map (λ c. c.0) clocks
+
+-- what is left behind those at the front that are below v
+abbrev pub from_who : Who → List Who → List Who
+from_who v [] = []
+from_who v (w ∷ ws) = if is_below w v then from_who v ws else w ∷ ws
+
+abbrev pub begins_with : Who → List Who → Bool
+begins_with v [] = false
+begins_with v (w ∷ ws) = same_who w v
+
+-- one that lived and is not the actor is not fresh
+abbrev pub AreKnown : List Who → Option Who → List Holder → Type 0
+AreKnown lived actor hs = (h : Holder) → Contains hs h → Contains lived h.who → actor ≢ Some h.who → h.fresh ≡ false
