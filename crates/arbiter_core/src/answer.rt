@@ -13,7 +13,7 @@ pub enum Answer {
         to: Who,
         body: Body,
     },
-    /// The message is no question to this arbitrator.
+    /// The message is no question to this arbitrator, or a claim about a victim that nobody has accused here.
     Nothing,
 }
 

@@ -127,8 +127,9 @@ impl Arbiter {
             && message.from.actor <= ARBITRATORS
     }
 
-    /// Answers an accusation, a claim or a question about a partition that a node sent to this arbitrator; every other
-    /// message changes nothing and gets no answer. `TableFull` comes exactly where the 1,000,001st entry would be made.
+    /// Answers an accusation, a claim or a question about a partition that a node sent to this arbitrator; a claim about a
+    /// victim that nobody has accused here and every other message change nothing and get no answer. `TableFull` comes
+    /// exactly where the 1,000,001st entry would be made.
     pub fn on_frame(&mut self, message: &Message) -> Result<Answer, ArbiterError>
         ensures { Answers (frame_call message.now self.old) self.old self.new result }
     {

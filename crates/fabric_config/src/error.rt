@@ -29,8 +29,8 @@ pub enum ConfigError {
 }
 
 impl ConfigError {
-    /// The words in which a fault line names the error: `not json`, `missing FIELD`, `range FIELD VALUE` or
-    /// `repeated NODE`.
+    /// The words in which a fault line names the error: `not json`, `missing FIELD`, `range FIELD VALUE`,
+    /// `repeated NODE` or `out of memory`.
     pub fn words(self, alloc: Global) -> Result<String, AllocError>
         ensures { IfOk result (λ text. string_bytes text ≡ words_of self) }
     {
