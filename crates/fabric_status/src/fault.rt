@@ -1,6 +1,7 @@
 // The last line at a status.
 ghost use Rattle.std.specs.Prelude.{◌≡◌, ◌++◌, ◌∷◌, [], decimal, codes, OnOk};
 ghost use Rattle.fabric_status.specs.Faults.{fault_line};
+ghost use Rattle.text_fields.specs.Texts.{Keeps};
 
 use crate::numbered::{push_numbered, push_two};
 use crate::status::Status;
@@ -10,7 +11,8 @@ use std::alloc::Global;
 use text_fields::push_bytes;
 
 fn push_named(text: &mut Vec<u8>, front: &[u8], words: &[u8]) -> Result<(), OutOfMemory>
-    ensures { OnOk result (text.new.items ≡ text.old.items ++ (front.now ++ (words.now ++ codes "\n"))) }
+    ensures ok { OnOk result (text.new.items ≡ text.old.items ++ (front.now ++ (words.now ++ codes "\n"))) }
+    ensures kept { Keeps text.old.items text.new.items }
 {
     push_bytes(text, front)?;
     push_bytes(text, words)?;
@@ -18,7 +20,8 @@ fn push_named(text: &mut Vec<u8>, front: &[u8], words: &[u8]) -> Result<(), OutO
 }
 
 fn push_config(alloc: Global, text: &mut Vec<u8>, error: ConfigError) -> Result<(), OutOfMemory>
-    ensures { OnOk result (text.new.items ≡ text.old.items ++ fault_line (Status.BadConfig error)) }
+    ensures ok { OnOk result (text.new.items ≡ text.old.items ++ fault_line (Status.BadConfig error)) }
+    ensures kept { Keeps text.old.items text.new.items }
 {
     match error.words(alloc) {
         Ok(words) => push_named(text, b"fault config ", words.as_bytes()),
@@ -26,9 +29,10 @@ fn push_config(alloc: Global, text: &mut Vec<u8>, error: ConfigError) -> Result<
     }
 }
 
-/// The line that names a status, where it has one. At want of memory a front of it may be written.
+/// Appends the line that names a status, where it has one. At want of memory a front of it may be written.
 pub fn push_fault(alloc: Global, text: &mut Vec<u8>, status: Status) -> Result<(), OutOfMemory>
-    ensures { OnOk result (text.new.items ≡ text.old.items ++ fault_line status) }
+    ensures ok { OnOk result (text.new.items ≡ text.old.items ++ fault_line status) }
+    ensures kept { Keeps text.old.items text.new.items }
 {
     match status {
         Status::Ok | Status::OutOfMemory | Status::WriteFault | Status::Left(_) => Ok(()),
