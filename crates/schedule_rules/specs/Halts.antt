@@ -1,5 +1,5 @@
 -- Where a run over the lines of a source halts, and what is written then.
-use Rattle.std.specs.Prelude.{◌≡◌, ◌⊎◌, ℕ, List, [], ◌++◌, Option, Some, None, Result, Ok, Err}
+use Rattle.std.specs.Prelude.{◌≡◌, ◌⊎◌, ℕ, List, [], ◌++◌, length, nat_lt, if◌then◌else◌, Option, Some, None, Result, Ok, Err}
 use Rattle.edge_io.specs.Edge.{Grew, GrewByFront}
 use Rattle.edge_io.specs.declared.refusal.EdgeRefusal.{EdgeRefusal}
 use Rattle.fabric_terms.specs.declared.config.FabricConfig.{FabricConfig}
@@ -37,6 +37,15 @@ HaltsAt t (Err halt.SinkFailed) j left old new text = GrewByFront old new (lines
 abbrev pub Sends : Result (Unit {0}) EdgeRefusal → Option (List ℕ) → Option (List ℕ) → List ℕ → List ℕ → Type 0
 Sends (Ok u) old new text rest = Wrote old new rest text
 Sends (Err refusal) old new text rest = GrewByFront old new text
+
+-- with so many bytes or more a text is full, and is written
+abbrev pub full : ℕ
+full = 65536
+
+-- what waits once a full text was written: a short one waits on, and one that the sink refuses is left as it was
+abbrev pub rest_after : Result (Unit {0}) EdgeRefusal → List ℕ → List ℕ
+rest_after (Ok u) text = if nat_lt (length text) full then text else []
+rest_after (Err refusal) text = text
 
 -- what waited and the line of a status were written, with that status, or a front of them
 abbrev pub WroteFault : Status → List ℕ → Status → Option (List ℕ) → Option (List ℕ) → ℕ → ℕ → Type 0
