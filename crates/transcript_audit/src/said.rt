@@ -92,7 +92,7 @@ fn fill(bytes: &[u8], clocks: &mut Vec<(Who, u64)>) -> Result<(), LineRefusal>
 }
 
 /// The LINE of a group's first line, whose clocks are put into the list. BadLine comes exactly where the bytes are no
-/// such line.
+/// such line. At a refusal the list may be as it was, empty or half filled.
 #[tactic(auto, unfolding(crate::specs::Said::shown_of))]
 pub fn read_clocks(line: &[u8], clocks: &mut Vec<(Who, u64)>) -> Result<u64, LineRefusal>
     ensures { Reads (λ n. (n, clocks.new.items)) result (shown_of line.now) }
