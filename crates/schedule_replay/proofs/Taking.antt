@@ -11,7 +11,7 @@ use Rattle.ring_world.specs.declared.world.EventRefusal.TheVariants.{NoSuch, Dri
 use Rattle.ring_world.specs.declared.world.World.{World}
 use Rattle.world_rules.specs.Runs.{History}
 use Rattle.world_rules.specs.Schedules.{keeps_bound}
-use Rattle.schedule_rules.specs.Follows.{Follows, Known}
+use Rattle.schedule_rules.specs.Follows.{At, Follows, Known}
 use Rattle.schedule_rules.specs.Schedule.{Accepted, refusal_at, run_verdict, unless_there}
 use Rattle.schedule_rules.specs.Telling.{Telling}
 
@@ -23,16 +23,16 @@ pub took_event : (t : Telling) (c : FabricConfig) (h : History) (n : ℕ) (e : E
 took_event t c h n e acted a knows old new takes known is =
     subst (λ v. Follows t c h n v None a knows old new) (sym (accepts c h n e takes.accepted)) (refl, (takes.stands, known), is)
 
-pub refused_event : (t : Telling) (c : FabricConfig) (h : History) (n : ℕ) (e : Event) (refusal : EventRefusal) (r : Refusal) (a : World) (knows : Known) (text : List ℕ) → Refuses refusal c h e → refusal_at refusal n ≡ Some r → Follows t c h n (run_verdict c (ruled c h) (length h) n e) (Some r) a knows text text
-refused_event t c h n e NoSuch r a knows text refuses is =
+pub refused_event : (t : Telling) (c : FabricConfig) (h : History) (n : ℕ) (e : Event) (refusal : EventRefusal) (r : Refusal) (a : World) (knows : Known) (text : List ℕ) → Refuses refusal c h e → refusal_at refusal n ≡ Some r → At a knows c h → Follows t c h n (run_verdict c (ruled c h) (length h) n e) (Some r) a knows text text
+refused_event t c h n e NoSuch r a knows text refuses is at =
     let there : Bool → Bool → Bool → Type 0 = λ b k m. Follows t c h n (unless_there n e b k m) (Some r) a knows text text in
-    subst (λ (b : Bool). there b (keeps_bound c (ruled c h) e) (has_room (ruled c h) (length h) e)) (sym refuses) (sym is, refl)
-refused_event t c h n e (DriftBroken broken) r a knows text refuses is =
-    let there : Bool → Bool → Bool → Type 0 = λ b k m. Follows t c h n (unless_there n e b k m) (Some r) a knows text text in
-    subst (λ (b : Bool). there b (keeps_bound c (ruled c h) e) (has_room (ruled c h) (length h) e)) (sym refuses.0)
-    (subst (λ (k : Bool). there true k (has_room (ruled c h) (length h) e)) (sym refuses.1) (sym is, refl))
-refused_event t c h n e TooLarge r a knows text refuses is =
+    subst (λ (b : Bool). there b (keeps_bound c (ruled c h) e) (has_room (ruled c h) (length h) e)) (sym refuses) (sym is, at, refl)
+refused_event t c h n e (DriftBroken broken) r a knows text refuses is at =
     let there : Bool → Bool → Bool → Type 0 = λ b k m. Follows t c h n (unless_there n e b k m) (Some r) a knows text text in
     subst (λ (b : Bool). there b (keeps_bound c (ruled c h) e) (has_room (ruled c h) (length h) e)) (sym refuses.0)
-    (subst (λ (k : Bool). there true k (has_room (ruled c h) (length h) e)) (sym refuses.1) (subst (λ (m : Bool). there true true m) (sym refuses.2) (sym is, refl)))
-refused_event t c h n e OutOfMemory r a knows text refuses is = let no : ⊥ = cc in absurd no
+    (subst (λ (k : Bool). there true k (has_room (ruled c h) (length h) e)) (sym refuses.1) (sym is, at, refl))
+refused_event t c h n e TooLarge r a knows text refuses is at =
+    let there : Bool → Bool → Bool → Type 0 = λ b k m. Follows t c h n (unless_there n e b k m) (Some r) a knows text text in
+    subst (λ (b : Bool). there b (keeps_bound c (ruled c h) e) (has_room (ruled c h) (length h) e)) (sym refuses.0)
+    (subst (λ (k : Bool). there true k (has_room (ruled c h) (length h) e)) (sym refuses.1) (subst (λ (m : Bool). there true true m) (sym refuses.2) (sym is, at, refl)))
+refused_event t c h n e OutOfMemory r a knows text refuses is at = let no : ⊥ = cc in absurd no

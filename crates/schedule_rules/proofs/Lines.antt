@@ -45,7 +45,7 @@ refused t c h n line refusal a knows old new follows = by_verdict (line_verdict 
     by_verdict : (v : Verdict) → Follows t c h n v (Some refusal) a knows old new → ((ls : List (List ℕ)) → judge_from c h n (line ∷ ls) ≡ judge_on c h n ls v) → (new ≡ old) × ((ls : List (List ℕ)) → judge_from c h n (line ∷ ls) ≡ judged_at c h (Some refusal))
     by_verdict Ignored f j = let z : Some refusal ≡ None = f.0 in cc
     by_verdict (Accepted e) f j = let z : Some refusal ≡ None = f.0 in cc
-    by_verdict (Refused other) f j = let same : other ≡ refusal = cc in (f.1, λ ls. j ls ∙ ap (λ r. judged_at c h (Some r)) same)
+    by_verdict (Refused other) f j = let same : other ≡ refusal = cc in (f.2, λ ls. j ls ∙ ap (λ r. judged_at c h (Some r)) same)
 
 long_line : (c : FabricConfig) (w : RuledWorld fabric) (events n : ℕ) (line : List ℕ) → most_line < length line → line_verdict c w events n line ≡ Refused (TooLarge n)
 unfolding line_verdict

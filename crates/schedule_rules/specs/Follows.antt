@@ -20,11 +20,11 @@ Known = FabricConfig → History → Type 0
 abbrev pub At : World → Known → FabricConfig → History → Type 0
 At a knows c h = StandsFor a c h × knows c h
 
--- a line of this verdict was done, and the text has what is told of it
+-- a line of this verdict was done, and the text has what is told of it; one that is refused changes nothing
 abbrev pub Follows : Telling → FabricConfig → History → ℕ → Verdict → Option Refusal → World → Known → List ℕ → List ℕ → Type 0
 Follows t c h n Ignored refused a knows old new = (refused ≡ None) × At a knows c h × (new ≡ old)
 Follows t c h n (Accepted e) refused a knows old new = (refused ≡ None) × At a knows c ((n, e) ∷ h) × (new ≡ old ++ t.told c ((n, e) ∷ h))
-Follows t c h n (Refused refusal) refused a knows old new = (refused ≡ Some refusal) × (new ≡ old)
+Follows t c h n (Refused refusal) refused a knows old new = (refused ≡ Some refusal) × At a knows c h × (new ≡ old)
 
 -- Where the source tells: the lines from number n on behind the history h lead to the same judgement as those from number m
 -- on behind k. What stands in the reader comes before what the source has left.

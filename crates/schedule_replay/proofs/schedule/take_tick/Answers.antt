@@ -12,4 +12,4 @@ returns-in_ok-tell-in-Ok g c config h at =
 
 pub returns-in_ok-refusal_of-in-Err : goal.returns-in_ok-refusal_of-in-Err
 returns-in_ok-refusal_of-in-Err g c config h at =
-    refused_event g.T.Teller.telling config h c.args.number (Tick c.args.advance c.args.readings.now) c.in-Err.refusal c.in_ok-refusal_of-in-Err.field-0 c.tick.new.self (g.T.Teller.knows c.args.teller.now) c.args.text.now.items (c.in-Err.ensures.answers config h at.0).refused c.in_ok-refusal_of-in-Err.ensures.ok
+    refused_event g.T.Teller.telling config h c.args.number (Tick c.args.advance c.args.readings.now) c.in-Err.refusal c.in_ok-refusal_of-in-Err.field-0 c.tick.new.self (g.T.Teller.knows c.args.teller.now) c.args.text.now.items (c.in-Err.ensures.answers config h at.0).refused c.in_ok-refusal_of-in-Err.ensures.ok ((c.in-Err.ensures.answers config h at.0).stands, at.1)
