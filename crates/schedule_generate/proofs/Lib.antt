@@ -16,3 +16,4 @@ pub mod Joined
 pub mod Turning
 pub mod Frames
 pub mod Counting
+pub mod Summing
