@@ -2,7 +2,6 @@
 ghost use Rattle.std.specs.Prelude.{◌≡◌, ◌≤◌, ◌+◌, ◌^◌, ℕ, List, [], Err, OnOk};
 ghost use Rattle.edge_io.specs.Edge.{HasRisen};
 ghost use Rattle.fabric_status.specs.Writes.{Wrote};
-ghost use Rattle.schedule_rules.specs.Halts.{WroteFault};
 ghost use Rattle.schedule_generate.specs.Course.{Course, is_full, round_unless, rounds};
 ghost use Rattle.schedule_generate.specs.Goes.{At, IsAt, IsSettled, Made, Rounded, WentAll};
 ghost use Rattle.schedule_generate.specs.Laws.{judged_of};
@@ -16,8 +15,8 @@ use crate::listener::Listener;
 use crate::moves::Move;
 use crate::opening::opening_moves;
 use edge_io::{EdgeRefusal, Sink};
-use fabric_status::{Status, push_fault, write_last};
-use schedule_rules::send_full;
+use fabric_status::{Status, write_last};
+use schedule_rules::{send_full, write_fault};
 use std::alloc::Global;
 
 /// Goes one more round, unless none may begin, and writes what waits where it is long.
@@ -119,16 +118,6 @@ fn make<L: Listener, K: Sink>(
     match listener.end(&generator.world, text) {
         Ok(()) => Ok(()),
         Err(_) => Err(Halt::OutOfMemory),
-    }
-}
-
-/// Writes what waits and the line of this status, and gives it.
-fn write_fault<K: Sink>(alloc: Global, sink: &mut K, text: &mut Vec<u8>, status: Status) -> Status
-    ensures { WroteFault status text.old.items result (K.held sink.old) (K.held sink.new) (K.faults sink.old) (K.faults sink.new) }
-{
-    match push_fault(alloc, text, status) {
-        Ok(()) => write_last(sink, text, status),
-        Err(_) => Status::OutOfMemory,
     }
 }
 

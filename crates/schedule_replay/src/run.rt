@@ -7,7 +7,7 @@ ghost use Rattle.ring_world.specs.Answers.{IsWorld};
 ghost use Rattle.line_format.specs.Lines.{lines_of};
 ghost use Rattle.schedule_rules.specs.Endings.{EndsSo};
 ghost use Rattle.schedule_rules.specs.Follows.{At, TakesNext};
-ghost use Rattle.schedule_rules.specs.Halts.{EndsLines, HaltsAt, WroteFault};
+ghost use Rattle.schedule_rules.specs.Halts.{EndsLines, HaltsAt};
 ghost use Rattle.schedule_rules.specs.Schedule.{judge, judge_from};
 ghost use Rattle.schedule_rules.specs.Telling.{IsTold, lines_judged};
 ghost use Rattle.world_rules.specs.Runs.{History};
@@ -16,11 +16,11 @@ use crate::schedule::take_line;
 use crate::teller::Teller;
 use edge_io::{EdgeRefusal, Sink, Source};
 use fabric_config::{ConfigError, read_config};
-use fabric_status::{Refusal, Status, push_fault, write_last};
+use fabric_status::{Refusal, Status, write_last};
 use fabric_terms::FabricConfig;
 use ring_world::World;
 use sched_text::TickReadings;
-use schedule_rules::{Halt, send_full};
+use schedule_rules::{Halt, send_full, write_fault};
 use source_lines::{LineReader, MOST_FIRST_LINE, MOST_LINE, Taken};
 use std::alloc::Global;
 
@@ -145,16 +145,6 @@ fn take_all<T: Teller, S: Source, K: Sink>(
             Err(ConfigError::OutOfMemory) => Err(Halt::OutOfMemory),
             Err(error) => Err(Halt::Refused(Refusal::BadConfig(error))),
         },
-    }
-}
-
-/// Writes what waits and the line of this status, and gives it.
-fn write_fault<K: Sink>(alloc: Global, sink: &mut K, text: &mut Vec<u8>, status: Status) -> Status
-    ensures { WroteFault status text.old.items result (K.held sink.old) (K.held sink.new) (K.faults sink.old) (K.faults sink.new) }
-{
-    match push_fault(alloc, text, status) {
-        Ok(()) => write_last(sink, text, status),
-        Err(_) => Status::OutOfMemory,
     }
 }
 

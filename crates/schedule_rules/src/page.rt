@@ -1,9 +1,11 @@
 // The text that waits for the sink.
 ghost use Rattle.std.specs.Prelude.{◌≡◌, ◌<◌, length, IsOk};
 ghost use Rattle.edge_io.specs.Edge.{HasCauseOf};
-ghost use Rattle.schedule_rules.specs.Halts.{Sends, full, rest_after};
+ghost use Rattle.schedule_rules.specs.Halts.{Sends, WroteFault, full, rest_after};
 
 use edge_io::{EdgeRefusal, Sink, write_all};
+use fabric_status::{Status, push_fault, write_last};
+use std::alloc::Global;
 
 /// With so many bytes or more the text is written to the sink.
 const FULL: usize = 65_536;
@@ -22,4 +24,20 @@ pub fn send_full<K: Sink>(sink: &mut K, text: &mut Vec<u8>) -> Result<(), EdgeRe
     write_all(sink, text)?;
     text.clear();
     Ok(())
+}
+
+/// Writes the text and behind it the line that names this status, and gives the status where all of it is written; else
+/// `WriteFault`, and the sink has a front of it, or `OutOfMemory`, and the sink has a front of it, or nothing more.
+pub fn write_fault<K: Sink>(
+    alloc: Global,
+    sink: &mut K,
+    text: &mut Vec<u8>,
+    status: Status,
+) -> Status
+    ensures { WroteFault status text.old.items result (K.held sink.old) (K.held sink.new) (K.faults sink.old) (K.faults sink.new) }
+{
+    match push_fault(alloc, text, status) {
+        Ok(()) => write_last(sink, text, status),
+        Err(_) => Status::OutOfMemory,
+    }
 }
