@@ -3,6 +3,7 @@ ghost use Rattle.fabric_terms.specs.declared.config.FabricConfig.{FabricConfig a
 ghost use Rattle.fabric_terms.specs.declared.event.Event.{Event};
 ghost use Rattle.ring_world.specs.Answers.{StandsFor, Takes};
 ghost use Rattle.schedule_rules.specs.Telling.{Telling};
+ghost use Rattle.text_fields.specs.Texts.{Keeps};
 ghost use Rattle.world_rules.specs.Runs.{History};
 
 use fabric_terms::OutOfMemory;
@@ -30,9 +31,11 @@ pub trait Teller {
         acted: &Option<Acted>,
         text: &mut Vec<u8>,
     ) -> Result<(), OutOfMemory>
-        ensures { (c : Configuration) (h : History) (e : Event) → knows self.old c h → Takes world.now c h line e acted.now → OnOk result (knows self.new c ((line, e) ∷ h) × (text.new.items ≡ text.old.items ++ telling.told c ((line, e) ∷ h))) };
+        ensures told { (c : Configuration) (h : History) (e : Event) → knows self.old c h → Takes world.now c h line e acted.now → OnOk result (knows self.new c ((line, e) ∷ h) × (text.new.items ≡ text.old.items ++ telling.told c ((line, e) ∷ h))) }
+        ensures kept { Keeps text.old.items text.new.items };
 
     /// Appends the ending of a good schedule. At want of memory a front of it may be written.
     fn end(&self, world: &World, text: &mut Vec<u8>) -> Result<(), OutOfMemory>
-        ensures { (c : Configuration) (h : History) → knows self.now c h → StandsFor world.now c h → OnOk result ((ending : List ℕ) × (telling.ends c h ending) × (text.new.items ≡ text.old.items ++ ending)) };
+        ensures ended { (c : Configuration) (h : History) → knows self.now c h → StandsFor world.now c h → OnOk result ((ending : List ℕ) × (telling.ends c h ending) × (text.new.items ≡ text.old.items ++ ending)) }
+        ensures kept { (c : Configuration) (h : History) → knows self.now c h → StandsFor world.now c h → Keeps text.old.items text.new.items };
 }

@@ -5,7 +5,7 @@ pub returns-in_ok-tell-in-Ok : goal.returns-in_ok-tell-in-Ok
 returns-in_ok-tell-in-Ok g c config h at =
     let e = c.args.event.now in
     let takes = c.in-Ok.ensures config h at.0 in
-    let told = c.in_ok-tell-in-Ok.ensures config h e at.1 takes in
+    let told = c.in_ok-tell-in-Ok.ensures.told config h e at.1 takes in
     took_event g.T.Teller.telling config h c.args.number e c.in-Ok.acted c.apply.new.self (g.T.Teller.knows c.tell.new.self) c.args.text.now.items c.tell.new.text.items takes told.0 told.1
 
 pub returns-in_ok-refusal_of-in-Err : goal.returns-in_ok-refusal_of-in-Err

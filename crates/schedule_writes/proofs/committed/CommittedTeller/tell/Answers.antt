@@ -6,13 +6,13 @@ use Rattle.schedule_writes.proofs.Feeding.{has_more, has_still, may_feed}
 use Rattle.schedule_writes.proofs.Words.{on_ok}
 use Rattle.schedule_writes.proofs.committed.CommittedTeller.tell.Goals as goal
 
-pub returns-in-None : goal.returns-in-None
-returns-in-None c config h e known takes =
+pub returns-in-None-clause-told : goal.returns-in-None-clause-told
+returns-in-None-clause-told c config h e known takes =
     let took : Takes c.args.world.now config h c.args._line e None = subst (λ (o : Option Acted). Takes c.args.world.now config h c.args._line e o) c.in-None.is takes in
     (has_still c.args.world.now config h c.args._line e c.args.self.now.book took known, sym (append-nil c.args._text.now.items))
 
-pub returns-in-Some : goal.returns-in-Some
-returns-in-Some c config h e known takes =
+pub returns-in-Some-clause-told : goal.returns-in-Some-clause-told
+returns-in-Some-clause-told c config h e known takes =
     let acted = c.in-Some.acted in
     let took : Takes c.args.world.now config h c.args._line e (Some acted) = subst (λ (o : Option Acted). Takes c.args.world.now config h c.args._line e o) c.in-Some.is takes in
     on_ok c.feed.result _ _
