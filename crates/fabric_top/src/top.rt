@@ -16,8 +16,9 @@ use std::alloc::Global;
 
 /// All that the program does: the words say what.
 ///
-/// `replay` reads a schedule from the source, to its end, and writes its report to the sink; `writes` writes the committed
-/// logs of its run. `generate` writes the schedule that its words make, `drill` the numbers of its run; neither reads. `node`,
+/// `replay` reads a schedule from the source, to its end, and writes its report to the sink; `trace` writes its transcript,
+/// and `writes` the committed logs of its run. `audit` reads a transcript and writes the verdict on the run that it is.
+/// `generate` writes the schedule that its words make, `drill` the numbers of its run; neither reads. `node`,
 /// `arbiter` and `cluster` read a configuration and commands from the source, to its end, and then run the actors that the
 /// words name, over the links, the keeper and the clock. Words that are none of the forms are Usage, and nothing is read.
 pub fn fabric_main<S: Source, K: Sink, N: Links, D: Keeper, C: Clock>(

@@ -4,7 +4,8 @@
 //! event: the world takes each event before it is written. The crate stands on the world of a schedule and on the judging
 //! of schedules. It promises that the text is the one that the definition gives for the seed, that a run of the text
 //! takes and refuses what was taken and refused here, and that the numbers of the summary are those of its run. Nothing
-//! is read. The text of a round waits in memory, and goes to the sink behind it.
+//! is read. What is written waits in memory, and goes to the sink behind a round where 65,536 bytes or more wait then, and
+//! at the end.
 #![tactic(auto)]
 
 mod course;

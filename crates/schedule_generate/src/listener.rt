@@ -20,7 +20,7 @@ pub trait Listener {
     /// Whether it stands for these events of so many nodes.
     ghost knows: { Self → ℕ → History → Type 0 };
 
-    /// Appends what stands before all events. At want of memory a front of it may be written, here as below.
+    /// Appends what stands before all events. At want of memory nothing is said of the text, here as below.
     fn begin(&self, nodes: u16, text: &mut Vec<u8>) -> Result<(), OutOfMemory>
         requires some { 1 ≤ nodes }
         requires few { nodes ≤ 16 }

@@ -51,7 +51,8 @@ impl LineReader {
         })
     }
 
-    /// The line that was taken last, without its line feed.
+    /// The line that was taken last, without its line feed. Where the last `next` took none (`End`, `TooLong` or `Failed`) it
+    /// is no line, and may be empty.
     pub fn line(&self) -> &[u8]
         ensures { result.now ≡ self.now.line }
     {
