@@ -12,6 +12,7 @@ ghost use Rattle.turn_rules.specs.Whole.{setting};
 use crate::act::act;
 use crate::plan::Plan;
 use crate::run::Run;
+use edge_io::DATAGRAM_BYTES;
 use fabric_terms::{Body, Message};
 use outside::Outside;
 use ring_node::Input;
@@ -74,7 +75,7 @@ fn hear_one<O: Outside>(
     run: &mut Run,
     turn: u64,
     place: usize,
-    buffer: &mut [u8; 1500],
+    buffer: &mut [u8; DATAGRAM_BYTES],
 ) -> Result<bool, Stop>
     requires place { place < length run.old.members }
     requires ready { IsReady plan.now run.old (O.told outside.old) }
@@ -101,7 +102,7 @@ pub(crate) fn hear<O: Outside>(
     run: &mut Run,
     turn: u64,
     place: usize,
-    buffer: &mut [u8; 1500],
+    buffer: &mut [u8; DATAGRAM_BYTES],
 ) -> Result<(), Stop>
     requires place { place < length run.old.members }
     requires ready { IsReady plan.now run.old (O.told outside.old) }

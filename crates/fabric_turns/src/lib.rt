@@ -20,5 +20,4 @@ mod turns;
 mod whole;
 
 pub use plan::Plan;
-pub use turn_rules::{Order, Stop};
 pub use whole::run_on;

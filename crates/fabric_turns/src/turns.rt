@@ -15,6 +15,7 @@ use crate::clock::read_clock;
 use crate::hears::hear;
 use crate::plan::Plan;
 use crate::run::Run;
+use edge_io::DATAGRAM_BYTES;
 use outside::Outside;
 use ring_node::Input;
 use std::alloc::Global;
@@ -46,7 +47,7 @@ fn node_turn<O: Outside>(
     run: &mut Run,
     turn: u64,
     place: usize,
-    buffer: &mut [u8; 1500],
+    buffer: &mut [u8; DATAGRAM_BYTES],
 ) -> Result<(), Stop>
     requires place { place < length run.old.members }
     requires ready { IsReady plan.now run.old (O.told outside.old) }
@@ -70,7 +71,7 @@ fn take_turn<O: Outside>(
     run: &mut Run,
     turn: u64,
     place: usize,
-    buffer: &mut [u8; 1500],
+    buffer: &mut [u8; DATAGRAM_BYTES],
 ) -> Result<(), Stop>
     requires place { place < length run.old.members }
     requires ready { IsReady plan.now run.old (O.told outside.old) }
@@ -94,7 +95,7 @@ fn turn_all<O: Outside>(
     plan: &Plan,
     run: &mut Run,
     turn: u64,
-    buffer: &mut [u8; 1500],
+    buffer: &mut [u8; DATAGRAM_BYTES],
 ) -> Result<(), Stop>
     requires all { length run.old.members ≡ length plan.now.actors }
     requires ready { IsReady plan.now run.old (O.told outside.old) }
@@ -120,7 +121,7 @@ pub(crate) fn take_turns<O: Outside>(
     requires ready { IsReady plan.now run.old (O.told outside.old) }
     ensures done { (kept : List (List Record)) → Goes (setting plan.now kept) (O.told outside.old) run.old (arrive plan.now 1 0) (O.told outside.new) run.new (arrive plan.now (plan.now.turns + 1) 0) result }
 {
-    let mut buffer = [0u8; 1500];
+    let mut buffer = [0u8; DATAGRAM_BYTES];
     for turn in 0..plan.turns() {
         turn_all(outside, alloc, plan, run, turn + 1, &mut buffer)?;
     }

@@ -19,6 +19,5 @@ mod transcript;
 pub use ending::push_end;
 pub use reports::replay;
 pub use run::run_schedule;
-pub use schedule_rules::{accepted_is_valid, one_output};
 pub use teller::Teller;
 pub use transcript::trace;
