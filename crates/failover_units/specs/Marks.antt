@@ -1,12 +1,8 @@
 -- Masks that mark partitions.
-use Rattle.std.specs.Prelude.{◌≡◌, ℕ, ◌*◌, ◌/◌, ◌%◌, ◌<◌, ◌≤◌, ◌↔◌, List, length, slice_index, IsTrue}
-use Rattle.std.specs.Int.{bit_at}
+use Rattle.std.specs.Prelude.{◌≡◌, ℕ, ◌*◌, ◌<◌, ◌≤◌, ◌↔◌, List, length, slice_index, IsTrue}
+use Rattle.lane_scan.specs.Masks.{bit_of}
 use Rattle.ring_points.specs.declared.interval.Interval.{Interval}
 use Rattle.failover_units.specs.Units.{point_of, is_in}
-
--- bit number i of the mask
-abbrev pub bit_of : List ℕ → ℕ → ℕ
-bit_of mask i = bit_at (slice_index mask (i / 64)) (i % 64)
 
 -- the mask has a bit for each partition, and it is 1 for those whose points are in the range
 pub record Marks (range : Interval) (partitions mask : List ℕ) : Type 0 where

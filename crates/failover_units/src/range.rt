@@ -1,9 +1,8 @@
-ghost use Rattle.std.specs.Prelude.{◌≡◌, ◌*◌, ◌/◌, ◌%◌, ◌<◌, ◌≤◌, ◌^◌, ◌↔◌, length, map, slice_index, IfOk, IsTrue};
-ghost use Rattle.std.specs.Int.{bit_at};
+ghost use Rattle.std.specs.Prelude.{◌≡◌, map, IfOk};
 ghost use Rattle.failover_units.specs.Units.{point_of, among};
 ghost use Rattle.failover_units.specs.Marks.{Marks};
 
-use lane_scan::mask_in;
+use lane_scan::{is_marked, mask_in};
 use ring_points::Interval;
 use std::alloc::{AllocError, Global};
 
@@ -22,14 +21,6 @@ fn points_of(alloc: Global, partitions: &[u16]) -> Result<Vec<u64>, AllocError>
         points.push(point_of(*partition))?;
     }
     Ok(points)
-}
-
-/// Whether bit number `i` of the mask is 1, counted from the lowest bit of the first word.
-fn is_marked(mask: &[u64], i: usize) -> bool
-    requires { i < 64 * length mask.now }
-    ensures { IsTrue result ↔ (bit_at (slice_index mask.now (i / 64)) (i % 64) ≡ 1) }
-{
-    mask[i / 64] >> (i % 64) & 1 == 1
 }
 
 /// A mask that marks the partitions whose points are in the range.

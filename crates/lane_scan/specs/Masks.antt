@@ -1,6 +1,11 @@
 -- Which points of a list are in a range.
-use Rattle.std.specs.Prelude.{ℕ, ◌<◌, ◌≤◌, Bool, ◌&&◌, List, length, slice_index, map, nat_le}
+use Rattle.std.specs.Prelude.{ℕ, ◌/◌, ◌%◌, ◌<◌, ◌≤◌, Bool, ◌&&◌, List, length, slice_index, map, nat_le}
+use Rattle.std.specs.Int.{bit_at}
 use Rattle.std.specs.Simd.Lanes.{mask_l}
+
+-- bit number i of the mask
+abbrev pub bit_of : List ℕ → ℕ → ℕ
+bit_of mask i = bit_at (slice_index mask (i / 64)) (i % 64)
 
 -- the point at this place is there, and from lo to hi
 pub record IsIn (lo hi : ℕ) (points : List ℕ) (i : ℕ) : Type 0 where

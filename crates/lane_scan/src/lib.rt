@@ -12,5 +12,5 @@ mod near;
 mod span;
 
 pub use laws::no_other_is_nearer;
-pub use mask::mask_in;
+pub use mask::{is_marked, mask_in};
 pub use near::nearest;

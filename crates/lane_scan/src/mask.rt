@@ -1,7 +1,6 @@
-ghost use Rattle.std.specs.Prelude.{◌≡◌, ℕ, ◌+◌, ◌*◌, ◌/◌, ◌%◌, ◌<◌, ◌≤◌, ◌↔◌, length, slice_index};
-ghost use Rattle.std.specs.Int.{bit_at};
+ghost use Rattle.std.specs.Prelude.{◌≡◌, ℕ, ◌+◌, ◌*◌, ◌==◌, ◌<◌, ◌≤◌, ◌↔◌, length};
 ghost use Rattle.std.specs.Simd.Lanes.{chunk};
-ghost use Rattle.lane_scan.specs.Masks.{IsIn, is_between, mask_of};
+ghost use Rattle.lane_scan.specs.Masks.{IsIn, bit_of, is_between, mask_of};
 
 use std::simd::prelude::*;
 
@@ -45,7 +44,7 @@ fn mask_word(points: &[u64], lo: u64, hi: u64) -> u64
 pub fn mask_in(points: &[u64], lo: u64, hi: u64, out: &mut [u64])
     requires { length points.now ≤ 64 * length out.old }
     ensures { (i : ℕ) → i < 64 * length out.new →
-        (bit_at (slice_index out.new (i / 64)) (i % 64) ≡ 1) ↔ IsIn lo hi points.now i }
+        (bit_of out.new i ≡ 1) ↔ IsIn lo hi points.now i }
 {
     let mut rest = points;
     for word in out.iter_mut() {
@@ -53,4 +52,12 @@ pub fn mask_in(points: &[u64], lo: u64, hi: u64, out: &mut [u64])
         *word = mask_word(these, lo, hi);
         rest = later;
     }
+}
+
+/// Whether bit number `i` of the mask is 1, counted from the lowest bit of the first word.
+pub fn is_marked(mask: &[u64], i: usize) -> bool
+    requires { i < 64 * length mask.now }
+    ensures { result ≡ (bit_of mask.now i == 1) }
+{
+    mask[i / 64] >> (i % 64) & 1 == 1
 }

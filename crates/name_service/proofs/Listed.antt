@@ -3,10 +3,10 @@ use Rattle.std.proofs.Common.{◌≡◌, ◌==◌, ℕ, zero, suc, ◌+◌, ◌-
 use Rattle.std.specs.List.{slice_index, slice_index_or}
 use Rattle.std.proofs.lemmas.Bool.{both_ways, eqb-true}
 use Rattle.std.proofs.lemmas.List.{append-nil, append_assoc, take_all}
-use Rattle.lane_scan.specs.Masks.{is_between}
+use Rattle.lane_scan.specs.Masks.{bit_of, is_between}
 use Rattle.ring_points.specs.declared.interval.Interval.{Interval}
 use Rattle.name_rules.specs.Names.{is_within, point_of}
-use Rattle.name_service.specs.Stores.{Marks, bit_of, marked, name_if}
+use Rattle.name_service.specs.Stores.{Marks, marked, name_if}
 use Rattle.name_rules.proofs.Order.{unless}
 
 pub take-none : {A : Type 0} (xs : List A) → take 0 xs ≡ []

@@ -1,10 +1,9 @@
 -- How the names are stored: by their places, in the order of these.
-use Rattle.std.specs.Prelude.{◌≡◌, ℕ, ◌+◌, ◌*◌, ◌/◌, ◌%◌, ◌==◌, ◌<◌, ◌≤◌, ◌↔◌, IsTrue, Bool, true, false, List, [], ◌∷◌, ◌++◌, length, map, slice_index, Vec}
-use Rattle.std.specs.Int.{bit_at}
+use Rattle.std.specs.Prelude.{◌≡◌, ℕ, ◌+◌, ◌*◌, ◌==◌, ◌<◌, ◌≤◌, ◌↔◌, IsTrue, Bool, true, false, List, [], ◌∷◌, ◌++◌, length, map, slice_index, Vec}
 use Rattle.std.specs.List.{AllByRecursion}
 use Rattle.std.specs.FinMap.{is_sorted}
 use Rattle.std.specs.declared.alloc.Global.{Global}
-use Rattle.lane_scan.specs.Masks.{is_between}
+use Rattle.lane_scan.specs.Masks.{bit_of, is_between}
 use Rattle.ring_points.specs.declared.interval.Interval.{Interval}
 use Rattle.name_rules.specs.Grammar.{is_name}
 use Rattle.name_rules.specs.Names.{name_cmp, point_of}
@@ -42,10 +41,6 @@ AllPlaced stored = AllByRecursion (λ e. IsPlaced e.0) stored
 pub record IsStore (stored : Stored) : Type 0 where
   pub rises : is_sorted name_cmp (rows_of stored) ≡ true
   pub placed : AllPlaced stored
-
--- bit number i of the mask
-abbrev pub bit_of : List ℕ → ℕ → ℕ
-bit_of mask i = bit_at (slice_index mask (i / 64)) (i % 64)
 
 -- the mask has a bit for each point, and it is 1 for those in the range
 pub record Marks (range : Interval) (points mask : List ℕ) : Type 0 where

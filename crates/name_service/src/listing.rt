@@ -1,14 +1,15 @@
 // The first names of a range: the points of a window of rows are asked at once.
 ghost use Rattle.std.specs.Prelude.{◌≡◌, ◌==◌, ◌≤◌, ◌<◌, ◌*◌, ◌++◌, IfOk, OnOk, length, map, take, true};
 ghost use Rattle.name_rules.specs.Grammar.{is_name};
-ghost use Rattle.name_service.specs.Stores.{AllPlaced, Marks, bit_of, marked, name_if, names_in, points_in, rows_of};
+ghost use Rattle.lane_scan.specs.Masks.{bit_of};
+ghost use Rattle.name_service.specs.Stores.{AllPlaced, Marks, marked, name_if, names_in, points_in, rows_of};
 
 use crate::name::Name;
 use crate::names::MOST_LISTED;
 use crate::place::Place;
 use arrayvec::ArrayVec;
 use fabric_terms::OutOfMemory;
-use lane_scan::mask_in;
+use lane_scan::{is_marked, mask_in};
 use ring_points::Interval;
 use std::alloc::Global;
 use std::collections::btree_map::Range;
@@ -35,14 +36,6 @@ pub(crate) fn mask_of(points: &[u64], range: &Interval) -> [u64; 1]
     let mut mask = [0; 1];
     mask_in(points, range.lo, range.hi, &mut mask);
     mask
-}
-
-/// Whether bit number `i` of the mask is 1, counted from the lowest bit of the first word.
-fn is_marked(mask: &[u64], i: usize) -> bool
-    requires { i < 64 * length mask.now }
-    ensures { result ≡ (bit_of mask.now i == 1) }
-{
-    mask[i / 64] >> (i % 64) & 1 == 1
 }
 
 /// Adds a name, where bit number `i` of the mask is 1.

@@ -1,5 +1,6 @@
 use Rattle.std.proofs.Common.{◌≡◌, ◌==◌, ◌++◌, ◌-◌, arith, take, ap, subst, ◌∙◌}
-use Rattle.name_service.specs.Stores.{AllPlaced, bit_of, marked, name_if, names_in, rows_of}
+use Rattle.lane_scan.specs.Masks.{bit_of}
+use Rattle.name_service.specs.Stores.{AllPlaced, marked, name_if, names_in, rows_of}
 use Rattle.name_service.proofs.Listed.{one_more}
 use Rattle.name_service.proofs.listing.names_marked.Goals as goal
 
