@@ -8,10 +8,10 @@ ghost use Rattle.fabric_terms.specs.Messages.{is_sound};
 
 use crate::node::RingNode;
 use crate::reports::Reports;
-use crate::up::is_among;
 use drift_clock::MAX_READING;
 use fabric_terms::{Body, Message, Outbox};
 use ring_points::{ARBITRATORS, Point, Who};
+use ring_route::is_among;
 
 fn is_for(me: Who, to: Who) -> bool
     ensures { result ≡ rules.is_for me to }

@@ -48,7 +48,8 @@ pub(crate) fn hear_again(known: &mut [Known], who: Who, now: u64) -> bool
     }
 }
 
-pub(crate) fn is_among(who: Who, whos: &[Who]) -> bool
+/// Whether this instance is one of these.
+pub fn is_among(who: Who, whos: &[Who]) -> bool
     ensures { result ≡ is_among who whos.now }
 {
     whos.iter().any(|other| who.actor == other.actor && who.instance == other.instance)
