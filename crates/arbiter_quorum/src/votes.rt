@@ -1,7 +1,6 @@
 ghost use Rattle.std.specs.Prelude.{◌≡◌, ◌≤◌, ◌==◌, find, length, option_map};
 ghost use Rattle.std.specs.List.{list_any};
 ghost use Rattle.arbiter_quorum.specs.Tallies.{has_answered};
-ghost use Rattle.ring_points.specs.Epochs.{same_epoch};
 ghost use Rattle.arbiter_quorum.specs.Votes.{has_majority, kept_count, may_win, no_votes, one_may_win, same_config, unanswered, vote_noted, vote_verdict_of};
 
 use crate::quorum::{MAX_ARBITRATORS, is_majority};
@@ -52,17 +51,11 @@ impl Model for VoteTally {
     ghost invariant = { λ a. Counted a.arbitrators (pairs a.answers.items) };
 }
 
-fn same_epoch(d: Epoch, e: Epoch) -> bool
-    ensures { result ≡ same_epoch d e }
-{
-    d.data_loss == e.data_loss && d.configuration == e.configuration
-}
-
 fn same_config(c: &Config, d: &Config) -> bool
     ensures { result ≡ same_config c.now d.now }
 {
     c.partition == d.partition
-        && same_epoch(c.epoch, d.epoch)
+        && c.epoch == d.epoch
         && c.primary == d.primary
         && c.members.as_slice() == d.members.as_slice()
 }

@@ -1,7 +1,6 @@
 ghost use Rattle.std.specs.Prelude.{◌≡◌, ◌≤◌, IfOk, length};
 ghost use Rattle.replica_core.specs.Replicas.{same_entry};
 
-use crate::epoch::same_epoch;
 use ring_points::Epoch;
 use std::alloc::{AllocError, Global};
 use std::marker::Model;
@@ -65,7 +64,7 @@ impl Entry {
     pub fn is_same(&self, other: &Entry) -> bool
         ensures { result ≡ same_entry self.now other.now }
     {
-        same_epoch(self.epoch, other.epoch)
+        self.epoch == other.epoch
             && self.lsn == other.lsn
             && self.bytes.as_slice() == other.bytes.as_slice()
     }

@@ -6,7 +6,7 @@ ghost use Rattle.replica_core.specs.Calls.{Answers, admission, promise_call, app
 mod collecting;
 
 use crate::entry::{Entry, EntryBytes};
-use crate::epoch::{first_epoch, is_older, same_epoch};
+use crate::epoch::first_epoch;
 use crate::refusal::{Done, ReplicaRefusal};
 use crate::role::Role;
 use ring_points::{Config, Epoch};
@@ -100,7 +100,7 @@ impl Replica {
     fn admit(&self, e: Epoch) -> Result<(), ReplicaRefusal>
         ensures { result ≡ admission e self.now }
     {
-        if is_older(e, self.promised) {
+        if e < self.promised {
             return Err(ReplicaRefusal::Older(self.promised));
         }
         Ok(())
@@ -111,7 +111,7 @@ impl Replica {
         requires { is_older e self.old.promised ≡ false }
         ensures { self.new ≡ raised e self.old }
     {
-        if is_older(self.promised, e) {
+        if self.promised < e {
             self.role = self.role.demoted();
             self.drop_collected();
         }
@@ -124,7 +124,7 @@ impl Replica {
         ensures { (result, self.new) ≡ promise_call e self.old }
     {
         self.admit(e)?;
-        if same_epoch(self.promised, e) {
+        if self.promised == e {
             return Ok(Done::Held);
         }
         self.raise(e);
@@ -137,7 +137,7 @@ impl Replica {
         ensures { (result, self.new) ≡ idle_call e self.old }
     {
         self.admit(e)?;
-        if same_epoch(self.promised, e) && self.role == Role::IdleSecondary {
+        if self.promised == e && self.role == Role::IdleSecondary {
             return Ok(Done::Held);
         }
         self.raise(e);
@@ -155,7 +155,7 @@ impl Replica {
         if !config.members.as_slice().contains(&me) {
             return Err(ReplicaRefusal::NotMember);
         }
-        if !same_epoch(self.at, config.epoch) {
+        if self.at != config.epoch {
             return Err(ReplicaRefusal::Gap(self.log.len() as u32));
         }
         let role = Role::of_member(me, config);
@@ -173,7 +173,7 @@ impl Replica {
     {
         self.admit(e)?;
         let next = self.log.len() as u32 + 1;
-        if !same_epoch(self.at, e) || next < lsn {
+        if self.at != e || next < lsn {
             return Err(ReplicaRefusal::Gap(next - 1));
         }
         if lsn < next {
@@ -198,7 +198,7 @@ impl Replica {
         ensures { (result, self.new) ≡ adopt_own_call e last self.old }
     {
         self.admit(e)?;
-        if same_epoch(self.at, e) {
+        if self.at == e {
             return Ok(Done::Held);
         }
         if last == 0 {

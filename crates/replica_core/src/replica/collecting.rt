@@ -5,7 +5,6 @@ ghost use Rattle.replica_core.specs.Replicas.{settled, uncollected, collected_in
 ghost use Rattle.replica_core.specs.Calls.{Answers, is_gap, is_collected, adopt_call, adopt_collected_call};
 
 use crate::entry::Entry;
-use crate::epoch::{is_older, same_epoch};
 use crate::refusal::{Done, ReplicaRefusal};
 use crate::replica::Replica;
 use ring_points::Epoch;
@@ -24,7 +23,7 @@ impl Replica {
     fn collected_in(&self, e: Epoch) -> u32
         ensures { result ≡ length (collected_in e self.now) }
     {
-        if is_older(self.promised, e) {
+        if self.promised < e {
             0
         } else {
             self.collected.len() as u32
@@ -35,7 +34,7 @@ impl Replica {
     fn is_collected(&self, e: Epoch, entry: &Entry) -> bool
         ensures { result ≡ is_collected e entry.now self.now }
     {
-        same_epoch(self.promised, e)
+        self.promised == e
             && entry.lsn == 1
             && match self.collected.as_slice() {
                 [only] => entry.is_same(only),
@@ -81,7 +80,7 @@ impl Replica {
         ensures { Answers (adopt_call e entry.now last self.old) self.old self.new result }
     {
         self.admit(e)?;
-        if same_epoch(self.at, e) {
+        if self.at == e {
             return Ok(Done::Held);
         }
         let count = self.collected_in(e);
@@ -106,7 +105,7 @@ impl Replica {
         ensures { (result, self.new) ≡ adopt_collected_call e self.old }
     {
         self.admit(e)?;
-        if same_epoch(self.at, e) {
+        if self.at == e {
             return Ok(Done::Held);
         }
         if self.collected_in(e) == 0 {
