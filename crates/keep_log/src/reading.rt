@@ -11,12 +11,12 @@ ghost use Rattle.keep_log.specs.Taking.{IsTold, Takes, Took, amount_in};
 use crate::item::{Item, item_of};
 use crate::kept::{Kept, Records, Replicas};
 use crate::not_taken::NotTaken;
-use crate::places::{is_above, is_newer};
 use crate::replica_map::ReplicaMap;
 use arbiter_tables::{Registers, Table};
 use fabric_terms::{OutOfMemory, Record};
 use ring_points::{Config, Epoch, Who};
 use std::alloc::Global;
+use unit_rules::{is_above, is_newer};
 
 /// What the records so far amount to, while a list of them is read.
 #[derive(Drop)]

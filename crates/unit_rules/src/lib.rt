@@ -5,7 +5,7 @@
 //! majority. An arbitrator keeps per partition the epoch that it prepared, its votes, and what was done. Each row of a
 //! frame, a command or a firing (docs/step-tables.md) is a definition of its own; all of them together are one value,
 //! `units`, for the rules of the world. Nothing here does anything of the ring. The code of this crate is the values
-//! that the definitions and the layers above share.
+//! that the definitions and the layers above share, and how an epoch compares with what a register holds.
 #![tactic(auto)]
 
 mod above;
@@ -18,4 +18,4 @@ pub use above::Failover;
 pub use laws::{questions_only_tell, registers_are_recorded};
 pub use lead::{Peer, Taking};
 pub use reconfig::{Kind, Next, Standing, Task};
-pub use register::Preparation;
+pub use register::{Preparation, is_above, is_newer};

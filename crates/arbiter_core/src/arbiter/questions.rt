@@ -1,7 +1,7 @@
 //! The questions about a partition: its register answers them.
 
 ghost use Rattle.std.specs.Prelude.{◌≡◌};
-ghost use Rattle.unit_rules.specs.Registers.{done_received, is_above, is_below, is_newer, is_prepared_for, prepare_received, prepared_epoch, register_of, vote_in, vote_received};
+ghost use Rattle.unit_rules.specs.Registers.{done_received, is_below, is_prepared_for, prepare_received, prepared_epoch, register_of, vote_in, vote_received};
 ghost use Rattle.arbiter_core.specs.Arbiters.{Answers, reply_call};
 
 use crate::answer::{Answer, ArbiterError};
@@ -9,17 +9,7 @@ use crate::arbiter::Arbiter;
 use crate::arbiter::rulings::same_who;
 use fabric_terms::Body;
 use ring_points::{Config, Epoch, Who};
-use unit_rules::Preparation;
-
-/// Whether an epoch is above the prepared one. Where nothing was prepared, each is.
-fn is_above(prepared: Option<Preparation>, epoch: Epoch) -> bool
-    ensures { result ≡ is_above prepared epoch }
-{
-    match prepared {
-        None => true,
-        Some(prepared) => prepared.epoch < epoch,
-    }
-}
+use unit_rules::{Preparation, is_above, is_newer};
 
 /// Whether an epoch is below the prepared one. Where nothing was prepared, none is.
 fn is_below(prepared: Option<Preparation>, epoch: Epoch) -> bool
@@ -57,16 +47,6 @@ impl Arbiter {
         ensures { result ≡ (register_of partition self.now.registers).done }
     {
         self.registers.done(partition).map(|done| done.copy())
-    }
-
-    /// Whether a configuration is above the done one of its partition. Where none is done, each is.
-    fn is_newer(&self, config: &Config) -> bool
-        ensures { result ≡ is_newer config.now.epoch (register_of config.now.partition self.now.registers).done }
-    {
-        match self.registers.done(config.partition) {
-            None => true,
-            Some(done) => done.epoch < config.epoch,
-        }
     }
 
     /// A copy of the first vote of an epoch, if there was one.
@@ -173,7 +153,7 @@ impl Arbiter {
         let (partition, epoch) = (config.partition, config.epoch);
         let prepared = self.registers.prepared(partition);
         if !is_below(prepared, epoch) {
-            let kept = if self.is_newer(config) {
+            let kept = if is_newer(epoch, self.registers.done(partition)) {
                 Some(self.keep_done(config)?)
             } else {
                 None
