@@ -1,5 +1,4 @@
 pub mod Polled
 pub mod Asked
 pub mod Voted
-pub mod Rising
 pub mod Chosen

@@ -7,7 +7,6 @@ pub mod Around
 pub mod Given
 pub mod Parted
 pub mod Come
-pub mod Sorting
 pub mod Promised
 pub mod Found
 pub mod Alike
