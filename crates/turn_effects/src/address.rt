@@ -1,14 +1,13 @@
-ghost use Rattle.std.specs.Prelude.{◌≡◌, ◌≤◌, ◌==◌, find, option_map, true, false};
-ghost use Rattle.ring_points.specs.Whos.{arbiter_actor};
-ghost use Rattle.turn_rules.specs.Works.{address_as, address_of};
+ghost use Rattle.std.specs.Prelude.{◌≡◌, ◌==◌, find, option_map};
+ghost use Rattle.turn_rules.specs.Works.{address_of};
 
 use fabric_terms::{Address, FabricConfig, NodeEntry};
 use ring_points::ARBITRATORS;
 
-fn node_entry(nodes: &[NodeEntry], node: u16) -> Option<&NodeEntry>
-    ensures { option_map (λ n. n.now) result ≡ find (λ n. n.node == node) nodes.now }
+fn node_entry(nodes: &[NodeEntry], number: u16) -> Option<&NodeEntry>
+    ensures { option_map (λ e. e.now) result ≡ find (λ e. e.node == number) nodes.now }
 {
-    nodes.iter().find(|n| n.node == node)
+    nodes.iter().find(|e| e.node == number)
 }
 
 fn arbiter_entry(arbiters: &[(u16, Address)], number: u16) -> Option<&(u16, Address)>
@@ -17,22 +16,21 @@ fn arbiter_entry(arbiters: &[(u16, Address)], number: u16) -> Option<&(u16, Addr
     arbiters.iter().find(|a| a.0 == number)
 }
 
-/// Where the node of this number listens, if it is configured.
-fn node_address(config: &FabricConfig, node: u16) -> Option<&str>
-    ensures { option_map (λ at. at.now) result ≡ address_as config.now node false }
+/// Where the node of a number listens, if it is configured.
+pub fn node_address(config: &FabricConfig, number: u16) -> Option<&str>
+    ensures { option_map (λ at. at.now) result ≡ option_map (λ e. e.at) (find (λ e. e.node == number) config.now.nodes) }
 {
-    match node_entry(config.nodes.as_slice(), node) {
+    match node_entry(config.nodes.as_slice(), number) {
         None => None,
         Some(entry) => Some(entry.at.as_str()),
     }
 }
 
-/// Where the arbitrator with this actor's number listens, if it is configured.
-fn arbiter_address(config: &FabricConfig, actor: u16) -> Option<&str>
-    requires { arbiter_actor 0 ≤ actor }
-    ensures { option_map (λ at. at.now) result ≡ address_as config.now actor true }
+/// Where the arbitrator of a number listens, if it is configured.
+pub fn arbiter_address(config: &FabricConfig, number: u16) -> Option<&str>
+    ensures { option_map (λ at. at.now) result ≡ option_map (λ a. a.1) (find (λ a. a.0 == number) config.now.arbiters) }
 {
-    match arbiter_entry(config.arbiters.as_slice(), actor - ARBITRATORS) {
+    match arbiter_entry(config.arbiters.as_slice(), number) {
         None => None,
         Some(entry) => Some(entry.1.as_str()),
     }
@@ -44,7 +42,7 @@ pub(crate) fn address_of(config: &FabricConfig, actor: u16) -> Option<&str>
     ensures { option_map (λ at. at.now) result ≡ address_of config.now actor }
 {
     if actor > ARBITRATORS {
-        arbiter_address(config, actor)
+        arbiter_address(config, actor - ARBITRATORS)
     } else {
         node_address(config, actor)
     }

@@ -1,12 +1,13 @@
 // The actors of a run, in the order of their turns.
-ghost use Rattle.std.specs.Prelude.{◌≡◌, ◌≤◌, ◌==◌, ◌++◌, ◌∷◌, [], IfOk, OnOk, find, option_map};
+ghost use Rattle.std.specs.Prelude.{◌≡◌, ◌≤◌, ◌++◌, ◌∷◌, [], IfOk, OnOk, option_map};
 ghost use Rattle.turn_plans.specs.Crews.{arbiter_at, arbiters_to, endpoints_of, listener, node_at, nodes_to};
 
 use crate::crew::Crew;
 use edge_io::{Endpoint, SocketAddress};
-use fabric_terms::{Address, FabricConfig, NodeEntry, OutOfMemory};
+use fabric_terms::{FabricConfig, OutOfMemory};
 use ring_points::{ARBITRATORS, LAST_NODE};
 use std::alloc::Global;
+use turn_effects::{arbiter_address, node_address};
 
 /// The greatest number of an arbitrator.
 const LAST_ARBITER: u16 = 9;
@@ -23,38 +24,6 @@ fn push_endpoint(
     let at = SocketAddress::new(String::from_str(alloc, at)?);
     into.push(Endpoint { actor, at })?;
     Ok(())
-}
-
-fn node_entry(nodes: &[NodeEntry], number: u16) -> Option<&NodeEntry>
-    ensures { option_map (λ e. e.now) result ≡ find (λ e. e.node == number) nodes.now }
-{
-    nodes.iter().find(|e| e.node == number)
-}
-
-fn arbiter_entry(arbiters: &[(u16, Address)], number: u16) -> Option<&(u16, Address)>
-    ensures { option_map (λ a. a.now) result ≡ find (λ a. a.0 == number) arbiters.now }
-{
-    arbiters.iter().find(|a| a.0 == number)
-}
-
-/// Where the node of a number listens, if it is configured.
-fn node_address(config: &FabricConfig, number: u16) -> Option<&str>
-    ensures { option_map (λ at. at.now) result ≡ option_map (λ e. e.at) (find (λ e. e.node == number) config.now.nodes) }
-{
-    match node_entry(config.nodes.as_slice(), number) {
-        None => None,
-        Some(entry) => Some(entry.at.as_str()),
-    }
-}
-
-/// Where the arbitrator of a number listens, if it is configured.
-fn arbiter_address(config: &FabricConfig, number: u16) -> Option<&str>
-    ensures { option_map (λ at. at.now) result ≡ option_map (λ a. a.1) (find (λ a. a.0 == number) config.now.arbiters) }
-{
-    match arbiter_entry(config.arbiters.as_slice(), number) {
-        None => None,
-        Some(entry) => Some(entry.1.as_str()),
-    }
 }
 
 /// Adds an actor where it has an address.
