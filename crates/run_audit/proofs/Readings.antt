@@ -78,7 +78,7 @@ reading-last (d ∷ cs) c e = by (same_who d.0 c.0) refl (reading-last cs c)
 -- the clocks so far rise to the last
 pub record RiseTo (cs : Clocks) (last : Option Who) : Type 0 where
   pub firsts : EachIsFirst cs
-  pub below : (w : Who) (r : ℕ) → Contains cs (w, r) → (x : Who) → comes_after last x → is_below w x ≡ true
+  pub below : (w : Who) (r : ℕ) → Contains cs (w, r) → (x : Who) → comes_after last x ≡ true → is_below w x ≡ true
 
 pub rise_none : RiseTo [] None
 rise_none = record { firsts = λ w r has. Contains-empty (w, r) has; below = λ w r has x after. Contains-empty (w, r) has }
@@ -86,7 +86,7 @@ rise_none = record { firsts = λ w r has. Contains-empty (w, r) has; below = λ 
 below_chain : (u v w : Who) → is_below u v ≡ true → is_below v w ≡ true → is_below u w ≡ true
 below_chain u v w h k = grind (arith, nat_tests)
 
-rise_push : (cs : Clocks) (last : Option Who) (c : Who × ℕ) → RiseTo cs last → comes_after last c.0 → RiseTo (cs ++ c ∷ []) (Some c.0)
+rise_push : (cs : Clocks) (last : Option Who) (c : Who × ℕ) → RiseTo cs last → comes_after last c.0 ≡ true → RiseTo (cs ++ c ∷ []) (Some c.0)
 rise_push cs last c rise after = record { firsts = firsts; below = below }
   where
     new : reading_of c.0 cs ≡ None
@@ -111,7 +111,7 @@ rise_push cs last c rise after = record { firsts = firsts; below = below }
       | inr e ↦ subst (λ (y : Who × ℕ). is_below y.0 x ≡ true) e above
     ]
 
-pub rise_on : (cs : Clocks) (i : ℕ) (last : Option Who) (c : Who × ℕ) → i < length cs → c ≡ get_or cs i c → RiseTo (take i cs) last → comes_after last c.0 → RiseTo (take (i + 1) cs) (Some c.0)
+pub rise_on : (cs : Clocks) (i : ℕ) (last : Option Who) (c : Who × ℕ) → i < length cs → c ≡ get_or cs i c → RiseTo (take i cs) last → comes_after last c.0 ≡ true → RiseTo (take (i + 1) cs) (Some c.0)
 rise_on cs i last c h is rise after =
     let longer : take (i + 1) cs ≡ take i cs ++ c ∷ [] = take_more cs i c h ∙ ap (λ x. take i cs ++ x ∷ []) (sym is) in
     subst (λ l. RiseTo l (Some c.0)) (sym longer) (rise_push (take i cs) last c rise after)

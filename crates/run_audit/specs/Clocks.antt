@@ -15,9 +15,9 @@ abbrev pub EachIsFirst : Clocks → Type 0
 EachIsFirst clocks = (w : Who) (reading : ℕ) → Contains clocks (w, reading) → reading_of w clocks ≡ Some reading
 
 -- w comes after the last, if there is one
-abbrev pub comes_after : Option Who → Who → Type 0
-comes_after None w = Unit {0}
-comes_after (Some last) w = is_below last w ≡ true
+abbrev pub comes_after : Option Who → Who → Bool
+comes_after None w = true
+comes_after (Some last) w = is_below last w
 
 -- an instance of these clocks with its present reading, which owned this last and is below its fence
 pub record Owns (owners : Owners) (clocks : Clocks) (w : Who) : Type 0 where

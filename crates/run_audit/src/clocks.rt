@@ -16,8 +16,9 @@ pub fn reading_of(who: Who, clocks: &[(Who, u64)]) -> Option<u64>
         .map(|clock| clock.1)
 }
 
-fn comes_after(last: Option<Who>, who: Who) -> bool
-    ensures { OnTrue result (comes_after last who) }
+/// Whether an instance comes after the last, if there is one.
+pub fn comes_after(last: Option<Who>, who: Who) -> bool
+    ensures { result ≡ comes_after last who }
 {
     match last {
         Some(last) => last < who,

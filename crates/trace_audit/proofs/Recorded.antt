@@ -20,13 +20,13 @@ use Rattle.ring_points.specs.declared.who.Who.{Who}
 use Rattle.ring_world.specs.Answers.{is_frame, ruled}
 use Rattle.ring_world.specs.Room.{has_room, is_room, acts, most_time, time_after}
 use Rattle.run_audit.specs.Breaches.{is_below}
+use Rattle.run_audit.specs.Clocks.{comes_after}
 use Rattle.run_facts.proofs.Clocks.{rising}
 use Rattle.run_facts.proofs.Happens.{Cases, by_cases}
 use Rattle.schedule_rules.specs.Laws.{IsValidHistory}
 use Rattle.schedule_rules.specs.Schedule.{judge}
 use Rattle.schedule_rules.proofs.Accepted.{Comes, all_accepted}
 use Rattle.source_lines.specs.Lines.{most_lines}
-use Rattle.transcript_audit.specs.Said.{is_above}
 use Rattle.world_rules.specs.Events.{world_step}
 use Rattle.world_rules.specs.Runs.{History, moment_of, run_of}
 use Rattle.world_rules.specs.Worlds.{Running, World, clocks_in}
@@ -100,7 +100,7 @@ below_next : (v w : Who) → v.actor < w.actor → is_below v w ≡ true
 below_next v w h = let less : nat_lt v.actor w.actor ≡ true = lt-ltb v.actor w.actor h in rw less refl
 
 clocks_rise : (c : FabricConfig) → IsSound c → (low : ℕ) (above : Option Who) (ns : List (ℕ × Running fabric)) → rises_from low ns ≡ true →
-    All (NodeSeen c) ns → All (λ n. IsNumber n.1.reading) ns → ((w : Who) → low ≤ w.actor → is_above above w ≡ true) →
+    All (NodeSeen c) ns → All (λ n. IsNumber n.1.reading) ns → ((w : Who) → low ≤ w.actor → comes_after above w ≡ true) →
     ClocksRise above (map (λ n. (n.1.node.ring.me, n.1.reading)) ns)
 clocks_rise c sound low above [] rise seen reads over = tt
 clocks_rise c sound low above (n ∷ ns) rise seen reads over =

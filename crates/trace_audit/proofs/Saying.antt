@@ -9,6 +9,7 @@ use Rattle.fabric_terms.specs.Ranges.{FitsHead, FitsReport, IsInstance, IsLong}
 use Rattle.fabric_terms.specs.Runs.{Clocks}
 use Rattle.ring_points.specs.declared.who.Who.{Who}
 use Rattle.run_audit.specs.Breaches.{first_of}
+use Rattle.run_audit.specs.Clocks.{comes_after}
 use Rattle.schedule_rules.specs.Traces.{clock_word, clock_words}
 use Rattle.line_format.specs.Heads.{has_its_reading, head_at, head_made, head_text}
 use Rattle.line_format.specs.Readers.{entry_report_of, line_of, manager_report_of, move_of, peer_report_of, plain_report_of, report_of, ring_report_of, unit_report_of}
@@ -25,7 +26,7 @@ use Rattle.text_fields.proofs.ActorLaws.{node_is, of_node}
 use Rattle.text_fields.proofs.FieldLaws.{last_is, made_at_is, pair_is, word_again, word_of_again}
 use Rattle.text_fields.proofs.NumberLaws.{long_is, number_is}
 use Rattle.text_fields.proofs.Numbers.{none_found}
-use Rattle.transcript_audit.specs.Said.{Opens, Said, Shows, Tells, clock_at, clocks_on, is_above, said_of, section_at, sent_of, shown_of, span_of, told_of}
+use Rattle.transcript_audit.specs.Said.{Opens, Said, Shows, Tells, clock_at, clocks_on, said_of, section_at, sent_of, shown_of, span_of, told_of}
 use Rattle.trace_audit.specs.Recordings.{ClocksRise}
 
 -- A line that begins with a number is not ignored.
@@ -83,7 +84,7 @@ clocks_again k above before [] h few = ap (λ (x : Clocks). Some x) (sym (append
 clocks_again zero above before (c ∷ cs) h few = absurd (omega arith)
 clocks_again (suc k) above before (c ∷ cs) h few =
     let next : Clocks = before ++ c ∷ [] in
-    ap (λ (o : Field (Who × ℕ)). o >>= λ c. cond (is_above above c.0.0) (clocks_on k (Some c.0.0) (before ++ c.0 ∷ []) c.1) None)
+    ap (λ (o : Field (Who × ℕ)). o >>= λ c. cond (comes_after above c.0.0) (clocks_on k (Some c.0.0) (before ++ c.0 ∷ []) c.1) None)
     (clock_again c (clock_words cs) h.1 h.2 (ends_words cs))
     ∙ (ap (λ b. cond b (clocks_on k (Some c.0) next (clock_words cs)) None) h.0
     ∙ (clocks_again k (Some c.0) next cs h.3 (omega arith)

@@ -7,7 +7,7 @@ use Rattle.frames_fit.specs.Formats.{ReportInRange}
 use Rattle.ring_points.specs.declared.who.Who.{Who}
 use Rattle.schedule_rules.specs.Traces.{group, transcript}
 use Rattle.transcript_audit.specs.Groups.{Group}
-use Rattle.transcript_audit.specs.Said.{is_above}
+use Rattle.run_audit.specs.Clocks.{comes_after}
 
 -- the text of a run: the heading, and the group of each moment, the oldest first
 abbrev pub trace_of : Run → List ℕ
@@ -44,7 +44,7 @@ most_clocks = 64
 -- the instances rise, each with a reading
 abbrev pub ClocksRise : Option Who → Clocks → Type 0
 ClocksRise above [] = Unit {0}
-ClocksRise above (c ∷ cs) = (is_above above c.0 ≡ true) × IsInstance c.0 × IsLong c.1 × ClocksRise (Some c.0) cs
+ClocksRise above (c ∷ cs) = (comes_after above c.0 ≡ true) × IsInstance c.0 × IsLong c.1 × ClocksRise (Some c.0) cs
 
 -- frames are counted from 1, and there are none where the first number is 0
 abbrev pub SentFits : ℕ × ℕ → Type 0

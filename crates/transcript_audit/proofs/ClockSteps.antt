@@ -2,7 +2,8 @@
 use Rattle.std.proofs.Common.{◌≡◌, ℕ, zero, suc, ◌-◌, ◌<◌, true, false, List, [], ◌∷◌, ◌++◌, length, Option, Some, None, arith, refl}
 use Rattle.ring_points.specs.declared.who.Who.{Who}
 use Rattle.fabric_terms.specs.Runs.{Clocks}
-use Rattle.transcript_audit.specs.Said.{clock_at, is_above, clocks_on}
+use Rattle.run_audit.specs.Clocks.{comes_after}
+use Rattle.transcript_audit.specs.Said.{clock_at, clocks_on}
 
 pub clocks_done : (k : ℕ) (above : Option Who) (cs : Clocks) (rest : List ℕ) → length rest ≡ 0 → clocks_on k above cs rest ≡ Some cs
 unfolding clocks_on
@@ -22,14 +23,14 @@ clocks_bad zero above cs (b ∷ bs) room some bad = absurd (omega arith)
 clocks_bad (suc k) above cs (b ∷ bs) room some bad = rw bad refl
 
 pub clocks_low : (k : ℕ) (above : Option Who) (cs : Clocks) (rest : List ℕ) (c : Who × ℕ) (after : List ℕ) → 0 < k → 0 < length rest
-    → clock_at rest ≡ Some (c, after) → is_above above c.0 ≡ false → clocks_on k above cs rest ≡ None
+    → clock_at rest ≡ Some (c, after) → comes_after above c.0 ≡ false → clocks_on k above cs rest ≡ None
 unfolding clocks_on
 clocks_low k above cs [] c after room some read low = absurd (omega arith)
 clocks_low zero above cs (b ∷ bs) c after room some read low = absurd (omega arith)
 clocks_low (suc k) above cs (b ∷ bs) c after room some read low = rw (read, low) refl
 
 pub clocks_next : (k : ℕ) (above : Option Who) (cs : Clocks) (rest : List ℕ) (c : Who × ℕ) (after : List ℕ) → 0 < k → 0 < length rest
-    → clock_at rest ≡ Some (c, after) → is_above above c.0 ≡ true → clocks_on k above cs rest ≡ clocks_on (k - 1) (Some c.0) (cs ++ c ∷ []) after
+    → clock_at rest ≡ Some (c, after) → comes_after above c.0 ≡ true → clocks_on k above cs rest ≡ clocks_on (k - 1) (Some c.0) (cs ++ c ∷ []) after
 unfolding clocks_on
 clocks_next k above cs [] c after room some read higher = absurd (omega arith)
 clocks_next zero above cs (b ∷ bs) c after room some read higher = absurd (omega arith)

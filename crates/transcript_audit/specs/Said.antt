@@ -1,9 +1,10 @@
 -- What a line of a transcript says.
-use Rattle.std.specs.Prelude.{ℕ, zero, suc, ◌++◌, Bool, true, List, [], ◌∷◌, Option, Some, None, codes, if◌then◌else◌}
+use Rattle.std.specs.Prelude.{ℕ, zero, suc, ◌++◌, List, [], ◌∷◌, Option, Some, None, codes, if◌then◌else◌}
 use Rattle.ring_points.specs.declared.who.Who.{Who}
 use Rattle.fabric_terms.specs.declared.report.Report.{Report}
 use Rattle.fabric_terms.specs.Runs.{Clocks}
-use Rattle.run_audit.specs.Breaches.{is_below, first_of}
+use Rattle.run_audit.specs.Breaches.{first_of}
+use Rattle.run_audit.specs.Clocks.{comes_after}
 use Rattle.line_format.specs.Heads.{head_at}
 use Rattle.line_format.specs.Readers.{line_of}
 use Rattle.text_fields.specs.Fields.{◌>>=◌, Field, after_word, last, word_of, made, pair_at}
@@ -25,17 +26,12 @@ section_at bytes = after_word (codes "transcript ") bytes >>= last (number_in 0 
 unfoldable pub clock_at : List ℕ → Field (Who × ℕ)
 clock_at bytes = after_word (codes " ") bytes >>= pair_at instance_at (codes ":") long_at
 
--- w is above the last, if there is one
-abbrev pub is_above : Option Who → Who → Bool
-is_above None w = true
-is_above (Some last) w = is_below last w
-
 -- up to k clocks more, above the last, to the end of the line, behind those so far
 unfoldable pub clocks_on : ℕ → Option Who → Clocks → List ℕ → Option Clocks
 clocks_on k above clocks [] = Some clocks
 clocks_on zero above clocks (b ∷ bs) = None
 clocks_on (suc k) above clocks (b ∷ bs) =
-    clock_at (b ∷ bs) >>= λ c. if is_above above c.0.0 then clocks_on k (Some c.0.0) (clocks ++ c.0 ∷ []) c.1 else None
+    clock_at (b ∷ bs) >>= λ c. if comes_after above c.0.0 then clocks_on k (Some c.0.0) (clocks ++ c.0 ∷ []) c.1 else None
 
 -- `LINE clocks N.K:READING ..`, with at most 64 clocks that rise
 unfoldable pub shown_of : List ℕ → Option (ℕ × Clocks)

@@ -4,11 +4,12 @@ ghost use Rattle.text_fields.specs.Fields.{Gives, last};
 ghost use Rattle.text_fields.specs.Instances.{instance_at};
 ghost use Rattle.line_format.specs.Readers.{Reads};
 ghost use Rattle.transcript_audit.specs.Places.{summary_of};
-ghost use Rattle.transcript_audit.specs.Said.{clock_at, clocks_on, is_above, shown_of, sent_of, section_at, span_of, said_of};
+ghost use Rattle.transcript_audit.specs.Said.{clock_at, clocks_on, shown_of, sent_of, section_at, span_of, said_of};
 
 use line_format::{BadLine, LineRefusal};
 use report_lines::{head_at, read_report};
 use ring_points::Who;
+use run_audit::comes_after;
 use std::alloc::Global;
 use text_fields::{after_word, last_number, node_at, number_in, number_word};
 
@@ -60,15 +61,6 @@ fn clock_at(bytes: &[u8]) -> Result<((Who, u64), &[u8]), BadLine>
     Ok(((who, reading), rest))
 }
 
-fn is_above(above: Option<Who>, who: Who) -> bool
-    ensures { result ≡ is_above above who }
-{
-    match above {
-        None => true,
-        Some(last) => last < who,
-    }
-}
-
 // The clocks to the end of the line.
 fn fill(bytes: &[u8], clocks: &mut Vec<(Who, u64)>) -> Result<(), LineRefusal>
     ensures { Reads (λ u. clocks.new.items) result (clocks_on 64 None [] bytes.now) }
@@ -81,7 +73,7 @@ fn fill(bytes: &[u8], clocks: &mut Vec<(Who, u64)>) -> Result<(), LineRefusal>
             return Err(LineRefusal::BadLine);
         }
         let (clock, after) = clock_at(rest)?;
-        if !is_above(above, clock.0) {
+        if !comes_after(above, clock.0) {
             return Err(LineRefusal::BadLine);
         }
         clocks.push(clock)?;

@@ -19,13 +19,13 @@ returns-in_err-clock c =
     let none = sym c.loop-rest.invariant.read ∙ clocks_bad (64 - vec_len c.loop-rest.clocks) c.loop-rest.above c.loop-rest.clocks.items c.loop-rest.rest.now room some c.in_err-clock.ensures in
     rw (p.1, p.2) none
 
-pub returns-then-not-is_above : goal.returns-then-not-is_above
-returns-then-not-is_above c =
+pub returns-then-not-comes_after : goal.returns-then-not-comes_after
+returns-then-not-comes_after c =
     let some : 0 < length c.loop-rest.rest.now = grind (arith, nat_tests) in
     let room : 0 < 64 - vec_len c.loop-rest.clocks = omega (arith, c.loop-rest.invariant.few, c.len.ensures, c.if-len-eq-MOST_CLOCKS.false) in
     sym c.loop-rest.invariant.read
     ∙ clocks_low (64 - vec_len c.loop-rest.clocks) c.loop-rest.above c.loop-rest.clocks.items c.loop-rest.rest.now c.in_ok-clock.clock c.in_ok-clock.after.now room some c.in_ok-clock.ensures
-    (sym c.is_above.ensures ∙ c.if-not-is_above.true)
+    (sym c.comes_after.ensures ∙ c.if-not-comes_after.true)
 
 pub loop-rest-preserved : goal.loop-rest-preserved
 loop-rest-preserved c =
@@ -39,7 +39,7 @@ loop-rest-preserved c =
           ∙ ap (λ n. clocks_on n (Some c.in_ok-clock.clock.0) (c.loop-rest.clocks.items ++ c.in_ok-clock.clock ∷ []) c.in_ok-clock.after.now) less
           ∙ sym
           (clocks_next (64 - vec_len c.loop-rest.clocks) c.loop-rest.above c.loop-rest.clocks.items c.loop-rest.rest.now c.in_ok-clock.clock c.in_ok-clock.after.now room some c.in_ok-clock.ensures
-          (sym c.is_above.ensures ∙ c.if-not-is_above.false))
+          (sym c.comes_after.ensures ∙ c.if-not-comes_after.false))
           ∙ c.loop-rest.invariant.read;
     }
 
