@@ -15,8 +15,8 @@ use ring_points::{ARBITRATORS, Who};
 /// The greatest number of a node's start.
 const LAST_INSTANCE: u64 = 4_294_967_295;
 
-// A node, a point and the number of its start, and what follows them.
-fn instance_at(bytes: &[u8]) -> Result<(Who, &[u8]), BadField>
+/// An instance of a node, as a node, a point and the number of its start, and what follows it.
+pub fn instance_at(bytes: &[u8]) -> Result<(Who, &[u8]), BadField>
     ensures { Gives (λ x. (x.0, x.1.now)) result (instance_at bytes.now) }
 {
     let (actor, rest) = node_at(bytes)?;

@@ -25,7 +25,7 @@ pub use bad_field::BadField;
 pub use digit::hex_value;
 pub use epoch::{epoch_word, epochs_have_one_text, last_epoch, push_epoch};
 pub use fabric_terms::OutOfMemory;
-pub use instance::{instances_have_one_text, last_who, push_who, who_word};
+pub use instance::{instance_at, instances_have_one_text, last_who, push_who, who_word};
 pub use interval::{last_ranges, last_span, push_ranges, ranges_have_one_text, ranges_word};
 pub use number::{
     last_number, last_optional, number_in, number_word, numbers_have_one_text, optional_word,

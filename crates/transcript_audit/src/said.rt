@@ -1,7 +1,6 @@
 // What a line of a transcript says.
 ghost use Rattle.std.specs.Prelude.{◌≡◌, [], None, option_map};
 ghost use Rattle.text_fields.specs.Fields.{Gives, last};
-ghost use Rattle.text_fields.specs.Instances.{instance_at};
 ghost use Rattle.line_format.specs.Readers.{Reads};
 ghost use Rattle.transcript_audit.specs.Places.{summary_of};
 ghost use Rattle.transcript_audit.specs.Said.{clock_at, clocks_on, shown_of, sent_of, section_at, span_of, said_of};
@@ -11,9 +10,9 @@ use report_lines::{head_at, read_report};
 use ring_points::Who;
 use run_audit::comes_after;
 use std::alloc::Global;
-use text_fields::{after_word, last_number, node_at, number_in, number_word};
+use text_fields::{after_word, instance_at, last_number, number_in, number_word};
 
-/// The greatest number of a node's start, and of a frame.
+/// The greatest number of a frame.
 const LAST_NUMBER: u64 = 4_294_967_295;
 
 /// The greatest number of a section.
@@ -39,16 +38,6 @@ fn section_at(line: &[u8]) -> Result<u64, BadLine>
 {
     let rest = after_word(b"transcript ", line)?;
     Ok(last_number(0, LAST_SECTION, rest)?)
-}
-
-// An instance of a node, and what follows it.
-fn instance_at(bytes: &[u8]) -> Result<(Who, &[u8]), BadLine>
-    ensures { Gives (λ x. (x.0, x.1.now)) result (instance_at bytes.now) }
-{
-    let (actor, rest) = node_at(bytes)?;
-    let (instance, rest) = number_in(1, LAST_NUMBER, after_word(b".", rest)?)?;
-    let instance = instance as u32;
-    Ok((Who { actor, instance }, rest))
 }
 
 // A clock behind a blank, and what follows it.
