@@ -21,12 +21,12 @@ mod frame_fields;
 #[cfg(test)]
 mod frames;
 #[cfg(test)]
+mod lines_of_reports;
+#[cfg(test)]
 mod pieces;
 #[cfg(test)]
 mod places;
 #[cfg(test)]
 mod records;
-#[cfg(test)]
-mod report_lines;
 #[cfg(test)]
 mod reports;
