@@ -13,11 +13,11 @@ const ACCUSED: &[u8] = b"\x02\x00\x02\x00\x00\x00\x01\x00\x01\x00\x00\x00\x01";
 const CLAIMED: &[u8] = b"\x0a\x00\x01\x00\x00\x00\x01\x02\x00\x03\x00\x00\x00\x01";
 
 // The record is written as these bytes, and no more.
-fn is_written(rt: &impl Abort, record: &Record, want: &[u8])
-    requires { IsTrue (is_sound record.now) }
+fn is_written(rt: &impl Abort, kept: &Record, want: &[u8])
+    requires { IsTrue (is_sound kept.now) }
 {
     let mut into = [0; RECORD_LIMIT];
-    let count = encode_record(record, &mut into);
+    let count = encode_record(kept, &mut into);
     assert_eq!(rt; count, want.len());
     assert_eq!(rt; &into[..count], want);
 }
