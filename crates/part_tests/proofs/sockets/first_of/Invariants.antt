@@ -1,5 +1,5 @@
 use Rattle.std.proofs.Common.{◌≡◌}
-use Rattle.edge_tests.proofs.sockets.first_of.Given as goal
+use Rattle.part_tests.proofs.sockets.first_of.Given as goal
 
 abbrev pub invariant-loop : goal.invariant-loop
 invariant-loop g l = l.links.opened ≡ l.fn.links.opened
