@@ -265,12 +265,6 @@ start_stopped s a b c run new h place stop.TableFull node t k = absurd k
 pub goes_on : (s : Setting) (b c d : Told) (run run' run'' : Run) (p p' p'' : Place) (r : Result (Unit {0}) Stop) → Leads s b run p c run' p' → Goes s c run' p' d run'' p'' r → Goes s b run p d run'' p'' r
 goes_on s b c d run run' run'' p p' p'' r leads goes a h t = let k = leads a h t in goes a k.0 k.1
 
-pub leads_on : (s : Setting) (b c d : Told) (run run' run'' : Run) (p p' p'' : Place) (done : Unit {0}) → Leads s b run p c run' p' → Goes s c run' p' d run'' p'' (Ok done) → Leads s b run p d run'' p''
-leads_on s b c d run run' run'' p p' p'' done leads goes a h t = let k = leads a h t in goes a k.0 k.1
-
-pub stops_on : (s : Setting) (b c d : Told) (run run' run'' last : Run) (p p' p'' q : Place) (r : Stop) → Leads s b run p c run' p' → Goes s c run' p' d run'' p'' (Err r) → Goes s b run p d last q (Err r)
-stops_on s b c d run run' run'' last p p' p'' q r leads goes a h t = let k = leads a h t in goes a k.0 k.1
-
 -- The clock was read, and the run is as ready as before.
 
 clamped_low : (told : ℕ) → clamped told ≤ most

@@ -15,8 +15,8 @@ use Rattle.fabric_turns.specs.Moves.{ComesTo}
 use Rattle.turn_rules.specs.Ends.{Stopped}
 use Rattle.fabric_turns.specs.Opening.{RecalledAll, OnlyRecalled}
 use Rattle.turn_rules.specs.Order.{arrive}
-use Rattle.turn_rules.specs.Plans.{Plan, Setting}
-use Rattle.fabric_turns.specs.Runs.{Run, At, IsPlan, IsReady}
+use Rattle.turn_rules.specs.Plans.{Plan, Setting, IsPlan}
+use Rattle.fabric_turns.specs.Runs.{Run, At, IsReady}
 use Rattle.turn_rules.specs.Whole.{setting, OpenedOnly, StoppedRun, Ends, Finishes, with_endpoints}
 use Rattle.fabric_status.specs.declared.status.Status.{Status}
 use Rattle.turn_rules.specs.declared.stop.Stop.{Stop}

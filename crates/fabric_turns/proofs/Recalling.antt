@@ -1,14 +1,14 @@
 -- How the records of all actors are read.
-use Rattle.std.proofs.Common.{arith, ◌≡◌, ◌<◌, ◌+◌, ℕ, zero, suc, Bool, true, false, List, [], ◌∷◌, ◌++◌, length, map, Option, Some, None, Ok, Err, refl, ap, sym, subst, ◌∙◌, inl, inr, ⊎_elim}
+use Rattle.std.proofs.Common.{arith, ◌≡◌, ◌<◌, ◌+◌, ℕ, zero, suc, Bool, true, List, [], ◌∷◌, ◌++◌, length, map, Option, Some, None, Ok, Err, refl, ap, sym, subst, ◌∙◌, inl, inr, ⊎_elim}
 use Rattle.std.specs.Prelude.{◌⊎◌, slice_get, slice_index_or, slice_set}
 use Rattle.std.proofs.lemmas.Option.{get_or_from_slice_get}
 use Rattle.std.proofs.lemmas.List.{length-append, length-map}
 use Rattle.edge_io.specs.Edge.{Tells}
 use Rattle.edge_io.specs.declared.endpoint.Endpoint.{Endpoint}
 use Rattle.fabric_terms.specs.declared.record.Record.{Record}
-use Rattle.fabric_turns.proofs.RecordKinds.{count_test, kind_from, kind_not}
+use Rattle.fabric_turns.proofs.RecordKinds.{count_test, kind_from}
 use Rattle.fabric_turns.proofs.Starting.{end_here, end_cases}
-use Rattle.fabric_turns.specs.Opening.{OnlyRecalled, ReadsFor, RecalledAll, RecallsAll, RecallsOne}
+use Rattle.fabric_turns.specs.Opening.{OnlyRecalled, ReadsFor, RecallsAll, RecallsOne}
 use Rattle.fabric_turns.specs.Runs.{AreKept, IsKeptAt}
 use Rattle.arbiter_tables.specs.Registers.{are_placed}
 use Rattle.keep_log.specs.Amounts.{nothing}
@@ -46,11 +46,6 @@ read_good actor lists kept count test e k once placed t holds = (
     },
   ),
 )
-
-pub read_other : (actor : ℕ) (lists : List (List ℕ)) (kept : Kept) (count : ℕ) (test : Bool) → count ≡ length lists → AmountsTo lists kept
-    → test ≡ count_test (is_arbiter_actor actor) kept.arbiter count → test ≡ false → IsBadFor actor lists 1
-read_other actor lists kept count test e k t fails =
-    inr (k.0, (refl, k.1.0, kind_not (is_arbiter_actor actor) k.0 kept.arbiter count k.1.1.arbiter (counted lists k.0 count k.1.0 e) (sym t ∙ fails)))
 
 -- One list more.
 
@@ -179,16 +174,6 @@ so_far_more plan a b c place actor e kept new k s here name r is =
           ),
         ))
         which
-
-pub recalled_whole : (plan : Plan) (a b : Told) (place : ℕ) (kept : List (Option Kept)) → place ≡ length plan.actors → SoFar plan a place kept b → (list : List (List Record)) × RecalledAll plan a list kept b
-recalled_whole plan a b place kept e s = (
-  s.list,
-  record {
-    recalled = s.recalled;
-    are_kept = record { all = s.read ∙ e; many = s.many ∙ e; each = λ j records low there. s.each j records there };
-    only = s.only;
-  },
-)
 
 pub recalled_bad : (plan : Plan) (a b c : Told) (place actor : ℕ) (e : Endpoint) (kept : List (Option Kept)) (i : ℕ) → SoFar plan a place kept b → slice_get plan.actors place ≡ Some e → actor ≡ e.actor
     → RecallsOne actor b (Err (stop.BadKeep i)) c → IsBadKeep plan a i × OnlyRecalled a c

@@ -1,21 +1,19 @@
 -- A running program, as its code has it.
-use Rattle.std.specs.Prelude.{◌≡◌, ◌≤◌, ◌<◌, ℕ, List, ◌∷◌, Option, Some, None, All, IfSome, length, map, slice_get}
+use Rattle.std.specs.Prelude.{◌≡◌, ◌≤◌, ℕ, List, ◌∷◌, Option, Some, None, IfSome, length, map, slice_get}
 use Rattle.edge_io.specs.Arrivals.{IsListening}
 use Rattle.edge_io.specs.declared.endpoint.Endpoint.{Endpoint}
-use Rattle.fabric_terms.specs.Ranges.{FitsCommand, most}
-use Rattle.fabric_terms.specs.Sound.{IsSound}
+use Rattle.fabric_terms.specs.Ranges.{most}
 use Rattle.fabric_terms.specs.declared.record.Record.{Record}
 use Rattle.keep_log.specs.declared.kept.Kept.{Kept}
 use Rattle.outside.specs.Told.{Told}
 use Rattle.ring_rules.specs.declared.input.Input.{Input}
-use Rattle.turn_members.specs.Lives.{IsConfigured}
 use Rattle.turn_members.specs.Members.{IsKept, IsOf, seen}
 use Rattle.turn_members.specs.declared.member.Member.{Member}
 use Rattle.turn_rules.specs.Effects.{Did, Stays}
 use Rattle.turn_rules.specs.Handed.{Handed, failures_of}
 use Rattle.turn_rules.specs.Happenings.{Happening, History}
 use Rattle.turn_rules.specs.Order.{Place, IsInOrder}
-use Rattle.turn_rules.specs.Plans.{Plan, Setting}
+use Rattle.turn_rules.specs.Plans.{IsPlan, Plan, Setting}
 use Rattle.turn_rules.specs.Process.{Process, after, takes, acts, joins, clamped}
 use Rattle.turn_rules.specs.Works.{works_of}
 
@@ -23,13 +21,6 @@ use Rattle.turn_rules.specs.Works.{works_of}
 pub record Run : Type 0 where
   pub members : List Member
   pub last : Option ℕ
-
--- a plan that can be run: a sound configuration, actors of it, one at least, and commands in their ranges
-pub record IsPlan (plan : Plan) : Type 0 where
-  pub sound : IsSound plan.config
-  pub some : 0 < length plan.actors
-  pub configured : (place : ℕ) (e : Endpoint) → slice_get plan.actors place ≡ Some e → IsConfigured plan.config e.actor
-  pub orders : All (λ o. FitsCommand o.command) plan.orders
 
 -- the last reading that counts is the clock's last one, if there was one in this run
 abbrev pub IsLast : Option ℕ → Option ℕ → Type 0

@@ -13,7 +13,6 @@ ghost use Rattle.turn_rules.specs.Happenings.{Happening, History};
 ghost use Rattle.turn_rules.specs.Order.{Place};
 ghost use Rattle.turn_rules.specs.Whole.{setting};
 
-use crate::plan::Plan;
 use crate::run::Run;
 use fabric_terms::FabricConfig;
 use outside::Outside;
@@ -21,7 +20,7 @@ use ring_node::Input;
 use std::alloc::Global;
 use turn_effects::carry_out;
 use turn_members::{ArbiterError, Deed};
-use turn_rules::Stop;
+use turn_rules::{Plan, Stop};
 
 /// Does what a deed leaves to do.
 fn carry_deed<O: Outside>(

@@ -13,14 +13,13 @@ ghost use Rattle.fabric_terms.specs.declared.command.Command.{Command as Command
 ghost use Rattle.turn_rules.specs.declared.order.Order.{Order as OrderOf};
 
 use crate::act::act;
-use crate::plan::Plan;
 use crate::run::Run;
 use fabric_terms::Command;
 use outside::Outside;
 use ring_node::Input;
 use source_commands::copy_of;
 use std::alloc::Global;
-use turn_rules::{Order, Stop};
+use turn_rules::{Order, Plan, Stop};
 
 /// One command of the node at a place.
 fn bid<O: Outside>(

@@ -10,7 +10,6 @@ ghost use Rattle.turn_rules.specs.Plans.{is_node_at, orders_at, commands_in};
 ghost use Rattle.turn_rules.specs.Whole.{setting};
 
 use crate::act::act;
-use crate::plan::Plan;
 use crate::run::Run;
 use edge_io::DATAGRAM_BYTES;
 use fabric_terms::{Body, Message};
@@ -19,7 +18,7 @@ use ring_node::Input;
 use ring_points::Who;
 use ring_wire::decode_into;
 use std::alloc::Global;
-use turn_rules::Stop;
+use turn_rules::{Plan, Stop};
 
 /// A place that a frame is read into.
 fn empty_place() -> Message {

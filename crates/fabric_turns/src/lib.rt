@@ -12,12 +12,10 @@ mod bids;
 mod clock;
 mod ends;
 mod hears;
-mod plan;
 mod recall;
 mod run;
 mod starts;
 mod turns;
 mod whole;
 
-pub use plan::Plan;
 pub use whole::run_on;

@@ -3,14 +3,13 @@ ghost use Rattle.std.specs.Prelude.{◌≡◌, ◌==◌, ◌++◌, ◌∷◌, []
 ghost use Rattle.fabric_turns.specs.Opening.{RecallsAll, RecallsOne, ReadsFor, OpensAll};
 ghost use Rattle.world_rules.specs.Events.{is_arbiter_actor};
 
-use crate::plan::Plan;
 use edge_io::EdgeRefusal;
 use fabric_terms::OutOfMemory;
 use keep_log::{Kept, KeptError, read_records};
 use outside::Outside;
 use ring_points::ARBITRATORS;
 use std::alloc::Global;
-use turn_rules::Stop;
+use turn_rules::{Plan, Stop};
 
 /// Whether all of so many records that amount to this are of the actor's kind.
 fn is_of_kind(actor: u16, kept: &Kept, count: usize) -> bool

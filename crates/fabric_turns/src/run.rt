@@ -1,19 +1,19 @@
 ghost use Rattle.std.specs.Prelude.{◌≡◌, ◌<◌, ◌≤◌, ◌++◌, ◌∷◌, [], ℕ, List, length, IfOk, IfSome, OnErr, OnOk, IsErrOf, Some, None};
 ghost use Rattle.fabric_terms.specs.Ranges.{most};
 ghost use Rattle.fabric_terms.specs.declared.record.Record.{Record};
-ghost use Rattle.fabric_turns.specs.Runs.{AreMembers, IsKeptAt, IsPlan};
+ghost use Rattle.fabric_turns.specs.Runs.{AreMembers, IsKeptAt};
 ghost use Rattle.fabric_turns.specs.Steps.{StepsAt, RefusedAt, JoinsAt, NotJoinsAt, left_at};
 ghost use Rattle.node_core.specs.Nodes.{FitsInput};
-ghost use Rattle.turn_rules.specs.Plans.{Plan as PlanOf};
+ghost use Rattle.turn_rules.specs.Plans.{IsPlan, Plan as PlanOf};
 ghost use Rattle.turn_rules.specs.Steps.{present};
 
-use crate::plan::Plan;
 use fabric_terms::{OutOfMemory, Why};
 use keep_log::Kept;
 use ring_node::Input;
 use std::alloc::Global;
 use std::marker::Model;
 use turn_members::{ArbiterError, Deed, Member};
+use turn_rules::Plan;
 
 /// The running actors by their places, and the last reading of the clock, in ticks.
 #[derive(Drop)]

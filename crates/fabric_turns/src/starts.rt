@@ -11,13 +11,12 @@ ghost use Rattle.turn_rules.specs.Whole.{setting};
 
 use crate::act::carry_through;
 use crate::clock::read_clock;
-use crate::plan::Plan;
 use crate::run::Run;
 use keep_log::Kept;
 use outside::Outside;
 use std::alloc::Global;
 use turn_members::ArbiterError;
-use turn_rules::Stop;
+use turn_rules::{Plan, Stop};
 
 /// The start of the actor at a place, carried out.
 fn join<O: Outside>(

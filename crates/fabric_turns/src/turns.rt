@@ -13,13 +13,12 @@ use crate::act::act;
 use crate::bids::bid_all;
 use crate::clock::read_clock;
 use crate::hears::hear;
-use crate::plan::Plan;
 use crate::run::Run;
 use edge_io::DATAGRAM_BYTES;
 use outside::Outside;
 use ring_node::Input;
 use std::alloc::Global;
-use turn_rules::Stop;
+use turn_rules::{Plan, Stop};
 
 /// The firing of the node at a place.
 fn fire<O: Outside>(

@@ -1,11 +1,10 @@
 // A whole run over the devices.
 ghost use Rattle.std.specs.Prelude.{◌≡◌};
-ghost use Rattle.fabric_turns.specs.Runs.{IsPlan};
 ghost use Rattle.outside.specs.Told.{Loans};
+ghost use Rattle.turn_rules.specs.Plans.{IsPlan};
 ghost use Rattle.turn_rules.specs.Whole.{Ends, IsRun, told_of};
 
 use crate::ends::finish;
-use crate::plan::Plan;
 use crate::recall::{open_all, recall_all};
 use crate::run::Run;
 use crate::starts::start_all;
@@ -14,7 +13,7 @@ use edge_io::{Clock, Keeper, Links, Sink};
 use fabric_status::Status;
 use outside::{Devices, Outside};
 use std::alloc::Global;
-use turn_rules::Stop;
+use turn_rules::{Plan, Stop};
 
 /// The run of a plan, up to its last line.
 fn run_plan<O: Outside>(outside: &mut O, alloc: Global, plan: &Plan) -> Result<(), Stop>

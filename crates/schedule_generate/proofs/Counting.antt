@@ -19,9 +19,6 @@ use Rattle.fabric_terms.specs.Places.{tells_leave}
 use Rattle.schedule_generate.specs.Texts.{is_take_over, told_of}
 use Rattle.schedule_generate.specs.declared.summary.Tally.{Tally}
 
-of_test : (Report → Bool) → Who × Report → Bool
-of_test test t = test t.1
-
 count_on : (test : Report → Bool) (who : Who) (rs : List Report) (before : Told) → count_by (λ t. test t.1) (told_on who rs before) ≡ count_by (λ t. test t.1) before + count_by test rs
 count_on test who [] before = let e : count_by (λ t. test t.1) before ≡ count_by (λ t. test t.1) before + 0 = omega arith in e
 count_on test who (r ∷ rs) before =

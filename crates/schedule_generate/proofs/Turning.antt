@@ -1,8 +1,7 @@
 -- The turn of a node.
-use Rattle.std.proofs.Common.{◌≡◌, ◌≢◌, ℕ, ◌+◌, Bool, true, false, List, [], ◌∷◌, ap, sym, subst, ◌∙◌, arith}
+use Rattle.std.proofs.Common.{◌≡◌, ℕ, ◌+◌, Bool, true, List, [], ◌∷◌, ap, sym, subst, ◌∙◌}
 use Rattle.std.specs.Prelude.{◌==◌, ◌%◌, ◌/◌, if◌then◌else◌}
 use Rattle.std.proofs.lemmas.Bool.{eq-eqb}
-use Rattle.std.proofs.lemmas.Bool.Decides.{nat_tests}
 use Rattle.fabric_terms.specs.declared.config.FabricConfig.{FabricConfig}
 use Rattle.rand_pcg.specs.Lcg.{Lcg}
 use Rattle.rand_pcg.specs.Pcg.{pcg32}
@@ -24,14 +23,6 @@ draws_on w knows n a b text g sent at is drawn =
       known = at.known;
       told = at.told;
     })
-
--- no node turns
-pub none_turns : (c : FabricConfig) (n : ℕ) (g : Course) (draw : ℕ) → (pcg32 g.draws).0 ≡ draw → draw % 50 ≢ 0 → with_turn c n g ≡ record g { draws = (pcg32 g.draws).1 }
-none_turns c n g draw is other =
-    let e : (draw % 50 == 0) ≡ false = grind (arith, nat_tests) in
-    let node = draw / 64 % n + 1 in
-    ap (λ (d : ℕ). taken_all c (turns (ruled c g.history) n d) (record g { draws = (pcg32 g.draws).1 })) is
-    ∙ ap (λ b. taken_all c (if b then turn_of (ruled c g.history) node (node_runs (ruled c g.history) node) ∷ [] else []) (record g { draws = (pcg32 g.draws).1 })) e
 
 -- this node turns
 pub one_turns : (c : FabricConfig) (n : ℕ) (g : Course) (draw node : ℕ) (runs : Bool) → (pcg32 g.draws).0 ≡ draw → draw % 50 ≡ 0 → node ≡ draw / 64 % n + 1 → node_runs (ruled c g.history) node ≡ runs

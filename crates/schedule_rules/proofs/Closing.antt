@@ -1,5 +1,5 @@
 -- How a run of a schedule ends, by where it halted.
-use Rattle.std.proofs.Common.{◌≡◌, ◌≢◌, ◌≤◌, ◌⊎◌, ℕ, List, [], ◌++◌, Option, Some, None, refl, ap, sym, subst, ◌∙◌, append_assoc, ⊎_elim, inl, inr, arith}
+use Rattle.std.proofs.Common.{◌≡◌, ◌≤◌, ◌⊎◌, ℕ, List, [], ◌++◌, Option, Some, None, refl, ap, sym, subst, ◌∙◌, append_assoc, ⊎_elim, inl, inr, arith}
 use Rattle.std.proofs.lemmas.List.{append-nil}
 use Rattle.edge_io.specs.Edge.{Grew, GrewByFront, HasRisen}
 use Rattle.fabric_terms.specs.declared.config.FabricConfig.{FabricConfig}
@@ -95,37 +95,5 @@ ends_stopped t j left failed old mid new text config history ended before now ca
     short)
     (closed_fault status.ReadFault ended old mid new text (lines_judged t config history) before now wrote written)
 
--- which statuses no refusal has
-pub not_of_refusal : (refusal : Refusal) → (status_of refusal ≢ status.Usage) × (status_of refusal ≢ status.Ok) × (status_of refusal ≢ status.ReadFault) × (status_of refusal ≢ status.WriteFault)
-not_of_refusal (BadConfig e) = (λ f. cc, λ f. cc, λ f. cc, λ f. cc)
-not_of_refusal (BadLine n) = (λ f. cc, λ f. cc, λ f. cc, λ f. cc)
-not_of_refusal (DriftBroken n) = (λ f. cc, λ f. cc, λ f. cc, λ f. cc)
-not_of_refusal (NoSuch n) = (λ f. cc, λ f. cc, λ f. cc, λ f. cc)
-not_of_refusal (TooLarge n) = (λ f. cc, λ f. cc, λ f. cc, λ f. cc)
-
--- a text that is written last ends so, for want of memory, or at a sink that failed
-abbrev pub EndedBy : Status → Status → ℕ → ℕ → Type 0
-EndedBy wanted ended before now = (ended ≡ wanted) ⊎ ((ended ≡ status.OutOfMemory) ⊎ ((ended ≡ status.WriteFault) × HasRisen before now))
-
-pub written_by : (wanted ended : Status) (text : List ℕ) (old new : Option (List ℕ)) (before now : ℕ) → Written wanted text ended old new before now → EndedBy wanted ended before now
-written_by wanted ended text old new before now written = ⊎_elim (λ all. inl all.0) (λ short. ⊎_elim (λ memory. inr (inl memory.0)) (λ sink. inr (inr (sink.0, sink.2))) short) written
-
-pub fault_by : (wanted ended : Status) (text : List ℕ) (old new : Option (List ℕ)) (before now : ℕ) → WroteFault wanted text ended old new before now → EndedBy wanted ended before now
-fault_by wanted ended text old new before now written = ⊎_elim (λ some. written_by wanted ended (text ++ fault_line wanted) old new before now some) (λ none. inr (inl none.0)) written
-
-pub not_ended : (wanted ended other : Status) (before now : ℕ) → EndedBy wanted ended before now → wanted ≢ other → status.OutOfMemory ≢ other → status.WriteFault ≢ other → ended ≢ other
-not_ended wanted ended other before now by not_wanted not_memory not_sink =
-    ⊎_elim
-    (λ all e. not_wanted (sym all ∙ e))
-    (λ short. ⊎_elim (λ memory e. not_memory (sym memory ∙ e)) (λ sink e. not_sink (sym sink.0 ∙ e)) short)
-    by
-
 pub risen_since : (first before now : ℕ) → first ≤ before → HasRisen before now → HasRisen first now
 risen_since first before now later risen = ⊎_elim (λ rose. inl (omega arith)) (λ full. inr full) risen
-
-pub sink_rose : (wanted ended : Status) (first before now : ℕ) → EndedBy wanted ended before now → wanted ≢ status.WriteFault → first ≤ before → ended ≡ status.WriteFault → HasRisen first now
-sink_rose wanted ended first before now by not_wanted later is =
-    ⊎_elim
-    (λ all. absurd (not_wanted (sym all ∙ is)))
-    (λ short. ⊎_elim (λ memory. absurd (let f : status.OutOfMemory ≡ status.WriteFault = sym memory ∙ is in cc)) (λ sink. risen_since first before now later sink.1) short)
-    by

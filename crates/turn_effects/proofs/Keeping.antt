@@ -1,5 +1,5 @@
 -- Records that are kept, one after another.
-use Rattle.std.proofs.Common.{arith, ◌≡◌, ◌≢◌, ◌≤◌, ◌<◌, ◌+◌, ℕ, List, [], ◌∷◌, ◌++◌, length, take, map, Result, Ok, Err, refl, ap, sym, subst, ◌∙◌, inl, inr, ⊎_elim}
+use Rattle.std.proofs.Common.{arith, ◌≡◌, ◌≢◌, ◌≤◌, ◌<◌, ◌+◌, ℕ, List, [], ◌∷◌, ◌++◌, length, take, map, Result, Err, refl, ap, sym, subst, ◌∙◌, inl, inr, ⊎_elim}
 use Rattle.std.specs.Prelude.{slice_index_or}
 use Rattle.std.proofs.lemmas.List.{map-append}
 use Rattle.edge_io.specs.Edge.{Grew, HasRisen}
@@ -31,10 +31,6 @@ pub kept_then : (actor : ℕ) (records more : List (List ℕ)) (a b c : Told) �
 kept_then actor records more a b c p q = kept_on actor records more a b c p q.own q.others q.later q.rest
 
 -- One record.
-
-pub kept_one : (actor : ℕ) (bytes one : List ℕ) (a b : Told) (done : Unit {0}) → bytes ≡ one → Keeps actor bytes a (Ok done) b → KeptMore actor (one ∷ []) a b
-kept_one actor bytes one a b done e k =
-    subst (λ (l : List ℕ). KeptMore actor (l ∷ []) a b) e (record { own = k.ok; others = k.others; later = k.cause.later; rest = k.rest })
 
 kept_maybe : (actor : ℕ) (bytes : List ℕ) (a b : Told) (r : EdgeRefusal) → Keeps actor bytes a (Err r) b → (n : ℕ) × KeptMore actor (take n (bytes ∷ [])) a b
 kept_maybe actor bytes a b r k =

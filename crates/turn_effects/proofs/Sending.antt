@@ -88,20 +88,6 @@ sent_rest a b c p q = q ∙ ap (λ (t : Told). record t { opened = c.opened; arr
 pub tried : (from : ℕ) (to bytes : List ℕ) (a : Told) (r : Result (Unit {0}) EdgeRefusal) (b : Told) → Sends from to bytes a r b → (r ≡ Ok tt) ⊎ (r ≡ Err refusal.Failed) → SentMore (record { from = from; to = to; bytes = bytes } ∷ []) a b
 tried from to bytes a r b s which = record { sent = sent_one from to bytes a r b s which; opened = s.opened; arrivals = s.arrivals; rest = s.rest }
 
--- nothing is sent where the links want memory
-pub not_tried : (from : ℕ) (to bytes : List ℕ) (a b : Told) → Sends from to bytes a (Err refusal.OutOfMemory) b → SentMore [] a b
-not_tried from to bytes a b s = record {
-  sent = record {
-    tries = [];
-    whole = refl;
-    sent = grew_none a.sent b.sent s.err;
-    failed = record { later = s.cause.later; count = inl (omega (arith, s.cause.later)) };
-  };
-  opened = s.opened;
-  arrivals = s.arrivals;
-  rest = s.rest;
-}
-
 pub sent_then : (all more : List Datagram) (a b c : Told) → SentMore all a b → SentMore more b c → SentMore (all ++ more) a c
 sent_then all more a b c p q = record {
   sent = sent_on all more 0 0 a b c p.sent q.sent;

@@ -12,6 +12,5 @@ mod frames;
 mod records;
 mod reports;
 
-pub use address::{arbiter_address, node_address};
 pub use carry::carry_out;
 pub use reports::write_lines;

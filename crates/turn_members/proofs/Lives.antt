@@ -26,10 +26,11 @@ use Rattle.ring_rules.specs.declared.input.Input.{Input}
 use Rattle.ring_rules.specs.declared.input.Input.TheVariants as input
 use Rattle.run_facts.proofs.Steps.{node_begun-told, ring_stepped}
 use Rattle.turn_members.proofs.Records.{Spelled, arbiter_spelled, boot_spelled, kept_in_range, node_spelled}
-use Rattle.turn_members.specs.Lives.{Came, FitsCame, IsConfigured, Lives, member_after}
+use Rattle.turn_members.specs.Lives.{Came, FitsCame, Lives, member_after}
 use Rattle.turn_members.specs.Members.{Does, GoesOn, IsDeedOf, IsOf, Makes, seen}
 use Rattle.turn_members.specs.declared.deed.Deed.{Deed}
 use Rattle.turn_members.specs.declared.member.Member.{Member as Running}
+use Rattle.turn_rules.specs.Plans.{IsConfigured}
 use Rattle.turn_rules.specs.Recalled.{IsGoodFor}
 use Rattle.turn_rules.specs.Steps.{Member, Node, Arbiter, Step, Stepped, begun, begun_as, exceeds, node_stepped, arbiter_stepped, present, stepped}
 use Rattle.world_rules.specs.Arbiters.{ArbiterState, arbiter_step}

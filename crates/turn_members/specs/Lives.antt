@@ -1,5 +1,5 @@
 -- An actor that runs has been started from good records, and its steps have come since.
-use Rattle.std.specs.Prelude.{◌≡◌, ℕ, true, false, List, [], ◌∷◌, Option, All}
+use Rattle.std.specs.Prelude.{◌≡◌, ℕ, List, [], ◌∷◌, Option, All}
 use Rattle.fabric_terms.specs.declared.config.FabricConfig.{FabricConfig}
 use Rattle.fabric_terms.specs.declared.record.Record.{Record}
 use Rattle.fabric_terms.specs.Ranges.{IsNumber}
@@ -7,8 +7,6 @@ use Rattle.frames_fit.specs.Formats.{InputInFormat}
 use Rattle.ring_rules.specs.declared.input.Input.{Input}
 use Rattle.turn_rules.specs.Recalled.{IsGoodFor}
 use Rattle.turn_rules.specs.Steps.{Member, begun, present, stepped}
-use Rattle.world_rules.specs.Events.{is_arbiter_actor}
-use Rattle.world_rules.specs.Schedules.{is_configured_node}
 
 -- what came to it: in which turn, at which last reading of the clock, and what
 pub record Came : Type 0 where
@@ -25,10 +23,6 @@ pub record FitsCame (x : Came) : Type 0 where
 abbrev pub member_after : FabricConfig → Member → List Came → Member
 member_after c m [] = m
 member_after c m (x ∷ xs) = (stepped c x.turn x.last x.input (member_after c m xs)).member
-
--- the actor is one of the configuration's; an arbitrator may be any
-abbrev pub IsConfigured : FabricConfig → ℕ → Type 0
-IsConfigured c actor = is_arbiter_actor actor ≡ false → is_configured_node c actor ≡ true
 
 -- the actor runs as this
 pub record Lives (c : FabricConfig) (actor : ℕ) (m : Member) : Type 0 where

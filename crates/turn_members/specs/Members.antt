@@ -15,10 +15,11 @@ use Rattle.keep_log.specs.declared.kept.Kept.{Kept}
 use Rattle.node_core.specs.Nodes.{GoesBy}
 use Rattle.ring_points.specs.Whos.{arbiter_actor}
 use Rattle.ring_rules.specs.Arbiters.{no_table}
-use Rattle.turn_members.specs.Lives.{IsConfigured, Lives}
+use Rattle.turn_members.specs.Lives.{Lives}
 use Rattle.turn_members.specs.declared.deed.Deed.{Deed}
 use Rattle.turn_members.specs.declared.member.Member.{Member as Running}
 use Rattle.turn_members.specs.declared.member.Member.TheVariants as running
+use Rattle.turn_rules.specs.Plans.{IsConfigured}
 use Rattle.turn_rules.specs.Recalled.{IsGoodFor}
 use Rattle.turn_rules.specs.Steps.{Member, Node, Arbiter, Stepped, exceeds}
 use Rattle.turn_rules.specs.Works.{head_of}

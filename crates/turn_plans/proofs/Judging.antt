@@ -1,5 +1,5 @@
 -- Where the lines stand after some of them.
-use Rattle.std.proofs.Common.{◌≡◌, ℕ, ◌+◌, ◌≤◌, List, [], ◌∷◌, ◌++◌, length, Result, Ok, Err, arith, refl, ap, sym, ◌∙◌}
+use Rattle.std.proofs.Common.{◌≡◌, ℕ, ◌+◌, ◌≤◌, List, [], ◌∷◌, ◌++◌, length, Result, Err, refl, ap, sym, ◌∙◌}
 use Rattle.edge_io.specs.declared.endpoint.Endpoint.{Endpoint}
 use Rattle.fabric_status.specs.declared.status.Refusal.{Refusal}
 use Rattle.fabric_terms.specs.declared.config.FabricConfig.{FabricConfig}
@@ -48,23 +48,6 @@ on_line g bytes orders least n rest line after v along cut is =
     ap (judge_on g orders least n (lines_of after)) (sym is) ∙ sym (judge_line g orders least n line (lines_of after))
     ∙ ap (judge g orders least n) (sym cut) ∙ along.judged
 
-pub ignored_on : (g : Given) (bytes : List ℕ) (orders : List Order) (least n : ℕ) (rest line after : List ℕ) → Along g bytes orders least n rest → lines_of rest ≡ line ∷ lines_of after → length after + 1 ≤ length rest → verdict g least n line ≡ Ignored → Along g bytes orders least (n + 1) after
-ignored_on g bytes orders least n rest line after along cut less is = record {
-  judged = on_line g bytes orders least n rest line after Ignored along cut is;
-  bounded = omega (arith, along.bounded);
-}
-
-pub ordered_on : (g : Given) (bytes : List ℕ) (orders : List Order) (least n : ℕ) (rest line after : List ℕ) (o : Order) → Along g bytes orders least n rest → lines_of rest ≡ line ∷ lines_of after → length after + 1 ≤ length rest → verdict g least n line ≡ Ordered o → Along g bytes (orders ++ o ∷ []) o.turn (n + 1) after
-ordered_on g bytes orders least n rest line after o along cut less is = record {
-  judged = on_line g bytes orders least n rest line after (Ordered o) along cut is;
-  bounded = omega (arith, along.bounded);
-}
-
 pub refused_at : (g : Given) (bytes : List ℕ) (orders : List Order) (least n : ℕ) (rest line after : List ℕ) (refusal : Refusal) → Along g bytes orders least n rest → lines_of rest ≡ line ∷ lines_of after → verdict g least n line ≡ Refused refusal → judge g [] 1 2 (lines_of bytes) ≡ Err refusal
 refused_at g bytes orders least n rest line after refusal along cut is =
     sym (on_line g bytes orders least n rest line after (Refused refusal) along cut is)
-
--- no line is left
-pub all_judged : (g : Given) (bytes : List ℕ) (orders : List Order) (least n : ℕ) (rest : List ℕ) → Along g bytes orders least n rest → length rest ≡ 0 → judge g [] 1 2 (lines_of bytes) ≡ Ok orders
-all_judged g bytes orders least n [] along none = sym along.judged
-all_judged g bytes orders least n (b ∷ bs) along none = absurd (omega arith)

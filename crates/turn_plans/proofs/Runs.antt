@@ -10,9 +10,8 @@ use Rattle.fabric_terms.specs.Ranges.{FitsCommand}
 use Rattle.fabric_terms.specs.Sound.{IsSound}
 use Rattle.fabric_terms.specs.declared.config.FabricConfig.{FabricConfig}
 use Rattle.fabric_terms.specs.declared.config.NodeEntry.{NodeEntry}
-use Rattle.fabric_turns.specs.Runs.{IsPlan}
 use Rattle.ring_points.specs.Whos.{arbiter_actor}
-use Rattle.turn_members.specs.Lives.{IsConfigured}
+use Rattle.turn_rules.specs.Plans.{IsPlan, IsConfigured}
 use Rattle.turn_rules.specs.declared.order.Order.{Order}
 use Rattle.turn_plans.specs.Crews.{arbiter_at, arbiters_to, endpoints_of, is_crew, listener, node_at, nodes_to}
 use Rattle.turn_plans.specs.declared.crew.Crew.{Crew}

@@ -7,7 +7,7 @@ use edge_io::{Endpoint, SocketAddress};
 use fabric_terms::{FabricConfig, OutOfMemory};
 use ring_points::{ARBITRATORS, LAST_NODE};
 use std::alloc::Global;
-use turn_effects::{arbiter_address, node_address};
+use turn_rules::{arbiter_address, node_address};
 
 /// The greatest number of an arbitrator.
 const LAST_ARBITER: u16 = 9;

@@ -2,9 +2,9 @@
 ghost use Rattle.std.specs.Prelude.{◌≡◌, IfOk, true};
 ghost use Rattle.fabric_terms.specs.Sound.{IsSound};
 ghost use Rattle.line_format.specs.Lines.{lines_of};
-ghost use Rattle.fabric_turns.specs.Runs.{IsPlan};
 ghost use Rattle.turn_plans.specs.Crews.{is_crew};
 ghost use Rattle.turn_plans.specs.Plans.{Judges, config_for, judge_plan, plan_of};
+ghost use Rattle.turn_rules.specs.Plans.{IsPlan};
 
 use crate::actors::endpoints_of;
 use crate::crew::{Crew, is_crew};
@@ -13,9 +13,9 @@ use crate::orders::take_lines;
 use fabric_config::{ConfigError, need_endpoints, read_config};
 use fabric_status::Refusal;
 use fabric_terms::FabricConfig;
-use fabric_turns::Plan;
 use source_lines::{MOST_FIRST_LINE, cut_line};
 use std::alloc::Global;
+use turn_rules::Plan;
 
 /// The configuration of line 1, where it says where each actor listens, and has whom the words name.
 #[tactic(auto, unfolding(crate::specs::Plans::config_for))]

@@ -1,10 +1,13 @@
 -- What a run goes by.
-use Rattle.std.specs.Prelude.{ℕ, Bool, false, not, ◌&&◌, List, Option, Some, None, ◌==◌, filter, map, slice_get}
+use Rattle.std.specs.Prelude.{◌≡◌, ◌<◌, ℕ, Bool, true, false, not, ◌&&◌, List, Option, Some, None, ◌==◌, All, filter, length, map, slice_get}
 use Rattle.edge_io.specs.declared.endpoint.Endpoint.{Endpoint}
+use Rattle.fabric_terms.specs.Ranges.{FitsCommand}
+use Rattle.fabric_terms.specs.Sound.{IsSound}
 use Rattle.fabric_terms.specs.declared.command.Command.{Command}
 use Rattle.fabric_terms.specs.declared.config.FabricConfig.{FabricConfig}
 use Rattle.fabric_terms.specs.declared.record.Record.{Record}
 use Rattle.world_rules.specs.Events.{is_arbiter_actor}
+use Rattle.world_rules.specs.Schedules.{is_configured_node}
 use Rattle.turn_rules.specs.declared.order.Order.{Order}
 
 -- the configuration; the actors that run, in the order of their turns, each with its endpoint; the commands; and how many
@@ -33,6 +36,17 @@ is_of_node (Some e) = not (is_arbiter_actor e.actor)
 -- a node has this place
 abbrev pub is_node_at : Plan → ℕ → Bool
 is_node_at plan place = is_of_node (slice_get plan.actors place)
+
+-- the actor is one of the configuration's; an arbitrator may be any
+abbrev pub IsConfigured : FabricConfig → ℕ → Type 0
+IsConfigured c actor = is_arbiter_actor actor ≡ false → is_configured_node c actor ≡ true
+
+-- a plan that can be run: a sound configuration, actors of it, one at least, and commands in their ranges
+pub record IsPlan (plan : Plan) : Type 0 where
+  pub sound : IsSound plan.config
+  pub some : 0 < length plan.actors
+  pub configured : (place : ℕ) (e : Endpoint) → slice_get plan.actors place ≡ Some e → IsConfigured plan.config e.actor
+  pub orders : All (λ o. FitsCommand o.command) plan.orders
 
 -- what a run begins with: its plan, and the records that are kept of each actor, by its place
 pub record Setting : Type 0 where

@@ -1,11 +1,11 @@
 use Rattle.std.proofs.Common.{◌≡◌, List, [], Ok, ap, sym, subst, ◌∙◌}
 use Rattle.edge_io.specs.declared.endpoint.Endpoint.{Endpoint}
-use Rattle.fabric_turns.specs.Runs.{IsPlan}
 use Rattle.line_format.specs.Lines.{lines_of}
 use Rattle.turn_plans.specs.Plans.{judge_from}
 use Rattle.turn_plans.proofs.Planning.{planned}
 use Rattle.turn_plans.proofs.Runs.{is_plan}
 use Rattle.turn_plans.proofs.read.plan_of.Goals as goal
+use Rattle.turn_rules.specs.Plans.{IsPlan}
 
 pub returns-clause-plan : goal.returns-clause-plan
 returns-clause-plan c =

@@ -1,10 +1,10 @@
 ghost use Rattle.std.specs.Prelude.{◌≡◌};
 
+use crate::order::Order;
 use edge_io::Endpoint;
 use fabric_terms::FabricConfig;
 use ring_points::ARBITRATORS;
 use std::marker::Model;
-use turn_rules::Order;
 
 /// What a run goes by: the configuration, the actors that run, in the order of their turns, each with its endpoint, the
 /// commands, and how many turns there are.
