@@ -2,7 +2,7 @@
 //!
 //! What each call answers is proved where it stands; here are worked rows from outside: each call once on its way, what a
 //! node says and reports as its peers and the arbitrators answer, to what an arbitrator gives no answer, when it is full,
-//! and what its records are as bytes. The crate has no code of its own.
+//! what its records are as bytes, and what it knows when it begins from them. The crate has no code of its own.
 #![tactic(auto)]
 
 #[cfg(test)]
