@@ -1,6 +1,7 @@
 // Generated schedules and their summaries.
 
-use crate::calls::written;
+use crate::calls::{called, written};
+use edge_io::{MemSink, MemSource};
 use std::alloc::Global;
 use std::process::Abort;
 use std::test::Fail;
@@ -35,5 +36,35 @@ fn schedules_are_generated(rt: HostRuntime) -> Result<(), Fail> {
     for call in &CALLS {
         expect_call(&rt, rt.alloc(), call)?;
     }
+    Ok(())
+}
+
+/// A schedule of many pages, as text.
+fn long_schedule(alloc: Global) -> Result<Vec<u8>, Fail> {
+    let mut nothing = MemSource::new(Vec::new(alloc), Vec::new(alloc));
+    let mut sink = MemSink::new(alloc, Vec::new(alloc));
+    called(
+        alloc,
+        &["generate", "7", "8", "500"],
+        &mut nothing,
+        &mut sink,
+    )?;
+    Ok(sink.held().to_vec(alloc)?)
+}
+
+/// Both texts are longer than what waits in memory, so they go to the sink before they end.
+#[test]
+fn a_long_text_is_written_whole(rt: HostRuntime) -> Result<(), Fail> {
+    let alloc = rt.alloc();
+    let schedule = long_schedule(alloc)?;
+    assert!(rt; schedule.len() == 174_166);
+    let left = written(
+        alloc,
+        &["replay"],
+        schedule,
+        Vec::new(alloc),
+        Vec::new(alloc),
+    )?;
+    left.expect_end(&rt, b"end 15647 11447\n".as_slice());
     Ok(())
 }
