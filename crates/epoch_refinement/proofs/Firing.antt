@@ -20,8 +20,9 @@ use Rattle.unit_rules.specs.Seats.{Lead, Seat, first_seat, entry_at}
 use Rattle.unit_rules.specs.Steps.{Failover, fired}
 use Rattle.unit_rules.specs.Writes.{entry_sent, lead_fired, seat_fired}
 use Rattle.ring_points.specs.Whos.{node_instance}
+use Rattle.replica_records.specs.Seats.{seat_at}
 use Rattle.epoch_refinement.specs.Epochs.{settings_to}
-use Rattle.epoch_refinement.specs.Nodes.{Machines, seat_at, ShowsNode, AllSent, tells_of, AllReal, NodeRefined}
+use Rattle.epoch_refinement.specs.Nodes.{Machines, ShowsNode, AllSent, tells_of, AllReal, NodeRefined}
 use Rattle.epoch_refinement.specs.Reconfigs.{ShowsManager}
 use Rattle.epoch_refinement.specs.Refined.{AllShown, Refined}
 use Rattle.epoch_refinement.specs.Told.{tells_all}

@@ -19,9 +19,10 @@ use Rattle.unit_rules.specs.Deeds.{Deed, Keep, Send, Tell, Acted, acted}
 use Rattle.unit_rules.specs.Manager.{Managed}
 use Rattle.unit_rules.specs.Seats.{Seat, first_seat}
 use Rattle.unit_rules.specs.Steps.{Failover, by_manager, by_seat}
+use Rattle.replica_records.specs.Seats.{seat_at}
 use Rattle.epoch_refinement.specs.Epochs.{settings_to}
 use Rattle.epoch_refinement.specs.Facts.{of_node, Later}
-use Rattle.epoch_refinement.specs.Nodes.{Machines, seat_at, ShowsNode, AllSent, is_told_of, tells_of, IsRealIn, AllReal, Between, NodeRefined}
+use Rattle.epoch_refinement.specs.Nodes.{Machines, ShowsNode, AllSent, is_told_of, tells_of, IsRealIn, AllReal, Between, NodeRefined}
 use Rattle.epoch_refinement.specs.Reconfigs.{NoneAbove, ShowsReconfig, ShowsManager, Went, ManagerWent}
 use Rattle.epoch_refinement.specs.Refined.{AllShown, Refined}
 use Rattle.epoch_refinement.specs.Seats.{ShowsSeat}

@@ -28,9 +28,10 @@ use Rattle.unit_rules.specs.Seats.{Seat, first_seat}
 use Rattle.unit_rules.specs.Steps.{Failover, by_manager, at_seat, at_found, at_standing, answer, frame_row, manage, command_row, failover_step}
 use Rattle.unit_rules.specs.Writes.{appended_received, write_commanded}
 use Rattle.unit_rules.proofs.Answered.{names_only_answer, resolve_only_answers}
+use Rattle.replica_records.specs.Seats.{seat_at}
 use Rattle.epoch_refinement.specs.Epochs.{settings_to}
 use Rattle.epoch_refinement.specs.Laws.{StepsAreDeeds}
-use Rattle.epoch_refinement.specs.Nodes.{Machines, seat_at, ShowsNode, NodeRefined, Arrives}
+use Rattle.epoch_refinement.specs.Nodes.{Machines, ShowsNode, NodeRefined, Arrives}
 use Rattle.epoch_refinement.specs.Reconfigs.{IsAnswerOf}
 use Rattle.epoch_refinement.specs.Refined.{Refined}
 use Rattle.epoch_refinement.specs.Rows.{seat_received}

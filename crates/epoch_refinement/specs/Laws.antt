@@ -23,9 +23,10 @@ use Rattle.unit_rules.specs.Registers.{Register, Reply, Registers, question_rece
 use Rattle.epoch_refinement.specs.Nodes.{Machines, ShowsNode, NodeRefined, Comes, ShowsArbiter, ArbiterRefined}
 use Rattle.unit_rules.specs.Seats.{Seat}
 use Rattle.unit_rules.specs.Writes.{write_commanded, seat_fired}
+use Rattle.replica_records.specs.Seats.{begun_again}
 use Rattle.epoch_refinement.specs.Refined.{AllShown, Refined}
 use Rattle.epoch_refinement.specs.Registers.{ShowsRegister, RefinedReply}
-use Rattle.epoch_refinement.specs.Rows.{seat_received, begun_again, register_answers}
+use Rattle.epoch_refinement.specs.Rows.{seat_received, register_answers}
 use Rattle.epoch_refinement.specs.Seats.{ShowsSeat}
 use Rattle.epoch_refinement.specs.Shown.{partition_of, Shown}
 

@@ -1,6 +1,6 @@
 -- A whole node, with its manager and its replicas, on the machines of all partitions.
-use Rattle.std.specs.Prelude.{◌≡◌, ℕ, Bool, true, false, cond, ◌==◌, List, [], ◌∷◌, unwrap_or, ◌⊎◌}
-use Rattle.fabric_lemmas.specs.Maps.{at, rises}
+use Rattle.std.specs.Prelude.{◌≡◌, ℕ, Bool, true, false, cond, ◌==◌, List, [], ◌∷◌, ◌⊎◌}
+use Rattle.fabric_lemmas.specs.Maps.{rises}
 use Rattle.ring_points.specs.declared.who.Who.{Who}
 use Rattle.fabric_terms.specs.declared.message.Message.{Message}
 use Rattle.fabric_terms.specs.declared.report.Report.{Report}
@@ -14,8 +14,8 @@ use Rattle.epoch_machine.specs.Invariant.{Invariant}
 use Rattle.unit_rules.specs.Deeds.{Deed, Keep, Send, Tell, Acted}
 use Rattle.unit_rules.specs.Manager.{Managed}
 use Rattle.unit_rules.specs.Registers.{Registers, register_of}
-use Rattle.unit_rules.specs.Seats.{Seat, first_seat}
 use Rattle.unit_rules.specs.Steps.{Failover}
+use Rattle.replica_records.specs.Seats.{seat_at}
 use Rattle.epoch_refinement.specs.Epochs.{IsReal, settings_to}
 use Rattle.epoch_refinement.specs.Facts.{Fact, Has, SameSeat, SameRegister}
 use Rattle.epoch_refinement.specs.Reconfigs.{ShowsManager}
@@ -27,10 +27,6 @@ use Rattle.epoch_refinement.specs.Told.{tells}
 -- a machine for each partition
 abbrev pub Machines : Type 0
 Machines = ℕ → World
-
--- the replica of the partition, which begins with the first row that needs it
-abbrev pub seat_at : ℕ → Failover → Seat
-seat_at p s = unwrap_or (at p s.seats) (first_seat p)
 
 -- the node of the instance x: in each partition its replica and its manager
 pub record ShowsNode (k : ℕ) (m : Machines) (x : Who) (s : Failover) : Type 0 where

@@ -1,9 +1,8 @@
 -- The rows of one partition, by the frames that make them.
-use Rattle.std.specs.Prelude.{[], Option, Some, None}
+use Rattle.std.specs.Prelude.{Option, Some, None}
 use Rattle.ring_points.specs.declared.who.Who.{Who}
 use Rattle.fabric_terms.specs.declared.message.Body.{Body}
 use Rattle.fabric_terms.specs.declared.message.Body.TheVariants as body
-use Rattle.replica_core.specs.declared.role.Role.TheVariants.{None as NoRole}
 use Rattle.unit_rules.specs.Activations.{activate_received}
 use Rattle.unit_rules.specs.Copies.{sync_received, fetch_received, piece_received}
 use Rattle.unit_rules.specs.Deeds.{Acted, still}
@@ -22,10 +21,6 @@ seat_received me x (body.Activate config) s = activate_received me.actor x confi
 seat_received me x (body.Append p epoch lsn text) s = append_received x epoch lsn text s
 seat_received me x (body.Appended p epoch last) s = appended_received x.actor epoch last s
 seat_received me x _ s = still s
-
--- what a replica is after its node began anew: it has no role, and has collected nothing
-abbrev pub begun_again : Seat → Seat
-begun_again s = record { replica = record s.replica { role = NoRole; collected = [] }; taking = None; lead = None }
 
 -- what an arbitrator's register answers x
 abbrev pub register_answers : Who → Body → Register → Option Reply

@@ -22,8 +22,9 @@ use Rattle.world_rules.specs.Nodes.{NodeState, both_did, comes_above}
 use Rattle.world_rules.specs.Uppers.{Did}
 use Rattle.world_rules.specs.Worlds.{World, Running, Stepped, node_acted}
 use Rattle.run_facts.proofs.Happens.{CameTo}
+use Rattle.replica_records.specs.Seats.{seat_at}
 use Rattle.epoch_refinement.specs.Epochs.{settings_to}
-use Rattle.epoch_refinement.specs.Nodes.{Machines, seat_at, NodeRefined}
+use Rattle.epoch_refinement.specs.Nodes.{Machines, NodeRefined}
 use Rattle.epoch_refinement.proofs.Losing.{settings_sound}
 use Rattle.epoch_safety.specs.Reports.{IsAmong, log_in}
 use Rattle.epoch_safety.proofs.ActFollows.{Numbered, actor, shows, refined, kept_now, busy_follows, commit_above}

@@ -37,10 +37,10 @@ use Rattle.world_rules.specs.Worlds.{World, Running, kept_of}
 use Rattle.run_facts.proofs.Happens.{CameTo}
 use Rattle.run_facts.proofs.Kept.{boots_append}
 use Rattle.run_facts.proofs.Steps.{Stepped, ring_stepped}
+use Rattle.replica_records.specs.Seats.{seat_at, begun_again}
 use Rattle.epoch_refinement.specs.Epochs.{settings_to}
-use Rattle.epoch_refinement.specs.Nodes.{Machines, seat_at, ShowsNode, NodeRefined, Comes}
+use Rattle.epoch_refinement.specs.Nodes.{Machines, ShowsNode, NodeRefined, Comes}
 use Rattle.epoch_refinement.specs.Reconfigs.{ShowsManager}
-use Rattle.epoch_refinement.specs.Rows.{begun_again}
 use Rattle.epoch_refinement.specs.Seats.{ShowsSeat}
 use Rattle.epoch_refinement.specs.Shown.{partition_of, Shown}
 use Rattle.epoch_refinement.proofs.Stepping as deeds

@@ -35,7 +35,7 @@ use Rattle.world_rules.specs.Nodes.{above_if, comes_above}
 use Rattle.world_rules.specs.Worlds.{World, Running}
 use Rattle.world_rules.proofs.Rows.{node_step-is}
 use Rattle.run_facts.proofs.Steps.{Stepped, ring_stepped}
-use Rattle.epoch_refinement.specs.Nodes.{seat_at}
+use Rattle.replica_records.specs.Seats.{seat_at}
 use Rattle.ring_apart.specs.Apart.{is_unit_report}
 use Rattle.ring_apart.proofs.Steps.{steps_apart_lem}
 use Rattle.epoch_safety.specs.Answers.{AnsweredBy, AnswersAreByEntries, tells_names}

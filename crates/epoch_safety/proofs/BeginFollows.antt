@@ -22,10 +22,10 @@ use Rattle.world_rules.specs.Uppers.{Did}
 use Rattle.world_rules.specs.Worlds.{World, kept_of}
 use Rattle.run_facts.proofs.Kept.{boots_append}
 use Rattle.run_facts.proofs.Steps.{started_as}
+use Rattle.replica_records.specs.Seats.{seat_at, begun_again}
 use Rattle.epoch_refinement.specs.Epochs.{settings_to}
-use Rattle.epoch_refinement.specs.Nodes.{Machines, seat_at}
+use Rattle.epoch_refinement.specs.Nodes.{Machines}
 use Rattle.epoch_refinement.specs.Refined.{Refined}
-use Rattle.epoch_refinement.specs.Rows.{begun_again}
 use Rattle.epoch_refinement.specs.Seats.{ShowsSeat}
 use Rattle.epoch_refinement.proofs.Elsewhere.{manager_elsewhere}
 use Rattle.epoch_refinement.proofs.Rows.{restarts_are_deeds_lem}

@@ -20,10 +20,10 @@ use Rattle.unit_rules.specs.Units.{units}
 use Rattle.world_rules.specs.Arbiters.{ArbiterState}
 use Rattle.world_rules.specs.Nodes.{boots_of}
 use Rattle.world_rules.specs.Worlds.{World, Running, kept_of, posted}
+use Rattle.replica_records.specs.Seats.{seat_at, begun_again}
 use Rattle.epoch_refinement.specs.Epochs.{settings_to}
-use Rattle.epoch_refinement.specs.Nodes.{Machines, seat_at, ShowsArbiter}
+use Rattle.epoch_refinement.specs.Nodes.{Machines, ShowsArbiter}
 use Rattle.epoch_refinement.specs.Reconfigs.{ShowsManager}
-use Rattle.epoch_refinement.specs.Rows.{begun_again}
 use Rattle.epoch_refinement.specs.Seats.{ShowsSeat}
 use Rattle.epoch_refinement.specs.Shown.{partition_of, Shown}
 use Rattle.kept_replicas.specs.Kept.{AreKept}

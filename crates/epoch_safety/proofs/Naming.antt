@@ -6,8 +6,8 @@ use Rattle.fabric_terms.specs.declared.report.Reason.{Reason}
 use Rattle.fabric_terms.specs.declared.report.Reason.TheVariants as reason
 use Rattle.epoch_machine.specs.Epochs.{number_of}
 use Rattle.epoch_machine.proofs.Kept.{active_sync, positive, sync_plan}
+use Rattle.replica_records.specs.Seats.{seat_at}
 use Rattle.epoch_refinement.specs.Epochs.{IsEpoch, IsReal}
-use Rattle.epoch_refinement.specs.Nodes.{seat_at}
 use Rattle.epoch_refinement.specs.Seats.{ShowsSeat}
 use Rattle.epoch_refinement.proofs.Losing.{settings_sound}
 use Rattle.epoch_refinement.proofs.Numbers.{number_older_not, real}

@@ -20,12 +20,12 @@ use Rattle.world_rules.specs.Nodes.{NodeState, boots_of}
 use Rattle.world_rules.specs.Uppers.{Did}
 use Rattle.world_rules.specs.Worlds.{World, Running, kept_of, node_acted, posted}
 use Rattle.run_facts.proofs.Kept.{put_cases, kept_here, kept_there, boots_append}
+use Rattle.replica_records.specs.Seats.{seat_at, begun_again}
 use Rattle.epoch_refinement.specs.Epochs.{settings_to}
 use Rattle.epoch_refinement.specs.Facts.{Fact, Has, SameSeat, SameRegister}
-use Rattle.epoch_refinement.specs.Nodes.{Machines, seat_at}
+use Rattle.epoch_refinement.specs.Nodes.{Machines}
 use Rattle.epoch_refinement.specs.Reconfigs.{ShowsManager}
 use Rattle.epoch_refinement.specs.Registers.{ShowsRegister}
-use Rattle.epoch_refinement.specs.Rows.{begun_again}
 use Rattle.epoch_refinement.specs.Seats.{ShowsSeat}
 use Rattle.epoch_refinement.specs.Shown.{partition_of, Shown}
 use Rattle.kept_replicas.specs.Kept.{AreKept}

@@ -27,9 +27,10 @@ use Rattle.world_rules.proofs.Rows.{arbiter_step-is}
 use Rattle.run_facts.proofs.ArbiterSteps.{Answered, arbiter_stepped}
 use Rattle.run_facts.proofs.Kept.{put_cases, kept_here, kept_there, boots_still}
 use Rattle.run_facts.proofs.Tables.{two_arbiters}
+use Rattle.replica_records.specs.Seats.{seat_at}
 use Rattle.epoch_refinement.specs.Epochs.{settings_to}
 use Rattle.epoch_refinement.specs.Facts.{Fact, Has, SameSeat, SameRegister}
-use Rattle.epoch_refinement.specs.Nodes.{Machines, seat_at, ShowsArbiter, ArbiterRefined}
+use Rattle.epoch_refinement.specs.Nodes.{Machines, ShowsArbiter, ArbiterRefined}
 use Rattle.epoch_refinement.specs.Reconfigs.{ShowsManager}
 use Rattle.epoch_refinement.specs.Registers.{ShowsRegister}
 use Rattle.epoch_refinement.specs.Shown.{partition_of, Shown}

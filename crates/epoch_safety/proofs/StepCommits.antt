@@ -32,7 +32,7 @@ use Rattle.unit_rules.specs.Seats.{Seat, first_seat}
 use Rattle.unit_rules.specs.Steps.{Failover, answer, at_found, at_standing, by_seat, command_row, failover_step, fired, frame_row, manage}
 use Rattle.unit_rules.specs.Writes.{appended_received, seat_fired, write_commanded}
 use Rattle.world_rules.specs.Above.{is_ring_report}
-use Rattle.epoch_refinement.specs.Nodes.{seat_at}
+use Rattle.replica_records.specs.Seats.{seat_at}
 use Rattle.unit_rules.proofs.Answered.{names_only_answer, resolve_only_answers}
 use Rattle.epoch_safety.specs.Answers.{asks_names}
 use Rattle.epoch_safety.proofs.Committing.{LeadsAt, CommitsOf, IsCommitOf, ArePlain, IsPlain, plain_join, promise_plain, sync_plain, fetch_plain, piece_plain, activate_plain, append_plain, fired_plain, appended_commits, write_commits}

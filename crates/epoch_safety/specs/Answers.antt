@@ -17,7 +17,7 @@ use Rattle.unit_rules.specs.Leads.{lead_of}
 use Rattle.unit_rules.specs.Units.{units}
 use Rattle.world_rules.specs.Events.{world_step}
 use Rattle.world_rules.specs.Worlds.{World, Running}
-use Rattle.epoch_refinement.specs.Nodes.{seat_at}
+use Rattle.replica_records.specs.Seats.{seat_at}
 use Rattle.epoch_safety.specs.Reports.{IsAmong}
 
 -- an answer, and no refusal

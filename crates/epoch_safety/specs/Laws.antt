@@ -15,7 +15,7 @@ use Rattle.unit_rules.specs.Units.{units}
 use Rattle.world_rules.specs.Runs.{History, run_of, world_after}
 use Rattle.world_rules.specs.Schedules.{Valid}
 use Rattle.world_rules.specs.Worlds.{Running}
-use Rattle.epoch_refinement.specs.Nodes.{seat_at}
+use Rattle.replica_records.specs.Seats.{seat_at}
 use Rattle.epoch_safety.specs.Reports.{Reports, log_after}
 
 -- it holds of every valid history of every sound configuration

@@ -12,8 +12,7 @@ use Rattle.replica_core.specs.Replicas.{Replica, uncollected}
 use Rattle.unit_rules.specs.Seats.{Seat, first_seat, seated}
 use Rattle.unit_rules.specs.Starts.{Replicas, replica_of, without_collected, replicas_after_all}
 use Rattle.unit_rules.specs.Steps.{failover_begun}
-use Rattle.epoch_refinement.specs.Nodes.{seat_at}
-use Rattle.epoch_refinement.specs.Rows.{begun_again}
+use Rattle.replica_records.specs.Seats.{seat_at, begun_again}
 use Rattle.kept_replicas.specs.Kept.{without_role, IsFit}
 use Rattle.kept_replicas.specs.Laws.{NothingIsKept, StartsStayKept, SeatsAreKept, StartsBeginAgain}
 use Rattle.kept_replicas.specs.Named.{is_named, named, seats_of, KeptAs}

@@ -32,7 +32,7 @@ use Rattle.unit_rules.specs.Seats.{Seat, first_seat}
 use Rattle.unit_rules.specs.Starts.{Replicas, replica_of, replicas_after_all}
 use Rattle.unit_rules.specs.Steps.{Failover, by_seat, at_found, at_standing, answer, frame_row, manage, command_row, fired, failover_step}
 use Rattle.unit_rules.specs.Writes.{appended_received, write_commanded}
-use Rattle.epoch_refinement.specs.Nodes.{seat_at}
+use Rattle.replica_records.specs.Seats.{seat_at}
 use Rattle.unit_rules.proofs.Answered.{names_only_answer, resolve_only_answers}
 use Rattle.kept_replicas.specs.Kept.{without_role, IsFit}
 use Rattle.kept_replicas.specs.Named.{is_named, KeptAs, FitsFrame}

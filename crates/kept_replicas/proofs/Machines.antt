@@ -4,7 +4,7 @@ use Rattle.ring_points.specs.Epochs.{is_older}
 use Rattle.replica_core.specs.Replicas.{Replica}
 use Rattle.unit_rules.specs.Deeds.{still}
 use Rattle.unit_rules.specs.Seats.{Seat}
-use Rattle.epoch_refinement.specs.Nodes.{seat_at}
+use Rattle.replica_records.specs.Seats.{seat_at}
 use Rattle.epoch_refinement.specs.Refined.{Refined}
 use Rattle.epoch_refinement.proofs.Numbers.{test, older_below}
 use Rattle.epoch_refinement.proofs.Rows.{restarts_are_deeds_lem}

@@ -11,7 +11,7 @@ use Rattle.replica_core.specs.Replicas.{Replica, first_replica}
 use Rattle.unit_rules.specs.Seats.{Seat, first_seat}
 use Rattle.unit_rules.specs.Starts.{Replicas, replica_of, replicas_after_all}
 use Rattle.unit_rules.specs.Steps.{Failover}
-use Rattle.epoch_refinement.specs.Nodes.{seat_at}
+use Rattle.replica_records.specs.Seats.{seat_at}
 use Rattle.kept_replicas.specs.Kept.{without_role, AreKept, IsFit}
 use Rattle.kept_replicas.specs.Named.{is_named, named, KeptAs}
 use Rattle.kept_replicas.proofs.Starting.{all_rise}

@@ -8,7 +8,7 @@ use Rattle.unit_rules.specs.declared.lead.Taking.{Taking}
 use Rattle.unit_rules.specs.Seats.{Seat}
 use Rattle.unit_rules.specs.Starts.{replica_of, replicas_after_all}
 use Rattle.unit_rules.specs.Steps.{Failover}
-use Rattle.epoch_refinement.specs.Nodes.{seat_at}
+use Rattle.replica_records.specs.Seats.{seat_at}
 
 -- what records say of a replica: all but its role
 abbrev pub without_role : Replica → Replica

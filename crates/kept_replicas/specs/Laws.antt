@@ -14,9 +14,8 @@ use Rattle.unit_rules.specs.Loads.{Site}
 use Rattle.unit_rules.specs.Seats.{Seat}
 use Rattle.unit_rules.specs.Starts.{replica_of, replicas_after_all, seats_begun}
 use Rattle.unit_rules.specs.Steps.{Failover, failover_begun, failover_step}
-use Rattle.epoch_refinement.specs.Nodes.{seat_at}
+use Rattle.replica_records.specs.Seats.{seat_at, begun_again}
 use Rattle.epoch_refinement.specs.Refined.{Refined}
-use Rattle.epoch_refinement.specs.Rows.{begun_again}
 use Rattle.epoch_refinement.specs.Seats.{ShowsSeat}
 use Rattle.kept_replicas.specs.Kept.{AreKept, IsFit}
 use Rattle.kept_replicas.specs.Named.{named, seats_of, KeptAs, FitsFrame}

@@ -11,7 +11,7 @@ use Rattle.ring_rules.specs.declared.input.Input.TheVariants as input
 use Rattle.unit_rules.specs.Seats.{Seat, first_seat, seated}
 use Rattle.unit_rules.specs.Starts.{Replicas, replicas_after_all}
 use Rattle.unit_rules.specs.Steps.{Failover}
-use Rattle.epoch_refinement.specs.Nodes.{seat_at}
+use Rattle.replica_records.specs.Seats.{seat_at}
 use Rattle.kept_replicas.specs.Kept.{without_role, AreKept, IsFit}
 
 -- a replica that records name: it has promised an epoch, or has an entry

@@ -35,7 +35,8 @@ use Rattle.world_rules.specs.Worlds.{World, Running, Stepped, kept_of, node_acte
 use Rattle.world_rules.proofs.Rows.{node_begun-is, node_step-is}
 use Rattle.run_facts.proofs.Happens.{Cases, by_cases}
 use Rattle.run_facts.proofs.Orderly.{orderly}
-use Rattle.epoch_refinement.specs.Nodes.{Machines, seat_at}
+use Rattle.replica_records.specs.Seats.{seat_at}
+use Rattle.epoch_refinement.specs.Nodes.{Machines}
 use Rattle.epoch_safety.specs.Reports.{IsAmong, Reports, log_after}
 use Rattle.epoch_safety.proofs.ActFollows.{Numbered, actor, commit_above}
 use Rattle.epoch_safety.proofs.Entries.{no_commit}

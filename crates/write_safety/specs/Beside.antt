@@ -2,7 +2,7 @@
 use Rattle.std.specs.Prelude.{ℕ, List, [], Option, None, Some}
 use Rattle.fabric_lemmas.specs.Maps.{at}
 use Rattle.replica_core.specs.declared.entry.Entry.{Entry}
-use Rattle.epoch_refinement.specs.Nodes.{seat_at}
+use Rattle.replica_records.specs.Seats.{seat_at}
 use Rattle.unit_rules.specs.Units.{units}
 use Rattle.world_rules.specs.Worlds.{World, Running}
 
