@@ -13,6 +13,7 @@ use Rattle.replica_core.specs.declared.role.Role.TheVariants.{ActiveSecondary, P
 use Rattle.replica_core.specs.Roles.{is_member}
 use Rattle.replica_core.specs.Replicas.{Replica, raised}
 use Rattle.replica_core.specs.Calls.{unless}
+use Rattle.replica_core.proofs.Orders.{not_itself}
 use Rattle.epoch_machine.specs.Plans.{Plan}
 use Rattle.epoch_machine.specs.Plans as machine
 use Rattle.epoch_machine.specs.Settings.{Settings}
@@ -34,7 +35,7 @@ use Rattle.epoch_refinement.specs.Refined.{Refined}
 use Rattle.epoch_refinement.specs.Seats.{IsNumbered, ShowsSeat, ShowsLead}
 use Rattle.epoch_refinement.specs.Shown.{ShownActivate}
 use Rattle.epoch_refinement.proofs.Doing.{nothing_refined}
-use Rattle.epoch_refinement.proofs.Numbers.{older_not, same_epoch-true, one_epoch, older_self, real}
+use Rattle.epoch_refinement.proofs.Numbers.{older_not, same_epoch-true, one_epoch, real}
 use Rattle.epoch_refinement.proofs.Lasting.{deed_later, later_refl, sync_later}
 
 -- the peers of a new primary are these nodes, of whom nothing is confirmed
@@ -74,7 +75,7 @@ module _ {c : Settings} {w : World} (inv : Invariant c w) (p : ℕ) (me : Who) (
         (subst (λ n. IsEpoch n s.replica.promised) promised_is shows.promised).number e.number
 
     not_above : is_older s.replica.promised config.epoch ≡ false
-    not_above = subst (λ z. is_older z config.epoch ≡ false) (sym epoch_is) (older_self config.epoch)
+    not_above = subst (λ z. is_older z config.epoch ≡ false) (sym epoch_is) (not_itself config.epoch)
 
     collected_same : (raised config.epoch s.replica).collected ≡ s.replica.collected
     collected_same = ap (λ b. cond b [] s.replica.collected) not_above
@@ -84,7 +85,7 @@ module _ {c : Settings} {w : World} (inv : Invariant c w) (p : ℕ) (me : Who) (
 
     -- what a member has is not older than what it promised
     current : is_older s.replica.at config.epoch ≡ false
-    current = subst (λ z. is_older z config.epoch ≡ false) (sym at_is) (older_self config.epoch)
+    current = subst (λ z. is_older z config.epoch ≡ false) (sym at_is) (not_itself config.epoch)
 
     can_lead : (config.primary == me.actor) ≡ true → Can c w (BecomesPrimary me.actor activate.plan)
     can_lead primary = (activate.activated, activate.is.primary ∙ eqb-true config.primary me.actor primary, joined_is, promised_is)

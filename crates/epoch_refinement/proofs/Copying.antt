@@ -14,6 +14,7 @@ use Rattle.replica_core.specs.Replicas.{Replica, raised, settled, collected_in}
 use Rattle.replica_core.specs.Roles.{demoted}
 use Rattle.replica_core.specs.declared.refusal.Done.{Done}
 use Rattle.replica_core.specs.Calls.{Outcome, unless, held_if, is_gap, is_collected, collected_call}
+use Rattle.replica_core.proofs.Orders.{not_itself}
 use Rattle.epoch_machine.specs.Epochs.{number_of}
 use Rattle.epoch_machine.specs.Messages.{Piece}
 use Rattle.epoch_machine.specs.Settings.{Settings}
@@ -36,7 +37,7 @@ use Rattle.epoch_refinement.specs.Refined.{Refined}
 use Rattle.epoch_refinement.specs.Seats.{IsNumbered, ShowsSeat}
 use Rattle.epoch_refinement.specs.Shown.{ShownSync, ShownPiece}
 use Rattle.epoch_refinement.proofs.Doing.{after_refined, nothing_refined, not_primary}
-use Rattle.epoch_refinement.proofs.Numbers.{older_not, same_not, below_older, same_epoch-true, one_epoch, older_self}
+use Rattle.epoch_refinement.proofs.Numbers.{older_not, same_not, below_older, same_epoch-true, one_epoch}
 use Rattle.epoch_refinement.proofs.Lasting.{deed_later, later_refl, sync_later}
 use Rattle.epoch_refinement.proofs.Promising.{numbered_none, numbered_push}
 use Rattle.epoch_refinement.proofs.Adopting.{Adopts, adopts}
@@ -71,7 +72,7 @@ module _ {c : Settings} {w : World} (inv : Invariant c w) (p : ℕ) (me : Who) (
     may = record { synced = sync.synced; promised = promised_is; before = before_joined }
 
     not_above : is_older s.replica.promised t.epoch ≡ false
-    not_above = subst (λ z. is_older z t.epoch ≡ false) (sym epoch_is) (older_self t.epoch)
+    not_above = subst (λ z. is_older z t.epoch ≡ false) (sym epoch_is) (not_itself t.epoch)
 
     not_leading : is_primary s.replica.role ≡ false
     not_leading = shows.idle (below_older s.replica.at s.replica.promised shows.joined shows.promised (let q = promised_is in let b = before_joined in

@@ -27,9 +27,10 @@ pub mod Managing
 pub mod Elsewhere
 pub mod Parts
 pub mod Beside
-pub mod ManagerDeeds
+pub mod Quiet
 pub mod Managers
 pub mod Firing
 pub mod Stepping
 pub mod Arbitrating
 pub mod Beginning
+pub mod Kept

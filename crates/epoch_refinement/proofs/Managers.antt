@@ -30,7 +30,8 @@ use Rattle.epoch_refinement.proofs.Asking.{still_went, went_map}
 use Rattle.epoch_refinement.proofs.Managing.{step_stands, began, entered_same}
 use Rattle.epoch_refinement.proofs.Parts.{manager_step}
 use Rattle.epoch_refinement.proofs.Beside.{put_other, stands_beside, entered_other}
-use Rattle.epoch_refinement.proofs.ManagerDeeds.{answer_managed, asks_managed, managed_quiet, stands_managed}
+use Rattle.replica_records.proofs.ManagerDeeds.{answer_managed, asks_managed, stands_managed}
+use Rattle.epoch_refinement.proofs.Quiet.{managed_quiet}
 
 module _ {k : ℕ} {m : Machines} {x : Who} {s : Failover} (inv : (p : ℕ) → Invariant (settings_to k) (m p)) (shows : ShowsNode k m x s) (me : 0 < x.instance)
     (q : ℕ) where

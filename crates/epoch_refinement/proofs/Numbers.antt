@@ -63,10 +63,6 @@ same_epoch-true a b h =
     let parts = and_parts (a.data_loss == b.data_loss) (a.configuration == b.configuration) h in
     λ i. record { data_loss = eqb-true a.data_loss b.data_loss parts.0 i; configuration = eqb-true a.configuration b.configuration parts.1 i }
 
--- no epoch is older than itself
-pub older_self : (e : Epoch) → is_older e e ≡ false
-older_self e = grind (arith, nat_tests)
-
 pub same_self : (e : Epoch) → same_epoch e e ≡ true
 same_self e = grind (arith, nat_tests)
 

@@ -17,6 +17,7 @@ use Rattle.replica_core.specs.Roles.{demoted, is_idle}
 use Rattle.replica_core.specs.Replicas.{Replica, raised, adopted}
 use Rattle.replica_core.specs.Calls.{Outcome, unless, held_if, adopt_own_call, idle_call}
 use Rattle.replica_core.specs.Calls as call
+use Rattle.replica_core.proofs.Orders.{not_itself}
 use Rattle.epoch_machine.specs.Settings.{Settings}
 use Rattle.epoch_machine.specs.World.{World, TellsPromised}
 use Rattle.epoch_machine.specs.Deeds.{RaisesPromise, AdoptsNothing, AdoptsOwn, SaysAdopted}
@@ -35,7 +36,7 @@ use Rattle.epoch_refinement.specs.Seats.{IsNumbered, ShowsSeat}
 use Rattle.epoch_refinement.specs.Shown.{ShownSync}
 use Rattle.epoch_refinement.proofs.Adopting.{may_adopt, Adopts, adopts}
 use Rattle.epoch_refinement.proofs.Doing.{after_refined, nothing_refined, not_primary}
-use Rattle.epoch_refinement.proofs.Numbers.{real, same_not, same_epoch-true, older_self}
+use Rattle.epoch_refinement.proofs.Numbers.{real, same_not, same_epoch-true}
 use Rattle.epoch_refinement.proofs.Lasting.{deed_later, later_refl, sync_later}
 use Rattle.epoch_refinement.proofs.Promising.{raised_shows, shows_later, numbered_none, promise_above}
 
@@ -58,10 +59,10 @@ made_idle : (e : Epoch) (r : Replica) → r.promised ≡ e → IsIdle (idle_call
 made_idle e r same = go (is_older e r.promised) not_older (same_epoch r.promised e && is_idle r.role) refl
   where
     not_older : is_older e r.promised ≡ false
-    not_older = subst (λ z. is_older e z ≡ false) (sym same) (older_self e)
+    not_older = subst (λ z. is_older e z ≡ false) (sym same) (not_itself e)
 
     not_above : is_older r.promised e ≡ false
-    not_above = subst (λ z. is_older z e ≡ false) (sym same) (older_self e)
+    not_above = subst (λ z. is_older z e ≡ false) (sym same) (not_itself e)
 
     go : (older : Bool) → older ≡ false → (held : Bool) → (same_epoch r.promised e && is_idle r.role) ≡ held →
         IsIdle (unless older (Older r.promised) r (held_if held r (Ok New, record (raised e r) { role = IdleSecondary }))).1 r
@@ -131,7 +132,7 @@ module _ {c : Settings} {w : World} (inv : Invariant c w) (p : ℕ) (me : Who) (
         let q = number_is in omega arith
 
     not_older : is_older t.epoch next.replica.promised ≡ false
-    not_older = let i = is_idle_now in subst (λ z. is_older t.epoch z ≡ false) (sym (i.promised ∙ is_promised)) (older_self t.epoch)
+    not_older = let i = is_idle_now in subst (λ z. is_older t.epoch z ≡ false) (sym (i.promised ∙ is_promised)) (not_itself t.epoch)
 
     apart_now : same_epoch next.replica.at t.epoch ≡ false
     apart_now = let i = is_idle_now in subst (λ z. same_epoch z t.epoch ≡ false) (sym i.at_is) apart
@@ -144,7 +145,7 @@ module _ {c : Settings} {w : World} (inv : Invariant c w) (p : ℕ) (me : Who) (
         (held_if (apart_now k) next.replica (call.own_adopted (h k) (i k) t.epoch next.replica))
 
     not_above : is_older next.replica.promised t.epoch ≡ false
-    not_above = let i = is_idle_now in subst (λ z. is_older z t.epoch ≡ false) (sym (i.promised ∙ is_promised)) (older_self t.epoch)
+    not_above = let i = is_idle_now in subst (λ z. is_older z t.epoch ≡ false) (sym (i.promised ∙ is_promised)) (not_itself t.epoch)
 
     same_role : (raised t.epoch next.replica).role ≡ next.replica.role
     same_role = ap (λ b. cond b (demoted next.replica.role) next.replica.role) not_above

@@ -11,6 +11,7 @@ use Rattle.epoch_refinement.specs.Epochs.{settings_to}
 use Rattle.epoch_refinement.specs.Reconfigs.{ShowsManager, IsAnswerOf, ManagerWent}
 use Rattle.ring_points.specs.declared.who.Who.{Who}
 use Rattle.fabric_terms.specs.declared.message.Body.{Body}
+use Rattle.fabric_terms.specs.declared.record.Record.{Record}
 use Rattle.epoch_machine.specs.Settings.{Settings}
 use Rattle.epoch_machine.specs.World.{World, empty_world}
 use Rattle.epoch_machine.specs.Invariant.{Invariant}
@@ -18,12 +19,14 @@ use Rattle.unit_rules.specs.Deeds.{acted, still}
 use Rattle.ring_rules.specs.declared.input.Input.{Input}
 use Rattle.ring_rules.specs.Rings.{Ring}
 use Rattle.unit_rules.specs.Loads.{Site}
+use Rattle.unit_rules.specs.Starts.{replica_of, replicas_after_all}
 use Rattle.unit_rules.specs.Steps.{Failover, failover_begun, failover_step}
 use Rattle.unit_rules.specs.Registers.{Register, Reply, Registers, question_received, registers_after}
 use Rattle.epoch_refinement.specs.Nodes.{Machines, ShowsNode, NodeRefined, Comes, ShowsArbiter, ArbiterRefined}
 use Rattle.unit_rules.specs.Seats.{Seat}
 use Rattle.unit_rules.specs.Writes.{write_commanded, seat_fired}
-use Rattle.replica_records.specs.Seats.{begun_again}
+use Rattle.replica_records.specs.Kept.{AreKept, IsFit}
+use Rattle.replica_records.specs.Seats.{seat_at, begun_again}
 use Rattle.epoch_refinement.specs.Refined.{AllShown, Refined}
 use Rattle.epoch_refinement.specs.Registers.{ShowsRegister, RefinedReply}
 use Rattle.epoch_refinement.specs.Rows.{seat_received, register_answers}
@@ -90,3 +93,21 @@ QuestionsAreDeeds =
 abbrev pub BeginningsAreShown : Type 0
 BeginningsAreShown =
     (k : ℕ) (x : Who) → ShowsNode k (λ p. empty_world) x (failover_begun []) × ShowsArbiter (λ p. empty_world) x.actor (registers_after [] [])
+
+-- What a node recorded is what the machines of its replicas have.
+
+-- a replica that shows a world of its partition's machine is one that records what it becomes
+abbrev pub WhoShowsIsFit : Type 0
+WhoShowsIsFit = (c : Settings) (w : World) (p node : ℕ) (s : Seat) → Invariant c w → ShowsSeat w p node s → IsFit p s
+
+-- so a start is deeds of the machine, which has the replica of the instance before
+abbrev pub StartsAreDeeds : Type 0
+StartsAreDeeds =
+    (c : Settings) (w : World) (p : ℕ) (me : Who) (s : Failover) (records : List Record) → Invariant c w → ShowsSeat w p me.actor (seat_at p s) →
+    AreKept records s → Refined c w p me (still (seat_at p (failover_begun records)))
+
+-- and the machine's log is that of the records
+abbrev pub LogsAreKept : Type 0
+LogsAreKept =
+    (w : World) (p node : ℕ) (s : Failover) (records : List Record) → ShowsSeat w p node (seat_at p s) → AreKept records s →
+    w.log node ≡ (replica_of p (replicas_after_all [] records)).log

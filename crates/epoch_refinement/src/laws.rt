@@ -1,4 +1,4 @@
-ghost use Rattle.epoch_refinement.specs.Laws.{AnswersAreDeeds, BeginningsAreShown, CommandsAreDeeds, FiringsAreDeeds, ManagerAnswersAreDeeds, QuestionsAreDeeds, QuestionsAreShown, ReplicaFramesAreDeeds, RestartsAreDeeds, StepsAreDeeds, WritesAreDeeds};
+ghost use Rattle.epoch_refinement.specs.Laws.{AnswersAreDeeds, BeginningsAreShown, CommandsAreDeeds, FiringsAreDeeds, LogsAreKept, ManagerAnswersAreDeeds, QuestionsAreDeeds, QuestionsAreShown, ReplicaFramesAreDeeds, RestartsAreDeeds, StartsAreDeeds, StepsAreDeeds, WhoShowsIsFit, WritesAreDeeds};
 
 /// Whatever frame comes to a replica that was sent, in whatever order and however often, what it makes of it is deeds of
 /// the machine of its partition: what it sends is sent there, and what it tells is told there.
@@ -56,4 +56,21 @@ pub fn each_question_is_deeds()
 /// Where nothing was done, a node and an arbitrator that have recorded nothing show the machines.
 pub fn beginnings_are_shown()
     ensures { BeginningsAreShown }
+{}
+
+/// A replica that shows a world of its partition's machine records what it becomes: its log is of no epoch above its
+/// promise, and it takes no log of more than 100,000 entries.
+pub fn who_shows_is_fit()
+    ensures { WhoShowsIsFit }
+{}
+
+/// So a start from a node's records is deeds of the machine: the replica that it begins with is that of the instance
+/// before, begun again.
+pub fn starts_are_deeds()
+    ensures { StartsAreDeeds }
+{}
+
+/// And the machine's log is that of the records.
+pub fn logs_are_kept()
+    ensures { LogsAreKept }
 {}

@@ -12,6 +12,7 @@ mod laws;
 
 pub use laws::{
     answers_are_deeds, beginnings_are_shown, commands_are_deeds, each_question_is_deeds,
-    each_step_is_deeds, firings_are_deeds, frames_are_deeds, manager_answers_are_deeds,
-    questions_are_shown, restarts_are_deeds, writes_are_deeds,
+    each_step_is_deeds, firings_are_deeds, frames_are_deeds, logs_are_kept,
+    manager_answers_are_deeds, questions_are_shown, restarts_are_deeds, starts_are_deeds,
+    who_shows_is_fit, writes_are_deeds,
 };

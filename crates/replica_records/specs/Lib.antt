@@ -1,1 +1,4 @@
 pub mod Seats
+pub mod Kept
+pub mod Named
+pub mod Laws

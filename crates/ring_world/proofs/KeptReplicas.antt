@@ -31,10 +31,10 @@ use Rattle.unit_rules.specs.Steps.{Failover, failover_begun}
 use Rattle.unit_replica.specs.Starts.{is_recorded, seat_again, seats_again}
 use Rattle.fabric_above.specs.Fabric.{fabric, fabric_stays}
 use Rattle.frames_fit.proofs.Steps.{spent_left}
-use Rattle.kept_replicas.specs.Kept.{without_role}
-use Rattle.kept_replicas.specs.Named.{FitsFrame, KeptAs, is_named, named, seats_of}
-use Rattle.kept_replicas.proofs.Begun.{begin_again_lem, nothing_lem, seats_lem, starts_stay_lem}
-use Rattle.kept_replicas.proofs.Exactly.{stay_lem}
+use Rattle.replica_records.specs.Kept.{without_role}
+use Rattle.replica_records.specs.Named.{FitsFrame, KeptAs, is_named, named, seats_of}
+use Rattle.replica_records.proofs.Begun.{begin_again_lem, nothing_lem, seats_lem, starts_stay_lem}
+use Rattle.replica_records.proofs.Exactly.{stay_lem}
 use Rattle.node_core.specs.Nodes.{FitsInput, kept_in, nothing_kept}
 use Rattle.node_core.specs.declared.kept.NodeKept.{NodeKept}
 use Rattle.ring_world.specs.Stands.{IsKeptAs, IsKeptFor}

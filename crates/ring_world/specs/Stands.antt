@@ -4,7 +4,7 @@ use Rattle.fabric_terms.specs.declared.record.Record.{Record}
 use Rattle.fabric_terms.specs.Sound.{IsSound}
 use Rattle.fabric_lemmas.specs.Maps.{at, rises}
 use Rattle.join_phases.specs.Phases.{is_left}
-use Rattle.kept_replicas.specs.Named.{KeptAs}
+use Rattle.replica_records.specs.Named.{KeptAs}
 use Rattle.node_core.specs.Nodes.{Amounts, frames_limit, kept_in}
 use Rattle.node_core.specs.declared.kept.NodeKept.{NodeKept}
 use Rattle.fabric_above.specs.Fabric.{fabric}

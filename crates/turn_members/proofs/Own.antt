@@ -14,9 +14,9 @@ use Rattle.fabric_terms.specs.declared.report.Reason.TheVariants as reason
 use Rattle.fabric_terms.specs.declared.report.Verb.TheVariants as verb
 use Rattle.join_phases.specs.Phases.{is_left}
 use Rattle.keep_log.specs.Amounts.{is_arbiters}
-use Rattle.kept_replicas.proofs.Silent.{Silent, answered_silent, commanded_silent}
-use Rattle.kept_replicas.proofs.Stepping.{fired_quiet}
-use Rattle.kept_replicas.proofs.Writing.{committed_noted}
+use Rattle.replica_records.proofs.Silent.{Silent, answered_silent, commanded_silent}
+use Rattle.replica_records.proofs.Stepping.{fired_quiet}
+use Rattle.replica_records.proofs.Writing.{committed_noted}
 use Rattle.replica_core.specs.Calls.{Outcome, activate_call, adopt_call, adopt_own_call, append_call, idle_call, promise_call}
 use Rattle.replica_core.specs.declared.entry.Entry.{Entry}
 use Rattle.replica_core.specs.declared.refusal.Done.{Done}
