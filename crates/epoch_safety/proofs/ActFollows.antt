@@ -44,10 +44,10 @@ use Rattle.epoch_refinement.specs.Reconfigs.{ShowsManager}
 use Rattle.epoch_refinement.specs.Seats.{ShowsSeat}
 use Rattle.epoch_refinement.specs.Shown.{partition_of, Shown}
 use Rattle.epoch_refinement.proofs.Stepping as deeds
-use Rattle.kept_replicas.specs.Kept.{AreKept}
-use Rattle.kept_replicas.proofs.Machines.{fit_lem}
-use Rattle.kept_replicas.proofs.Starting.{go_on_lem}
-use Rattle.kept_replicas.proofs.Stepping as records
+use Rattle.replica_records.specs.Kept.{AreKept}
+use Rattle.epoch_refinement.proofs.Kept.{fit_lem}
+use Rattle.replica_records.proofs.Starting.{go_on_lem}
+use Rattle.replica_records.proofs.Stepping as records
 use Rattle.ring_apart.specs.Apart.{is_unit_frame, is_unit_report}
 use Rattle.ring_apart.proofs.Steps.{steps_apart_lem}
 use Rattle.epoch_safety.proofs.Entries.{AreReal, no_commit, real_join, real_apart}

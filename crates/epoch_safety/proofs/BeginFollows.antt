@@ -29,8 +29,8 @@ use Rattle.epoch_refinement.specs.Refined.{Refined}
 use Rattle.epoch_refinement.specs.Seats.{ShowsSeat}
 use Rattle.epoch_refinement.proofs.Elsewhere.{manager_elsewhere}
 use Rattle.epoch_refinement.proofs.Rows.{restarts_are_deeds_lem}
-use Rattle.kept_replicas.specs.Kept.{AreKept}
-use Rattle.kept_replicas.proofs.Starting.{go_on_lem, starts_kept_lem, starts_rise_lem}
+use Rattle.replica_records.specs.Kept.{AreKept}
+use Rattle.replica_records.proofs.Starting.{go_on_lem, starts_kept_lem, starts_rise_lem}
 use Rattle.ring_apart.specs.Apart.{is_unit_report}
 use Rattle.ring_apart.proofs.Saying.{none_more}
 use Rattle.ring_apart.proofs.Steps.{starts_apart_lem}

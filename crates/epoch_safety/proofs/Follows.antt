@@ -26,7 +26,7 @@ use Rattle.epoch_refinement.specs.Nodes.{Machines, ShowsArbiter}
 use Rattle.epoch_refinement.specs.Reconfigs.{ShowsManager}
 use Rattle.epoch_refinement.specs.Seats.{ShowsSeat}
 use Rattle.epoch_refinement.specs.Shown.{partition_of, Shown}
-use Rattle.kept_replicas.specs.Kept.{AreKept}
+use Rattle.replica_records.specs.Kept.{AreKept}
 use Rattle.epoch_safety.proofs.Telling.{Tellings}
 
 -- a manager that knows of no unit

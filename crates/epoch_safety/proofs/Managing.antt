@@ -10,7 +10,7 @@ use Rattle.unit_rules.specs.Deeds.{Deed, Keep, Send, Tell}
 use Rattle.unit_rules.specs.Manager.{Managed, manager_answered, reconfig_commanded}
 use Rattle.unit_rules.specs.Questions.{reconfig_fired}
 use Rattle.unit_rules.specs.Reconfigs.{Reconfig}
-use Rattle.epoch_refinement.proofs.ManagerDeeds.{IsEnding, Manages, answered_managed, commanded_managed, fires_managed}
+use Rattle.replica_records.proofs.ManagerDeeds.{IsEnding, Manages, answered_managed, commanded_managed, fires_managed}
 use Rattle.epoch_safety.proofs.Committing.{ArePlain, IsPlain}
 
 ends_plain : (r : Report) → IsEnding r → IsPlain r

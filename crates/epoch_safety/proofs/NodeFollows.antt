@@ -28,7 +28,7 @@ use Rattle.epoch_refinement.specs.Reconfigs.{ShowsManager}
 use Rattle.epoch_refinement.specs.Registers.{ShowsRegister}
 use Rattle.epoch_refinement.specs.Seats.{ShowsSeat}
 use Rattle.epoch_refinement.specs.Shown.{partition_of, Shown}
-use Rattle.kept_replicas.specs.Kept.{AreKept}
+use Rattle.replica_records.specs.Kept.{AreKept}
 use Rattle.epoch_safety.proofs.Follows.{Acting, Follows, no_units, registers_in, posted_cases}
 use Rattle.epoch_safety.proofs.Lasting.{shown_lasts, seat_lasts, register_lasts}
 use Rattle.epoch_safety.proofs.Telling.{Tellings, tells_on, tells_after}

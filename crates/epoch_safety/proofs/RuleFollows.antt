@@ -35,7 +35,7 @@ use Rattle.epoch_refinement.specs.Reconfigs.{ShowsManager}
 use Rattle.epoch_refinement.specs.Registers.{ShowsRegister}
 use Rattle.epoch_refinement.specs.Shown.{partition_of, Shown}
 use Rattle.epoch_refinement.proofs.Arbitrating.{questions_are_deeds_lem}
-use Rattle.kept_replicas.specs.Kept.{AreKept}
+use Rattle.replica_records.specs.Kept.{AreKept}
 use Rattle.epoch_safety.proofs.Follows.{Follows, no_units, registers_in, posted_cases}
 use Rattle.epoch_safety.proofs.Lasting.{shown_lasts, seat_lasts, register_lasts}
 use Rattle.epoch_safety.proofs.Sending.{frames_shown}
