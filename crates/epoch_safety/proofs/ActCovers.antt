@@ -26,7 +26,7 @@ use Rattle.replica_records.specs.Seats.{seat_at}
 use Rattle.epoch_refinement.specs.Epochs.{settings_to}
 use Rattle.epoch_refinement.specs.Nodes.{Machines, NodeRefined}
 use Rattle.epoch_refinement.proofs.Losing.{settings_sound}
-use Rattle.epoch_safety.specs.Reports.{IsAmong, log_in}
+use Rattle.run_promises.specs.Reports.{IsAmong, log_in}
 use Rattle.epoch_safety.proofs.ActFollows.{Numbered, actor, shows, refined, kept_now, busy_follows, commit_above}
 use Rattle.epoch_safety.proofs.Committing.{LeadsAt}
 use Rattle.epoch_safety.proofs.Covering.{Covers, lead_covers}

@@ -10,7 +10,7 @@ use Rattle.unit_rules.specs.Units.{units}
 use Rattle.world_rules.specs.Runs.{History, run_of}
 use Rattle.world_rules.specs.Schedules.{Valid}
 use Rattle.epoch_safety.specs.Laws.{AnswersAreCovered}
-use Rattle.epoch_safety.specs.Reports.{Reports, log_after}
+use Rattle.run_promises.specs.Reports.{Reports, log_after}
 use Rattle.epoch_safety.proofs.Followed.{FollowedAfter, followed}
 use Rattle.epoch_safety.proofs.Primaries.{numbered}
 use Rattle.epoch_safety.proofs.Written.{committed_told, loss_is}

@@ -38,8 +38,10 @@ use Rattle.run_facts.proofs.Steps.{Stepped, ring_stepped}
 use Rattle.replica_records.specs.Seats.{seat_at}
 use Rattle.ring_apart.specs.Apart.{is_unit_report}
 use Rattle.ring_apart.proofs.Steps.{steps_apart_lem}
-use Rattle.epoch_safety.specs.Answers.{AnsweredBy, AnswersAreByEntries, tells_names}
-use Rattle.epoch_safety.specs.Reports.{IsAmong}
+use Rattle.epoch_safety.specs.Answers.{AnswersAreByEntries, named_at}
+use Rattle.run_promises.specs.Answers.{AnsweredBy}
+use Rattle.run_promises.specs.Questions.{tells_names}
+use Rattle.run_promises.specs.Reports.{IsAmong}
 use Rattle.epoch_safety.proofs.ActFollows.{own_apart}
 use Rattle.epoch_safety.proofs.Members.{contained}
 use Rattle.epoch_safety.proofs.Sending.{append_cases, none_passes}
@@ -113,7 +115,10 @@ module _ (r : Report) (told : tells_names r ≡ true) (partition : ℕ) (questio
 
   module _ (c : FabricConfig) (w : World units) (node : ℕ) (x : Who) (i : Input) (row : (site : Site) (now : ℕ) (ring : Ring) (u : Failover) →
       failover_step site now ring u i ≡ asked_at partition question answer u) where
-    by_running : (s : Running units) → at node w.nodes ≡ Some s → IsAmong (node_acts units c w node i s).entry x r → AnsweredBy w node partition answer r
+    abbrev Answered : Type 0
+    Answered = AnsweredBy w node partition (answer (named_at partition (at node w.nodes))) r
+
+    by_running : (s : Running units) → at node w.nodes ≡ Some s → IsAmong (node_acts units c w node i s).entry x r → Answered
     by_running s there a =
         go (not (is_left new.ring.phase) && comes_above set s.node.ring i) refl
         (contained r _ (subst (λ (rs : List Report). Contains rs r) (ap (λ d. d.told) (node_step-is units c s.reading i s.node)) a.1))
@@ -133,7 +138,7 @@ module _ (r : Report) (told : tells_names r ≡ true) (partition : ℕ) (questio
             (or_parts (list_any tells_leave new.told) (is_left s.node.ring.phase) (stepped.leaves ∙ stay)).1
 
         go : (b : Bool) → (not (is_left new.ring.phase) && comes_above set s.node.ring i) ≡ b →
-            IsMember r (new.told ++ (above_if units c s.reading new.ring s.node.above i b).told ++ own) → AnsweredBy w node partition answer r
+            IsMember r (new.told ++ (above_if units c s.reading new.ring s.node.above i b).told ++ own) → Answered
         go false is m = absurd (from_above r told set s.reading i s.node.ring [] m)
         go true is m =
             let stay : is_left new.ring.phase ≡ false = not-true (is_left new.ring.phase) (and_parts (not (is_left new.ring.phase)) (comes_above set s.node.ring i) is).0 in
@@ -141,9 +146,17 @@ module _ (r : Report) (told : tells_names r ≡ true) (partition : ℕ) (questio
             from_node s.node.above
             (subst (λ (a : Acted Failover). IsMember r (reports_of a.deeds)) (row (site_of c new.ring.me.actor) s.reading new.ring s.node.above)
             (from_above r told set s.reading i s.node.ring (reports_of (failover_step (site_of c new.ring.me.actor) s.reading new.ring s.node.above i).deeds) m)) in
-            record { running = s; there = there; stays = stayed stay; count = from.count; is_ready = from.is_ready; told = from.is }
+            let names : NameMap = names_of (take from.count (seat_at partition s.node.above).replica.log) in
+            record {
+              running = s;
+              there = there;
+              stays = stayed stay;
+              count = from.count;
+              is_ready = from.is_ready;
+              told = subst (λ (o : Option (Running units)). r ≡ answer (named_at partition o) names) (sym there) from.is;
+            }
 
-    by_node : (o : Option (Running units)) → at node w.nodes ≡ o → IsAmong (acts_at units c w node i o).entry x r → AnsweredBy w node partition answer r
+    by_node : (o : Option (Running units)) → at node w.nodes ≡ o → IsAmong (acts_at units c w node i o).entry x r → Answered
     by_node None there a = absurd a
     by_node (Some s) there a = by_running s there a
 

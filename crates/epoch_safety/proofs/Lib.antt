@@ -22,3 +22,4 @@ pub mod Answers
 pub mod Naming
 pub mod Asked
 pub mod Unasked
+pub mod Resting

@@ -16,7 +16,7 @@ use Rattle.unit_rules.specs.Leads.{lead_of}
 use Rattle.unit_rules.specs.Seats.{Lead, Seat}
 use Rattle.unit_rules.specs.Steps.{Failover}
 use Rattle.epoch_safety.specs.Laws.{NamesAreCovered}
-use Rattle.epoch_safety.specs.Reports.{log_after}
+use Rattle.run_promises.specs.Reports.{log_after}
 use Rattle.epoch_safety.proofs.Committing.{LeadsAt}
 use Rattle.epoch_safety.proofs.Covering.{lead_covers}
 use Rattle.epoch_safety.proofs.Followed.{FollowedAfter, followed}
@@ -41,7 +41,7 @@ is_ready (Some l) count h = (l, refl, by (nat_lt l.begun l.committed) h)
     by false h = nothing h
 
 pub names_covered_lem : NamesAreCovered
-names_covered_lem is_frame c h sound valid node p count i last e x s there stay is_now earlier not_older loss =
+names_covered_lem is_frame c h sound valid node p count s there stay is_now i last e x earlier not_older loss =
     let k : ℕ = length c.arbiters in
     let seat : Seat = seat_at p s.node.above in
     let f : FollowedAfter c h = followed is_frame c sound h valid in

@@ -34,7 +34,7 @@ use Rattle.unit_rules.specs.Writes.{appended_received, seat_fired, write_command
 use Rattle.world_rules.specs.Above.{is_ring_report}
 use Rattle.replica_records.specs.Seats.{seat_at}
 use Rattle.unit_rules.proofs.Answered.{names_only_answer, resolve_only_answers}
-use Rattle.epoch_safety.specs.Answers.{asks_names}
+use Rattle.run_promises.specs.Questions.{asks_names}
 use Rattle.epoch_safety.proofs.Committing.{LeadsAt, CommitsOf, IsCommitOf, ArePlain, IsPlain, plain_join, promise_plain, sync_plain, fetch_plain, piece_plain, activate_plain, append_plain, fired_plain, appended_commits, write_commits}
 use Rattle.epoch_safety.proofs.Managing.{answered_plain, commanded_plain, fires_plain}
 

@@ -16,7 +16,7 @@ use Rattle.unit_rules.specs.Units.{units}
 use Rattle.world_rules.specs.Events.{world_step}
 use Rattle.world_rules.specs.Runs.{History, world_after, run_of}
 use Rattle.world_rules.specs.Worlds.{World, Stepped}
-use Rattle.epoch_safety.specs.Reports.{log_in}
+use Rattle.run_promises.specs.Reports.{log_in}
 use Rattle.epoch_safety.proofs.Entries.{AreReal, IsRealEntry, IsRealHistory}
 use Rattle.epoch_safety.proofs.Telling.{tells_on, tells_in, told_of}
 

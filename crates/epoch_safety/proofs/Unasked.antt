@@ -34,8 +34,9 @@ use Rattle.run_facts.proofs.ArbiterSteps.{arbiter_stepped}
 use Rattle.ring_apart.specs.Apart.{is_unit_report}
 use Rattle.ring_apart.proofs.Saying.{none_more}
 use Rattle.ring_apart.proofs.Steps.{starts_apart_lem}
-use Rattle.epoch_safety.specs.Answers.{OnlyQuestionsAreAnswered, is_question, tells_names}
-use Rattle.epoch_safety.specs.Reports.{IsAmong}
+use Rattle.epoch_safety.specs.Answers.{OnlyQuestionsAreAnswered}
+use Rattle.run_promises.specs.Questions.{is_question, tells_names}
+use Rattle.run_promises.specs.Reports.{IsAmong}
 use Rattle.epoch_safety.proofs.Asked.{apart, from_above}
 use Rattle.epoch_safety.proofs.Members.{contained}
 use Rattle.epoch_safety.proofs.StepCommits.{IsTold, asks_in, reports_told, step_told}

@@ -24,7 +24,7 @@ use Rattle.world_rules.specs.Events.{world_step}
 use Rattle.world_rules.specs.Runs.{History, run_of, world_after}
 use Rattle.world_rules.specs.Worlds.{World, Stepped}
 use Rattle.epoch_safety.specs.Laws.{WritesAreKept}
-use Rattle.epoch_safety.specs.Reports.{IsAmong, Reports, log_in, log_after}
+use Rattle.run_promises.specs.Reports.{IsAmong, Reports, log_in, log_after}
 use Rattle.epoch_safety.proofs.Entries.{AreReal, IsRealEntry, IsRealHistory}
 use Rattle.epoch_safety.proofs.Followed.{FollowedAfter, followed}
 use Rattle.epoch_safety.proofs.Primaries.{numbered}

@@ -1,5 +1,5 @@
 ghost use Rattle.epoch_safety.specs.Answers.{AnswersAreByEntries, OnlyQuestionsAreAnswered};
-ghost use Rattle.epoch_safety.specs.Laws.{AnswersAreCovered, NamesAreCovered, RunsHaveNoOlder, RunsHaveOnePrimary, WritesAreKept};
+ghost use Rattle.epoch_safety.specs.Laws.{AnswersAreCovered, AnswersAreOfCommitted, NamesAreCovered, RunsHaveNoOlder, RunsHaveOnePrimary, WritesAreKept};
 
 /// In no valid run of a sound configuration do two nodes report that they are primary of one partition in one epoch.
 pub fn runs_have_one_primary()
@@ -41,4 +41,11 @@ pub fn answers_are_by_entries()
 /// other command.
 pub fn only_questions_are_answered()
     ensures { OnlyQuestionsAreAnswered }
+{}
+
+/// Each answer about names that a valid run reports answers the question that came at that event, of the partition that it
+/// asked about. It says what the names are that so many entries of the node's log leave. These begin with all that was
+/// reported committed of that partition before, in epochs up to the replica's own of the same data loss number.
+pub fn answers_are_of_committed()
+    ensures { AnswersAreOfCommitted }
 {}

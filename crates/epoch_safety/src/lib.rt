@@ -9,6 +9,6 @@
 mod laws;
 
 pub use laws::{
-    answers_are_by_entries, answers_are_covered, names_are_covered, only_questions_are_answered,
-    runs_have_no_older, runs_have_one_primary, writes_are_kept,
+    answers_are_by_entries, answers_are_covered, answers_are_of_committed, names_are_covered,
+    only_questions_are_answered, runs_have_no_older, runs_have_one_primary, writes_are_kept,
 };

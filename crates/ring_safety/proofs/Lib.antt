@@ -11,4 +11,5 @@ pub mod ClaimFollows
 pub mod RuleFollows
 pub mod Followed
 pub mod Holders
+pub mod Most
 pub mod Safe

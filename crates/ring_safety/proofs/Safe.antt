@@ -21,7 +21,6 @@ use Rattle.ring_machine.specs.Frames.{Ruled, Kept}
 use Rattle.fabric_lemmas.specs.Members.{IsMember}
 use Rattle.ring_machine.specs.Points.{is_point}
 use Rattle.ring_machine.specs.World as machine
-use Rattle.ring_machine.specs.World.{first_of}
 use Rattle.ring_machine.proofs.Exclusions.{no_crossing, one_heir}
 use Rattle.ring_machine.proofs.LawProofs.{one_holder}
 use Rattle.ring_refinement.specs.Images.{machine_of}
@@ -31,13 +30,14 @@ use Rattle.world_rules.specs.Schedules.{Valid}
 use Rattle.world_rules.specs.Uppers.{Upper}
 use Rattle.world_rules.specs.Worlds.{World, arbiter_who}
 use Rattle.world_rules.specs.Above.{StaysAbove}
-use Rattle.ring_safety.specs.Answers as answers
-use Rattle.ring_safety.specs.Answers.{MajorityKept, MajorityAnswered, answer_of}
-use Rattle.ring_safety.specs.Laws.{RingIsSafe, LeavesBeforeTakeOver, PlacesAreKept, AnswersExclude, OneHeir}
+use Rattle.run_promises.specs.Arbitrators as answers
+use Rattle.run_promises.specs.Arbitrators.{MajorityKept, MajorityAnswered, answer_of}
+use Rattle.ring_safety.specs.Laws.{RingIsSafe, LeavesBeforeTakeOver, PlacesAreKept, AnswersExcludeAlways, OneHeirAlways}
 use Rattle.ring_safety.proofs.ActFollows.{Followed}
 use Rattle.ring_safety.proofs.Followed.{followed}
 use Rattle.ring_safety.proofs.Follows.{Follows, sound_machine, first_instance}
 use Rattle.ring_safety.proofs.Holders.{Lives, Seen, seen, lives, holds_there}
+use Rattle.ring_safety.proofs.Most.{most_is}
 use Rattle.ring_safety.proofs.Moves.{AllMoved, AllNew, has_given}
 use Rattle.run_facts.proofs.Orderly.{orderly}
 
@@ -174,7 +174,7 @@ module _ (a : Upper) (stays : StaysAbove a) (is_frame : List ℕ → Bool) (c : 
     by = k.by;
     answers = λ arbiter h.
         ⊎_elim (λ g. inl (answer_sent m f arbiter x y Granted g)) (λ g. inr (answer_sent m f arbiter x y Taken g)) (k.answers arbiter h);
-    most = k.most;
+    most = most_is c sound k.by ∙ k.most;
   }
 
   told_of : {w : World a} {t : Told} (m : machine.World) → Follows c w t m → (arbiter : ℕ) (y : Who) (round : ℕ) (x : Who) →
@@ -190,7 +190,7 @@ module _ (a : Upper) (stays : StaysAbove a) (is_frame : List ℕ → Bool) (c : 
       HeirBy (machine_of c) m.sent x y
   heir_by m f x y k = record {
     round = k.round;
-    kept = record { by = k.by; tells = λ arbiter h. told_of m f arbiter y k.round x (k.tells arbiter h); most = k.most };
+    kept = record { by = k.by; tells = λ arbiter h. told_of m f arbiter y k.round x (k.tells arbiter h); most = most_is c sound k.by ∙ k.most };
   }
 
   pub exclude : (h : History) → Valid a is_frame c h → (x y : Who) → MajorityAnswered c (world_after a c h).frames x y →
@@ -215,8 +215,8 @@ module _ (a : Upper) (stays : StaysAbove a) where
   pub places_are_kept_lem : PlacesAreKept a
   places_are_kept_lem is_frame c h sound valid = place_kept a stays is_frame c sound h valid
 
-  pub answers_exclude_lem : AnswersExclude a
+  pub answers_exclude_lem : AnswersExcludeAlways a
   answers_exclude_lem is_frame c h sound valid = exclude a stays is_frame c sound h valid
 
-  pub one_heir_lem : OneHeir a
+  pub one_heir_lem : OneHeirAlways a
   one_heir_lem is_frame c h sound valid = unique a stays is_frame c sound h valid

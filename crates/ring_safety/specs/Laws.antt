@@ -1,16 +1,15 @@
 -- What the laws of this crate say, of whatever runs above the ring.
-use Rattle.std.specs.Prelude.{◌≡◌, ℕ, Bool, List}
+use Rattle.std.specs.Prelude.{ℕ, Bool, List}
 use Rattle.fabric_terms.specs.declared.config.FabricConfig.{FabricConfig}
 use Rattle.fabric_terms.specs.Places.{PlaceKept}
 use Rattle.fabric_terms.specs.Runs.{RingSafe}
 use Rattle.fabric_terms.specs.Sound.{IsSound}
 use Rattle.fabric_terms.specs.TakeOvers.{TakenAfterLeave}
-use Rattle.ring_points.specs.declared.who.Who.{Who}
 use Rattle.ring_points.specs.Whos.{node_instance}
-use Rattle.world_rules.specs.Runs.{History, world_after, run_of}
+use Rattle.run_promises.specs.Arbitrators.{AnswersExclude, OneHeir}
+use Rattle.world_rules.specs.Runs.{History, run_of}
 use Rattle.world_rules.specs.Schedules.{Valid}
 use Rattle.world_rules.specs.Uppers.{Upper}
-use Rattle.ring_safety.specs.Answers.{MajorityKept, MajorityAnswered}
 
 -- it holds of every valid history of every sound configuration
 abbrev pub OverValidRuns : Upper → (FabricConfig → History → Type 0) → Type 0
@@ -28,14 +27,10 @@ LeavesBeforeTakeOver a = OverValidRuns a (λ c h. TakenAfterLeave (run_of a c h)
 abbrev pub PlacesAreKept : Upper → Type 0
 PlacesAreKept a = OverValidRuns a (λ c h. PlaceKept (node_instance c.first 1) (run_of a c h))
 
--- no majority answered x about y while one answered y about x
-abbrev pub AnswersExclude : Upper → Type 0
-AnswersExclude a =
-    OverValidRuns a
-    (λ c h. (x y : Who) → MajorityAnswered c (world_after a c h).frames x y → MajorityAnswered c (world_after a c h).frames y x → ⊥)
+-- majorities of arbitrators never answer two instances about each other
+abbrev pub AnswersExcludeAlways : Upper → Type 0
+AnswersExcludeAlways a = OverValidRuns a (AnswersExclude a)
 
--- one instance at most is kept by a majority about another, whatever the rounds
-abbrev pub OneHeir : Upper → Type 0
-OneHeir a =
-    OverValidRuns a
-    (λ c h. (x y victim : Who) → MajorityKept c (world_after a c h).frames x victim → MajorityKept c (world_after a c h).frames y victim → x ≡ y)
+-- and they keep one heir at most about each
+abbrev pub OneHeirAlways : Upper → Type 0
+OneHeirAlways a = OverValidRuns a (OneHeir a)

@@ -1,4 +1,4 @@
-ghost use Rattle.ring_safety.specs.Laws.{AnswersExclude, LeavesBeforeTakeOver, OneHeir, PlacesAreKept, RingIsSafe};
+ghost use Rattle.ring_safety.specs.Laws.{AnswersExcludeAlways, LeavesBeforeTakeOver, OneHeirAlways, PlacesAreKept, RingIsSafe};
 ghost use Rattle.world_rules.specs.Nothing.{nothing};
 
 use world_rules::{Above, Nothing};
@@ -24,13 +24,13 @@ pub fn places_are_kept<A: Above>()
 /// Exclusion: never have a majority of the arbitrators sent answers to x about y, and a majority to y about x, where an
 /// answer is Granted or Taken.
 pub fn answers_exclude<A: Above>()
-    ensures { AnswersExclude A.upper }
+    ensures { AnswersExcludeAlways A.upper }
 {}
 
 /// Uniqueness: never has a majority of arbitrators told that it keeps one instance, and a majority that it keeps
 /// another, about one instance, each in some round, whatever the rounds; a Granted tells it of the first round.
 pub fn one_heir_at_most<A: Above>()
-    ensures { OneHeir A.upper }
+    ensures { OneHeirAlways A.upper }
 {}
 
 /// The ring is safe where nothing runs above it.

@@ -15,7 +15,7 @@ use Rattle.unit_rules.specs.Units.{units}
 use Rattle.world_rules.specs.Events.{world_step}
 use Rattle.world_rules.specs.Runs.{History, world_after}
 use Rattle.world_rules.specs.Schedules.{Valid}
-use Rattle.epoch_safety.specs.Reports.{IsAmong, log_in}
+use Rattle.run_promises.specs.Reports.{IsAmong, log_in}
 use Rattle.ring_world.specs.Answers.{Takes, is_frame}
 use Rattle.ring_world.specs.declared.world.Acted.{Acted}
 use Rattle.ring_world.specs.declared.world.World.{World}

@@ -5,10 +5,11 @@ use Rattle.replica_core.specs.declared.entry.Entry.{Entry}
 use Rattle.epoch_machine.specs.Epochs.{number_of}
 use Rattle.epoch_refinement.proofs.Losing.{settings_sound}
 use Rattle.world_rules.specs.Runs.{History}
+use Rattle.run_promises.specs.Writes.{CommitsAgree}
 use Rattle.epoch_safety.proofs.Followed.{followed}
 use Rattle.epoch_safety.proofs.Written.{committed_told, loss_is}
 use Rattle.write_safety.specs.Greatest.{Commit}
-use Rattle.write_safety.specs.Laws.{CommitsAgree, CommitsAgreeAlways}
+use Rattle.write_safety.specs.Laws.{CommitsAgreeAlways}
 use Rattle.write_safety.proofs.Agreeing.{commits_agree_told}
 use Rattle.write_safety.proofs.Growing.{Agrees, IsWithin}
 use Rattle.write_safety.proofs.Reporting.{IsReported}

@@ -17,12 +17,13 @@ use Rattle.world_rules.specs.Events.{world_step}
 use Rattle.world_rules.specs.Runs.{History, world_after}
 use Rattle.world_rules.specs.Schedules.{Valid}
 use Rattle.world_rules.specs.Worlds.{World}
-use Rattle.epoch_safety.specs.Reports.{log_in}
+use Rattle.run_promises.specs.Reports.{log_in}
+use Rattle.run_promises.specs.Writes.{CommitsAgree}
 use Rattle.write_safety.specs.Books.{Agree, KeptLog, entries_of, longer}
 use Rattle.write_safety.specs.Committed.{commit_of, commits_among, commits_in, commits_of}
 use Rattle.write_safety.specs.Fed.{FedBy, FedByAll, FedIn, HasCommitted, HasCommittedWith, MayFeed}
 use Rattle.write_safety.specs.Greatest.{Commit, entries_in, longest}
-use Rattle.write_safety.specs.Laws.{CommitsAgree, FedBooksHaveCommitted, ReportsFeedBooks}
+use Rattle.write_safety.specs.Laws.{FedBooksHaveCommitted, ReportsFeedBooks}
 use Rattle.write_safety.proofs.Agreed.{agrees, commits_agree_lem, within}
 use Rattle.write_safety.proofs.Growing.{Agrees, IsWithin, longest_agrees, longest_more}
 use Rattle.write_safety.proofs.Orders.{key_itself}

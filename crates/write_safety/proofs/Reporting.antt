@@ -14,7 +14,7 @@ use Rattle.unit_rules.specs.Units.{units}
 use Rattle.world_rules.specs.Events.{world_step}
 use Rattle.world_rules.specs.Runs.{History, run_of, world_after}
 use Rattle.world_rules.specs.Worlds.{World, Stepped}
-use Rattle.epoch_safety.specs.Reports.{IsAmong, Reports, log_after, log_in}
+use Rattle.run_promises.specs.Reports.{IsAmong, Reports, log_after, log_in}
 use Rattle.write_safety.specs.Greatest.{Commit}
 use Rattle.write_safety.specs.Committed.{commit_of, commits_among, commits_in, commits_of}
 

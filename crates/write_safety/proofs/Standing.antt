@@ -37,7 +37,7 @@ use Rattle.run_facts.proofs.Happens.{Cases, by_cases}
 use Rattle.run_facts.proofs.Orderly.{orderly}
 use Rattle.replica_records.specs.Seats.{seat_at}
 use Rattle.epoch_refinement.specs.Nodes.{Machines}
-use Rattle.epoch_safety.specs.Reports.{IsAmong, Reports, log_after}
+use Rattle.run_promises.specs.Reports.{IsAmong, Reports, log_after}
 use Rattle.epoch_safety.proofs.ActFollows.{Numbered, actor, commit_above}
 use Rattle.epoch_safety.proofs.Entries.{no_commit}
 use Rattle.epoch_safety.proofs.Followed.{followed}

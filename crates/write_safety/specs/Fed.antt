@@ -9,7 +9,7 @@ use Rattle.unit_rules.specs.Units.{units}
 use Rattle.world_rules.specs.Events.{world_step}
 use Rattle.world_rules.specs.Runs.{History, world_after}
 use Rattle.world_rules.specs.Worlds.{World, Stepped}
-use Rattle.epoch_safety.specs.Reports.{log_in}
+use Rattle.run_promises.specs.Reports.{log_in}
 use Rattle.write_safety.specs.Books.{Agree, Commits, KeptLog, entries_of}
 use Rattle.write_safety.specs.Committed.{commits_among, commits_of, committed_log}
 use Rattle.write_safety.specs.Greatest.{longest}

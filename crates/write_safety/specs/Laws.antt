@@ -1,5 +1,5 @@
 -- That what is reported committed agrees, and that a book has exactly the committed logs.
-use Rattle.std.specs.Prelude.{◌≡◌, ℕ, ◌≤◌, List, [], ◌∷◌, ◌++◌, Some, drop, length, take}
+use Rattle.std.specs.Prelude.{◌≡◌, ℕ, List, [], ◌∷◌, ◌++◌, Some}
 use Rattle.ring_points.specs.declared.unit.Epoch.{Epoch}
 use Rattle.ring_points.specs.declared.who.Who.{Who}
 use Rattle.fabric_terms.specs.declared.config.FabricConfig.{FabricConfig}
@@ -12,23 +12,13 @@ use Rattle.unit_rules.specs.Units.{units}
 use Rattle.world_rules.specs.Events.{world_step}
 use Rattle.world_rules.specs.Runs.{History, run_of, world_after}
 use Rattle.epoch_safety.specs.Laws.{OverValidRuns}
-use Rattle.epoch_safety.specs.Reports.{Reports, log_after, log_in}
+use Rattle.run_promises.specs.Reports.{Reports, log_after, log_in}
+use Rattle.run_promises.specs.Writes.{CommitsAgree}
 use Rattle.write_safety.specs.Beside.{running_log}
 use Rattle.write_safety.specs.Books.{KeptLog}
 use Rattle.write_safety.specs.Fed.{Fed, FedBy, HasCommitted, HasCommittedWith, MayFeed}
 
--- Of two reports Committed of one partition and data loss number, in any epochs, by any nodes, in any order, the one of the
--- smaller number says no other entries than the other: each node has as many as it says, and they are the same so far.
-abbrev pub CommitsAgree : FabricConfig → History → Type 0
-CommitsAgree c h =
-    (i j partition last further : ℕ) (e f : Epoch) (x y : Who) →
-    Reports (run_of units c (drop i h)) x (Committed partition e last) →
-    Reports (run_of units c (drop j h)) y (Committed partition f further) →
-    e.data_loss ≡ f.data_loss → last ≤ further →
-    let log = log_after c (drop i h) x.actor partition in
-    let other = log_after c (drop j h) y.actor partition in
-    (last ≤ length log) × (further ≤ length other) × (take last other ≡ take last log)
-
+-- what is reported committed agrees
 abbrev pub CommitsAgreeAlways : Type 0
 CommitsAgreeAlways = OverValidRuns CommitsAgree
 

@@ -1,0 +1,6 @@
+pub mod Reports
+pub mod Writes
+pub mod Questions
+pub mod Covered
+pub mod Answers
+pub mod Arbitrators
