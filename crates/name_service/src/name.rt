@@ -1,4 +1,4 @@
-ghost use Rattle.std.specs.Prelude.{◌≡◌, ◌≤◌, length, IfOk, true};
+ghost use Rattle.std.specs.Prelude.{◌≡◌, ◌≤◌, length, if◌then◌else◌, IfOk, OnErr, Some, None, true};
 ghost use Rattle.name_rules.specs.Grammar.{every, is_name, is_name_byte};
 
 use fabric_terms::OutOfMemory;
@@ -50,6 +50,17 @@ pub(crate) fn is_name(bytes: &[u8]) -> bool
 }
 
 impl Name {
+    /// The name that the bytes are: None exactly where they are no name, and then it takes no memory.
+    pub fn read(alloc: Global, bytes: &[u8]) -> Result<Option<Name>, OutOfMemory>
+        ensures read { IfOk result (λ name. name ≡ (if is_name bytes.now then Some bytes.now else None)) }
+        ensures memory { OnErr result (is_name bytes.now ≡ true) }
+    {
+        if !is_name(bytes) {
+            return Ok(None);
+        }
+        Ok(Some(Name::of(alloc, bytes)?))
+    }
+
     /// A copy of these bytes, which are a name.
     pub(crate) fn of(alloc: Global, bytes: &[u8]) -> Result<Name, OutOfMemory>
         requires { is_name bytes.now ≡ true }

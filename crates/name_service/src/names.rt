@@ -1,9 +1,10 @@
-ghost use Rattle.std.specs.Prelude.{◌≡◌, IfOk, OnOk, OnErr, option_map, true};
+ghost use Rattle.std.specs.Prelude.{◌≡◌, IfOk, IsTrue, OnOk, OnErr, option_map, true};
 ghost use Rattle.std.specs.Coded.{coded_ℕ, coded_list};
 ghost use Rattle.std.specs.FinMap as finite;
-ghost use Rattle.name_rules.specs.Grammar.{is_name};
+ghost use Rattle.name_rules.specs.Grammar.{change_of, is_name};
 ghost use Rattle.name_rules.specs.Names.{NameMap, applied, name_list};
 ghost use Rattle.name_rules.specs.Rows.{map_of};
+ghost use Rattle.name_service.specs.Changes.{is_set};
 ghost use Rattle.name_service.specs.Stores.{IsStore, rows_of};
 
 use crate::change::{Change, change_of};
@@ -24,6 +25,7 @@ pub const MOST_LISTED: usize = 64;
 /// contracts see the map.
 #[derive(Drop)]
 pub struct Names {
+    alloc: Global,
     rows: BTreeMap<Place, Vec<u8>>,
 }
 
@@ -45,11 +47,12 @@ fn copy_of(alloc: Global, bytes: &[u8]) -> Result<Vec<u8>, OutOfMemory>
 }
 
 impl Names {
-    /// No names.
+    /// No names. The map grows by this allocator.
     pub fn new(alloc: Global) -> Names
         ensures { result ≡ finite.empty }
     {
         Names {
+            alloc,
             rows: BTreeMap::new(alloc),
         }
     }
@@ -64,13 +67,13 @@ impl Names {
         Some(value.as_slice())
     }
 
-    /// The name stands for the value from now on. At want of memory nothing changes.
-    fn set(&mut self, alloc: Global, name: &[u8], value: &[u8]) -> Result<(), OutOfMemory>
+    /// The name stands for the value from now on. Where memory is short, nothing changes.
+    fn set(&mut self, name: &[u8], value: &[u8]) -> Result<(), OutOfMemory>
         requires { is_name name.now ≡ true }
         ensures ok { OnOk result (self.new ≡ finite.insert self.old name.now value.now) }
         ensures err { OnErr result (self.new ≡ self.old) }
     {
-        let value = copy_of(alloc, value)?;
+        let value = copy_of(self.alloc, value)?;
         self.rows.insert(Place::of(name), value)?;
         Ok(())
     }
@@ -84,14 +87,15 @@ impl Names {
         }
     }
 
-    /// Applies an entry. At want of memory nothing changes.
-    pub fn apply(&mut self, alloc: Global, entry: &Entry) -> Result<(), OutOfMemory>
+    /// Applies an entry. Where memory is short, nothing changes. Only an entry that sets a name takes memory.
+    pub fn apply(&mut self, entry: &Entry) -> Result<(), OutOfMemory>
         ensures ok { OnOk result (self.new ≡ applied entry.now self.old) }
         ensures err { OnErr result (self.new ≡ self.old) }
+        ensures memory { OnErr result (IsTrue (is_set (change_of entry.now.bytes))) }
     {
         match change_of(entry.bytes.as_slice()) {
             None => Ok(()),
-            Some(Change::Sets { name, value }) => self.set(alloc, name, value),
+            Some(Change::Sets { name, value }) => self.set(name, value),
             Some(Change::Deletes { name }) => {
                 self.delete(name);
                 Ok(())
@@ -101,12 +105,12 @@ impl Names {
 
     /// The first 64 names with a point in the range, in their order. It goes to the range's first point, and asks the 64
     /// points from there on, in lanes: the points rise, so where not all of these are in the range, no row behind them is.
-    pub fn select(&self, alloc: Global, range: &Interval) -> Result<Vec<Name>, OutOfMemory>
+    pub fn select(&self, range: &Interval) -> Result<Vec<Name>, OutOfMemory>
         ensures { IfOk result (λ names. names.items ≡ name_list self.now range.now) }
     {
         let first = Place::first_at(range.lo);
         let points = points_of(self.rows.range(&first..));
         let mask = mask_of(points.as_slice(), range);
-        names_marked(alloc, &mask, self.rows.range(&first..))
+        names_marked(self.alloc, &mask, self.rows.range(&first..))
     }
 }

@@ -4,3 +4,4 @@ pub mod Views
 pub mod Calls
 pub mod Histories
 pub mod Laws
+pub mod Memory

@@ -60,12 +60,10 @@ impl Entry {
         })
     }
 
-    /// Whether two entries are the same in all parts.
-    pub fn is_same(&self, other: &Entry) -> bool
-        ensures { result ≡ same_entry self.now other.now }
+    /// Whether the entry has these parts.
+    pub(crate) fn has_parts(&self, epoch: Epoch, lsn: u32, bytes: &[u8]) -> bool
+        ensures { result ≡ same_entry (record { epoch = epoch; lsn = lsn; bytes = bytes.now }) self.now }
     {
-        self.epoch == other.epoch
-            && self.lsn == other.lsn
-            && self.bytes.as_slice() == other.bytes.as_slice()
+        epoch == self.epoch && lsn == self.lsn && bytes == self.bytes.as_slice()
     }
 }

@@ -24,8 +24,7 @@ pub enum ReplicaRefusal {
     Gap(u32),
     /// The log has 100,000 entries.
     LogFull,
-    /// There was not enough memory. It may come in place of any other answer of `append` and `adopt`, and of no other
-    /// call.
+    /// Memory is short. It comes from `append` and `adopt` alone, and only where they would store an entry.
     OutOfMemory,
 }
 

@@ -2,6 +2,7 @@ ghost use Rattle.std.specs.Prelude.{◌≡◌, ◌≤◌, false, length};
 ghost use Rattle.ring_points.specs.Epochs.{is_older};
 ghost use Rattle.replica_core.specs.Replicas.{first_replica, raised, begun_again, IsSound};
 ghost use Rattle.replica_core.specs.Calls.{Answers, admission, promise_call, append_call, adopt_own_call, idle_call, activate_call};
+ghost use Rattle.replica_core.specs.Memory.{StoresIfShort};
 
 mod collecting;
 
@@ -169,7 +170,8 @@ impl Replica {
     /// number is in the log; else `LogFull` where it would be 100,001.
     pub fn append(&mut self, e: Epoch, lsn: u32, bytes: &[u8]) -> Result<Done, ReplicaRefusal>
         requires { length bytes.now ≤ 512 }
-        ensures { Answers (append_call e lsn bytes.now self.old) self.old self.new result }
+        ensures answers { Answers (append_call e lsn bytes.now self.old) self.old self.new result }
+        ensures memory { StoresIfShort (append_call e lsn bytes.now self.old) result }
     {
         self.admit(e)?;
         let next = self.log.len() as u32 + 1;

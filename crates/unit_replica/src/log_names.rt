@@ -66,7 +66,7 @@ impl LogNames {
     /// Applies what is missing up to so many entries of the log, or up to its end. Where memory is short, the names are
     /// those of fewer entries.
     #[tactic(auto, using(crate::proofs::Naming::names_next, crate::proofs::Naming::named_least))]
-    fn go_on(&mut self, alloc: Global, log: &[Entry], count: usize) -> Result<(), OutOfMemory>
+    fn go_on(&mut self, log: &[Entry], count: usize) -> Result<(), OutOfMemory>
         requires of { AreOf log.now self.old.count self.old.names }
         requires ahead { self.old.count ≤ count }
         ensures of { AreOf log.now self.new.count self.new.names }
@@ -74,7 +74,7 @@ impl LogNames {
     {
         let end = count.min(log.len());
         for i in self.count..end {
-            self.names.apply(alloc, &log[i])?;
+            self.names.apply(&log[i])?;
             self.count = i + 1;
         }
         Ok(())
@@ -93,7 +93,7 @@ impl LogNames {
         ensures of { AreOf log.now self.new.count self.new.names }
         ensures found { IfOk result (λ value. value ≡ get (names_of (take count log.now)) name.now) }
     {
-        self.go_on(alloc, log, count)?;
+        self.go_on(log, count)?;
         value_of(alloc, self.names.get(name))
     }
 
@@ -110,8 +110,8 @@ impl LogNames {
         ensures of { AreOf log.now self.new.count self.new.names }
         ensures listed { IfOk result (λ names. names ≡ name_list (names_of (take count log.now)) range.now) }
     {
-        self.go_on(alloc, log, count)?;
-        let names = self.names.select(alloc, range)?;
+        self.go_on(log, count)?;
+        let names = self.names.select(range)?;
         texts_of(alloc, names.as_slice())
     }
 }

@@ -3,8 +3,9 @@ ghost use Rattle.std.specs.Prelude.{◌≡◌, ◌≤◌, false, length, Ok};
 ghost use Rattle.ring_points.specs.Epochs.{is_older};
 ghost use Rattle.replica_core.specs.Replicas.{settled, uncollected, collected_in, collecting, IsSound};
 ghost use Rattle.replica_core.specs.Calls.{Answers, is_gap, is_collected, adopt_call, adopt_collected_call};
+ghost use Rattle.replica_core.specs.Memory.{StoresIfShort};
 
-use crate::entry::Entry;
+use crate::entry::{Entry, EntryBytes};
 use crate::refusal::{Done, ReplicaRefusal};
 use crate::replica::Replica;
 use ring_points::Epoch;
@@ -30,33 +31,44 @@ impl Replica {
         }
     }
 
-    /// Whether this is the one entry that is collected for the epoch.
-    fn is_collected(&self, e: Epoch, entry: &Entry) -> bool
-        ensures { result ≡ is_collected e entry.now self.now }
+    /// Whether the entry of these parts is the one that is collected for the epoch.
+    fn is_collected(&self, e: Epoch, epoch: Epoch, lsn: u32, bytes: &[u8]) -> bool
+        ensures { result ≡ is_collected e (record { epoch = epoch; lsn = lsn; bytes = bytes.now }) self.now }
     {
         self.promised == e
-            && entry.lsn == 1
+            && lsn == 1
             && match self.collected.as_slice() {
-                [only] => entry.is_same(only),
+                [only] => only.has_parts(epoch, lsn, bytes),
                 _ => false,
             }
     }
 
-    /// Collects an entry: the first one begins anew.
-    fn collect(&mut self, e: Epoch, entry: &Entry) -> Result<(), ReplicaRefusal>
+    /// Collects an entry of these parts: the first one begins anew.
+    fn collect(
+        &mut self,
+        e: Epoch,
+        epoch: Epoch,
+        lsn: u32,
+        bytes: &[u8],
+    ) -> Result<(), ReplicaRefusal>
         requires not_older { is_older e self.old.promised ≡ false }
-        requires next { is_gap e entry.now.lsn self.old ≡ false }
-        requires room { entry.now.lsn ≤ 100000 }
-        ensures { Answers (Ok tt, collecting e entry.now self.old) self.old self.new result }
+        requires next { is_gap e lsn self.old ≡ false }
+        requires room { lsn ≤ 100000 }
+        requires short { length bytes.now ≤ 512 }
+        ensures { Answers (Ok tt, collecting e (record { epoch = epoch; lsn = lsn; bytes = bytes.now }) self.old) self.old self.new result }
     {
-        let copy = entry.copy(self.alloc)?;
-        if entry.lsn == 1 {
+        let entry = Entry {
+            epoch,
+            lsn,
+            bytes: EntryBytes::from_slice(self.alloc, bytes)?,
+        };
+        if lsn == 1 {
             let mut anew = Vec::new(self.alloc);
-            anew.push(copy)?;
+            anew.push(entry)?;
             self.raise(e);
             self.collected = anew;
         } else {
-            self.collected.push(copy)?;
+            self.collected.push(entry)?;
             self.raise(e);
         }
         Ok(())
@@ -77,25 +89,44 @@ impl Replica {
     /// neither number 1, which begins anew, nor the next.
     pub fn adopt(&mut self, e: Epoch, entry: &Entry, last: u32) -> Result<Done, ReplicaRefusal>
         requires { entry.now.lsn ≤ 100000 }
-        ensures { Answers (adopt_call e entry.now last self.old) self.old self.new result }
+        ensures answers { Answers (adopt_call e entry.now last self.old) self.old self.new result }
+        ensures memory { StoresIfShort (adopt_call e entry.now last self.old) result }
+    {
+        let bytes = entry.bytes.as_slice();
+        self.adopt_bytes(e, entry.epoch, entry.lsn, bytes, last)
+    }
+
+    /// `adopt` of the entry of these parts: its epoch, its number and its bytes. Only an entry that is stored is copied.
+    pub fn adopt_bytes(
+        &mut self,
+        e: Epoch,
+        epoch: Epoch,
+        lsn: u32,
+        bytes: &[u8],
+        last: u32,
+    ) -> Result<Done, ReplicaRefusal>
+        requires room { lsn ≤ 100000 }
+        requires short { length bytes.now ≤ 512 }
+        ensures answers { Answers (adopt_call e (record { epoch = epoch; lsn = lsn; bytes = bytes.now }) last self.old) self.old self.new result }
+        ensures memory { StoresIfShort (adopt_call e (record { epoch = epoch; lsn = lsn; bytes = bytes.now }) last self.old) result }
     {
         self.admit(e)?;
         if self.at == e {
             return Ok(Done::Held);
         }
         let count = self.collected_in(e);
-        if entry.lsn != 1 && entry.lsn != count + 1 {
+        if lsn != 1 && lsn != count + 1 {
             return Err(ReplicaRefusal::Gap(count));
         }
-        if entry.lsn == last {
-            self.collect(e, entry)?;
+        if lsn == last {
+            self.collect(e, epoch, lsn, bytes)?;
             self.settle();
             return Ok(Done::New);
         }
-        if self.is_collected(e, entry) {
+        if self.is_collected(e, epoch, lsn, bytes) {
             return Ok(Done::Held);
         }
-        self.collect(e, entry)?;
+        self.collect(e, epoch, lsn, bytes)?;
         Ok(Done::New)
     }
 
