@@ -34,4 +34,5 @@ pub use promise::PromisePhase;
 pub use reconfig::Reconfig;
 pub use step::{Progress, Step};
 pub use swap::SwapPhase;
+pub use unit_rules::{Kind, Next, Standing, Task};
 pub use vote::VotePhase;
