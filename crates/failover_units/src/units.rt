@@ -1,7 +1,7 @@
 ghost use Rattle.std.specs.Prelude.{◌≡◌, ◌≢◌, [], None, Some, Err, IsTrue, IsOk, is_some, MatchResult, IfOk, IsOkUnless, length, nat_eq, ◌≤◌};
 ghost use Rattle.indexmap.specs.IndexMap.{IsUnique};
 ghost use Rattle.fabric_lemmas.specs.Maps.{at, put};
-ghost use Rattle.failover_units.specs.Units.{unit_of, changed, created, noted, seen_at, Answers, load_of, known_partitions, partitions_in};
+ghost use Rattle.failover_units.specs.Units.{is_full_for, unit_of, changed, created, noted, seen_at, Answers, load_of, known_partitions, partitions_in};
 
 use crate::range::partitions_in;
 use crate::refusal::UnitRefusal;
@@ -68,6 +68,14 @@ impl Units {
             Some(unit) => unit.copy(),
             None => KnownUnit::nothing(),
         }
+    }
+
+    /// Whether the partition is new and finds no place, since 4,096 stand.
+    #[tactic(auto, using(fabric_lemmas::proofs::Tables::as_maps))]
+    pub fn is_full_for(&self, partition: u16) -> bool
+        ensures { result ≡ is_full_for partition self.now }
+    {
+        !self.table.contains_key(&partition) && self.table.len() >= MOST_UNITS
     }
 
     /// Keeps what is known of a partition, in its place where it stands already.

@@ -19,11 +19,11 @@ pub takes_answered : (test : Bool) (defined : Outcome Done) (old new : Replica) 
     → test ≡ true → Answers defined old new answer → Settles answer result → Takes test defined.1 new result
 takes_answered test defined old new answer (Ok done) h is settles = (h, left_by defined old new answer is settles)
 takes_answered test defined old new answer (Err kept.OutOfPlace) h is settles = absurd settles
-takes_answered test defined old new answer (Err kept.OutOfMemory) h is settles = tt
+takes_answered test defined old new answer (Err kept.OutOfMemory) h is settles = h
 
 -- a call that takes no memory
 pub takes_defined : (test : Bool) (defined : Outcome Done) (new : Replica) (answer : Result Done ReplicaRefusal) (result : Result (Unit {0}) NotTaken)
     → test ≡ true → (answer, new) ≡ defined → Settles answer result → Takes test defined.1 new result
 takes_defined test defined new answer (Ok done) h is settles = (h, ap (λ (o : Outcome Done). o.1) is)
 takes_defined test defined new answer (Err kept.OutOfPlace) h is settles = absurd settles
-takes_defined test defined new answer (Err kept.OutOfMemory) h is settles = tt
+takes_defined test defined new answer (Err kept.OutOfMemory) h is settles = h

@@ -27,8 +27,14 @@ took a after bytes r (Err OutOfPlace) h is takes = λ s stands.
     let same : s ≡ r = some_same s r (sym (read_of a bytes s stands) ∙ is) in
     let in_place : is_next a r ≡ true = sym (ap (is_next a) same) ∙ stands.next in
     cc
-took a after bytes r (Err OutOfMemory) h is takes = tt
+took a after bytes r (Err OutOfMemory) h is takes =
+    let f = record_found bytes r h is in
+    (r, record { sound = f.0; next = takes; spelled = f.1 })
 
 pub none_taken : (a after : Amount) (bytes : List ℕ) (refusal : NotTaken) → refusal ≡ OutOfPlace → Took a bytes after (Err refusal)
     → (r : Record) → Stands a r bytes → ⊥
 none_taken a after bytes refusal is took = let P : NotTaken → Type 0 = λ e. Took a bytes after (Err e) in subst P is took
+
+pub short_stands : (a after : Amount) (bytes : List ℕ) (refusal : NotTaken) → refusal ≡ OutOfMemory → Took a bytes after (Err refusal)
+    → (r : Record) × Stands a r bytes
+short_stands a after bytes refusal is took = let P : NotTaken → Type 0 = λ e. Took a bytes after (Err e) in subst P is took

@@ -1,25 +1,22 @@
 -- How a record is taken.
-use Rattle.std.specs.Prelude.{◌≡◌, ◌≢◌, ℕ, Bool, true, false, List, [], Some, Result, Ok, Err, ⊤}
+use Rattle.std.specs.Prelude.{◌≡◌, ◌≢◌, ℕ, Bool, true, false, List, [], Result, Ok, Err}
 use Rattle.fabric_terms.specs.declared.record.Record.{Record}
 use Rattle.ring_rules.specs.Arbiters.{no_table, table_after}
-use Rattle.fabric_lemmas.specs.Maps.{at, put}
 use Rattle.replica_core.specs.declared.refusal.Done.{Done}
 use Rattle.replica_core.specs.declared.refusal.ReplicaRefusal.{ReplicaRefusal}
 use Rattle.replica_core.specs.declared.refusal.ReplicaRefusal.TheVariants as replica
-use Rattle.replica_core.specs.Replicas.{Replica}
 use Rattle.unit_rules.specs.Registers.{registers_after}
-use Rattle.unit_rules.specs.Starts.{Replicas}
 use Rattle.keep_log.specs.declared.not_taken.NotTaken.{NotTaken}
 use Rattle.keep_log.specs.declared.not_taken.NotTaken.TheVariants.{OutOfPlace, OutOfMemory}
 use Rattle.keep_log.specs.declared.reading.Reading.{Reading}
 use Rattle.keep_log.specs.Amounts.{Amount, with_record}
 use Rattle.keep_log.specs.Places.{Stands}
 
--- it is taken exactly where the test holds, and then this is made of it; memory may be short in any case
+-- it is taken exactly where the test holds, and then this is made of it; memory may be short there, and nowhere else
 abbrev pub Takes : {X : Type 0} → Bool → X → X → Result (Unit {0}) NotTaken → Type 0
 Takes test made new (Ok done) = (test ≡ true) × (new ≡ made)
 Takes test made new (Err OutOfPlace) = test ≡ false
-Takes test made new (Err OutOfMemory) = ⊤
+Takes test made new (Err OutOfMemory) = test ≡ true
 
 -- a call that was made is done with, but for want of memory
 abbrev pub Settles : Result Done ReplicaRefusal → Result (Unit {0}) NotTaken → Type 0
@@ -27,16 +24,11 @@ Settles answer (Ok done) = answer ≢ Err replica.OutOfMemory
 Settles answer (Err OutOfPlace) = ⊥
 Settles answer (Err OutOfMemory) = answer ≡ Err replica.OutOfMemory
 
--- the partition has this replica, as it had it before or as a first one; whatever is put there makes the same of both
-pub record Stays (partition : ℕ) (s : Replica) (old new : Replicas) : Type 0 where
-  pub there : at partition new ≡ Some s
-  pub same : (t : Replica) → put partition t new ≡ put partition t old
-
--- the bytes are a record that can come next, and are taken as it; or they are none
+-- the bytes are a record that can come next, and are taken as it if there is memory for it; or they are none
 abbrev pub Took : Amount → List ℕ → Amount → Result (Unit {0}) NotTaken → Type 0
 Took before bytes after (Ok done) = (r : Record) × (Stands before r bytes × (after ≡ with_record before r))
 Took before bytes after (Err OutOfPlace) = (r : Record) → Stands before r bytes → ⊥
-Took before bytes after (Err OutOfMemory) = ⊤
+Took before bytes after (Err OutOfMemory) = (r : Record) × Stands before r bytes
 
 -- what was read so far amounts to this
 abbrev pub amount_in : Reading → Amount

@@ -1,10 +1,11 @@
-ghost use Rattle.std.specs.Prelude.{◌≡◌, [], IsTrue, IfOk, OnOk};
+ghost use Rattle.std.specs.Prelude.{◌≡◌, [], false, true, is_some, IsTrue, IfOk, OnOk};
 ghost use Rattle.std.specs.Map.{values_of};
+ghost use Rattle.fabric_lemmas.specs.Maps.{at, put};
 ghost use Rattle.unit_rules.specs.Starts.{called, replica_of, without_collected};
 ghost use Rattle.keep_log.specs.Items.{recorded};
 ghost use Rattle.keep_log.specs.Places.{is_nil, is_row, row_call};
 ghost use Rattle.keep_log.specs.Spellings.{is_sound};
-ghost use Rattle.keep_log.specs.Taking.{Stays, Takes};
+ghost use Rattle.keep_log.specs.Taking.{Takes};
 
 use crate::item::Item;
 use crate::not_taken::NotTaken;
@@ -52,15 +53,35 @@ impl ReplicaMap {
         self.map.len() == 0
     }
 
-    /// Gives a partition its replica, where it has none.
-    fn enter(&mut self, partition: u16) -> Result<(), OutOfMemory>
-        ensures { OnOk result (Stays partition (replica_of partition self.old) self.old self.new) }
+    /// Gives a partition this replica.
+    fn enter(&mut self, partition: u16, replica: Replica) -> Result<(), OutOfMemory>
+        ensures { OnOk result (self.new ≡ put partition replica self.old) }
     {
-        if self.map.contains_key(&partition) {
-            return Ok(());
-        }
-        let replica = Replica::new(self.alloc, partition);
         self.map.insert(partition, replica)?;
+        Ok(())
+    }
+
+    /// Takes a record of the replica that the partition has, if it stands in its place.
+    fn take_standing(&mut self, partition: u16, item: Item<'_>) -> Result<(), NotTaken>
+        requires sound { IsTrue (is_sound (recorded item)) }
+        requires there { is_some (at partition self.old) ≡ true }
+        ensures { Takes (is_row (recorded item.entry) (replica_of partition self.old)) (called partition (row_call (recorded item.entry)) self.old) self.new result }
+    {
+        match self.map.get_mut(&partition) {
+            Some(replica) => take_row(replica, item),
+            None => unreachable!(),
+        }
+    }
+
+    /// Takes the first record of a partition's replica, if it stands in its place. Only then the partition is entered.
+    fn take_first(&mut self, partition: u16, item: Item<'_>) -> Result<(), NotTaken>
+        requires sound { IsTrue (is_sound (recorded item)) }
+        requires none { is_some (at partition self.old) ≡ false }
+        ensures { Takes (is_row (recorded item.entry) (replica_of partition self.old)) (called partition (row_call (recorded item.entry)) self.old) self.new result }
+    {
+        let mut replica = Replica::new(self.alloc, partition);
+        take_row(&mut replica, item)?;
+        self.enter(partition, replica)?;
         Ok(())
     }
 
@@ -69,10 +90,10 @@ impl ReplicaMap {
         requires { IsTrue (is_sound (recorded item)) }
         ensures { Takes (is_row (recorded item.entry) (replica_of partition self.old)) (called partition (row_call (recorded item.entry)) self.old) self.new result }
     {
-        self.enter(partition)?;
-        match self.map.get_mut(&partition) {
-            Some(replica) => take_row(self.alloc, replica, item),
-            None => unreachable!(),
+        if self.map.contains_key(&partition) {
+            self.take_standing(partition, item)
+        } else {
+            self.take_first(partition, item)
         }
     }
 

@@ -11,9 +11,8 @@ ghost use Rattle.keep_log.specs.Taking.{Settles, Takes};
 use crate::item::Item;
 use crate::not_taken::NotTaken;
 use crate::places::{is_adoption, is_piece, is_promise, is_write};
-use replica_core::{Done, Entry, EntryBytes, MOST_ENTRIES, Replica, ReplicaRefusal};
+use replica_core::{Done, MOST_ENTRIES, Replica, ReplicaRefusal};
 use ring_points::Epoch;
-use std::alloc::Global;
 
 /// More than the number of any entry, so that an entry is only collected.
 const PAST_ALL: u32 = MOST_ENTRIES + 1;
@@ -50,7 +49,6 @@ fn wrote(replica: &mut Replica, epoch: Epoch, lsn: u32, text: &[u8]) -> Result<(
 }
 
 fn incoming(
-    alloc: Global,
     replica: &mut Replica,
     epoch: Epoch,
     lsn: u32,
@@ -64,15 +62,7 @@ fn incoming(
     if !is_piece(replica, epoch, lsn) {
         return Err(NotTaken::OutOfPlace);
     }
-    let Ok(bytes) = EntryBytes::from_slice(alloc, text) else {
-        return Err(NotTaken::OutOfMemory);
-    };
-    let entry = Entry {
-        epoch: entry_epoch,
-        lsn,
-        bytes,
-    };
-    let answer = replica.adopt(epoch, &entry, PAST_ALL);
+    let answer = replica.adopt_bytes(epoch, entry_epoch, lsn, text, PAST_ALL);
     made(answer)
 }
 
@@ -91,7 +81,7 @@ fn adopted(replica: &mut Replica, epoch: Epoch, last: u32, own: bool) -> Result<
 }
 
 /// Takes a record of the replica, if it stands in its place.
-pub fn take_row(alloc: Global, replica: &mut Replica, item: Item<'_>) -> Result<(), NotTaken>
+pub fn take_row(replica: &mut Replica, item: Item<'_>) -> Result<(), NotTaken>
     requires sound { IsTrue (is_sound (recorded item)) }
     ensures { Takes (is_row (recorded item.entry) replica.old) (row_call (recorded item.entry) replica.old).1 replica.new result }
 {
@@ -109,7 +99,7 @@ pub fn take_row(alloc: Global, replica: &mut Replica, item: Item<'_>) -> Result<
             entry_epoch,
             text,
             ..
-        } => incoming(alloc, replica, epoch, lsn, entry_epoch, text),
+        } => incoming(replica, epoch, lsn, entry_epoch, text),
         Item::AdoptedAt {
             epoch,
             last,
