@@ -101,7 +101,7 @@ does_after ds a new before mid after l d = record {
 }
 
 -- what a replica knows as a primary, where it takes writes
-leads : (s : Seat) (o : Option Lead) → (is_primary s.replica.role && not (is_older s.replica.at s.replica.promised)) ≡ true → s.lead ≡ o → lead_of s ≡ o
+pub leads : (s : Seat) (o : Option Lead) → (is_primary s.replica.role && not (is_older s.replica.at s.replica.promised)) ≡ true → s.lead ≡ o → lead_of s ≡ o
 leads s o takes there = ap (λ (b : Bool). cond b s.lead None) takes ∙ there
 
 does_confirmed : (node : ℕ) (epoch : Epoch) (last : ℕ) (s : Seat) (l : Lead) (new : Seat) (before after : Desk)

@@ -9,3 +9,4 @@ pub mod Fired
 pub mod Kept
 pub mod Places
 pub mod Naming
+pub mod Stored

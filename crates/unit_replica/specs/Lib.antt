@@ -1,4 +1,5 @@
 pub mod Laws
+pub mod Memory
 pub mod Names
 pub mod Rows
 pub mod Starts

@@ -1,8 +1,9 @@
-ghost use Rattle.std.specs.Prelude.{◌≡◌, ◌≤◌, ◌∷◌, [], IfOk, OnErr, length};
+ghost use Rattle.std.specs.Prelude.{◌≡◌, ◌≤◌, ◌∷◌, [], IfOk, OnErr, length, true};
 ghost use Rattle.fabric_terms.specs.declared.report.Report.TheVariants.{NameList};
 ghost use Rattle.unit_rules.specs.Answers.{names_commanded, ready, resolve_commanded, resolved};
 ghost use Rattle.unit_rules.specs.Deeds.{Tell};
 ghost use Rattle.unit_rules.specs.Leads.{lead_of};
+ghost use Rattle.unit_replica.specs.Memory.{is_ready};
 ghost use Rattle.unit_desk.specs.Desks.{Does, HasRoomFor, Left};
 
 use crate::seat::Seat;
@@ -55,8 +56,8 @@ fn tell_names(partition: u16, names: NameTexts, desk: &mut Desk)
 }
 
 /// Resolve: a primary tells what a name stands for by the entries that it reported committed. It is refused at a replica
-/// that takes no writes, and before the first commit of its activation. It is an error where memory is short, and then
-/// nothing is changed.
+/// that takes no writes, and before the first commit of its activation. It is an error where memory is short for an
+/// answer, and then nothing is changed.
 #[tactic(auto, unfolding(unit_rules::specs::Answers::resolve_commanded))]
 pub fn resolve_commanded(
     alloc: Global,
@@ -68,6 +69,7 @@ pub fn resolve_commanded(
     ensures does { IfOk result (λ _. Does (resolve_commanded name.now seat.old) seat.new desk.old desk.new) }
     ensures few { length desk.new.out ≤ length desk.old.out }
     ensures refused { OnErr result ((seat.new ≡ seat.old) × (desk.new ≡ desk.old)) }
+    ensures memory { OnErr result (is_ready seat.old ≡ true) }
 {
     match ready(seat) {
         Err(reason) => {
@@ -97,6 +99,7 @@ pub fn names_commanded(
     ensures does { IfOk result (λ _. Does (names_commanded range.now seat.old) seat.new desk.old desk.new) }
     ensures few { length desk.new.out ≤ length desk.old.out }
     ensures refused { OnErr result ((seat.new ≡ seat.old) × (desk.new ≡ desk.old)) }
+    ensures memory { OnErr result (is_ready seat.old ≡ true) }
 {
     match ready(seat) {
         Err(reason) => {

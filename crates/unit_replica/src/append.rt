@@ -1,5 +1,6 @@
-ghost use Rattle.std.specs.Prelude.{◌≡◌, ◌≤◌, ◌+◌, ◌∷◌, [], IfOk, OnErr, length};
+ghost use Rattle.std.specs.Prelude.{◌≡◌, ◌≤◌, ◌+◌, ◌∷◌, [], IfOk, OnErr, length, true};
 ghost use Rattle.unit_rules.specs.Writes.{accepted, append_received, say_appended};
+ghost use Rattle.unit_replica.specs.Memory.{stores};
 ghost use Rattle.unit_desk.specs.Desks.{Does, HasRoom, HasRoomFor, Left};
 
 use crate::named::NamedReplica;
@@ -39,8 +40,8 @@ fn say_appended(asker: Who, epoch: Epoch, replica: &NamedReplica, desk: &mut Des
 }
 
 /// Append: the entry is added where it is the next. The last entry is answered, where the log is of the epoch. It is an
-/// error where memory is short, and then nothing is changed.
-#[tactic(auto, using(crate::proofs::Calls::calls_stay), unfolding(unit_rules::specs::Writes::append_received))]
+/// error where memory is short for a new entry, and then nothing is changed.
+#[tactic(auto, using(crate::proofs::Calls::calls_stay, crate::proofs::Stored::entry_stored), unfolding(unit_rules::specs::Writes::append_received))]
 pub fn append_received(
     asker: Who,
     epoch: Epoch,
@@ -53,6 +54,7 @@ pub fn append_received(
     ensures does { IfOk result (λ _. Does (append_received asker epoch lsn text.now seat.old) seat.new desk.old desk.new) }
     ensures few { length desk.new.out ≤ length desk.old.out + 1 }
     ensures refused { OnErr result ((seat.new ≡ seat.old) × (desk.new ≡ desk.old)) }
+    ensures memory { OnErr result (stores (append_received asker epoch lsn text.now seat.old) ≡ true) }
 {
     let partition = seat.replica.partition();
     match seat.replica.append(epoch, lsn, text.as_slice()) {

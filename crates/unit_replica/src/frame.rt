@@ -1,6 +1,7 @@
-ghost use Rattle.std.specs.Prelude.{◌≡◌, ◌≤◌, ◌+◌, IfOk, OnErr, IsTrue, length};
+ghost use Rattle.std.specs.Prelude.{◌≡◌, ◌≤◌, ◌+◌, IfOk, OnErr, IsTrue, length, true};
 ghost use Rattle.fabric_terms.specs.Messages.{is_sound_body};
 ghost use Rattle.unit_desk.specs.Desks.{Does, HasRoom};
+ghost use Rattle.unit_replica.specs.Memory.{stores};
 ghost use Rattle.unit_replica.specs.Tables.{row_of};
 
 use crate::activate::activate_received;
@@ -13,14 +14,12 @@ use crate::sync::sync_received;
 use crate::write::appended_received;
 use fabric_terms::{Body, OutOfMemory};
 use ring_points::Who;
-use std::alloc::Global;
 use unit_desk::Desk;
 use unit_rules::Taking;
 
 /// The row of a frame to the replica of a seat; a frame of another kind changes nothing. It is an error where memory is
-/// short, and then nothing is changed.
+/// short for an entry, and then nothing is changed.
 pub(crate) fn row_of(
-    alloc: Global,
     me: u16,
     from: Who,
     body: &Body,
@@ -32,6 +31,7 @@ pub(crate) fn row_of(
     ensures does { IfOk result (λ _. Does (row_of me from body.now seat.old) seat.new desk.old desk.new) }
     ensures few { length desk.new.out ≤ length desk.old.out + 1 }
     ensures refused { OnErr result ((seat.new ≡ seat.old) × (desk.new ≡ desk.old)) }
+    ensures memory { OnErr result (stores (row_of me from body.now seat.old) ≡ true) }
 {
     match body {
         Body::Promise { epoch, .. } => promise_received(from, *epoch, seat, desk),
@@ -56,7 +56,7 @@ pub(crate) fn row_of(
             entry_epoch,
             text,
             ..
-        } => return piece_received(alloc, *epoch, *lsn, *entry_epoch, text, seat, desk),
+        } => return piece_received(*epoch, *lsn, *entry_epoch, text, seat, desk),
         Body::Activate { config } => activate_received(me, from, config, seat, desk),
         Body::Append {
             epoch,

@@ -2,6 +2,7 @@ ghost use Rattle.std.specs.Prelude.{◌≡◌, ◌≤◌, IfOk, length, take};
 ghost use Rattle.std.specs.FinMap.{get};
 ghost use Rattle.name_rules.specs.Names.{name_list, names_of};
 ghost use Rattle.replica_core.specs.Calls.{Answers, activate_call, adopt_call, adopt_own_call, append_call, idle_call, promise_call};
+ghost use Rattle.replica_core.specs.Memory.{StoresIfShort};
 ghost use Rattle.replica_core.specs.Replicas.{IsSound, begun_again, first_replica, uncollected};
 ghost use Rattle.unit_replica.specs.Names.{AreOf};
 
@@ -130,17 +131,21 @@ impl NamedReplica {
         self.replica.adopt_own(e, last)
     }
 
-    pub(crate) fn adopt(
+    pub(crate) fn adopt_bytes(
         &mut self,
         e: Epoch,
-        entry: &Entry,
+        epoch: Epoch,
+        lsn: u32,
+        bytes: &[u8],
         last: u32,
     ) -> Result<Done, ReplicaRefusal>
-        requires { entry.now.lsn ≤ 100000 }
-        ensures { Answers (adopt_call e entry.now last self.old) self.old self.new result }
+        requires room { lsn ≤ 100000 }
+        requires short { length bytes.now ≤ 512 }
+        ensures answers { Answers (adopt_call e (record { epoch = epoch; lsn = lsn; bytes = bytes.now }) last self.old) self.old self.new result }
+        ensures memory { StoresIfShort (adopt_call e (record { epoch = epoch; lsn = lsn; bytes = bytes.now }) last self.old) result }
     {
         self.names = None;
-        self.replica.adopt(e, entry, last)
+        self.replica.adopt_bytes(e, epoch, lsn, bytes, last)
     }
 
     /// The names stay: an entry comes behind those that they are of.
@@ -151,7 +156,8 @@ impl NamedReplica {
         bytes: &[u8],
     ) -> Result<Done, ReplicaRefusal>
         requires { length bytes.now ≤ 512 }
-        ensures { Answers (append_call e lsn bytes.now self.old) self.old self.new result }
+        ensures answers { Answers (append_call e lsn bytes.now self.old) self.old self.new result }
+        ensures memory { StoresIfShort (append_call e lsn bytes.now self.old) result }
     {
         self.replica.append(e, lsn, bytes)
     }

@@ -1,9 +1,10 @@
-ghost use Rattle.std.specs.Prelude.{◌≡◌, ◌≤◌, ◌+◌, [], None, IfOk, IsTrue, OnErr, length};
+ghost use Rattle.std.specs.Prelude.{◌≡◌, ◌≤◌, ◌+◌, [], None, IfOk, IsTrue, OnErr, length, true};
 ghost use Rattle.std.specs.Option.{option_copied};
 ghost use Rattle.fabric_lemmas.specs.Maps.{at};
 ghost use Rattle.fabric_terms.specs.Messages.{is_sound_body};
 ghost use Rattle.unit_desk.specs.Desks.{Does, HasRoom};
 ghost use Rattle.unit_rules.specs.Deeds.{still};
+ghost use Rattle.unit_replica.specs.Memory.{grows, is_ready_at, stores};
 ghost use Rattle.unit_replica.specs.Tables.{at_seat, at_standing, frame_at, list_at, replica_at, resolve_at, row_of, write_at};
 
 use crate::answer::{names_commanded, resolve_commanded};
@@ -82,14 +83,16 @@ impl Seats {
         ensures does { IfOk result (λ _. Does (at_standing partition (row_of me from body.now) (still self.old) self.old) self.new desk.old desk.new) }
         ensures few { length desk.new.out ≤ length desk.old.out + 1 }
         ensures refused { OnErr result ((self.new ≡ self.old) × (desk.new ≡ desk.old)) }
+        ensures memory { OnErr result (grows self.old (at_standing partition (row_of me from body.now) (still self.old) self.old) ≡ true) }
     {
         let Some(seat) = self.map.get_mut(&partition) else {
             return Ok(());
         };
-        row_of(self.alloc, me, from, body, seat, desk)
+        row_of(me, from, body, seat, desk)
     }
 
     /// The row of a frame at the partition's first seat, which is made for it.
+    #[tactic(auto, using(crate::proofs::Stored::seat_made))]
     fn at_first(
         &mut self,
         me: u16,
@@ -104,6 +107,7 @@ impl Seats {
         ensures does { IfOk result (λ _. Does (at_seat partition (row_of me from body.now) self.old) self.new desk.old desk.new) }
         ensures few { length desk.new.out ≤ length desk.old.out + 1 }
         ensures refused { OnErr result ((self.new ≡ self.old) × (desk.new ≡ desk.old)) }
+        ensures memory { OnErr result (grows self.old (at_seat partition (row_of me from body.now) self.old) ≡ true) }
     {
         if self.map.len() >= MOST_REPLICAS {
             return Err(OutOfMemory);
@@ -133,6 +137,7 @@ impl Seats {
         ensures does { IfOk result (λ _. Does (at_seat partition (row_of me from body.now) self.old) self.new desk.old desk.new) }
         ensures few { length desk.new.out ≤ length desk.old.out + 1 }
         ensures refused { OnErr result ((self.new ≡ self.old) × (desk.new ≡ desk.old)) }
+        ensures memory { OnErr result (grows self.old (at_seat partition (row_of me from body.now) self.old) ≡ true) }
     {
         if self.map.contains_key(&partition) {
             self.at_standing(me, from, partition, body, desk)
@@ -142,7 +147,8 @@ impl Seats {
     }
 
     /// A frame to the replica of its partition. Promise, Sync, Activate and Append make the replica where none stands;
-    /// other frames do nothing then. It is an error where memory is short, and then nothing is changed.
+    /// other frames do nothing then. It is an error where memory is short for a new entry or a new seat, and then nothing
+    /// is changed: no other frame wants memory.
     pub fn frame_received(
         &mut self,
         me: u16,
@@ -155,6 +161,7 @@ impl Seats {
         ensures does { IfOk result (λ _. Does (frame_at me from body.now self.old) self.new desk.old desk.new) }
         ensures few { length desk.new.out ≤ length desk.old.out + 1 }
         ensures refused { OnErr result ((self.new ≡ self.old) × (desk.new ≡ desk.old)) }
+        ensures memory { OnErr result (grows self.old (frame_at me from body.now self.old) ≡ true) }
     {
         match body {
             Body::Promise { partition, .. }
@@ -171,8 +178,8 @@ impl Seats {
     }
 
     /// Write: the partition's primary adds an entry. It is refused where the node has no replica of the partition, at a
-    /// replica that takes no writes, and where its log is full. It is an error where memory is short, and then nothing
-    /// is changed.
+    /// replica that takes no writes, and where its log is full. It is an error where memory is short for a new entry, and
+    /// then nothing is changed.
     pub fn write(
         &mut self,
         partition: u16,
@@ -183,6 +190,7 @@ impl Seats {
         ensures does { IfOk result (λ _. Does (write_at partition text.now self.old) self.new desk.old desk.new) }
         ensures few { length desk.new.out ≤ length desk.old.out + 6 }
         ensures refused { OnErr result ((self.new ≡ self.old) × (desk.new ≡ desk.old)) }
+        ensures memory { OnErr result (stores (write_at partition text.now self.old) ≡ true) }
     {
         let Some(seat) = self.map.get_mut(&partition) else {
             refuse(Verb::Write, Reason::NotPrimary, desk);
@@ -192,7 +200,8 @@ impl Seats {
     }
 
     /// Resolve: the partition's primary tells what a name stands for. It is refused where the node has no replica of the
-    /// partition, and where that answers nothing. It is an error where memory is short, and then nothing is changed.
+    /// partition, and where that answers nothing. It is an error where memory is short for an answer, and then nothing is
+    /// changed.
     pub fn resolve(
         &mut self,
         partition: u16,
@@ -203,6 +212,7 @@ impl Seats {
         ensures does { IfOk result (λ _. Does (resolve_at partition name.now self.old) self.new desk.old desk.new) }
         ensures few { length desk.new.out ≤ length desk.old.out }
         ensures refused { OnErr result ((self.new ≡ self.old) × (desk.new ≡ desk.old)) }
+        ensures memory { OnErr result (is_ready_at partition self.old ≡ true) }
     {
         let Some(seat) = self.map.get_mut(&partition) else {
             refuse(Verb::Resolve, Reason::NotPrimary, desk);
@@ -223,6 +233,7 @@ impl Seats {
         ensures does { IfOk result (λ _. Does (list_at partition range.now self.old) self.new desk.old desk.new) }
         ensures few { length desk.new.out ≤ length desk.old.out }
         ensures refused { OnErr result ((self.new ≡ self.old) × (desk.new ≡ desk.old)) }
+        ensures memory { OnErr result (is_ready_at partition self.old ≡ true) }
     {
         let Some(seat) = self.map.get_mut(&partition) else {
             refuse(Verb::Names, Reason::NotPrimary, desk);

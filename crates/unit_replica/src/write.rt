@@ -1,10 +1,11 @@
-ghost use Rattle.std.specs.Prelude.{◌≡◌, ◌≤◌, ◌+◌, ◌∷◌, ◌++◌, [], Some, IfOk, OnErr, length, map};
+ghost use Rattle.std.specs.Prelude.{◌≡◌, ◌≤◌, ◌+◌, ◌∷◌, ◌++◌, [], Some, IfOk, OnErr, length, map, true};
 ghost use Rattle.fabric_terms.specs.declared.report.Report.TheVariants.{Refused};
 ghost use Rattle.unit_rules.specs.Deeds.{Tell};
 ghost use Rattle.unit_rules.specs.Seats as seats;
 ghost use Rattle.unit_rules.specs.Seats.{last_of};
 ghost use Rattle.unit_rules.specs.Writes.{accepted, append_to, appended_received, committed, write_commanded};
 ghost use Rattle.unit_desk.specs.Desks.{Does, HasRoom, HasRoomFor, Left};
+ghost use Rattle.unit_replica.specs.Memory.{stores};
 ghost use Rattle.unit_replica.specs.Rows.{spread};
 
 use crate::append::accept;
@@ -96,13 +97,15 @@ pub(crate) fn refuse(question: Verb, reason: Reason, desk: &mut Desk)
 }
 
 /// Write: the primary adds an entry, and sends it to each other member. It is refused at a replica that takes no
-/// writes, and where the log is full. It is an error where memory is short, and then nothing is changed.
+/// writes, and where the log is full. It is an error where memory is short for a new entry, and then nothing is
+/// changed.
 #[tactic(auto, unfolding(unit_rules::specs::Writes::write_commanded))]
 pub fn write_commanded(text: &Payload, seat: &mut Seat, desk: &mut Desk) -> Result<(), OutOfMemory>
     requires { HasRoom desk.old }
     ensures does { IfOk result (λ _. Does (write_commanded text.now seat.old) seat.new desk.old desk.new) }
     ensures few { length desk.new.out ≤ length desk.old.out + 6 }
     ensures refused { OnErr result ((seat.new ≡ seat.old) × (desk.new ≡ desk.old)) }
+    ensures memory { OnErr result (stores (write_commanded text.now seat.old) ≡ true) }
 {
     if !takes_writes(&seat.replica) || seat.lead.is_none() {
         refuse(Verb::Write, Reason::NotPrimary, desk);

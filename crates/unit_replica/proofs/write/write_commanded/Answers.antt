@@ -20,7 +20,7 @@ returns-in-Ok-clause-does c =
     let some : is_some before.lead ≡ true = c.is_none.ensures ∙ ap (λ (b : Bool). not b) no in
     let called : ◌≡◌ {A = Outcome Done} (append_call c.at-epoch.result (c.last_of-lsn.result + 1) c.as_slice.result.now before.replica) (Ok c.in-Ok.field-0, c.append.new.self) =
     subst (λ (r : Result Done ReplicaRefusal). Answers (append_call c.at-epoch.result (c.last_of-lsn.result + 1) c.as_slice.result.now before.replica) before.replica c.append.new.self r)
-    c.in-Ok.is c.append.ensures in
+    c.in-Ok.is c.append.ensures.answers in
     subst (λ (s : Seat). Does (write_commanded c.args.text.now s) c.spread.new.seat c.args.desk.now c.spread.new.desk) c.seat.view_is
     (does_commanded c.args.text.now c.as_slice.result.now c.at-epoch.result c.last_of-lsn.result before c.append.new.self c.in-Ok.field-0 c.spread.new.seat c.args.desk.now
     c.spread.new.desk takes some c.at-epoch.ensures c.last_of-lsn.ensures.last c.as_slice.ensures.bytes called c.spread.ensures.does)

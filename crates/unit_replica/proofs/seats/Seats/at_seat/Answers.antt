@@ -4,7 +4,8 @@ use Rattle.fabric_lemmas.specs.Maps.{at}
 use Rattle.keep_log.proofs.MapEntries.{lookup-is}
 use Rattle.unit_rules.specs.Deeds.{still}
 use Rattle.unit_replica.specs.Tables.{Seats, row_of}
-use Rattle.unit_replica.proofs.Places.{does_standing, if_ok, none_of}
+use Rattle.unit_replica.proofs.Places.{does_standing, if_ok, none_of, on_err}
+use Rattle.unit_replica.proofs.Stored.{grows-standing}
 use Rattle.unit_replica.proofs.seats.Seats.at_seat.Goals as goal
 
 pub at_first-requires-clause-none : goal.at_first-requires-clause-none
@@ -24,3 +25,12 @@ returns-then-contains_key-clause-does c =
     if_ok c.at_standing.result
     (λ d. does_standing c.args.partition row (still c.args.self.now) c.args.self.now c.at_standing.new.self c.args.desk.now c.at_standing.new.desk some d)
     c.at_standing.ensures.does
+
+pub returns-then-contains_key-clause-memory : goal.returns-then-contains_key-clause-memory
+returns-then-contains_key-clause-memory c =
+    let es = c.self.inside.map.entries in
+    let row = row_of c.args.me c.args.from c.args.body.now in
+    let some : is_some (at c.args.partition c.args.self.now) ≡ true =
+    ap (λ (m : Seats). is_some (at c.args.partition m)) (sym c.self.view_is)
+    ∙ (ap is_some (sym (lookup-is c.args.partition es)) ∙ (sym c.contains_key.ensures ∙ c.if-contains_key.true)) in
+    on_err c.at_standing.result (λ h. grows-standing c.args.partition row (still c.args.self.now) c.args.self.now some h) c.at_standing.ensures.memory

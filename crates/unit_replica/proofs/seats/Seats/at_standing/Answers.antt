@@ -7,6 +7,7 @@ use Rattle.unit_desk.specs.Desks.{Does}
 use Rattle.unit_replica.specs.Tables.{Seats, at_standing, row_of}
 use Rattle.unit_replica.proofs.Counts.{set_fits}
 use Rattle.unit_replica.proofs.Places.{does_nowhere, does_same, does_there, if_ok, on_err, stays_there}
+use Rattle.unit_replica.proofs.Stored.{grows-there}
 use Rattle.unit_replica.proofs.seats.Seats.at_standing.Goals as goal
 
 pub invariant_of-self-2 : goal.invariant_of-self-2
@@ -50,3 +51,12 @@ returns-in_default-clause-does c =
     ∙ (sym (lookup-is c.args.partition es) ∙ (sym c.get_mut.ensures.value ∙ ap option_copied_mut c.in_default.is)) in
     does_nowhere c.args.partition row (still c.args.self.now) c.args.self.now new c.args.desk.now c.args.desk.now none
     (does_same c.args.self.now new c.args.desk.now same)
+
+pub returns-clause-memory : goal.returns-clause-memory
+returns-clause-memory c =
+    let es = c.self.inside.map.entries in
+    let row = row_of c.args.me c.args.from c.args.body.now in
+    let found : at c.args.partition c.args.self.now ≡ Some c.in-Some.seat.now =
+    ap (λ (m : Seats). at c.args.partition m) (sym c.self.view_is)
+    ∙ (sym (lookup-is c.args.partition es) ∙ (sym c.get_mut.ensures.value ∙ ap option_copied_mut c.in-Some.is)) in
+    on_err c.row_of.result (λ h. grows-there c.args.partition row (still c.args.self.now) c.args.self.now c.in-Some.seat.now found h) c.row_of.ensures.memory

@@ -10,6 +10,7 @@ use Rattle.unit_desk.specs.Desks.{Does}
 use Rattle.unit_replica.specs.Tables.{Seats, at_standing}
 use Rattle.unit_replica.proofs.Counts.{set_fits}
 use Rattle.unit_replica.proofs.Places.{does_nowhere, does_there, if_ok, on_err, stays_there}
+use Rattle.unit_replica.proofs.Stored.{ready-there}
 use Rattle.unit_replica.proofs.seats.Seats.resolve.Goals as goal
 
 pub invariant_of-self-2 : goal.invariant_of-self-2
@@ -53,3 +54,11 @@ returns-in_default-clause-does c =
     ∙ (sym (lookup-is c.args.partition es) ∙ (sym c.get_mut.ensures.value ∙ ap option_copied_mut c.in_default.is)) in
     does_nowhere c.args.partition (resolve_commanded c.args.name.now) (refuse verb.Resolve reason.NotPrimary c.args.self.now) c.args.self.now new c.args.desk.now
     c.refuse.new.desk none (record { state = same; left = c.refuse.ensures.left })
+
+pub returns-clause-memory : goal.returns-clause-memory
+returns-clause-memory c =
+    let es = c.self.inside.map.entries in
+    let found : at c.args.partition c.args.self.now ≡ Some c.in-Some.seat.now =
+    ap (λ (m : Seats). at c.args.partition m) (sym c.self.view_is)
+    ∙ (sym (lookup-is c.args.partition es) ∙ (sym c.get_mut.ensures.value ∙ ap option_copied_mut c.in-Some.is)) in
+    on_err c.resolve_commanded.result (λ h. ready-there c.args.partition c.args.self.now c.in-Some.seat.now found h) c.resolve_commanded.ensures.memory
