@@ -3,11 +3,11 @@
 pub enum Form {
     /// `replay`: runs a schedule and reports the run.
     Replay,
-    /// `writes`: runs a schedule and tells what was written and what was kept of it.
+    /// `writes`: runs a schedule and writes the committed log of each partition.
     Writes,
-    /// `trace`: runs a schedule and tells each step of it.
+    /// `trace`: runs a schedule and writes its transcript: the clocks and the reports of each event.
     Trace,
-    /// `audit`: looks through a told run for what breaks the rules.
+    /// `audit`: reads a transcript and writes the verdict on its run.
     Audit,
     /// `node N T`: runs a node for so many turns.
     Node { node: u16, turns: u64 },

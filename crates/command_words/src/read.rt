@@ -1,7 +1,9 @@
-ghost use Rattle.std.specs.Prelude.{◌≡◌, ◌≤◌, IfSome, map, string_bytes};
+ghost use Rattle.std.specs.Prelude.{◌≡◌, ◌≤◌, ℕ, List, IfSome, is_some, map, string_bytes};
 ghost use Rattle.command_words.specs.Forms.{FitsForm, arbiter_form, cluster_form, drill_form, form_of, four_words, generate_form, node_form, number_of, one_word, three_words, turns_of, two_words};
+ghost use Rattle.command_words.specs.Splits.{IsSplit};
 
 use crate::form::Form;
+use crate::split::Split;
 use ring_points::LAST_NODE;
 use text_fields::last_number;
 
@@ -145,13 +147,12 @@ fn four_words(command: &str, seed: &str, nodes: &str, rounds: &str) -> Option<Fo
     }
 }
 
-/// The form that the words are, without the program's name. None exactly where they are none of the forms.
+/// Whether the words, without the program's name, are one of the forms.
 #[tactic(auto, unfolding(crate::specs::Forms::form_of))]
-pub fn read_form(words: &[String]) -> Option<Form>
-    ensures form { result ≡ form_of (map string_bytes words.now) }
-    ensures fits { IfSome result FitsForm }
+pub(crate) fn is_form(words: &[String]) -> bool
+    ensures { result ≡ is_some (form_of (map string_bytes words.now)) }
 {
-    match words {
+    let form = match words {
         [command] => one_word(command.as_str()),
         [command, first] => two_words(command.as_str(), first.as_str()),
         [command, first, second] => {
@@ -164,5 +165,20 @@ pub fn read_form(words: &[String]) -> Option<Form>
             third.as_str(),
         ),
         _ => None,
+    };
+    form.is_some()
+}
+
+/// The form that the split words are.
+pub(crate) fn form_in(split: &Split) -> Option<Form>
+    ensures form { (words : List (List ℕ)) → IsSplit words split.now → result ≡ form_of words }
+    ensures fits { IfSome result FitsForm }
+{
+    let command = split.command?;
+    match (split.first, split.second, split.third) {
+        (None, _, _) => one_word(command),
+        (Some(first), None, _) => two_words(command, first),
+        (Some(first), Some(second), None) => three_words(command, first, second),
+        (Some(first), Some(second), Some(third)) => four_words(command, first, second, third),
     }
 }
