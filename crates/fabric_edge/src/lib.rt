@@ -7,6 +7,7 @@
 //! and runs on these unchanged.
 #![tactic(auto)]
 
+mod boot_clock;
 mod failures;
 mod folder;
 mod folder_keeper;
@@ -15,8 +16,10 @@ mod pace;
 mod record_file;
 mod stdin_source;
 mod stdout_sink;
+mod ticks;
 mod udp_links;
 
+pub use boot_clock::BootClock;
 pub use folder_keeper::FolderKeeper;
 pub use mono_clock::MonoClock;
 pub use stdin_source::StdinSource;
