@@ -1,26 +1,36 @@
+use crate::folder_paths::{make_folder, path_of};
+use crate::held_file::{HeldFile, bytes_of};
+use crate::lock_files::LockFiles;
 use crate::record_file::{frame, records_in};
 use std::alloc::Global;
 use std::collections::BTreeMap;
-use std::fs::{File, OpenFile, OpenOptions};
-use std::io::{ErrorKind, Read, Write};
-use std::rt::Files;
-use std::{fs, io};
+use std::fs::{File, OpenOptions};
+use std::io;
+use std::io::ErrorKind;
 
-/// The name of the folder, under the current folder.
-const FOLDER: &str = "kept";
-
-/// The files of records, one for each actor. A file stays open from its first append on, and is closed where
-/// an append fails: before the next it is opened anew, and what is no whole record at its end is cut off.
-/// Reading changes nothing, so a process that was started by mistake leaves the records as they are.
+/// How this process stands to the file of an actor, once it has read or appended to it.
 #[derive(Drop)]
-pub struct Folder<'a, R: Files> {
+enum Standing<R: LockFiles> {
+    /// The file was missing when it was read. If records stand in it at the first append, another process wrote them.
+    Missing,
+    /// Another process had the file when it was read. What it has appended since was not read.
+    Refused,
+    /// The file is this process's.
+    Held(HeldFile<R>),
+}
+
+/// The files of records, one for each actor. A file is locked as it is read, and stays so: a second process of an actor
+/// reads the records, and is refused its first append. Reading changes nothing, so a process that was started by mistake
+/// leaves the records as they are.
+#[derive(Drop)]
+pub struct Folder<'a, R: LockFiles> {
     rt: &'a R,
     alloc: Global,
-    files: BTreeMap<u16, R::File>,
+    files: BTreeMap<u16, Standing<R>>,
     framed: Vec<u8>,
 }
 
-impl<'a, R: Files> Folder<'a, R> {
+impl<'a, R: LockFiles> Folder<'a, R> {
     pub fn new(rt: &'a R, alloc: Global) -> Self {
         Folder {
             rt,
@@ -31,84 +41,68 @@ impl<'a, R: Files> Folder<'a, R> {
     }
 }
 
-impl<R: Files> Folder<'_, R> {
+impl<R: LockFiles> Folder<'_, R> {
     /// The records in the file of an actor; none where it has no file.
-    pub fn read(&self, actor: u16) -> io::Result<Vec<Vec<u8>>> {
-        match File::open(self.rt, path_of(self.alloc, actor)?) {
-            Ok(mut file) => Ok(records_in(self.alloc, &bytes_of(self.alloc, &mut file)?)?.0),
-            Err(error) if error.kind() == ErrorKind::NotFound => Ok(Vec::new(self.alloc)),
-            Err(error) => Err(error),
+    pub fn read(&mut self, actor: u16) -> io::Result<Vec<Vec<u8>>> {
+        if !matches!(self.files.get(&actor), Some(Standing::Held(_))) {
+            let standing = self.standing(actor)?;
+            self.files.insert(actor, standing)?;
         }
+        if matches!(self.files.get(&actor), Some(Standing::Missing)) {
+            return Ok(Vec::new(self.alloc));
+        }
+        let mut file = File::open(self.rt, path_of(self.alloc, actor)?)?;
+        Ok(records_in(self.alloc, &bytes_of(self.alloc, &mut file)?)?.0)
     }
 
-    /// Appends a record to the file of an actor, by one write and one sync.
+    /// Appends a record to the file of an actor, by one write and one sync. File and folder are made where they are
+    /// missing.
     pub fn append(&mut self, actor: u16, bytes: &[u8]) -> io::Result<()> {
         let Ok(count) = u16::try_from(bytes.len()) else {
             return Err(io::Error::from(ErrorKind::InvalidInput));
         };
         frame(&mut self.framed, bytes, count)?;
-        if !self.files.contains_key(&actor) {
-            let file = open(self.rt, self.alloc, actor)?;
-            self.files.insert(actor, file)?;
+        self.claim(actor)?;
+        match self.files.get_mut(&actor) {
+            Some(Standing::Held(file)) => file.append(self.rt, self.alloc, &self.framed),
+            _ => Err(io::Error::from(ErrorKind::WouldBlock)),
         }
-        let Some(file) = self.files.get_mut(&actor) else {
-            return Err(io::Error::from(ErrorKind::NotFound));
+    }
+
+    /// Tries to hold the file of an actor, where it is there.
+    fn standing(&self, actor: u16) -> io::Result<Standing<R>> {
+        match self.held(actor, false) {
+            Ok(file) => Ok(Standing::Held(file)),
+            Err(error) if error.kind() == ErrorKind::NotFound => Ok(Standing::Missing),
+            Err(error) if error.kind() == ErrorKind::WouldBlock => Ok(Standing::Refused),
+            Err(error) => Err(error),
+        }
+    }
+
+    /// Holds the file of an actor, unless another process may have appended to it since it was read.
+    fn claim(&mut self, actor: u16) -> io::Result<()> {
+        let was_missing = match self.files.get(&actor) {
+            Some(Standing::Held(_) | Standing::Refused) => return Ok(()),
+            Some(Standing::Missing) => true,
+            None => false,
         };
-        let done = write_synced(file, &self.framed);
-        if done.is_err() {
-            self.files.remove(&actor);
+        make_folder(self.rt)?;
+        let file = self.held(actor, true)?;
+        if was_missing && !file.is_empty()? {
+            return Err(io::Error::from(ErrorKind::AlreadyExists));
         }
-        done
+        self.files.insert(actor, Standing::Held(file))?;
+        Ok(())
     }
-}
 
-/// Waits until the names in a folder are kept for good.
-fn sync_folder<R: Files>(rt: &R, folder: &str) -> io::Result<()> {
-    File::open(rt, folder)?.sync_all()
-}
-
-/// Makes the folder where it is missing.
-fn make_folder<R: Files>(rt: &R) -> io::Result<()> {
-    match fs::create_dir(rt, FOLDER) {
-        Ok(()) => sync_folder(rt, "."),
-        Err(error) if error.kind() == ErrorKind::AlreadyExists => Ok(()),
-        Err(error) => Err(error),
+    /// The file of an actor, open and locked. It is made where it is missing, if so wanted.
+    fn held(&self, actor: u16, makes: bool) -> io::Result<HeldFile<R>> {
+        let file = OpenOptions::new()
+            .read(true)
+            .append(true)
+            .create(makes)
+            .open(self.rt, path_of(self.alloc, actor)?)?;
+        self.rt.try_lock(&file)?;
+        Ok(HeldFile::new(file))
     }
-}
-
-/// The path of an actor's file.
-fn path_of(alloc: Global, actor: u16) -> io::Result<String> {
-    Ok(format!(in alloc; "{FOLDER}/{actor}")?)
-}
-
-/// All bytes of a file.
-fn bytes_of<F: Read>(alloc: Global, file: &mut F) -> io::Result<Vec<u8>> {
-    let mut bytes = Vec::new(alloc);
-    file.read_to_end(&mut bytes)?;
-    Ok(bytes)
-}
-
-/// Opens the file of an actor to append to it, and makes it where it is missing. What stands behind its
-/// records is cut off.
-fn open<R: Files>(rt: &R, alloc: Global, actor: u16) -> io::Result<R::File> {
-    make_folder(rt)?;
-    let mut file = OpenOptions::new()
-        .read(true)
-        .append(true)
-        .create(true)
-        .open(rt, path_of(alloc, actor)?)?;
-    sync_folder(rt, FOLDER)?;
-    let bytes = bytes_of(alloc, &mut file)?;
-    let (_, end) = records_in(alloc, &bytes)?;
-    if end < bytes.len() {
-        file.set_len(end as u64)?;
-        file.sync_data()?;
-    }
-    Ok(file)
-}
-
-/// Appends the bytes, and waits until they are kept for good.
-fn write_synced<F: Write + OpenFile>(file: &mut F, bytes: &[u8]) -> io::Result<()> {
-    file.write_all(bytes)?;
-    file.sync_data()
 }

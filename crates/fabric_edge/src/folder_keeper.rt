@@ -2,22 +2,22 @@ ghost use Rattle.std.specs.Prelude.{◌≡◌};
 
 use crate::failures::Failures;
 use crate::folder::Folder;
+use crate::lock_files::LockFiles;
 use edge_io::{EdgeRefusal, Keeper};
 use std::alloc::Global;
 use std::marker::Model;
-use std::rt::Files;
 
 /// Records in files: those of an actor in `kept/<actor>`, under the current folder. Per record the file holds
 /// its length in two bytes, big-endian, then the record. Folder and file are made at the first append where
 /// they are missing. What is no whole record at the end of a file is left out where the list is read, and cut
 /// off before the first append, since no append of it answered Ok.
 #[derive(Drop)]
-pub struct FolderKeeper<'a, R: Files> {
+pub struct FolderKeeper<'a, R: LockFiles> {
     folder: Folder<'a, R>,
     failures: Failures,
 }
 
-impl<'a, R: Files> Model for FolderKeeper<'a, R> {
+impl<'a, R: LockFiles> Model for FolderKeeper<'a, R> {
     ghost use Rattle.std.specs.Prelude.{ℕ};
 
     ghost Value = { ℕ };
@@ -25,7 +25,7 @@ impl<'a, R: Files> Model for FolderKeeper<'a, R> {
     ghost view = { λ a. a.failures };
 }
 
-impl<'a, R: Files> FolderKeeper<'a, R> {
+impl<'a, R: LockFiles> FolderKeeper<'a, R> {
     /// No file is open, and none has failed. Contracts see how often one failed.
     pub fn new(rt: &'a R, alloc: Global) -> Self
         ensures { result ≡ 0 }
@@ -37,7 +37,7 @@ impl<'a, R: Files> FolderKeeper<'a, R> {
     }
 }
 
-impl<R: Files> Keeper for FolderKeeper<'_, R> {
+impl<R: LockFiles> Keeper for FolderKeeper<'_, R> {
     ghost use Rattle.std.specs.Prelude.{None};
 
     ghost kept = { λ k actor. None };

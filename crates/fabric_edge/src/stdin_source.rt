@@ -1,8 +1,10 @@
-ghost use Rattle.std.specs.Prelude.{◌≡◌};
+ghost use Rattle.std.specs.Prelude.{◌≡◌, ◌≤◌, length, IfOk};
 
 use crate::failures::Failures;
+use crate::signals::{MOST_CALLS, is_cut_short};
 use edge_io::{Failed, Source};
-use std::io::Read;
+use std::io;
+use std::io::{ErrorKind, Read};
 use std::marker::Model;
 
 /// Standard input. Contracts see how often it failed.
@@ -31,6 +33,19 @@ impl<'a, R: Input> StdinSource<'a, R> {
     }
 }
 
+/// Takes some bytes of the reader.
+fn read_some<R: Read>(reader: &mut R, into: &mut [u8]) -> io::Result<usize>
+    ensures { IfOk result (λ n. n ≤ length into.old) }
+{
+    for _ in 0..MOST_CALLS {
+        match reader.read(into) {
+            Err(error) if is_cut_short(&error) => {}
+            read => return read,
+        }
+    }
+    Err(io::Error::from(ErrorKind::Interrupted))
+}
+
 impl<R: Input> Source for StdinSource<'_, R> {
     ghost use Rattle.std.specs.Prelude.{None};
 
@@ -41,7 +56,7 @@ impl<R: Input> Source for StdinSource<'_, R> {
     ghost plan = { λ s. None };
 
     fn read(&mut self, into: &mut [u8]) -> Result<usize, Failed> {
-        match self.rt.reader().read(into) {
+        match read_some(&mut self.rt.reader(), into) {
             Ok(count) => Ok(count),
             Err(_) => {
                 self.failures.add();

@@ -1,9 +1,10 @@
-ghost use Rattle.std.specs.Prelude.{◌≡◌};
+ghost use Rattle.std.specs.Prelude.{◌≡◌, ◌≤◌, length, IfOk};
 
 use crate::failures::Failures;
+use crate::signals::{MOST_CALLS, is_cut_short};
 use edge_io::{EdgeRefusal, Sink};
 use std::io;
-use std::io::Write;
+use std::io::{ErrorKind, Write};
 use std::marker::Model;
 
 /// Standard output. It takes no memory. Contracts see how often it failed.
@@ -32,6 +33,19 @@ impl<'a, R: Print> StdoutSink<'a, R> {
     }
 }
 
+/// Gives the writer a front of the bytes, and says how long a front.
+fn write_some<W: Write>(writer: &mut W, bytes: &[u8]) -> io::Result<usize>
+    ensures { IfOk result (λ n. n ≤ length bytes.now) }
+{
+    for _ in 0..MOST_CALLS {
+        match writer.write(bytes) {
+            Err(error) if is_cut_short(&error) => {}
+            written => return written,
+        }
+    }
+    Err(io::Error::from(ErrorKind::Interrupted))
+}
+
 impl<R: Print> Sink for StdoutSink<'_, R> {
     ghost use Rattle.std.specs.Prelude.{None};
 
@@ -42,7 +56,7 @@ impl<R: Print> Sink for StdoutSink<'_, R> {
     ghost plan = { λ s. None };
 
     fn write(&mut self, piece: &[u8]) -> Result<usize, EdgeRefusal> {
-        match io::writer(self.rt).write(piece) {
+        match write_some(&mut io::writer(self.rt), piece) {
             Ok(count) if count > 0 || piece.is_empty() => Ok(count),
             _ => {
                 self.failures.add();

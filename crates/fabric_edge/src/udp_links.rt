@@ -1,14 +1,16 @@
-ghost use Rattle.std.specs.Prelude.{◌≡◌, ◌==◌, ◌≤◌, [], length, map, position, IfOk, IfSome};
+ghost use Rattle.std.specs.Prelude.{◌≡◌, ◌==◌, ◌<◌, ◌≤◌, [], length, map, position, IfOk, IfSome};
 ghost use Rattle.edge_io.specs.Arrivals.{IsListening};
 
 use crate::failures::Failures;
+use crate::outage::Outage;
 use crate::pace::{MOST_RESTS, Pace};
+use crate::peers::Peers;
 use edge_io::{EdgeRefusal, Endpoint, Failed, Links, SocketAddress};
 use std::alloc::{AllocError, Global};
 use std::io;
 use std::io::ErrorKind;
 use std::marker::Model;
-use std::net::{Net, UdpSocket};
+use std::net::{Net, SocketAddr, UdpSocket};
 use std::rt::Clock;
 
 /// An endpoint, and the socket that is bound to it.
@@ -16,6 +18,25 @@ use std::rt::Clock;
 struct OpenSocket {
     endpoint: Endpoint,
     socket: UdpSocket,
+    outage: Outage,
+}
+
+impl OpenSocket {
+    /// Says on standard error that a receive failed, where no other did since the last datagram came.
+    fn note<R: Eprint>(&mut self, rt: &R, found: &io::Result<Option<usize>>)
+        ensures { self.new.endpoint ≡ self.old.endpoint }
+    {
+        match found {
+            Ok(None) => {}
+            Ok(Some(_)) => self.outage.ends(),
+            Err(error) => {
+                if self.outage.begins() {
+                    let at = self.endpoint.at.as_str();
+                    let _ = eprintln!(rt; "fabric: receiving at {at} fails: {error}");
+                }
+            }
+        }
+    }
 }
 
 /// Datagrams over UDP. An endpoint is a bound socket.
@@ -27,16 +48,19 @@ struct OpenSocket {
 ///
 /// An empty datagram is one too. Of one that is longer than the buffer only the front is kept, which is
 /// longer than any frame, so it is not taken for one.
+///
+/// A call that fails is said on standard error, with the address. While the same goes on to fail, it is not said again.
 #[derive(Drop)]
-pub struct UdpLinks<'a, R: Net + Clock> {
+pub struct UdpLinks<'a, R: Net + Clock + Eprint> {
     rt: &'a R,
     alloc: Global,
     sockets: Vec<OpenSocket>,
+    peers: Peers,
     pace: Pace<'a, R>,
     failures: Failures,
 }
 
-impl<'a, R: Net + Clock> Model for UdpLinks<'a, R> {
+impl<'a, R: Net + Clock + Eprint> Model for UdpLinks<'a, R> {
     ghost use Rattle.std.specs.Prelude.{map};
     ghost use Rattle.fabric_edge.specs.Told.{ToldByLinks};
 
@@ -45,7 +69,7 @@ impl<'a, R: Net + Clock> Model for UdpLinks<'a, R> {
     ghost view = { λ a. record { opened = map (λ o. o.endpoint) a.sockets.items; faults = a.failures } };
 }
 
-impl<'a, R: Net + Clock> UdpLinks<'a, R> {
+impl<'a, R: Net + Clock + Eprint> UdpLinks<'a, R> {
     /// No endpoint is open.
     pub fn new(rt: &'a R, alloc: Global) -> Self
         ensures { result ≡ record { opened = []; faults = 0 } }
@@ -54,15 +78,19 @@ impl<'a, R: Net + Clock> UdpLinks<'a, R> {
             rt,
             alloc,
             sockets: Vec::new(alloc),
+            peers: Peers::none(alloc),
             pace: Pace::new(rt),
             failures: Failures::none(),
         }
     }
 }
 
-/// A socket that is bound to the address. It does not wait.
+/// A socket that is bound to the address, an IP address and a port. It does not wait.
 fn bind<R: Net>(rt: &R, at: &str) -> io::Result<UdpSocket> {
-    let socket = UdpSocket::bind(rt, at)?;
+    let Ok(address) = at.parse::<SocketAddr>() else {
+        return Err(io::Error::from(ErrorKind::InvalidInput));
+    };
+    let socket = UdpSocket::bind(rt, address)?;
     socket.set_nonblocking(true)?;
     Ok(socket)
 }
@@ -74,11 +102,12 @@ fn place_of(sockets: &[OpenSocket], actor: u16) -> Option<usize>
     sockets.iter().position(|open| open.endpoint.actor == actor)
 }
 
-/// The socket of an actor that listens.
-fn socket_of(sockets: &[OpenSocket], actor: u16) -> &UdpSocket
+/// Where the socket of an actor that listens stands.
+fn listening_at(sockets: &[OpenSocket], actor: u16) -> usize
     requires { IsListening actor (map (λ o. o.endpoint) sockets.now) }
+    ensures { result < length sockets.now }
 {
-    &sockets[place_of(sockets, actor).unwrap()].socket
+    place_of(sockets, actor).unwrap()
 }
 
 /// The next datagram of the socket; None where none is there.
@@ -128,10 +157,14 @@ fn open_at(alloc: Global, actor: u16, at: &str, socket: UdpSocket) -> Result<Ope
 {
     let at = SocketAddress::new(String::from_str(alloc, at)?);
     let endpoint = Endpoint { actor, at };
-    Ok(OpenSocket { endpoint, socket })
+    Ok(OpenSocket {
+        endpoint,
+        socket,
+        outage: Outage::none(),
+    })
 }
 
-impl<R: Net + Clock> Links for UdpLinks<'_, R> {
+impl<R: Net + Clock + Eprint> Links for UdpLinks<'_, R> {
     ghost use Rattle.std.specs.Prelude.{None};
 
     ghost opened = { λ l. l.opened };
@@ -154,9 +187,17 @@ impl<R: Net + Clock> Links for UdpLinks<'_, R> {
     }
 
     fn send(&mut self, from: u16, to: &str, bytes: &[u8]) -> Result<(), EdgeRefusal> {
-        match socket_of(&self.sockets, from).send_to(bytes, to) {
-            Ok(count) if count == bytes.len() => Ok(()),
-            _ => {
+        let peer = self.peers.at(to)?;
+        let open = &self.sockets[listening_at(&self.sockets, from)];
+        match peer.send(&open.socket, bytes) {
+            Ok(()) => {
+                peer.outage.ends();
+                Ok(())
+            }
+            Err(error) => {
+                if peer.outage.begins() {
+                    let _ = eprintln!(self.rt; "fabric: sending to {to} fails: {error}");
+                }
                 self.failures.add();
                 Err(EdgeRefusal::Failed)
             }
@@ -164,12 +205,14 @@ impl<R: Net + Clock> Links for UdpLinks<'_, R> {
     }
 
     fn receive(&mut self, actor: u16, into: &mut [u8; 1500]) -> Result<Option<usize>, Failed> {
-        let socket = socket_of(&self.sockets, actor);
-        let found = if place_of(&self.sockets, actor) == Some(0) {
+        let place = listening_at(&self.sockets, actor);
+        let socket = &self.sockets[place].socket;
+        let found = if place == 0 {
             awaited(&mut self.pace, socket, into)
         } else {
             next_datagram(socket, into)
         };
+        self.sockets[place].note(self.rt, &found);
         match found {
             Ok(answer) => Ok(answer),
             Err(_) => {
