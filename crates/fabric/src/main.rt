@@ -1,12 +1,13 @@
 //! The program: it makes the real devices, makes the top call and ends with its status.
 #![tactic(auto)]
 
-use fabric_edge::{FolderKeeper, MonoClock, StdinSource, StdoutSink, UdpLinks};
+use fabric_edge::{FolderKeeper, MonoClock, StdinSource, StdoutSink, UdpLinks, hold_streams};
 use fabric_top::fabric_main;
 use std::process::ExitCode;
 use std::{env, io};
 
 fn main(rt: HostRuntime) -> io::Result<ExitCode> {
+    let _streams = hold_streams(&rt)?;
     let mut words = Vec::new(rt.alloc());
     match env::args(&rt) {
         Ok(args) => {

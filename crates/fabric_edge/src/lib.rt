@@ -22,6 +22,7 @@ mod record_file;
 mod signals;
 mod stdin_source;
 mod stdout_sink;
+mod streams;
 mod ticks;
 mod udp_links;
 
@@ -31,4 +32,5 @@ pub use lock_files::LockFiles;
 pub use mono_clock::MonoClock;
 pub use stdin_source::StdinSource;
 pub use stdout_sink::StdoutSink;
+pub use streams::hold_streams;
 pub use udp_links::UdpLinks;

@@ -1,39 +1,32 @@
 // Stand-ins for the machine, whose calls fail where a test wants it.
-use std::alloc::{Allocator, Global};
+use fabric_edge::BootClock;
+use std::alloc::Allocator;
 use std::cell::Cell;
 use std::fmt::Display;
-use std::fs::{File, Metadata, OpenFile, OpenOptions};
-use std::io::{BufRead, ErrorKind, Input, Lines, Read, Seek, SeekFrom, Write};
-use std::rt::Files;
+use std::io;
+use std::io::{BufRead, ErrorKind, Input, Lines, Read};
 use std::time::Duration;
-use std::{fs, io, rt};
 
-/// A machine's clock that gives these milliseconds one after another, and fails where there is none.
+/// A machine's clock that gives these times one after another, and fails where there is none.
 #[derive(Drop)]
 pub struct Machine {
-    pub gives: [Option<u64>; 6],
+    pub gives: [Option<Duration>; 6],
     pub given: Cell<usize>,
 }
 
-impl rt::Clock for Machine {
-    fn monotonic(&self) -> io::Result<Duration> {
+impl BootClock for Machine {
+    fn since_boot(&self) -> Option<Duration> {
         let place = self.given.get();
         self.given.set(place.saturating_add(1));
-        match self.gives.get(place).copied().flatten() {
-            Some(milliseconds) => Ok(Duration::from_millis(milliseconds)),
-            None => Err(io::Error::from(ErrorKind::Other)),
-        }
-    }
-
-    fn since_1970(&self) -> io::Result<Duration> {
-        self.monotonic()
+        self.gives.get(place).copied().flatten()
     }
 }
 
-/// A terminal that takes so many bytes of a piece, or fails.
+/// A terminal that takes so many bytes of a piece, or fails. Signals cut so many of its first calls short.
 #[derive(Drop)]
 pub struct Terminal {
     pub takes: Option<usize>,
+    pub signals: Cell<u32>,
 }
 
 impl Print for Terminal {
@@ -50,6 +43,10 @@ impl Print for Terminal {
     }
 
     fn write_some(&self, bytes: &[u8]) -> io::Result<usize> {
+        if let Some(left) = self.signals.get().checked_sub(1) {
+            self.signals.set(left);
+            return Err(io::Error::from(ErrorKind::Interrupted));
+        }
         match self.takes {
             Some(count) => Ok(count.min(bytes.len())),
             None => Err(io::Error::from(ErrorKind::BrokenPipe)),
@@ -57,14 +54,19 @@ impl Print for Terminal {
     }
 }
 
-/// A keyboard that gives one byte at each read, or fails.
+/// A keyboard that gives one byte at each read, or fails. Signals cut so many of a reader's first reads short.
 #[derive(Clone, Copy)]
 pub struct Keyboard {
     pub key: Option<u8>,
+    pub signals: u32,
 }
 
 impl Read for Keyboard {
     fn read(&mut self, buf: &mut [u8]) -> io::Result<usize> {
+        if let Some(left) = self.signals.checked_sub(1) {
+            self.signals = left;
+            return Err(io::Error::from(ErrorKind::Interrupted));
+        }
         let Some(key) = self.key else {
             return Err(io::Error::from(ErrorKind::Other));
         };
@@ -97,132 +99,5 @@ impl Input for Keyboard {
 
     fn reader(&self) -> Keyboard {
         *self
-    }
-}
-
-/// How a file breaks at its second record: in the write, after some of its bytes, or in the sync.
-#[derive(Clone, Copy, Debug)]
-pub enum Break {
-    Write(usize),
-    Sync,
-}
-
-/// The machine's files, of which the next that is opened to append breaks.
-#[derive(Drop)]
-pub struct Disk<'a> {
-    pub rt: &'a HostRuntime,
-    pub breaks: Cell<Option<Break>>,
-}
-
-#[derive(Drop)]
-pub struct DiskFile {
-    file: File,
-    breaks: Option<Break>,
-    records: usize,
-}
-
-impl Read for DiskFile {
-    fn read(&mut self, buf: &mut [u8]) -> io::Result<usize> {
-        self.file.read(buf)
-    }
-}
-
-impl Write for DiskFile {
-    fn write(&mut self, buf: &[u8]) -> io::Result<usize> {
-        self.records = self.records.saturating_add(1);
-        if self.records == 2
-            && let Some(Break::Write(count)) = self.breaks
-        {
-            self.file.write_all(&buf[..count.min(buf.len())])?;
-            return Err(io::Error::from(ErrorKind::Other));
-        }
-        self.file.write(buf)
-    }
-
-    fn flush(&mut self) -> io::Result<()> {
-        self.file.flush()
-    }
-}
-
-impl Seek for DiskFile {
-    fn seek(&mut self, to: SeekFrom) -> io::Result<u64> {
-        self.file.seek(to)
-    }
-}
-
-impl OpenFile for DiskFile {
-    fn metadata(&self) -> io::Result<Metadata> {
-        self.file.metadata()
-    }
-
-    fn set_len(&self, size: u64) -> io::Result<()> {
-        self.file.set_len(size)
-    }
-
-    fn sync_all(&self) -> io::Result<()> {
-        self.file.sync_all()
-    }
-
-    fn sync_data(&self) -> io::Result<()> {
-        if self.records == 2 && matches!(self.breaks, Some(Break::Sync)) {
-            return Err(io::Error::from(ErrorKind::Other));
-        }
-        self.file.sync_data()
-    }
-}
-
-impl Files for Disk<'_> {
-    type File = DiskFile;
-
-    type Dir = <HostRuntime as Files>::Dir;
-
-    fn open_file(&self, how: &OpenOptions, path: &str) -> io::Result<DiskFile> {
-        let file = self.rt.open_file(how, path)?;
-        let breaks = if how.asks_append() {
-            self.breaks.take()
-        } else {
-            None
-        };
-        Ok(DiskFile {
-            file,
-            breaks,
-            records: 0,
-        })
-    }
-
-    fn open_dir(&self, path: &str) -> io::Result<Self::Dir> {
-        self.rt.open_dir(path)
-    }
-
-    fn metadata(&self, path: &str) -> io::Result<Metadata> {
-        fs::metadata(self.rt, path)
-    }
-
-    fn symlink_metadata(&self, path: &str) -> io::Result<Metadata> {
-        fs::symlink_metadata(self.rt, path)
-    }
-
-    fn copy(&self, from: &str, to: &str) -> io::Result<u64> {
-        fs::copy(self.rt, from, to)
-    }
-
-    fn rename(&self, from: &str, to: &str) -> io::Result<()> {
-        fs::rename(self.rt, from, to)
-    }
-
-    fn remove_file(&self, path: &str) -> io::Result<()> {
-        fs::remove_file(self.rt, path)
-    }
-
-    fn create_dir(&self, path: &str) -> io::Result<()> {
-        fs::create_dir(self.rt, path)
-    }
-
-    fn remove_dir(&self, path: &str) -> io::Result<()> {
-        fs::remove_dir(self.rt, path)
-    }
-
-    fn remove_dir_all<B: Allocator>(&self, alloc: B, path: &str) -> io::Result<()> {
-        self.rt.remove_dir_all(alloc, path)
     }
 }

@@ -1,7 +1,8 @@
-use crate::fakes::{Break, Disk};
+use crate::disks::{Break, Disk};
+use crate::notes::Notes;
 use crate::records::kept_are;
 use edge_io::{EdgeRefusal, Keeper};
-use fabric_edge::FolderKeeper;
+use fabric_edge::{FolderKeeper, LockFiles};
 use std::alloc::Global;
 use std::cell::Cell;
 use std::fs::OpenOptions;
@@ -19,7 +20,7 @@ fn folder(rt: &HostRuntime) -> Result<PathBuf, Fail> {
 }
 
 /// Moves into the folder of this process, which is new.
-fn enter_folder(rt: &HostRuntime) -> Result<(), Fail> {
+pub(crate) fn enter_folder(rt: &HostRuntime) -> Result<(), Fail> {
     let folder = folder(rt)?;
     let _ = fs::remove_dir_all(rt, &folder);
     fs::create_dir_all(rt, &folder)?;
@@ -27,13 +28,13 @@ fn enter_folder(rt: &HostRuntime) -> Result<(), Fail> {
     Ok(())
 }
 
-fn remove_folder(rt: &HostRuntime) -> Result<(), Fail> {
+pub(crate) fn remove_folder(rt: &HostRuntime) -> Result<(), Fail> {
     fs::remove_dir_all(rt, folder(rt)?)?;
     Ok(())
 }
 
 /// A keeper that is new finds these records of an actor, each with a semicolon behind it.
-fn records_are(rt: &(impl Files + Abort), alloc: Global, actor: u16, want: &[u8]) {
+pub(crate) fn records_are(rt: &(impl LockFiles + Abort), alloc: Global, actor: u16, want: &[u8]) {
     kept_are(
         rt,
         alloc,
@@ -44,7 +45,7 @@ fn records_are(rt: &(impl Files + Abort), alloc: Global, actor: u16, want: &[u8]
 }
 
 /// A keeper that is new keeps these records of an actor.
-fn keep(rt: &(impl Files + Abort), alloc: Global, actor: u16, records: &[&[u8]]) {
+pub(crate) fn keep(rt: &(impl LockFiles + Abort), alloc: Global, actor: u16, records: &[&[u8]]) {
     let mut keeper = FolderKeeper::new(rt, alloc);
     for record in records {
         assert_eq!(rt; keeper.append_synced(actor, record), Ok(()));
@@ -52,13 +53,13 @@ fn keep(rt: &(impl Files + Abort), alloc: Global, actor: u16, records: &[&[u8]])
 }
 
 /// Writes these bytes at the end of a file.
-fn add(rt: &(impl Files + Abort), path: &str, bytes: &[u8]) {
+pub(crate) fn add(rt: &(impl Files + Abort), path: &str, bytes: &[u8]) {
     let file = OpenOptions::new().append(true).open(rt, path);
     let mut file = file.expect(rt, "an open file");
     file.write_all(bytes).expect(rt, "a write");
 }
 
-fn file_is(rt: &(impl Files + Abort + Alloc), path: &str, want: &[u8]) {
+pub(crate) fn file_is(rt: &(impl Files + Abort + Alloc), path: &str, want: &[u8]) {
     let found = fs::read(rt, path).expect(rt, "a file");
     assert_eq!(rt; found.as_slice(), want);
 }
@@ -112,7 +113,7 @@ fn a_keeper_goes_on_behind_what_stands_in_the_file(rt: HostRuntime) -> Result<()
 }
 
 /// Two records and this torn tail are in the file: a keeper cuts the tail, and its record stands behind the two.
-fn is_cut(rt: &(impl Files + Abort + Alloc), alloc: Global, tail: &[u8]) {
+fn is_cut(rt: &(impl LockFiles + Abort + Alloc), alloc: Global, tail: &[u8]) {
     fs::write(rt, "kept/9", b"\0\x03one\0\0").expect(rt, "a write");
     add(rt, "kept/9", tail);
     keep(rt, alloc, 9, &[b"three"]);
@@ -160,6 +161,14 @@ fn a_folder_that_cannot_be_made_fails_each_call(rt: HostRuntime) -> Result<(), F
     remove_folder(&rt)
 }
 
+#[test]
+fn a_file_that_cannot_be_read_is_not_taken_for_none(rt: HostRuntime) -> Result<(), Fail> {
+    enter_folder(&rt)?;
+    fs::create_dir_all(&rt, "kept/3")?;
+    each_call_fails(&rt, &mut FolderKeeper::new(&rt, rt.alloc()));
+    remove_folder(&rt)
+}
+
 /// Of three records that are appended the second fails alone.
 fn the_second_fails(rt: &impl Abort, alloc: Global, disk: &Disk<'_>) {
     let mut keeper = FolderKeeper::new(disk, alloc);
@@ -184,8 +193,10 @@ fn a_file_that_breaks_keeps_whole_records(rt: HostRuntime) -> Result<(), Fail> {
         (Break::Write(5), with),
         (Break::Sync, with),
     ] {
+        let notes = Notes::new(rt.alloc());
         let disk = Disk {
             rt: &rt,
+            notes: &notes,
             breaks: Cell::new(Some(breaks)),
         };
         the_second_fails(&rt, rt.alloc(), &disk);

@@ -10,6 +10,8 @@
 #[cfg(test)]
 mod clocks;
 #[cfg(test)]
+mod disks;
+#[cfg(test)]
 mod fakes;
 #[cfg(test)]
 mod folders;
@@ -18,7 +20,17 @@ mod in_memory;
 #[cfg(test)]
 mod lanes;
 #[cfg(test)]
+mod locks;
+#[cfg(test)]
+mod loopback;
+#[cfg(test)]
 mod machines;
+#[cfg(test)]
+mod notes;
+#[cfg(test)]
+mod outages;
+#[cfg(test)]
+mod paces;
 #[cfg(test)]
 mod phases;
 #[cfg(test)]

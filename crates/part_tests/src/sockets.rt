@@ -9,26 +9,33 @@ use std::net::{Net, UdpSocket};
 use std::process::Abort;
 use std::rt::Clock;
 use std::test::Fail;
-use std::time::{Duration, Instant};
+use std::time::Duration;
 
-const FRAME: &[u8] = b"\x53\x01\0\x01\0\0\0\x01\0\x02\0\0\0\x01\0\0\0\0\0";
+pub(crate) const FRAME: &[u8] = b"\x53\x01\0\x01\0\0\0\x01\0\x02\0\0\0\x01\0\0\0\0\0";
 
-/// Links with an endpoint of this actor at this address.
-fn listening<'a, R: Net + Clock + Abort>(
-    rt: &'a R,
-    alloc: Global,
+/// An address of the machine's own, at a port that is free.
+pub(crate) fn free_address(rt: &HostRuntime) -> Result<String, Fail> {
+    let socket = UdpSocket::bind(rt, "127.0.0.1:0")?;
+    let address = socket.local_addr()?;
+    Ok(format!(in rt.alloc(); "{address}")?)
+}
+
+/// Links over the machine with an endpoint of this actor at this address.
+pub(crate) fn listening<'a, R: Net + Clock + Eprint>(
+    rt: &(impl Abort + Alloc<A = Global>),
+    machine: &'a R,
     actor: u16,
     at: &str,
 ) -> UdpLinks<'a, R>
     ensures { IsListening actor result.opened }
 {
-    let mut links = UdpLinks::new(rt, alloc);
+    let mut links = UdpLinks::new(machine, rt.alloc());
     assert_eq!(rt; links.listen(actor, at), Ok(()));
     links
 }
 
 /// What the first of these calls of `receive` gives that finds something.
-fn first_of<R: Net + Clock>(
+pub(crate) fn first_of<R: Net + Clock + Eprint>(
     calls: u32,
     links: &mut UdpLinks<'_, R>,
     actor: u16,
@@ -47,14 +54,14 @@ fn first_of<R: Net + Clock>(
 }
 
 /// A socket that is not of the links. It waits for 5 seconds.
-fn other_socket(rt: &HostRuntime, at: &str) -> Result<UdpSocket, Fail> {
+pub(crate) fn other_socket(rt: &HostRuntime, at: &str) -> Result<UdpSocket, Fail> {
     let socket = UdpSocket::bind(rt, at)?;
     socket.set_read_timeout(Some(Duration::from_secs(5)))?;
     Ok(socket)
 }
 
 /// The frame comes to actor 1.
-fn frame_comes<R: Net + Clock>(rt: &impl Abort, links: &mut UdpLinks<'_, R>)
+fn frame_comes<R: Net + Clock + Eprint>(rt: &impl Abort, links: &mut UdpLinks<'_, R>)
     requires { IsListening 1 links.old.opened }
     ensures { links.new.opened ≡ links.old.opened }
 {
@@ -64,7 +71,7 @@ fn frame_comes<R: Net + Clock>(rt: &impl Abort, links: &mut UdpLinks<'_, R>)
 }
 
 /// The frame comes to the socket.
-fn frame_came(rt: &impl Abort, socket: &UdpSocket) -> Result<(), Fail> {
+pub(crate) fn frame_came(rt: &impl Abort, socket: &UdpSocket) -> Result<(), Fail> {
     let mut buffer = [0; 1500];
     assert_eq!(rt; socket.recv(&mut buffer)?, 19);
     assert_eq!(rt; &buffer[..19], FRAME);
@@ -73,17 +80,17 @@ fn frame_came(rt: &impl Abort, socket: &UdpSocket) -> Result<(), Fail> {
 
 #[test]
 fn datagrams_go_both_ways_over_udp(rt: HostRuntime) -> Result<(), Fail> {
-    let (here, there) = ("127.0.0.1:47611", "127.0.0.1:47612");
-    let mut links = listening(&rt, rt.alloc(), 1, here);
-    let socket = other_socket(&rt, there)?;
-    socket.send_to(FRAME, here)?;
+    let (here, there) = (free_address(&rt)?, free_address(&rt)?);
+    let mut links = listening(&rt, &rt, 1, &here);
+    let socket = other_socket(&rt, &there)?;
+    socket.send_to(FRAME, here.as_str())?;
     frame_comes(&rt, &mut links);
-    assert_eq!(rt; links.send(1, there, FRAME), Ok(()));
+    assert_eq!(rt; links.send(1, &there, FRAME), Ok(()));
     frame_came(&rt, &socket)
 }
 
 /// Links with an endpoint of actor 2, at an address that actor 3 is refused.
-fn alone_listening<'a, R: Net + Clock + Abort>(
+fn alone_listening<'a, R: Net + Clock + Eprint + Abort>(
     rt: &'a R,
     alloc: Global,
     at: &str,
@@ -108,7 +115,7 @@ fn came(count: usize) -> Answers {
 }
 
 /// What is answered where actor 2 sends itself these bytes and then two, and receives twice.
-fn two_sent<R: Net + Clock>(links: &mut UdpLinks<'_, R>, at: &str, bytes: &[u8]) -> Answers
+fn two_sent<R: Net + Clock + Eprint>(links: &mut UdpLinks<'_, R>, at: &str, bytes: &[u8]) -> Answers
     requires { IsListening 2 links.old.opened }
     ensures { links.new.opened ≡ links.old.opened }
 {
@@ -120,8 +127,9 @@ fn two_sent<R: Net + Clock>(links: &mut UdpLinks<'_, R>, at: &str, bytes: &[u8])
 }
 
 #[test]
-fn datagrams_of_every_size_come_in_their_order(rt: HostRuntime) {
-    let here = "127.0.0.1:47613";
+fn datagrams_of_every_size_come_in_their_order(rt: HostRuntime) -> Result<(), Fail> {
+    let address = free_address(&rt)?;
+    let here = address.as_str();
     let mut links = alone_listening(&rt, rt.alloc(), here);
     let bytes = [7; 2000];
     let rows = [
@@ -134,64 +142,31 @@ fn datagrams_of_every_size_come_in_their_order(rt: HostRuntime) {
     ];
     agree(&rt, &rows);
     assert_eq!(rt; links.receive(2, &mut [0; 1500]), Ok(None));
+    Ok(())
 }
 
 #[test]
 fn what_is_too_long_or_goes_nowhere_is_not_sent(rt: HostRuntime) -> Result<(), Fail> {
-    let here = "127.0.0.1:47616";
-    let mut links = listening(&rt, rt.alloc(), 2, here);
+    let here = free_address(&rt)?;
+    let mut links = listening(&rt, &rt, 2, &here);
     let bytes = vec![in rt.alloc(); 7; 65_508]?;
-    assert_eq!(rt; links.send(2, here, &bytes), Err(EdgeRefusal::Failed));
+    assert_eq!(rt; links.send(2, &here, &bytes), Err(EdgeRefusal::Failed));
     assert_eq!(rt; links.send(2, "nowhere", b"lost"), Err(EdgeRefusal::Failed));
     Ok(())
 }
 
-const FIRST: &str = "127.0.0.1:47614";
-
-/// Links with endpoints of actors 4 and 5.
-fn both_listening<R: Net + Clock + Abort>(rt: &R, alloc: Global) -> UdpLinks<'_, R>
-    ensures first { IsListening 4 result.opened }
-    ensures other { IsListening 5 result.opened }
-{
-    let mut links = UdpLinks::new(rt, alloc);
-    assert_eq!(rt; links.listen(4, FIRST), Ok(()));
-    assert_eq!(rt; links.listen(5, "127.0.0.1:47615"), Ok(()));
-    links
-}
-
-/// What is answered in a turn of actors 4 and 5: where 5 sends 4 a datagram, 4 receives twice, and 5 up to 20 times.
-fn turn<R: Net + Clock>(
-    links: &mut UdpLinks<'_, R>,
-) -> (Result<(), EdgeRefusal>, [Result<Option<usize>, Failed>; 3])
-    requires first { IsListening 4 links.old.opened }
-    requires other { IsListening 5 links.old.opened }
-    ensures { links.new.opened ≡ links.old.opened }
-{
-    let mut buffer = [0; 1500];
-    let sent = links.send(5, FIRST, b"ab");
-    let came = links.receive(4, &mut buffer);
-    let again = links.receive(4, &mut buffer);
-    (sent, [came, again, first_of(20, links, 5, &mut buffer)])
-}
-
-/// In each of eight turns actor 4 finds what was sent to it and then nothing, and 5 nothing.
-fn turns<R: Net + Clock>(rt: &impl Abort, links: &mut UdpLinks<'_, R>)
-    requires first { IsListening 4 links.old.opened }
-    requires other { IsListening 5 links.old.opened }
-{
-    let want = (Ok(()), [Ok(Some(2)), Ok(None), Ok(None)]);
-    for _ in 0..8 {
-        assert_eq!(rt; turn(links), want);
-    }
-}
-
+// A name would be looked up inside a turn, which may take longer than a lease.
 #[test]
-fn a_turn_waits_once_and_takes_what_comes(rt: HostRuntime) -> Result<(), Fail> {
-    let mut links = both_listening(&rt, rt.alloc());
-    let start = Instant::now(&rt)?;
-    turns(&rt, &mut links);
-    let passed = start.elapsed(&rt)?;
-    let (least, most) = (Duration::from_millis(40), Duration::from_millis(400));
-    assert!(rt; least <= passed && passed < most, "{passed:?}");
+fn a_hosts_name_is_no_address(rt: HostRuntime) -> Result<(), Fail> {
+    let (here, there) = (free_address(&rt)?, free_address(&rt)?);
+    let socket = other_socket(&rt, &there)?;
+    let name = format!(in rt.alloc(); "localhost:{}", socket.local_addr()?.port())?;
+    let mut links = listening(&rt, &rt, 1, &here);
+    assert_eq!(rt; links.send(1, &name, b"lost"), Err(EdgeRefusal::Failed));
+    assert_eq!(rt; links.send(1, &there, FRAME), Ok(()));
+    frame_came(&rt, &socket)?;
+    drop(socket);
+    assert_eq!(rt; links.listen(2, &name), Err(EdgeRefusal::Failed));
+    assert_eq!(rt; links.listen(2, &there), Ok(()));
     Ok(())
 }
