@@ -1,4 +1,5 @@
 pub mod Arbiters
 pub mod Laws
 pub mod Lives
+pub mod Memory
 pub mod RegisterLaws

@@ -20,7 +20,7 @@ pub enum Answer {
 /// Why an arbitrator can not answer. A refused call changes nothing.
 #[derive(Clone, Copy, Debug, PartialEq, Eq)]
 pub enum ArbiterError {
-    /// There was not enough memory. It may come in place of any other answer.
+    /// Memory is short. It comes only where something would be kept.
     OutOfMemory,
     /// The 1,000,001st entry would be made: the arbitrator can keep no more.
     TableFull,

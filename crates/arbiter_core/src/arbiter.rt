@@ -4,6 +4,7 @@ ghost use Rattle.ring_rules.specs.Arbiters.{first_accuser, no_table, takes_frame
 ghost use Rattle.keep_log.specs.Places.{is_new, is_once};
 ghost use Rattle.arbiter_tables.specs.Registers.{are_placed, is_placed};
 ghost use Rattle.arbiter_core.specs.Arbiters.{Answers, Gives, entries, frame_call, fresh, most_entries, remember_call, restore_call};
+ghost use Rattle.arbiter_core.specs.Memory.{KeepsIfShort};
 
 mod keeps;
 mod questions;
@@ -131,7 +132,8 @@ impl Arbiter {
     /// victim that nobody has accused here and every other message change nothing and get no answer. `TableFull` comes
     /// exactly where the 1,000,001st entry would be made.
     pub fn on_frame(&mut self, message: &Message) -> Result<Answer, ArbiterError>
-        ensures { Answers (frame_call message.now self.old) self.old self.new result }
+        ensures answers { Answers (frame_call message.now self.old) self.old self.new result }
+        ensures memory { KeepsIfShort (frame_call message.now self.old) result }
     {
         if !self.takes(message) {
             return Ok(Answer::Nothing);

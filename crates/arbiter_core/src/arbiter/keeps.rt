@@ -5,6 +5,7 @@ ghost use Rattle.fabric_terms.specs.declared.record.Record.TheVariants.{AccusedB
 ghost use Rattle.ring_rules.specs.Arbiters.{first_accuser, first_claimer};
 ghost use Rattle.unit_rules.specs.Registers.{register_of, vote_in};
 ghost use Rattle.arbiter_core.specs.Arbiters.{Answers, keep_call};
+ghost use Rattle.arbiter_core.specs.Memory.{FitsIfShort};
 
 use crate::answer::ArbiterError;
 use crate::arbiter::Arbiter;
@@ -16,7 +17,8 @@ impl Arbiter {
     #[tactic(auto, using(crate::proofs::Fulls::as_full))]
     pub(super) fn keep_accuser(&mut self, victim: Who, first: Who) -> Result<Record, ArbiterError>
         requires { first_accuser victim self.old.table.accusations ≡ None }
-        ensures { Answers (keep_call (AccusedBy victim first ∷ []) (AccusedBy victim first) self.old) self.old self.new result }
+        ensures answers { Answers (keep_call (AccusedBy victim first ∷ []) (AccusedBy victim first) self.old) self.old self.new result }
+        ensures memory { FitsIfShort (AccusedBy victim first ∷ []) self.old result }
     {
         if self.is_full() {
             return Err(ArbiterError::TableFull);
@@ -34,7 +36,8 @@ impl Arbiter {
         claimer: Who,
     ) -> Result<Record, ArbiterError>
         requires { first_claimer victim round self.old.table.claims ≡ None }
-        ensures { Answers (keep_call (ClaimedBy victim round claimer ∷ []) (ClaimedBy victim round claimer) self.old) self.old self.new result }
+        ensures answers { Answers (keep_call (ClaimedBy victim round claimer ∷ []) (ClaimedBy victim round claimer) self.old) self.old self.new result }
+        ensures memory { FitsIfShort (ClaimedBy victim round claimer ∷ []) self.old result }
     {
         if self.is_full() {
             return Err(ArbiterError::TableFull);
@@ -56,7 +59,8 @@ impl Arbiter {
         epoch: Epoch,
         preparer: Who,
     ) -> Result<Record, ArbiterError>
-        ensures { Answers (keep_call (PreparedBy partition epoch preparer ∷ []) (PreparedBy partition epoch preparer) self.old) self.old self.new result }
+        ensures answers { Answers (keep_call (PreparedBy partition epoch preparer ∷ []) (PreparedBy partition epoch preparer) self.old) self.old self.new result }
+        ensures memory { FitsIfShort (PreparedBy partition epoch preparer ∷ []) self.old result }
     {
         if self.registers.prepared(partition).is_none() && self.is_full() {
             return Err(ArbiterError::TableFull);
@@ -73,7 +77,8 @@ impl Arbiter {
     #[tactic(auto, using(crate::proofs::Fulls::as_full))]
     pub(super) fn keep_vote(&mut self, config: &Config) -> Result<Record, ArbiterError>
         requires { vote_in config.now.epoch (register_of config.now.partition self.old.registers).votes ≡ None }
-        ensures { Answers (keep_call (VotedFor config.now ∷ []) (VotedFor config.now) self.old) self.old self.new result }
+        ensures answers { Answers (keep_call (VotedFor config.now ∷ []) (VotedFor config.now) self.old) self.old self.new result }
+        ensures memory { FitsIfShort (VotedFor config.now ∷ []) self.old result }
     {
         if self.is_full() {
             return Err(ArbiterError::TableFull);
@@ -87,7 +92,8 @@ impl Arbiter {
     /// Keeps a configuration as done, and gives the record of it. Where one was done before, no entry is made.
     #[tactic(auto, using(crate::proofs::Fulls::as_full))]
     pub(super) fn keep_done(&mut self, config: &Config) -> Result<Record, ArbiterError>
-        ensures { Answers (keep_call (DoneFor config.now ∷ []) (DoneFor config.now) self.old) self.old self.new result }
+        ensures answers { Answers (keep_call (DoneFor config.now ∷ []) (DoneFor config.now) self.old) self.old self.new result }
+        ensures memory { FitsIfShort (DoneFor config.now ∷ []) self.old result }
     {
         if self.registers.done(config.partition).is_none() && self.is_full() {
             return Err(ArbiterError::TableFull);

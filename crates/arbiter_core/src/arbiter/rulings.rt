@@ -4,6 +4,7 @@ ghost use Rattle.std.specs.Prelude.{◌≡◌, Some};
 ghost use Rattle.ring_points.specs.Whos.{same_who};
 ghost use Rattle.ring_rules.specs.Arbiters.{accusation_ruled};
 ghost use Rattle.arbiter_core.specs.Arbiters.{Answers, accuse_call, claim_call, claim_told};
+ghost use Rattle.arbiter_core.specs.Memory.{KeepsIfShort};
 
 use crate::answer::{Answer, ArbiterError};
 use crate::arbiter::Arbiter;
@@ -52,7 +53,8 @@ impl Arbiter {
     /// Rules on an accusation, and keeps the first accuser of a victim.
     #[tactic(auto, unfolding(ring_rules::specs::Arbiters::accusation_ruled, ring_rules::specs::Arbiters::accusation_kept))]
     pub(super) fn rule(&mut self, accuser: Who, victim: Who) -> Result<Answer, ArbiterError>
-        ensures { Answers (accuse_call accuser victim self.old) self.old self.new result }
+        ensures answers { Answers (accuse_call accuser victim self.old) self.old self.new result }
+        ensures memory { KeepsIfShort (accuse_call accuser victim self.old) result }
     {
         let ruling = self.ruling(accuser, victim);
         let body = Body::Ruled { victim, ruling };
@@ -80,7 +82,8 @@ impl Arbiter {
         victim: Who,
         round: u8,
     ) -> Result<Answer, ArbiterError>
-        ensures { Answers (claim_call claimer victim round self.old) self.old self.new result }
+        ensures answers { Answers (claim_call claimer victim round self.old) self.old self.new result }
+        ensures memory { KeepsIfShort (claim_call claimer victim round self.old) result }
     {
         let Some(first) = self.first_accuser(victim) else {
             return Ok(Answer::Nothing);

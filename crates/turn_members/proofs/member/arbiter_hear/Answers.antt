@@ -17,8 +17,8 @@ returns-in_err-answer-clause-full c =
 pub returns-clause-does : goal.returns-clause-does
 returns-clause-does c = λ c' last.
     let head = c.arbiter_head-head.ensures ∙ ap (λ (n : ℕ). record { line = c.args.turn; time = None; who = record { actor = n; instance = 0 }; reading = None }) c.requires.named in
-    heard c' c.args.turn last c.args.message.now c.args.arbiter.now c.on_frame.new.self c.in_ok-answer.answer _ c.requires.room c.in_ok-answer.ensures head c.taking-outcome.ensures.records
+    heard c' c.args.turn last c.args.message.now c.args.arbiter.now c.on_frame.new.self c.in_ok-answer.answer _ c.requires.room c.in_ok-answer.ensures.answers head c.taking-outcome.ensures.records
     (c.taking-outcome.ensures.frames ∙ ap (λ (w : Who). answer_frames w c.in_ok-answer.answer) (ap (λ (h : Head). h.who) head)) c.taking-outcome.ensures.reports
 
 pub returns-clause-number : goal.returns-clause-number
-returns-clause-number c = λ c'. number_kept c' 0 None c.args.message.now c.args.arbiter.now c.on_frame.new.self c.in_ok-answer.answer c.in_ok-answer.ensures
+returns-clause-number c = λ c'. number_kept c' 0 None c.args.message.now c.args.arbiter.now c.on_frame.new.self c.in_ok-answer.answer c.in_ok-answer.ensures.answers

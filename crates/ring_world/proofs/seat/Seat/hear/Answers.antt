@@ -9,8 +9,8 @@ unreachable-requires c =
 
 pub returns-in-Ok-Nothing-clause-hears : goal.returns-in-Ok-Nothing-clause-hears
 returns-in-Ok-Nothing-clause-hears c k =
-    hears_nothing k c.args.message.now c.args.self.now c.on_frame.new.self c.in-Ok-Nothing.field-0 c.in-Ok-Nothing.ensures c.in-Ok-Nothing.field-0-is
+    hears_nothing k c.args.message.now c.args.self.now c.on_frame.new.self c.in-Ok-Nothing.field-0 c.in-Ok-Nothing.ensures.answers c.in-Ok-Nothing.field-0-is
 
 pub returns-in-Ok-Reply-clause-hears : goal.returns-in-Ok-Reply-clause-hears
 returns-in-Ok-Reply-clause-hears c k =
-    hears_reply k c.args.message.now c.args.self.now c.on_frame.new.self c.in-Ok-Reply.field-0 _ c.in-Ok-Reply.to c.in-Ok-Reply.body c.in-Ok-Reply.ensures c.in-Ok-Reply.field-0-is
+    hears_reply k c.args.message.now c.args.self.now c.on_frame.new.self c.in-Ok-Reply.field-0 _ c.in-Ok-Reply.to c.in-Ok-Reply.body c.in-Ok-Reply.ensures.answers c.in-Ok-Reply.field-0-is
