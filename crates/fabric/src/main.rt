@@ -1,8 +1,11 @@
 //! The program: it makes the real devices, makes the top call and ends with its status.
 #![tactic(auto)]
 
+mod forms;
+
+use crate::forms::FORMS;
 use fabric_edge::{FolderKeeper, MonoClock, StdinSource, StdoutSink, UdpLinks, hold_streams};
-use fabric_top::fabric_main;
+use fabric_top::{Status, fabric_main};
 use std::process::ExitCode;
 use std::{env, io};
 
@@ -33,5 +36,9 @@ fn main(rt: HostRuntime) -> io::Result<ExitCode> {
         &mut keeps,
         &mut clock,
     );
+    // Standard output has the fault line alone. The status stays, whether or not standard error takes the forms.
+    if status == Status::Usage {
+        let _ = rt.eprint(FORMS);
+    }
     Ok(ExitCode::from(status.code()))
 }

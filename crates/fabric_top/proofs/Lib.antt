@@ -2,3 +2,4 @@ pub mod Safe
 pub mod Audited
 pub mod Clusters
 pub mod Generated
+pub mod NoMemory

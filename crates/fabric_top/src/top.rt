@@ -21,6 +21,7 @@ use std::alloc::Global;
 /// `generate` writes the schedule that its words make, `drill` the numbers of its run; neither reads. `node`,
 /// `arbiter` and `cluster` read a configuration and commands from the source, to its end, and then run the actors that the
 /// words name, over the links, the keeper and the clock. Words that are none of the forms are Usage, and nothing is read.
+/// Where memory is out while words that are a form are split, the status is OutOfMemory, and no device is used.
 pub fn fabric_main<S: Source, K: Sink, N: Links, D: Keeper, C: Clock>(
     alloc: Global,
     words: &[String],
@@ -51,8 +52,9 @@ pub fn fabric_main<S: Source, K: Sink, N: Links, D: Keeper, C: Clock>(
     // At every status the run of the events that are accepted of a schedule is safe.
     ensures safe { (bytes : List ℕ) → S.left source.old ≡ Some bytes → IsSafe (judge bytes) }
 {
-    match read_form(words) {
-        Some(form) => run_form(alloc, form, source, sink, links, keeps, clock),
-        None => usage(sink),
+    match read_form(alloc, words) {
+        Ok(Some(form)) => run_form(alloc, form, source, sink, links, keeps, clock),
+        Ok(None) => usage(sink),
+        Err(_) => Status::OutOfMemory,
     }
 }
