@@ -58,7 +58,7 @@ no_crew crew turns a = record {
   cause = tt;
   read = λ e. cc;
   refused = λ bytes refusal left bad source sink. inr refl;
-  complete = λ bytes plan left good source no_fault open bad. tt;
+  complete = λ bytes plan left good source no_fault opened bad. tt;
   bad = λ bytes plan left good source tells i bad. (tt, refl);
 }
 
