@@ -1,4 +1,4 @@
-use Rattle.std.proofs.Common.{◌≡◌, ap, ◌∙◌}
+use Rattle.std.proofs.Common.{ap, ◌∙◌}
 use Rattle.fabric_lemmas.specs.Maps.{put, rises}
 use Rattle.fabric_lemmas.proofs.Maps.{rises-put}
 use Rattle.unit_rules.specs.Starts.{Replicas}
