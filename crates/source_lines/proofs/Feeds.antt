@@ -58,6 +58,17 @@ at_none bs e = let t : nat_lt (position_or_len is_feed bs) (length bs) ≡ false
 past_step : (t : Bool) (m n : ℕ) → t ≡ false → m ≡ n → cond (not t) (1 + m) 0 ≡ suc n
 past_step t m n f e = rw f (omega arith)
 
+-- what stands before the first feed has none
+pub none_before : (bs : List ℕ) (i : ℕ) → position is_feed bs ≡ Some i → HasNoFeed (take i bs)
+none_before bs i e = let at = position_some is_feed bs i e in at_none (take i bs) (stops bs i at.1 at.0)
+  where
+    stops : (cs : List ℕ) (k : ℕ) → k < length cs → position_or_len is_feed cs ≡ k → position_or_len is_feed (take k cs) ≡ length (take k cs)
+    stops [] k h f = absurd (omega arith)
+    stops (c ∷ cs) zero h f = refl
+    stops (c ∷ cs) (suc k) h f =
+        let step = feed_step (eqb c 10) (position_or_len is_feed cs) k f in
+        past_step (eqb c 10) (position_or_len is_feed (take k cs)) (length (take k cs)) step.0 (stops cs k (omega arith) step.1)
+
 past_front : (bs more : List ℕ) → position_or_len is_feed bs ≡ length bs → position_or_len is_feed (bs ++ more) ≡ length bs + position_or_len is_feed more
 past_front [] more e = sym (zero-add (position_or_len is_feed more))
 past_front (b ∷ bs) more e =
@@ -79,3 +90,13 @@ behind_none bs more none e =
 -- the last line may end with the bytes
 pub none_last : (bs : List ℕ) → 0 < length bs → HasNoFeed bs → lines_of bs ≡ bs ∷ []
 none_last bs some none = cut_none bs some none
+
+-- a line without a feed, ended by one
+pub line_and_feed : (line rest : List ℕ) → HasNoFeed line → lines_of (line ++ (10 ∷ rest)) ≡ line ∷ lines_of rest
+line_and_feed line rest none = first line rest (position_none is_feed line none)
+  where
+    first : (bs more : List ℕ) → position_or_len is_feed bs ≡ length bs → lines_of (bs ++ (10 ∷ more)) ≡ bs ∷ lines_of more
+    first [] more e = refl
+    first (b ∷ bs) more e =
+        let step = feed_step (eqb b 10) (position_or_len is_feed bs) (length bs) e in
+        lines_cut b (bs ++ (10 ∷ more)) false step.0 ∙ ap (onto_first b) (first bs more step.1)

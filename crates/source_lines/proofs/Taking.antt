@@ -1,15 +1,15 @@
 -- What is taken of the bytes that are left.
-use Rattle.std.proofs.Common.{◌≡◌, ℕ, ◌+◌, ◌≤◌, ◌<◌, List, [], ◌∷◌, ◌++◌, length, length-take, take, drop, Some, Ok, arith, ap, sym, ◌∙◌}
+use Rattle.std.proofs.Common.{◌≡◌, ℕ, ◌+◌, ◌≤◌, ◌<◌, List, [], ◌∷◌, ◌++◌, length, length-take, take, drop, Some, Ok, arith, ap, sym, subst, ◌∙◌}
 use Rattle.std.proofs.lemmas.List.{append-nil}
 use Rattle.std.specs.List.{position}
 use Rattle.line_format.specs.Lines.{lines_of}
 use Rattle.source_lines.specs.Feeds.{HasNoFeed}
-use Rattle.source_lines.specs.Reading.{Reading, Takes}
+use Rattle.source_lines.specs.Reading.{IsLineOf, Reading, Takes}
 use Rattle.source_lines.specs.Stops.{TakesTo, TakesLast}
 use Rattle.source_lines.specs.declared.taken.Taken.{Taken}
 use Rattle.source_lines.specs.declared.taken.Taken.TheVariants.{Line, TooLong, End}
 use Rattle.source_lines.proofs.Cuts.{is_feed}
-use Rattle.source_lines.proofs.Feeds.{found_front, none_front, none_last}
+use Rattle.source_lines.proofs.Feeds.{found_front, none_before, none_front, none_last}
 use Rattle.source_lines.proofs.Positions.{position_some}
 
 -- up to a feed that waits
@@ -48,3 +48,21 @@ taken_none most left old rest none long same =
       record { line = begins.0; others = begins.1; cut = ap lines_of (sym same) ∙ begins.2; longer = omega (arith, begins.3, long) },
       same,
     )
+
+-- what was taken is a line
+
+pub line_to : (t : Taken) (feed most : ℕ) (old new : Reading) → position is_feed old.waiting ≡ Some feed → TakesTo t feed most old new → IsLineOf (Ok t) most new.line
+line_to Line feed most old new found to = (
+  subst HasNoFeed (sym to.1) (none_before old.waiting feed found),
+  (let long : length new.line ≡ length (take feed old.waiting) = ap length to.1 in omega (arith, to.0, length-take {A = ℕ})),
+)
+line_to TooLong feed most old new found to = tt
+line_to End feed most old new found to = tt
+
+pub line_last : (t : Taken) (most : ℕ) (old new : Reading) → HasNoFeed old.waiting → length old.waiting ≤ most → TakesLast t old new → IsLineOf (Ok t) most new.line
+line_last Line most old new none short last = (
+  subst HasNoFeed (sym last.1) none,
+  (let long : length new.line ≡ length old.waiting = ap length last.1 in omega (arith, short)),
+)
+line_last TooLong most old new none short last = tt
+line_last End most old new none short last = tt

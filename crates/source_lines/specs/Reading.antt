@@ -26,6 +26,13 @@ Takes (Ok TooLong) most left new rest = BeginsLonger most left × (rest ≡ left
 Takes (Ok End) most left new rest = (left ≡ []) × (rest ≡ [])
 Takes (Err failed) most left new rest = HasNoFeed new.waiting × (rest ≡ left)
 
+-- a line that is taken has no line feed and no more bytes than so many, whether or not the source tells
+abbrev pub IsLineOf : Result Taken Failed → ℕ → List ℕ → Type 0
+IsLineOf (Ok Line) most line = HasNoFeed line × (length line ≤ most)
+IsLineOf (Ok TooLong) most line = Unit {0}
+IsLineOf (Ok End) most line = Unit {0}
+IsLineOf (Err failed) most line = Unit {0}
+
 -- where the source tells: what was left is what waits and what the source has left
 abbrev pub TakesOf : Result Taken Failed → ℕ → Reading → Option (List ℕ) → Reading → Option (List ℕ) → Type 0
 TakesOf result most old before new after = (bytes : List ℕ) → before ≡ Some bytes → (rest : List ℕ) × (after ≡ Some rest) × Takes result most (old.waiting ++ bytes) new (new.waiting ++ rest)

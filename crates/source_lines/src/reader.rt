@@ -2,7 +2,7 @@
 ghost use Rattle.std.specs.Prelude.{◌≡◌, ◌≤◌, ◌==◌, ◌++◌, ℕ, List, [], Some, Ok, IfOk, length, position};
 ghost use Rattle.edge_io.specs.Edge.{HasCause};
 ghost use Rattle.source_lines.specs.Feeds.{HasNoFeed};
-ghost use Rattle.source_lines.specs.Reading.{TakesOf};
+ghost use Rattle.source_lines.specs.Reading.{IsLineOf, TakesOf};
 ghost use Rattle.source_lines.specs.Stops.{StopsAt, TakesTo, TakesLast};
 
 use crate::piece::{Stop, first_feed, move_to_front, read_on};
@@ -71,6 +71,7 @@ impl LineReader {
     pub fn next<S: Source>(&mut self, source: &mut S, most: usize) -> Result<Taken, Failed>
         requires { most ≤ 65536 }
         ensures taken { TakesOf result most self.old (S.left source.old) self.new (S.left source.new) }
+        ensures line { IsLineOf result most self.new.line }
         ensures cause { HasCause (S.faults source.old) (S.faults source.new) result }
     {
         match first_feed(self.waiting()) {
@@ -111,6 +112,7 @@ impl LineReader {
         requires most { most ≤ 65536 }
         requires no_feed { HasNoFeed self.old.waiting }
         ensures taken { TakesOf result most self.old (S.left source.old) self.new (S.left source.new) }
+        ensures line { IsLineOf result most self.new.line }
         ensures cause { HasCause (S.faults source.old) (S.faults source.new) result }
     {
         match self.read_pieces(source, most)? {

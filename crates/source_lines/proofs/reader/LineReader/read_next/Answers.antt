@@ -1,5 +1,5 @@
 use Rattle.std.proofs.Common.{Ok, ap, ◌∙◌}
-use Rattle.source_lines.proofs.Taking.{taken_to, taken_last, taken_none}
+use Rattle.source_lines.proofs.Taking.{line_last, line_to, taken_to, taken_last, taken_none}
 use Rattle.source_lines.proofs.reader.LineReader.read_next.Goals as goal
 
 pub returns-in-Feed-clause-taken : goal.returns-in-Feed-clause-taken
@@ -19,3 +19,12 @@ returns-in-Full-clause-taken g c bytes e =
     let read = c.read_pieces.ensures.bytes bytes e in
     let stop = rw c.in-Full.is at c.in_ok-i.ensures.stop in
     (read.0, read.1, taken_none c.args.most _ c.read_pieces.new.self read.0 stop.0 stop.1 read.2)
+
+pub returns-in-Feed-clause-line : goal.returns-in-Feed-clause-line
+returns-in-Feed-clause-line g c =
+    line_to c.take_to.result c.in-Feed.i c.args.most c.read_pieces.new.self c.take_to.new.self (rw c.in-Feed.is at c.in_ok-i.ensures.stop) c.take_to.ensures
+
+pub returns-in-Ended-clause-line : goal.returns-in-Ended-clause-line
+returns-in-Ended-clause-line g c =
+    let stop = rw c.in-Ended.is at c.in_ok-i.ensures.stop in
+    line_last c.take_last.result c.args.most c.read_pieces.new.self c.take_last.new.self stop.0 stop.1 c.take_last.ensures
