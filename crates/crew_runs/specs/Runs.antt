@@ -1,5 +1,5 @@
--- What a crew's command does: its source is read whole, and what that says is run.
-use Rattle.std.specs.Prelude.{◌≡◌, ◌⊎◌, ℕ, List, [], Option, Some, Result, Ok, Err}
+-- What a crew's command does: its source is read, and what that says is run.
+use Rattle.std.specs.Prelude.{◌≡◌, ℕ, List, [], Option, Some, Result, Ok, Err}
 use Rattle.edge_io.specs.Edge.{HasRisen}
 use Rattle.fabric_status.specs.Codes.{status_of}
 use Rattle.fabric_status.specs.Faults.{fault_line}
@@ -29,16 +29,13 @@ abbrev pub RunsJudged : Result Plan Refusal → Told → Status → Told → Typ
 RunsJudged (Ok plan) a ended c = IsRun plan a ended c
 RunsJudged (Err refusal) a ended c = OnlyEnds (status_of refusal) a ended c
 
--- memory was short, and nothing was done; or what the bytes say is done
-abbrev pub RunsBytes : Crew → ℕ → List ℕ → Told → Status → Told → Type 0
-RunsBytes crew turns bytes a ended c = ((ended ≡ status.OutOfMemory) × (c ≡ a)) ⊎ RunsJudged (judge_plan crew turns bytes) a ended c
+-- where the source tells: these are all the bytes that it had; and if they are a plan, it has nothing left
+abbrev pub AreRead : Crew → ℕ → List ℕ → Option (List ℕ) → Option (List ℕ) → Type 0
+AreRead crew turns bytes left now = (all : List ℕ) → left ≡ Some all → (bytes ≡ all) × ((plan : Plan) → judge_plan crew turns bytes ≡ Ok plan → now ≡ Some [])
 
--- where the source tells, these are all its bytes, and it has nothing left
-abbrev pub IsReadWhole : List ℕ → Option (List ℕ) → Option (List ℕ) → Type 0
-IsReadWhole bytes left now = (all : List ℕ) → left ≡ Some all → (bytes ≡ all) × (now ≡ Some [])
-
--- The source failed; or memory was short while it was read; or it was read to its end, and what it says is done.
+-- The source failed; or memory was short before the run; or the source was read, to its end or to the first line that is
+-- refused, and what it says is done.
 pub data RunsCrew (crew : Crew) (turns : ℕ) (a : Seen) (ended : Status) (c : Seen) : Type 0 where
   failed : HasRisen a.source_faults c.source_faults → OnlyEnds status.ReadFault a.told ended c.told → RunsCrew crew turns a ended c
   short : ended ≡ status.OutOfMemory → c.told ≡ a.told → RunsCrew crew turns a ended c
-  read : (bytes : List ℕ) → IsReadWhole bytes a.left c.left → RunsBytes crew turns bytes a.told ended c.told → RunsCrew crew turns a ended c
+  read : (bytes : List ℕ) → AreRead crew turns bytes a.left c.left → RunsJudged (judge_plan crew turns bytes) a.told ended c.told → RunsCrew crew turns a ended c

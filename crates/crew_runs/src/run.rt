@@ -1,16 +1,14 @@
 // A crew's command: from its source to its last line.
 ghost use Rattle.crew_runs.specs.Causes.{IsCrewRun};
-ghost use Rattle.crew_runs.specs.Runs.{RunsBytes};
 ghost use Rattle.fabric_status.specs.Codes.{status_of};
 ghost use Rattle.fabric_status.specs.Faults.{fault_line};
 ghost use Rattle.fabric_status.specs.Writes.{Wrote};
 ghost use Rattle.outside.specs.Told.{Loans};
 ghost use Rattle.turn_rules.specs.Whole.{told_of};
 
-use edge_io::{Clock, EdgeRefusal, Keeper, Links, Sink, Source};
+use edge_io::{Clock, Keeper, Links, Sink, Source};
 use fabric_status::{Refusal, Status, push_fault, write_last};
 use fabric_turns::run_on;
-use source_lines::read_all;
 use std::alloc::Global;
 use turn_plans::{Crew, PlanError, read_plan};
 
@@ -25,31 +23,9 @@ fn refuse<K: Sink>(alloc: Global, refusal: Refusal, sink: &mut K) -> Status
     }
 }
 
-/// Runs what the bytes of a source say.
-fn run_bytes<K: Sink, N: Links, D: Keeper, C: Clock>(
-    alloc: Global,
-    crew: Crew,
-    turns: u64,
-    bytes: &[u8],
-    sink: &mut K,
-    links: &mut N,
-    keeps: &mut D,
-    clock: &mut C,
-) -> Status
-    ensures { (l : Loans) × RunsBytes crew turns bytes.now
-        (told_of l (K.held sink.old) (K.faults sink.old) (D.kept keeps.old) (D.faults keeps.old) (N.opened links.old) (N.arrivals links.old) (N.sent links.old) (N.faults links.old) (C.readings clock.old) (C.last clock.old) (C.falls clock.old))
-        result
-        (told_of l (K.held sink.new) (K.faults sink.new) (D.kept keeps.new) (D.faults keeps.new) (N.opened links.new) (N.arrivals links.new) (N.sent links.new) (N.faults links.new) (C.readings clock.new) (C.last clock.new) (C.falls clock.new)) }
-{
-    match read_plan(alloc, crew, turns, bytes) {
-        Err(PlanError::OutOfMemory) => Status::OutOfMemory,
-        Err(PlanError::Refused(refusal)) => refuse(alloc, refusal, sink),
-        Ok(plan) => run_on(alloc, &plan, sink, links, keeps, clock),
-    }
-}
-
-/// Reads the source to its end and runs the crew for so many turns: its configuration and commands are those of the source.
-/// Where the source fails or is refused, or memory is short before the run, nothing is opened, kept or sent.
+/// Reads the source line by line, to its end or to the first line that is refused, and then runs the crew for so many turns:
+/// its configuration and commands are those of the source. Where the source fails or is refused, or memory is short before
+/// the run, nothing is opened, kept or sent.
 pub fn run_crew<S: Source, K: Sink, N: Links, D: Keeper, C: Clock>(
     alloc: Global,
     crew: Crew,
@@ -73,18 +49,10 @@ pub fn run_crew<S: Source, K: Sink, N: Links, D: Keeper, C: Clock>(
           told = told_of l (K.held sink.new) (K.faults sink.new) (D.kept keeps.new) (D.faults keeps.new) (N.opened links.new) (N.arrivals links.new) (N.sent links.new) (N.faults links.new) (C.readings clock.new) (C.last clock.new) (C.falls clock.new);
         }) }
 {
-    match read_all(alloc, source) {
-        Err(EdgeRefusal::Failed) => write_last(sink, b"fault read\n", Status::ReadFault),
-        Err(EdgeRefusal::OutOfMemory) => Status::OutOfMemory,
-        Ok(bytes) => run_bytes(
-            alloc,
-            crew,
-            turns,
-            bytes.as_slice(),
-            sink,
-            links,
-            keeps,
-            clock,
-        ),
+    match read_plan(alloc, crew, turns, source) {
+        Err(PlanError::SourceFailed) => write_last(sink, b"fault read\n", Status::ReadFault),
+        Err(PlanError::OutOfMemory) => Status::OutOfMemory,
+        Err(PlanError::Refused(refusal)) => refuse(alloc, refusal, sink),
+        Ok(plan) => run_on(alloc, &plan, sink, links, keeps, clock),
     }
 }

@@ -5,7 +5,7 @@ use Rattle.cluster_safety.specs.Plans.{HoldsNothing}
 use Rattle.cluster_safety.proofs.Recalling.{nothing_recalled}
 use Rattle.cluster_safety.proofs.Safe.{cluster_is_safe_lem}
 use Rattle.crew_runs.specs.Causes.{IsCrewRun}
-use Rattle.crew_runs.specs.Runs.{RunsBytes, RunsCrew, RunsJudged, Seen, failed, read, short}
+use Rattle.crew_runs.specs.Runs.{RunsCrew, RunsJudged, Seen, failed, read, short}
 use Rattle.fabric_status.specs.declared.status.Refusal.{Refusal}
 use Rattle.fabric_status.specs.declared.status.Status.{Status}
 use Rattle.fabric_terms.specs.declared.record.Record.{Record}
@@ -21,7 +21,7 @@ use Rattle.turn_rules.specs.Whole.{Ends, StoppedRun, setting, with_endpoints}
 use Rattle.turn_rules.specs.Works.{Work}
 use Rattle.turn_rules.specs.declared.stop.Stop.{Stop}
 use Rattle.turn_rules.specs.declared.stop.Stop.TheVariants as stop
-use Rattle.fabric_top.specs.Clusters.{IsSafeBroken, IsSafeCluster, IsSafeFor, IsSafeJudged, IsSafeRead, IsSafeRun, IsSafeStopped, IsSafeUntil, RunsCluster}
+use Rattle.fabric_top.specs.Clusters.{IsSafeBroken, IsSafeCluster, IsSafeFor, IsSafeJudged, IsSafeRun, IsSafeStopped, IsSafeUntil, RunsCluster}
 
 module _ (turns : ℕ) (bytes : List ℕ) (plan : Plan) (judged : judge_plan crew.Cluster turns bytes ≡ Ok plan) (a : Told) (nothing : HoldsNothing plan.actors a) where
   -- from what was recalled, which is nothing
@@ -65,14 +65,10 @@ safe_judged : (turns : ℕ) (bytes : List ℕ) (r : Result Plan Refusal) → jud
 safe_judged turns bytes (Ok plan) is a ended c k = λ nothing. safe_run turns bytes plan is a nothing k.runs.result k.runs.before_last k.runs.ends
 safe_judged turns bytes (Err refusal) is a ended c k = tt
 
-safe_read : (turns : ℕ) (bytes : List ℕ) (a : Told) (ended : Status) (c : Told) (k : RunsBytes crew.Cluster turns bytes a ended c) → IsSafeRead turns bytes a ended c k
-safe_read turns bytes a ended c (inl memory) = tt
-safe_read turns bytes a ended c (inr k) = safe_judged turns bytes (judge_plan crew.Cluster turns bytes) refl a ended c k
-
 safe_cluster : (turns : ℕ) (a : Seen) (ended : Status) (c : Seen) (k : RunsCrew crew.Cluster turns a ended c) → IsSafeCluster turns a ended c k
 safe_cluster turns a ended c (failed risen ends) = tt
 safe_cluster turns a ended c (short memory same) = tt
-safe_cluster turns a ended c (read bytes whole k) = safe_read turns bytes a.told ended c.told k
+safe_cluster turns a ended c (read bytes whole k) = safe_judged turns bytes (judge_plan crew.Cluster turns bytes) refl a.told ended c.told k
 
 pub cluster_runs : (turns : ℕ) (a : Seen) (ended : Status) (c : Seen) → IsCrewRun crew.Cluster turns a ended c → RunsCluster turns a ended c
 cluster_runs turns a ended c run = record { run = run; safe = safe_cluster turns a ended c run.runs }

@@ -4,7 +4,7 @@ use Rattle.std.specs.Prelude.{ℕ, List, ◌∷◌, Result, Ok, Err}
 use Rattle.cluster_safety.specs.Moments.{moments_of}
 use Rattle.cluster_safety.specs.Plans.{HoldsNothing, OwnFrames}
 use Rattle.crew_runs.specs.Causes.{IsCrewRun}
-use Rattle.crew_runs.specs.Runs.{RunsBytes, RunsCrew, RunsJudged, Seen, failed, read, short}
+use Rattle.crew_runs.specs.Runs.{RunsCrew, RunsJudged, Seen, failed, read, short}
 use Rattle.fabric_status.specs.declared.status.Refusal.{Refusal}
 use Rattle.fabric_status.specs.declared.status.Status.{Status}
 use Rattle.fabric_terms.specs.Primaries.{Safe}
@@ -62,14 +62,10 @@ abbrev pub IsSafeJudged : (r : Result Plan Refusal) (a : Told) (ended : Status) 
 IsSafeJudged (Ok plan) a ended c k = HoldsNothing plan.actors a → IsSafeRun plan a k.runs.result k.runs.before_last k.runs.ends
 IsSafeJudged (Err refusal) a ended c k = Unit {0}
 
-abbrev pub IsSafeRead : (turns : ℕ) (bytes : List ℕ) (a : Told) (ended : Status) (c : Told) → RunsBytes crew.Cluster turns bytes a ended c → Type 0
-IsSafeRead turns bytes a ended c (inl memory) = Unit {0}
-IsSafeRead turns bytes a ended c (inr k) = IsSafeJudged (judge_plan crew.Cluster turns bytes) a ended c k
-
 abbrev pub IsSafeCluster : (turns : ℕ) (a : Seen) (ended : Status) (c : Seen) → RunsCrew crew.Cluster turns a ended c → Type 0
 IsSafeCluster turns a ended c (failed risen ends) = Unit {0}
 IsSafeCluster turns a ended c (short memory same) = Unit {0}
-IsSafeCluster turns a ended c (read bytes whole k) = IsSafeRead turns bytes a.told ended c.told k
+IsSafeCluster turns a ended c (read bytes whole k) = IsSafeJudged (judge_plan crew.Cluster turns bytes) a.told ended c.told k
 
 -- All actors run, and what they do is safe, at every status.
 pub record RunsCluster (turns : ℕ) (a : Seen) (ended : Status) (c : Seen) : Type 0 where

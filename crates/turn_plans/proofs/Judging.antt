@@ -1,12 +1,15 @@
--- Where the lines stand after some of them.
-use Rattle.std.proofs.Common.{◌≡◌, ℕ, ◌+◌, ◌≤◌, List, [], ◌∷◌, ◌++◌, length, Result, Err, refl, ap, sym, ◌∙◌}
+-- One line of a plan, and what it leads to.
+use Rattle.std.proofs.Common.{◌≡◌, ℕ, ◌+◌, ◌<◌, ◌≤◌, Bool, true, false, List, [], ◌∷◌, ◌++◌, length, Result, Err, refl, ap, sym, ◌∙◌, arith, nat_lt}
+use Rattle.std.specs.Prelude.{◌||◌}
+use Rattle.std.proofs.lemmas.Bool.Decides.{nat_tests}
 use Rattle.edge_io.specs.declared.endpoint.Endpoint.{Endpoint}
 use Rattle.fabric_status.specs.declared.status.Refusal.{Refusal}
+use Rattle.fabric_status.specs.declared.status.Refusal.TheVariants.{TooLarge}
 use Rattle.fabric_terms.specs.declared.config.FabricConfig.{FabricConfig}
-use Rattle.line_format.specs.Lines.{lines_of}
+use Rattle.source_lines.specs.Lines.{most_line, most_lines}
 use Rattle.turn_rules.specs.declared.order.Order.{Order}
 use Rattle.turn_plans.specs.Plans.{judge_from}
-use Rattle.turn_plans.specs.Verdicts.{line_verdict}
+use Rattle.turn_plans.specs.Verdicts.{line_verdict, unless_large}
 use Rattle.turn_plans.specs.declared.crew.Crew.{Crew}
 use Rattle.turn_plans.specs.declared.verdict.Verdict.{Verdict}
 use Rattle.turn_plans.specs.declared.verdict.Verdict.TheVariants.{Ignored, Ordered, Refused}
@@ -37,17 +40,26 @@ judge_line g orders least n l ls = by_verdict (verdict g least n l)
     by_verdict (Ordered o) = refl
     by_verdict (Refused refusal) = refl
 
--- the lines that are left lead to the same end as all lines
-pub record Along (g : Given) (bytes : List ℕ) (orders : List Order) (least n : ℕ) (rest : List ℕ) : Type 0 where
-  pub judged : judge g orders least n (lines_of rest) ≡ judge g [] 1 2 (lines_of bytes)
-  pub bounded : n + length rest ≤ length bytes + 2
+-- a line with this verdict
+pub judged_so : (g : Given) (orders : List Order) (least n : ℕ) (l : List ℕ) (ls : List (List ℕ)) (v : Verdict) → verdict g least n l ≡ v → judge g orders least n (l ∷ ls) ≡ judge_on g orders least n ls v
+judged_so g orders least n l ls v is = judge_line g orders least n l ls ∙ ap (judge_on g orders least n ls) is
 
--- a line, by its verdict
-on_line : (g : Given) (bytes : List ℕ) (orders : List Order) (least n : ℕ) (rest line after : List ℕ) (v : Verdict) → Along g bytes orders least n rest → lines_of rest ≡ line ∷ lines_of after → verdict g least n line ≡ v → judge_on g orders least n (lines_of after) v ≡ judge g [] 1 2 (lines_of bytes)
-on_line g bytes orders least n rest line after v along cut is =
-    ap (judge_on g orders least n (lines_of after)) (sym is) ∙ sym (judge_line g orders least n line (lines_of after))
-    ∙ ap (judge g orders least n) (sym cut) ∙ along.judged
+large : (g : Given) (least n : ℕ) (l : List ℕ) → most_line < length l → verdict g least n l ≡ Refused (TooLarge n)
+unfolding line_verdict
+large g least n l long =
+    let t : nat_lt most_line (length l) ≡ true = grind (arith, nat_tests) in
+    rw t refl
 
-pub refused_at : (g : Given) (bytes : List ℕ) (orders : List Order) (least n : ℕ) (rest line after : List ℕ) (refusal : Refusal) → Along g bytes orders least n rest → lines_of rest ≡ line ∷ lines_of after → verdict g least n line ≡ Refused refusal → judge g [] 1 2 (lines_of bytes) ≡ Err refusal
-refused_at g bytes orders least n rest line after refusal along cut is =
-    sym (on_line g bytes orders least n rest line after (Refused refusal) along cut is)
+-- a line that is too long is refused
+pub long_line : (g : Given) (orders : List Order) (least n : ℕ) (l : List ℕ) (ls : List (List ℕ)) → most_line < length l → judge g orders least n (l ∷ ls) ≡ Err (TooLarge n)
+long_line g orders least n l ls long = judged_so g orders least n l ls (Refused (TooLarge n)) (large g least n l long)
+
+-- a line that is not refused is one of those that there may be
+pub within : (g : Given) (least n : ℕ) (l : List ℕ) (v : Verdict) → verdict g least n l ≡ v → ((refusal : Refusal) → v ≡ Refused refusal → ⊥) → n ≤ most_lines
+unfolding line_verdict
+within g least n l v is good = by_tests (nat_lt most_line (length l)) (nat_lt most_lines n) refl is
+  where
+    by_tests : (a b : Bool) → nat_lt most_lines n ≡ b → unless_large g.crew g.config g.actors g.turns least n l (a || b) ≡ v → n ≤ most_lines
+    by_tests a false past e = grind (arith, nat_tests)
+    by_tests true true past e = absurd (good (TooLarge n) (sym e))
+    by_tests false true past e = absurd (good (TooLarge n) (sym e))

@@ -1,4 +1,6 @@
 pub mod Crews
 pub mod Judging
+pub mod Along
 pub mod Planning
+pub mod First
 pub mod Runs

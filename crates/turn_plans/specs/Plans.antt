@@ -71,4 +71,5 @@ judge_plan crew turns bytes = judge_lines crew turns (lines_of bytes)
 abbrev pub Judges : {A B : Type 0} → (B → A) → Result A Refusal → Result B PlanError → Type 0
 Judges seen judged (Ok x) = judged ≡ Ok (seen x)
 Judges seen judged (Err (error.Refused refusal)) = judged ≡ Err refusal
+Judges seen judged (Err error.SourceFailed) = ⊥
 Judges seen judged (Err error.OutOfMemory) = Unit {0}

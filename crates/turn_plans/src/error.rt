@@ -6,6 +6,8 @@ use fabric_terms::OutOfMemory;
 pub enum PlanError {
     /// A line is refused: the first that is.
     Refused(Refusal),
+    /// The source failed, and no line before was refused.
+    SourceFailed,
     /// There was not enough memory. It may come in place of any other answer.
     OutOfMemory,
 }

@@ -1,19 +1,21 @@
-// A plan, read from the bytes of a source.
+// A plan, read from a source.
 ghost use Rattle.std.specs.Prelude.{◌≡◌, IfOk, true};
+ghost use Rattle.edge_io.specs.Edge.{HasCauseOf};
 ghost use Rattle.fabric_terms.specs.Sound.{IsSound};
-ghost use Rattle.line_format.specs.Lines.{lines_of};
 ghost use Rattle.turn_plans.specs.Crews.{is_crew};
-ghost use Rattle.turn_plans.specs.Plans.{Judges, config_for, judge_plan, plan_of};
+ghost use Rattle.turn_plans.specs.Plans.{Judges, config_for, plan_of};
+ghost use Rattle.turn_plans.specs.Reading.{AreJudged, Defines, Reads};
 ghost use Rattle.turn_rules.specs.Plans.{IsPlan};
 
 use crate::actors::endpoints_of;
 use crate::crew::{Crew, is_crew};
 use crate::error::PlanError;
 use crate::orders::take_lines;
+use edge_io::Source;
 use fabric_config::{ConfigError, need_endpoints, read_config};
 use fabric_status::Refusal;
 use fabric_terms::FabricConfig;
-use source_lines::{MOST_FIRST_LINE, cut_line};
+use source_lines::{LineReader, MOST_FIRST_LINE, Taken};
 use std::alloc::Global;
 use turn_rules::Plan;
 
@@ -39,38 +41,60 @@ fn config_for(alloc: Global, crew: Crew, line: &[u8]) -> Result<FabricConfig, Pl
 }
 
 /// The plan of a configuration and the lines behind it.
-fn plan_of(
+fn plan_of<S: Source>(
     alloc: Global,
     crew: Crew,
     turns: u64,
     config: FabricConfig,
-    bytes: &[u8],
+    reader: &mut LineReader,
+    source: &mut S,
 ) -> Result<Plan, PlanError>
     requires sound { IsSound config }
     requires crew { is_crew config crew ≡ true }
-    ensures plan { Judges (λ p. p) (plan_of crew turns config (lines_of bytes.now)) result }
+    ensures plan { Reads (λ p. p) (AreJudged (plan_of crew turns config) reader.old.waiting (S.left source.old)) (S.left source.old) result (S.left source.new) }
     ensures runs { IfOk result IsPlan }
+    ensures cause { HasCauseOf PlanError.SourceFailed (S.faults source.old) (S.faults source.new) result }
 {
     let actors = endpoints_of(alloc, &config, crew)?;
-    let orders = take_lines(alloc, crew, &config, actors.as_slice(), turns, bytes)?;
-    Ok(Plan::new(config, actors, orders, turns))
+    match take_lines(
+        alloc,
+        crew,
+        &config,
+        actors.as_slice(),
+        turns,
+        reader,
+        source,
+    ) {
+        Ok(orders) => Ok(Plan::new(config, actors, orders, turns)),
+        Err(error) => Err(error),
+    }
 }
 
-/// The plan that the bytes of a source define for a crew and so many turns, or the first refusal: line 1 is absent, too
-/// long, no configuration, one without an address, or one without whom the words name; or a later line is too long or one
-/// too many, is no command in its turn, or names who is not there. Want of memory may come in place of either.
-#[tactic(auto, unfolding(crate::specs::Plans::judge_plan))]
-pub fn read_plan(alloc: Global, crew: Crew, turns: u64, bytes: &[u8]) -> Result<Plan, PlanError>
-    ensures plan { Judges (λ p. p) (judge_plan crew turns bytes.now) result }
+/// Reads the plan that a source defines for a crew and so many turns, line by line. Reading ends at the first line that is
+/// refused: line 1 is absent, too long, no configuration, one without an address, or one without whom the words name; or
+/// a later line is too long or one too many, is no command in its turn, or names who is not there. `SourceFailed` comes
+/// only where the source's count of faults rose.
+pub fn read_plan<S: Source>(
+    alloc: Global,
+    crew: Crew,
+    turns: u64,
+    source: &mut S,
+) -> Result<Plan, PlanError>
+    ensures plan { Reads (λ p. p) (Defines crew turns (S.left source.old)) (S.left source.old) result (S.left source.new) }
     ensures runs { IfOk result IsPlan }
+    ensures cause { HasCauseOf PlanError.SourceFailed (S.faults source.old) (S.faults source.new) result }
 {
-    if bytes.is_empty() {
-        return Err(PlanError::Refused(Refusal::BadConfig(ConfigError::NotJson)));
+    let mut reader = match LineReader::new(alloc) {
+        Ok(reader) => reader,
+        Err(_) => return Err(PlanError::OutOfMemory),
+    };
+    match reader.next(source, MOST_FIRST_LINE) {
+        Err(_) => Err(PlanError::SourceFailed),
+        Ok(Taken::End) => Err(PlanError::Refused(Refusal::BadConfig(ConfigError::NotJson))),
+        Ok(Taken::TooLong) => Err(PlanError::Refused(Refusal::TooLarge(1))),
+        Ok(Taken::Line) => match config_for(alloc, crew, reader.line()) {
+            Ok(config) => plan_of(alloc, crew, turns, config, &mut reader, source),
+            Err(error) => Err(error),
+        },
     }
-    let (line, rest) = cut_line(bytes);
-    if line.len() > MOST_FIRST_LINE {
-        return Err(PlanError::Refused(Refusal::TooLarge(1)));
-    }
-    let config = config_for(alloc, crew, line)?;
-    plan_of(alloc, crew, turns, config, rest)
 }

@@ -1,19 +1,28 @@
-use Rattle.std.proofs.Common.{◌≡◌, List, [], Ok, ap, sym, subst, ◌∙◌}
+use Rattle.std.proofs.Common.{List, [], Ok, sym, subst, ◌∙◌}
+use Rattle.std.specs.Prelude.{Vec}
+use Rattle.std.specs.declared.alloc.Global.{Global}
+use Rattle.turn_rules.specs.declared.order.Order.{Order}
 use Rattle.edge_io.specs.declared.endpoint.Endpoint.{Endpoint}
-use Rattle.line_format.specs.Lines.{lines_of}
-use Rattle.turn_plans.specs.Plans.{judge_from}
-use Rattle.turn_plans.proofs.Planning.{planned}
+use Rattle.turn_plans.specs.Plans.{judge_from, plan_of}
+use Rattle.turn_plans.specs.Reading.{AreJudged}
+use Rattle.turn_plans.proofs.Planning.{planned, planned_error}
 use Rattle.turn_plans.proofs.Runs.{is_plan}
 use Rattle.turn_plans.proofs.read.plan_of.Goals as goal
-use Rattle.turn_rules.specs.Plans.{IsPlan}
+use Rattle.turn_rules.specs.Plans.{IsPlan, Plan}
 
-pub returns-clause-plan : goal.returns-clause-plan
-returns-clause-plan c =
-    let judged : judge_from c.args.crew c.args.config c.in_ok-actors.actors.items c.args.turns [] 1 2 (lines_of c.args.bytes.now) ≡ Ok c.in_ok-orders.orders.items =
-    subst (λ (es : List Endpoint). judge_from c.args.crew c.args.config es c.args.turns [] 1 2 (lines_of c.args.bytes.now) ≡ Ok c.in_ok-orders.orders.items) c.as_slice.ensures.value c.in_ok-orders.ensures.judged in
-    planned c.args.crew c.args.turns c.args.config (lines_of c.args.bytes.now) c.in_ok-actors.actors.items c.in_ok-orders.orders.items c.in_ok-actors.ensures judged ∙ ap Ok (sym c.new.ensures)
+pub returns-in-Ok-clause-plan : goal.returns-in-Ok-clause-plan
+returns-in-Ok-clause-plan g c =
+    let read = subst (λ (es : List Endpoint). AreJudged (judge_from c.args.crew c.args.config es c.args.turns [] 1 2) c.args.reader.now.waiting (g.S.Source.left c.args.source.now) (Ok c.in-Ok.orders.items)) c.as_slice.ensures.value c.in-Ok.ensures.read.0 in (
+      subst (λ (p : Plan). AreJudged (plan_of c.args.crew c.args.turns c.args.config) c.args.reader.now.waiting (g.S.Source.left c.args.source.now) (Ok p)) (sym c.new.ensures)
+          (planned c.args.crew c.args.turns c.args.config c.in_ok-actors.actors.items c.args.reader.now.waiting (g.S.Source.left c.args.source.now) (Ok c.in-Ok.orders.items) c.in_ok-actors.ensures read),
+      c.in-Ok.ensures.read.1,
+    )
 
-pub returns-clause-runs : goal.returns-clause-runs
-returns-clause-runs c =
+pub returns-in-Ok-clause-runs : goal.returns-in-Ok-clause-runs
+returns-in-Ok-clause-runs g c =
     subst IsPlan (sym c.new.ensures)
-    (is_plan c.args.crew c.args.config c.in_ok-actors.actors.items c.args.turns c.in_ok-orders.orders.items c.in_ok-actors.ensures c.requires.sound c.requires.crew c.in_ok-orders.ensures.fits)
+    (is_plan c.args.crew c.args.config c.in_ok-actors.actors.items c.args.turns c.in-Ok.orders.items c.in_ok-actors.ensures c.requires.sound c.requires.crew c.in-Ok.ensures.fits)
+
+pub returns-in-Err-clause-plan : goal.returns-in-Err-clause-plan
+returns-in-Err-clause-plan g c =
+    planned_error {B = Vec Order Global} (λ orders. orders.items) c.args.crew c.args.turns c.args.config c.as_slice.result.now c.args.reader.now.waiting (g.S.Source.left c.args.source.now) (g.S.Source.left c.take_lines.new.source) c.in-Err.error (c.as_slice.ensures.value ∙ c.in_ok-actors.ensures) c.in-Err.ensures.read
