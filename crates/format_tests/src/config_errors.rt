@@ -1,7 +1,8 @@
 //! What is answered to lines that are no configuration: mostly to the one line, changed in one place.
-use crate::configurations::LINE;
+use crate::configurations::{FULL_LINE, LINE};
 use fabric_config::{ConfigError, read_config};
 use std::alloc::{AllocError, Global};
+use std::process::Abort;
 use std::test::Fail;
 
 /// The one node of the line.
@@ -30,6 +31,25 @@ fn a_line_is_an_object(rt: HostRuntime) -> Result<(), Fail> {
         let words = answer(rt.alloc(), line.as_bytes())?;
         assert!(rt; words.as_str() == "not json", "{line}");
     }
+    Ok(())
+}
+
+/// Expects that a line without its end is no object, wherever it is cut before its last brace.
+fn expect_no_front(rt: &impl Abort, alloc: Global, line: &[u8], last: usize) -> Result<(), Fail> {
+    for end in 0..last.min(line.len()) {
+        let words = answer(alloc, &line[..end])?;
+        assert!(rt; words.as_str() == "not json", "at {end} bytes");
+    }
+    Ok(())
+}
+
+#[test]
+fn a_front_of_a_line_is_no_object(rt: HostRuntime) -> Result<(), Fail> {
+    let alloc = rt.alloc();
+    expect_no_front(&rt, alloc, LINE.as_bytes(), LINE.len())?;
+    let full = FULL_LINE.as_bytes();
+    expect_no_front(&rt, alloc, full, full.len().saturating_sub(1))?;
+    assert!(rt; answer_with(alloc, "\"first\":1}", "\"first\":1}}")?.as_str() == "not json");
     Ok(())
 }
 

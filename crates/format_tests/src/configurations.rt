@@ -6,7 +6,7 @@ pub(crate) const LINE: &str =
     r#"{"lease":3000,"answer":1000,"drift":10,"grain":1,"nodes":[{"node":1,"point":"0000000000000000"}],"arbiters":[{"arbiter":1},{"arbiter":2},{"arbiter":3}],"first":1}"#;
 
 /// A line in which each field stands, a field twice, and fields that are none.
-const FULL_LINE: &str =
+pub(crate) const FULL_LINE: &str =
     r#" {"first":999,"lease":1000000000,"lease":10,"answer":1000000000,"drift":100,"grain":1000000,"near":4,"rounds":8,"nodes":[{"node":999,"point":"fedcba9876543210","domain":64,"at":"a:1","longest":1000000000},{"at":"b:2","longest":10,"point":"00000000000000ff","node":2}],"arbiters":[{"arbiter":1,"at":"c:3"}],"note":{"lease":1}} "#;
 
 fn read(rt: &impl Abort, alloc: Global, line: &str) -> FabricConfig {

@@ -1,6 +1,7 @@
 use crate::pieces::repeated;
 use ring_points::Interval;
 use sched_text::{Command, Event, OutOfMemory, TickReadings, read_command, read_event, read_tick};
+use std::process::Abort;
 
 #[test]
 fn starts_and_stops(rt: HostRuntime) {
@@ -145,6 +146,53 @@ names 1|names 1 0000000000000001-0000000000000000|names 65536 0000000000000000-0
 fn bad_commands(rt: HostRuntime) {
     for words in BAD_COMMANDS.split('|') {
         assert!(rt; read_command(words.as_bytes()).is_err(), "{words}");
+    }
+}
+
+/// Lines, and at which lengths, from 1, a front of one is a line (+).
+const FRONTS: [(&str, &str); 22] = [
+    ("start 12 30", ".........++"),
+    ("start a1", ".......+"),
+    ("stop 999", ".....+++"),
+    ("tick 40 1:72 20:9", ".....++...++....+"),
+    ("fire 2", ".....+"),
+    ("give 120", ".....+++"),
+    ("junk 2 0af1", "........+.+"),
+    ("do 2 link 12", "..........++"),
+    ("do 2 link 12 for 1000", "..........++......+++"),
+    ("do 2 part 7", "..........+"),
+    ("do 2 give 7 near", "...............+"),
+    ("do 2 give 7 all", "..............+"),
+    ("do 2 join 7", "..........+"),
+    ("do 2 find 80000000000000af", ".........................+"),
+    ("do 2 create 10 7", "...............+"),
+    ("do 2 swap 65535 2", "................+"),
+    ("do 2 heal 0 7", "............+"),
+    ("do 2 lose 1 999", "............+++"),
+    ("do 2 write 1 x y", ".............+++"),
+    (
+        "do 2 units 0000000000000000-ffffffffffffffff",
+        "...........................................+",
+    ),
+    ("do 2 resolve 1 ab", "...............++"),
+    (
+        "do 2 names 1 a000000000000000-bfffffffffffffff",
+        ".............................................+",
+    ),
+];
+
+/// Expects which fronts of a line are lines.
+fn expect_fronts(rt: &impl Abort, line: &[u8], answers: &[u8]) {
+    for end in 0..line.len() {
+        let is_line = answers.get(end) == Some(&b'+');
+        assert_eq!(rt; read_event(&line[..=end]).is_ok(), is_line, "to {end}");
+    }
+}
+
+#[test]
+fn fronts_of_lines(rt: HostRuntime) {
+    for (line, answers) in &FRONTS {
+        expect_fronts(&rt, line.as_bytes(), answers.as_bytes());
     }
 }
 

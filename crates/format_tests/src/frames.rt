@@ -126,14 +126,24 @@ fn write_again(frame: &[u8], into: &mut [u8; FRAME_LIMIT]) -> usize {
     }
 }
 
-/// Whether a frame is read and written again, and with a byte less or more is none.
+/// Whether no front of these bytes is a frame.
+fn has_no_front(frame: &[u8]) -> bool {
+    for end in 0..frame.len() {
+        if is_frame(&frame[..end]) {
+            return false;
+        }
+    }
+    true
+}
+
+/// Whether a frame is read and written again, and is none where it is cut, or longer by a byte.
 fn is_kept(frame: &[u8]) -> bool {
     let mut bytes = [0; FRAME_LIMIT];
     let n = write_again(frame, &mut bytes);
     0 < n
         && n < FRAME_LIMIT
         && &bytes[..n] == frame
-        && !is_frame(&bytes[..n - 1])
+        && has_no_front(frame)
         && !is_frame(&bytes[..n + 1])
 }
 

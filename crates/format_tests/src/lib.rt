@@ -27,6 +27,8 @@ mod pieces;
 #[cfg(test)]
 mod places;
 #[cfg(test)]
+mod record_bytes;
+#[cfg(test)]
 mod records;
 #[cfg(test)]
 mod reports;

@@ -4,15 +4,15 @@ use ring_points::Epoch;
 use std::alloc::{AllocError, Global};
 use std::test::Fail;
 
-const BOOT_1: &[u8] = &[1, 0, 0, 0, 1];
+pub(crate) const BOOT_1: &[u8] = &[1, 0, 0, 0, 1];
 
-const BOOT_2: &[u8] = &[1, 0, 0, 0, 2];
+pub(crate) const BOOT_2: &[u8] = &[1, 0, 0, 0, 2];
 
 /// Partition 5 has promised 0.7.
-const PROMISED: &[u8] = &[6, 0, 5, 0, 0, 0, 0, 0, 0, 0, 7];
+pub(crate) const PROMISED: &[u8] = &[6, 0, 5, 0, 0, 0, 0, 0, 0, 0, 7];
 
 /// A list of records as a keeper gives it back.
-fn records(alloc: Global, list: &[&[u8]]) -> Result<Vec<Vec<u8>>, AllocError> {
+pub(crate) fn records(alloc: Global, list: &[&[u8]]) -> Result<Vec<Vec<u8>>, AllocError> {
     let mut records = Vec::new(alloc);
     for bytes in list {
         let mut record = Vec::new(alloc);
