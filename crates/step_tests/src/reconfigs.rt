@@ -1,0 +1,172 @@
+// Answers that end a reconfiguration: an arbitrator that keeps an epoch which is not below its own, and votes of which none
+// can get a majority.
+use fabric_terms::{Body, Message, Outbox};
+use reconfig_phases::{Progress, Reconfig, Step};
+use replica_place::NodeLoad;
+use ring_points::{Config, Epoch, Members, Who};
+use unit_rules::Kind;
+
+/// What an arbitrator answers to 1.1 about epoch 0.5 of partition 1.
+#[derive(Clone, Copy)]
+enum Answer {
+    Prepared,
+    /// It has prepared this configuration number.
+    NoPrepare(u32),
+    /// It voted for this node alone.
+    Voted(u16),
+}
+
+fn epoch(configuration: u32) -> Epoch {
+    Epoch {
+        data_loss: 0,
+        configuration,
+    }
+}
+
+fn alone(node: u16) -> Config {
+    let mut members = Members::new();
+    members.push(node);
+    Config {
+        partition: 1,
+        epoch: epoch(5),
+        primary: node,
+        members,
+    }
+}
+
+fn body(answer: Answer) -> Body {
+    match answer {
+        Answer::Prepared => Body::Prepared {
+            partition: 1,
+            epoch: epoch(5),
+            done: None,
+        },
+        Answer::NoPrepare(kept) => Body::NoPrepare {
+            partition: 1,
+            epoch: epoch(5),
+            kept: epoch(kept),
+        },
+        Answer::Voted(node) => Body::Voted {
+            partition: 1,
+            epoch: epoch(5),
+            kept: alone(node),
+        },
+    }
+}
+
+/// The one node that can take a replica.
+const NODES: [NodeLoad; 1] = [NodeLoad {
+    node: 1,
+    domain: 1,
+    up: true,
+    load: 0,
+}];
+
+/// The configuration number that ends the reconfiguration, if one does.
+fn answered(reconfig: &mut Reconfig, arbitrator: u16, answer: Answer) -> Option<u32> {
+    let message = Message {
+        from: Who {
+            actor: arbitrator,
+            instance: 0,
+        },
+        to: Who {
+            actor: 1,
+            instance: 1,
+        },
+        body: body(answer),
+    };
+    match reconfig.answer(&message, &NODES, &mut Outbox::new()) {
+        Progress::Superseded(kept) => Some(kept.configuration),
+        _ => None,
+    }
+}
+
+/// 1.1 creates partition 1 with one replica in epoch 0.5, by three arbitrators.
+fn begun() -> Reconfig {
+    let me = Who {
+        actor: 1,
+        instance: 1,
+    };
+    Reconfig::begin(1, epoch(5), Kind::Create(1), me, 3, &mut Outbox::new())
+}
+
+/// Which configuration number ends it after these answers, if one does.
+fn ended(answers: &[(u16, Answer)]) -> Option<u32> {
+    let mut reconfig = begun();
+    let mut last = None;
+    for (arbitrator, answer) in answers {
+        last = answered(&mut reconfig, *arbitrator, *answer);
+    }
+    last
+}
+
+/// The answers, each with its arbitrator, and the configuration number that ends the reconfiguration.
+type Row = (&'static [(u16, Answer)], Option<u32>);
+
+const ROWS: [Row; 6] = [
+    (&[(32769, Answer::NoPrepare(4))], None),
+    (&[(32769, Answer::NoPrepare(5))], Some(5)),
+    (&[(32769, Answer::NoPrepare(6))], Some(6)),
+    (
+        &[
+            (32769, Answer::Prepared),
+            (32770, Answer::Prepared),
+            (32769, Answer::Voted(1)),
+            (32770, Answer::Voted(2)),
+        ],
+        None,
+    ),
+    (
+        &[
+            (32769, Answer::Prepared),
+            (32770, Answer::Prepared),
+            (32769, Answer::Voted(1)),
+            (32770, Answer::Voted(2)),
+            (32770, Answer::Voted(3)),
+        ],
+        None,
+    ),
+    (
+        &[
+            (32769, Answer::Prepared),
+            (32770, Answer::Prepared),
+            (32769, Answer::Voted(1)),
+            (32770, Answer::Voted(2)),
+            (32771, Answer::Voted(3)),
+        ],
+        Some(5),
+    ),
+];
+
+#[test]
+fn a_greater_epoch_or_split_votes_end_it(rt: HostRuntime) {
+    for (row, (answers, wanted)) in ROWS.iter().enumerate() {
+        assert_eq!(rt; ended(answers), *wanted, "in row {row}, from 0");
+    }
+}
+
+/// The same answer to a reconfiguration that is taken by value.
+#[test]
+fn the_own_epoch_supersedes(rt: HostRuntime) {
+    let kept = Message {
+        from: Who {
+            actor: 32769,
+            instance: 0,
+        },
+        to: Who {
+            actor: 1,
+            instance: 1,
+        },
+        body: body(Answer::NoPrepare(5)),
+    };
+    let step = begun().on(&kept, &NODES, &mut Outbox::new());
+    assert!(rt;
+        matches!(
+            step,
+            Step::Superseded(Epoch {
+                data_loss: 0,
+                configuration: 5
+            })
+        )
+    );
+}
