@@ -4,7 +4,8 @@
 //!
 //! What is written is proved to be the run that the rules define; here that run is compared with lines, records and
 //! datagrams that were written down by hand, each refusal is met once, and runs that a device ended are followed by another
-//! on the same records. The crate has no code of its own.
+//! on the same records. The schedules of `worlds` are longer: another program of the same rules computed their texts. The
+//! crate has no code of its own.
 #![tactic(auto)]
 
 #[cfg(test)]
@@ -17,6 +18,8 @@ mod calls;
 mod cluster;
 #[cfg(test)]
 mod devices;
+#[cfg(test)]
+mod full;
 #[cfg(test)]
 mod generated;
 #[cfg(test)]
@@ -41,5 +44,7 @@ mod streams;
 mod take_overs;
 #[cfg(test)]
 mod turns;
+#[cfg(test)]
+mod worlds;
 #[cfg(test)]
 mod writes;

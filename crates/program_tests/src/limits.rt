@@ -1,4 +1,4 @@
-use crate::calls::text_of;
+use crate::calls::{text_of, written};
 use crate::schedules::{ONE, expect_text};
 use std::alloc::Global;
 use std::test::Fail;
@@ -53,6 +53,22 @@ fn another_line_has_4096_bytes_at_most(rt: HostRuntime) -> Result<(), Fail> {
         let mut text = text_of(alloc, &[&[ONE]])?;
         push_line(&mut text, byte, length)?;
         expect_text(&rt, alloc, text, code, &[&[written]])?;
+    }
+    Ok(())
+}
+
+#[test]
+fn a_line_of_a_transcript_has_65536_bytes_at_most(rt: HostRuntime) -> Result<(), Fail> {
+    let alloc = rt.alloc();
+    for (length, code, wanted) in [
+        (65_536, 0, b"safe 0\n".as_slice()),
+        (65_537, 9, b"fault large 1\n".as_slice()),
+    ] {
+        let mut text = Vec::new(alloc);
+        push_line(&mut text, b'#', length)?;
+        written(alloc, &["audit"], text, Vec::new(alloc), Vec::new(alloc))?.expect(
+            &rt, code, wanted,
+        );
     }
     Ok(())
 }

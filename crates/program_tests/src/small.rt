@@ -2,7 +2,7 @@ use crate::schedules::{DUO, ONE, expect_replay};
 use std::test::Fail;
 
 /// The first line, the lines behind it, the exit status, and what is written.
-const SCHEDULES: [(&str, &str, u8, &str); 19] = [
+const SCHEDULES: [(&str, &str, u8, &str); 21] = [
     (
         ONE,
         "",
@@ -86,6 +86,18 @@ const SCHEDULES: [(&str, &str, u8, &str); 19] = [
     (ONE, "start 1000 0", 6, "fault line 2"),
     (ONE, "tick 1000000000000000\ntick 1", 9, "fault large 3"),
     ("{\"first\":1", "", 5, "fault config not json"),
+    (
+        "{\"lease\":3000,\"answer\":1000,\"drift\":10,\"grain\":1,\"nodes\":[{\"node\":1,\"point\":\"0000000000000000\"}],\"arbiters\":[{\"arbiter\":1},{\"arbiter\":2},{\"arbiter\":3}],\"first\":",
+        "start 1 0",
+        5,
+        "fault config not json",
+    ),
+    (
+        "{\"lease\":3000,\"answer\":1000,\"drift\":10,\"grain\":1,\"nodes\":[{\"node\":1,\"point\":\"0000000000000000\"}],\"arbiters\":[{\"arbiter\":1},{\"arbiter\":2},{\"arbiter\":3}],\"first\":1,\"note\":[{\"a\":[1]},[]]}",
+        "start 1 0",
+        0,
+        "2 0 1.1 0 own 0000000000000000-ffffffffffffffff -\nend 1 0",
+    ),
     (
         "{\"lease\":3000,\"answer\":1000,\"drift\":200,\"grain\":1,\"nodes\":[{\"node\":1,\"point\":\"0000000000000000\"}],\"arbiters\":[{\"arbiter\":1},{\"arbiter\":2},{\"arbiter\":3}],\"first\":1}",
         "",

@@ -1,5 +1,9 @@
 mod configs;
+mod cuts;
+mod datagrams;
+mod ends;
 mod faults;
+mod forged;
 mod memory;
 mod replicas;
 mod rows;

@@ -1,50 +1,28 @@
 use crate::turns::configs::{ACCUSE, ACCUSED_BY, BOOT, DUO, HELLO, ONE};
 use crate::turns::memory::{Call, Failing, NONE, expect_kept, keeper};
+use edge_io::MemKeeper;
 use std::alloc::Global;
 use std::process::Abort;
 use std::test::Fail;
 
-/// A failing call of the sink.
-fn sink(call: u64) -> Failing {
-    Failing {
-        sink: call,
-        links: 0,
-        keeper: 0,
-    }
-}
-
-/// A failing call of the links.
-fn links(call: u64) -> Failing {
-    Failing {
-        sink: 0,
-        links: call,
-        keeper: 0,
-    }
-}
-
-/// A failing call of the keeper.
-fn keeping(call: u64) -> Failing {
-    Failing {
-        sink: 0,
-        links: 0,
-        keeper: call,
-    }
-}
-
-/// A call of the sink, of the links or of the keeper.
+/// A device whose calls may fail.
 #[derive(Clone, Copy)]
 enum Device {
+    Source,
     Sink,
     Links,
     Keeper,
 }
 
 fn failing_at(device: Device, call: u64) -> Failing {
+    let mut failing = NONE;
     match device {
-        Device::Sink => sink(call),
-        Device::Links => links(call),
-        Device::Keeper => keeping(call),
+        Device::Source => failing.source = call,
+        Device::Sink => failing.sink = call,
+        Device::Links => failing.links = call,
+        Device::Keeper => failing.keeper = call,
     }
+    failing
 }
 
 const WHOLE: &str = "0 - 1.1 0 own 0000000000000000-ffffffffffffffff -";
@@ -61,7 +39,9 @@ const NODE: Call = Call {
 /// its record where the call's number is even.
 type NodeFault = (Device, u64, u8, &'static [&'static str], usize);
 
-const NODE_FAULTS: [NodeFault; 6] = [
+const NODE_FAULTS: [NodeFault; 8] = [
+    (Device::Source, 1, 3, &["fault read"], 0),
+    (Device::Source, 2, 3, &["fault read"], 0),
     (Device::Keeper, 1, 10, &["fault keep"], 0),
     (Device::Keeper, 2, 10, &["fault keep"], 1),
     (Device::Links, 1, 11, &["fault link"], 0),
@@ -107,7 +87,8 @@ const ARBITER: Call = Call {
 /// The same of an arbitrator, and how many answers are sent.
 type ArbiterFault = (Device, u64, u8, &'static [&'static str], usize, usize);
 
-const ARBITER_FAULTS: [ArbiterFault; 7] = [
+const ARBITER_FAULTS: [ArbiterFault; 8] = [
+    (Device::Source, 1, 3, &["fault read"], 0, 0),
     (Device::Keeper, 1, 10, &["fault keep"], 0, 0),
     (Device::Keeper, 2, 10, &["fault keep"], 1, 0),
     (Device::Links, 1, 11, &["fault link"], 0, 0),
@@ -158,6 +139,39 @@ const REST: Call = Call {
     readings: &[0],
 };
 
+/// What node 2 tells at its next start, where so many of its starts are kept.
+fn next_nothing(kept: usize) -> &'static str {
+    if kept == 0 {
+        NOTHING
+    } else {
+        "0 - 2.2 0 own - -"
+    }
+}
+
+/// Calls the cluster again on the same records, where so many starts of each node are kept.
+fn expect_rest(
+    rt: &impl Abort,
+    alloc: Global,
+    keeps: &mut MemKeeper,
+    first: usize,
+    second: usize,
+) -> Result<(), Fail> {
+    let wanted = [next_own(first), next_nothing(second), "end 1"];
+    REST.expect(rt, alloc, keeps, NONE, (0, &wanted, 0))
+}
+
+#[test]
+fn a_cluster_whose_source_fails_does_nothing(rt: HostRuntime) -> Result<(), Fail> {
+    for call in 1..3 {
+        let mut keeps = keeper(rt.alloc(), NONE)?;
+        let failing = failing_at(Device::Source, call);
+        let wanted: &[&str] = &["fault read"];
+        CLUSTER.expect(&rt, rt.alloc(), &mut keeps, failing, (3, wanted, 0))?;
+        expect_rest(&rt, rt.alloc(), &mut keeps, 0, 0)?;
+    }
+    Ok(())
+}
+
 /// What a cluster of two writes at each call of its keeper, and how many records its nodes have then: five lists are read,
 /// then each node starts.
 type KeeperFault = (u64, &'static [&'static str], usize, usize);
@@ -177,13 +191,12 @@ fn boots(kept: usize) -> &'static [&'static [u8]] {
 }
 
 fn expect_at_keeper(rt: &impl Abort, alloc: Global, fault: &KeeperFault) -> Result<(), Fail> {
-    let failing = keeping(fault.0);
+    let failing = failing_at(Device::Keeper, fault.0);
     let mut keeps = keeper(alloc, failing)?;
     CLUSTER.expect(rt, alloc, &mut keeps, failing, (10, fault.1, 0))?;
     expect_kept(rt, &mut keeps, 1, boots(fault.2))?;
     expect_kept(rt, &mut keeps, 2, boots(fault.3))?;
-    let wanted = [next_own(fault.2), NOTHING, "end 1"];
-    REST.expect(rt, alloc, &mut keeps, NONE, (0, &wanted, 0))
+    expect_rest(rt, alloc, &mut keeps, fault.2, fault.3)
 }
 
 #[test]
@@ -219,8 +232,10 @@ const LINK_FAULTS: [(u64, bool, usize); 16] = [
 fn expect_not_opened(rt: &impl Abort, alloc: Global, call: u64) -> Result<(), Fail> {
     let mut keeps = keeper(alloc, NONE)?;
     let wanted: &[&str] = &["fault link"];
-    CLUSTER.expect(rt, alloc, &mut keeps, links(call), (11, wanted, 0))?;
-    expect_kept(rt, &mut keeps, 1, &[])
+    let failing = failing_at(Device::Links, call);
+    CLUSTER.expect(rt, alloc, &mut keeps, failing, (11, wanted, 0))?;
+    expect_kept(rt, &mut keeps, 1, &[])?;
+    expect_rest(rt, alloc, &mut keeps, 0, 0)
 }
 
 fn expect_at_links(
@@ -236,8 +251,10 @@ fn expect_at_links(
     } else {
         &[WHOLE, NOTHING, "end 2"]
     };
-    CLUSTER.expect(rt, alloc, &mut keeps, links(call), (0, text, sent))?;
-    expect_kept(rt, &mut keeps, 2, &[BOOT])
+    let failing = failing_at(Device::Links, call);
+    CLUSTER.expect(rt, alloc, &mut keeps, failing, (0, text, sent))?;
+    expect_kept(rt, &mut keeps, 2, &[BOOT])?;
+    expect_rest(rt, alloc, &mut keeps, 1, 1)
 }
 
 #[test]
@@ -264,10 +281,11 @@ const SINK_FAULTS: [SinkFault; 4] = [
 
 fn expect_at_sink(rt: &impl Abort, alloc: Global, fault: &SinkFault) -> Result<(), Fail> {
     let mut keeps = keeper(alloc, NONE)?;
-    let failing = sink(fault.0);
+    let failing = failing_at(Device::Sink, fault.0);
     CLUSTER.expect(rt, alloc, &mut keeps, failing, (4, fault.1, fault.3))?;
     expect_kept(rt, &mut keeps, 1, &[BOOT])?;
-    expect_kept(rt, &mut keeps, 2, boots(fault.2))
+    expect_kept(rt, &mut keeps, 2, boots(fault.2))?;
+    expect_rest(rt, alloc, &mut keeps, 1, fault.2)
 }
 
 #[test]

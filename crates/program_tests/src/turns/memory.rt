@@ -13,6 +13,7 @@ pub(crate) type Arrival = (u16, Option<&'static [u8]>);
 /// Which call of which device fails, counted from 1; 0 is none.
 #[derive(Clone, Copy)]
 pub(crate) struct Failing {
+    pub(crate) source: u64,
     pub(crate) sink: u64,
     pub(crate) links: u64,
     pub(crate) keeper: u64,
@@ -20,6 +21,7 @@ pub(crate) struct Failing {
 
 /// No call fails.
 pub(crate) const NONE: Failing = Failing {
+    source: 0,
     sink: 0,
     links: 0,
     keeper: 0,
@@ -50,8 +52,9 @@ fn arriving(alloc: Global, arrivals: &[Arrival]) -> Result<Vec<(u16, Option<Vec<
     Ok(all)
 }
 
-fn source_of(alloc: Global, lines: &[&str]) -> Result<MemSource, Fail> {
-    Ok(MemSource::new(text_of(alloc, &[lines])?, Vec::new(alloc)))
+fn source_of(alloc: Global, lines: &[&str], failing: u64) -> Result<MemSource, Fail> {
+    let failing = calls(alloc, failing)?;
+    Ok(MemSource::new(text_of(alloc, &[lines])?, failing))
 }
 
 fn clock_of(alloc: Global, readings: &[u64]) -> Result<MemClock, Fail> {
@@ -65,6 +68,15 @@ fn sink_of(alloc: Global, failing: u64) -> Result<MemSink, Fail> {
 fn links_of(alloc: Global, arrivals: &[Arrival], failing: u64) -> Result<MemLinks, Fail> {
     let failing = calls(alloc, failing)?;
     Ok(MemLinks::new(alloc, arriving(alloc, arrivals)?, failing))
+}
+
+/// Links at which these datagrams arrive at node 1.
+fn links_to_one(alloc: Global, datagrams: Vec<Vec<u8>>) -> Result<MemLinks, Fail> {
+    let mut all = Vec::new(alloc);
+    for datagram in datagrams {
+        all.push((1, Some(datagram)))?;
+    }
+    Ok(MemLinks::new(alloc, all, Vec::new(alloc)))
 }
 
 /// A call of the program: its words, the lines of its source, what arrives, and what its clock reads.
@@ -104,16 +116,17 @@ impl Call<'_> {
         })
     }
 
-    /// The status of a call over these records, this sink and these links.
+    /// The status of a call over these records, this sink and these links. The read of this number fails.
     fn status(
         &self,
         alloc: Global,
+        read: u64,
         keeps: &mut MemKeeper,
         sink: &mut MemSink,
         links: &mut MemLinks,
     ) -> Result<Status, Fail> {
         let words = words_of(alloc, self.words)?;
-        let mut source = source_of(alloc, self.lines)?;
+        let mut source = source_of(alloc, self.lines, read)?;
         let mut clock = clock_of(alloc, self.readings)?;
         Ok(fabric_main(alloc, &words, &mut source, sink, links, keeps, &mut clock))
     }
@@ -127,7 +140,13 @@ impl Call<'_> {
     ) -> Result<Left, Fail> {
         let mut left = self.unused(alloc, failing)?;
         left.code = self
-            .status(alloc, keeps, &mut left.sink, &mut left.links)?
+            .status(
+                alloc,
+                failing.source,
+                keeps,
+                &mut left.sink,
+                &mut left.links,
+            )?
             .code();
         Ok(left)
     }
@@ -146,6 +165,28 @@ impl Call<'_> {
         left.expect(rt, wanted.0, text.as_slice(), wanted.2);
         Ok(())
     }
+}
+
+/// Calls the program over these records. These datagrams arrive at node 1, and every reading is 0.
+pub(crate) fn run_with(
+    alloc: Global,
+    keeps: &mut MemKeeper,
+    words: &[&str],
+    lines: &[&str],
+    datagrams: Vec<Vec<u8>>,
+) -> Result<Left, Fail> {
+    let call = Call {
+        words,
+        lines,
+        arrivals: &[],
+        readings: &[0],
+    };
+    let mut left = call.unused(alloc, NONE)?;
+    left.links = links_to_one(alloc, datagrams)?;
+    left.code = call
+        .status(alloc, 0, keeps, &mut left.sink, &mut left.links)?
+        .code();
+    Ok(left)
 }
 
 /// Expects the records of an actor. The reading is one more call of the keeper.

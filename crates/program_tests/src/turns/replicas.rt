@@ -1,17 +1,11 @@
 // A node that begins with the replica that its records amount to.
 
-use crate::turns::configs::{BOOT, DUO};
+use crate::turns::configs::{ADOPTED, BOOT, BOOT_AGAIN, DUO, PROMISED};
 use crate::turns::memory::{Call, NONE, expect_kept};
 use crate::turns::rows::expect_datagram;
 use edge_io::MemKeeper;
 use std::alloc::Global;
 use std::test::Fail;
-
-/// Partition 1 was promised epoch 0.1.
-const PROMISED: &[u8] = b"\x06\x00\x01\x00\x00\x00\x00\x00\x00\x00\x01";
-
-/// Its log became that of 0.1: an empty one.
-const ADOPTED: &[u8] = b"\x09\x00\x01\x00\x00\x00\x00\x00\x00\x00\x01\x00\x00\x00\x00\x00";
 
 /// Its first entry is `set a 7`.
 const WROTE: &[u8] = b"\x07\x00\x01\x00\x00\x00\x00\x00\x00\x00\x01\x00\x00\x00\x01\x00\x07set a 7";
@@ -19,9 +13,6 @@ const WROTE: &[u8] = b"\x07\x00\x01\x00\x00\x00\x00\x00\x00\x00\x01\x00\x00\x00\
 /// And its second one `set b 8`.
 const WROTE_NEXT: &[u8] =
     b"\x07\x00\x01\x00\x00\x00\x00\x00\x00\x00\x01\x00\x00\x00\x02\x00\x07set b 8";
-
-/// The record of a node's second start.
-const BOOT_AGAIN: &[u8] = b"\x01\x00\x00\x00\x02";
 
 /// 2.1 tells whichever instance of node 1 runs that it alone has partition 1 in 0.1.
 const ACTIVATE: &[u8] =

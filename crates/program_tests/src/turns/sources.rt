@@ -66,3 +66,33 @@ fn sources_are_refused(rt: HostRuntime) -> Result<(), Fail> {
     }
     Ok(())
 }
+
+/// A comment of this length.
+fn comment(alloc: Global, length: usize) -> Result<String, Fail> {
+    let mut text = String::new(alloc);
+    for _ in 0..length {
+        text.push_str("#")?;
+    }
+    Ok(text)
+}
+
+fn expect_large(rt: &impl Abort, alloc: Global, lines: &[&str], wanted: &str) -> Result<(), Fail> {
+    let long = Call {
+        words: &["node", "1", "1"],
+        lines,
+        arrivals: &[],
+        readings: &[0],
+    };
+    let mut keeps = keeper(alloc, NONE)?;
+    long.expect(rt, alloc, &mut keeps, NONE, (9, &[wanted], 0))?;
+    expect_kept(rt, &mut keeps, 1, &[])
+}
+
+#[test]
+fn a_line_that_is_too_long_is_refused(rt: HostRuntime) -> Result<(), Fail> {
+    let alloc = rt.alloc();
+    let first = comment(alloc, 65_537)?;
+    expect_large(&rt, alloc, &[first.as_str()], "fault large 1")?;
+    let second = comment(alloc, 4_097)?;
+    expect_large(&rt, alloc, &[DUO, second.as_str()], "fault large 2")
+}
