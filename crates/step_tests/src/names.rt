@@ -37,7 +37,7 @@ fn apply(
         lsn: 1,
         bytes: EntryBytes::from_slice(alloc, text)?,
     };
-    names.apply(alloc, &entry)
+    names.apply(&entry)
 }
 
 /// The names that these entries leave.
@@ -98,7 +98,7 @@ const THREE: &[&[u8]] = &[b"set a 7", b"set b 8", b"set c 9", b"set d 0", b"del 
 fn listed(rt: &impl Abort, alloc: Global, range: &Interval) -> Result<Vec<u8>, Fail> {
     let names = after(rt, alloc, THREE)?;
     let mut all = Vec::new(alloc);
-    for name in &names.select(alloc, range)? {
+    for name in &names.select(range)? {
         all.extend_from_slice(name.as_slice())?;
         all.push(b',')?;
     }
