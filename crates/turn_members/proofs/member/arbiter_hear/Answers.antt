@@ -12,7 +12,7 @@ returns-in_err-answer-clause-full c =
     let p = err_from_is_err_and c.from_residual-in_err-answer.result c.from_residual-in_err-answer.ensures.1 in
     λ is c' last.
     let same : c.in_err-answer.field-0.0 ≡ TableFull = cc (is, p.1, p.2) in
-    full_step c' c.args.turn last c.args.message.now c.args.arbiter.now c.in_err-answer.field-0.0 c.args.arbiter.now (c.in_err-answer.ensures.1 (λ short. cc))
+    full_step c' c.args.turn last c.args.message.now c.args.arbiter.now c.in_err-answer.field-0.0 c.args.arbiter.now (c.in_err-answer.ensures.answers.1 (λ short. cc))
 
 pub returns-clause-does : goal.returns-clause-does
 returns-clause-does c = λ c' last.

@@ -4,7 +4,7 @@ use Rattle.ring_world.proofs.seat.Seat.hear.Goals as goal
 pub unreachable-requires : goal.unreachable-requires
 unreachable-requires c =
     let e = c.in-Err-TableFull.field-0-is in
-    let h = c.in-Err-TableFull.ensures.1 (λ z. absurd (cc (z, e))) in
+    let h = c.in-Err-TableFull.ensures.answers.1 (λ z. absurd (cc (z, e))) in
     not_full c.args.message.now c.args.self.now.arbiter c.args.self.now.arbiter c.in-Err-TableFull.field-0 c.requires.rise c.requires.few h
 
 pub returns-in-Ok-Nothing-clause-hears : goal.returns-in-Ok-Nothing-clause-hears
