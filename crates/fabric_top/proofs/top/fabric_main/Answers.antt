@@ -17,7 +17,7 @@ returns-in-Err-clause-safe g c bytes e = accepted_is_safe bytes
 pub returns-in-Ok-None-clause-does : goal.returns-in-Ok-None-clause-does
 returns-in-Ok-None-clause-does g c =
     let loans : Loans = record { sink = c.args.sink.ghost_name; links = c.args.links.ghost_name; keeps = c.args.keeps.ghost_name; clock = c.args.clock.ghost_name } in
-    let none : form_of (map string_bytes c.args.words.now) ≡ None = sym c.in-Ok.ensures.form ∙ c.in-None.is in
+    let none : form_of (map string_bytes c.args.words.now) ≡ None = sym c.in-Ok-None.ensures.form ∙ c.in-Ok-None.field-0-is in
     (loans, rw none (record { written = c.usage.ensures; rest = refl }))
 
 pub returns-in-Err-clause-does : goal.returns-in-Err-clause-does
