@@ -4,6 +4,7 @@ use Rattle.std.specs.Prelude.{◌==◌, ◌||◌}
 use Rattle.std.specs.List.{list_any}
 use Rattle.std.proofs.lemmas.Bool.{cases_Bool, eq-eqb, ltb-false, ltb-true}
 use Rattle.std.proofs.lemmas.List.Folds.{list_any-append}
+use Rattle.edge_io.specs.Arrivals.{IsListening}
 use Rattle.edge_io.specs.declared.endpoint.Endpoint.{Endpoint}
 use Rattle.part_tests.specs.Listeners.{AllListen}
 
@@ -23,3 +24,10 @@ one_more count opened at all actor lower =
           list_any-append test opened last ∙ ap (λ (b : Bool). list_any test opened || (b || false)) (eq-eqb count actor same) ∙ or_true (list_any test opened)
           )
     ]
+
+-- who was opened last listens
+pub last_listens : (opened : List Endpoint) (actor : ℕ) (at : List ℕ) → IsListening actor (opened ++ record { actor = actor; at = at } ∷ [])
+last_listens opened actor at =
+    let test : Endpoint → Bool = λ e. e.actor == actor in
+    let last : List Endpoint = record { actor = actor; at = at } ∷ [] in
+    list_any-append test opened last ∙ ap (λ (b : Bool). list_any test opened || (b || false)) (eq-eqb actor actor refl) ∙ or_true (list_any test opened)

@@ -170,7 +170,7 @@ fn a_file_that_cannot_be_read_is_not_taken_for_none(rt: HostRuntime) -> Result<(
 }
 
 /// Of three records that are appended the second fails alone.
-fn the_second_fails(rt: &impl Abort, alloc: Global, disk: &Disk<'_>) {
+fn the_second_fails<R: LockFiles>(rt: &impl Abort, alloc: Global, disk: &R) {
     let mut keeper = FolderKeeper::new(disk, alloc);
     for (record, want) in [
         (b"one".as_slice(), Ok(())),

@@ -3,8 +3,11 @@ use crate::folders::{add, enter_folder, file_is, keep, remove_folder};
 use crate::notes::Notes;
 use crate::records::kept_are;
 use edge_io::{EdgeRefusal, Keeper};
-use fabric_edge::FolderKeeper;
+use fabric_edge::{FolderKeeper, LockFiles};
+use std::alloc::Global;
 use std::cell::Cell;
+use std::process::Abort;
+use std::rt::Files;
 use std::test::Fail;
 
 #[test]
@@ -56,7 +59,24 @@ fn a_file_that_was_missing_may_have_no_record_at_the_first_append(
     remove_folder(&rt)
 }
 
-// Before the first record is appended, the file, the name of the file and that of its folder are synced.
+/// Before the first record is appended, the file, the name of the file and that of its folder are synced.
+fn syncs_in_order<R: LockFiles>(rt: &(impl Files + Abort), alloc: Global, notes: &Notes, disk: &R) {
+    let [file, folder, above] = ["sync kept/1", "sync kept", "sync ."];
+    let [write, data] = ["write kept/1", "sync the data of kept/1"];
+    let mut keeper = FolderKeeper::new(disk, alloc);
+    assert_eq!(rt; keeper.append_synced(1, b"one"), Ok(()));
+    notes.are(rt, &["lock kept/1", file, folder, above, write, data]);
+    assert_eq!(rt; keeper.append_synced(1, b"two"), Ok(()));
+    notes.are(rt, &[write, data]);
+    drop(keeper);
+    add(rt, "kept/1", b"\0\x05t");
+    let mut keeper = FolderKeeper::new(disk, alloc);
+    kept_are(rt, alloc, &mut keeper, 1, Some(b"one;two;"));
+    notes.are(rt, &["lock kept/1"]);
+    assert_eq!(rt; keeper.append_synced(1, b"three"), Ok(()));
+    notes.are(rt, &["cut kept/1", file, folder, above, write, data]);
+}
+
 #[test]
 fn a_file_is_synced_and_then_its_folders(rt: HostRuntime) -> Result<(), Fail> {
     enter_folder(&rt)?;
@@ -66,19 +86,6 @@ fn a_file_is_synced_and_then_its_folders(rt: HostRuntime) -> Result<(), Fail> {
         notes: &notes,
         breaks: Cell::new(None),
     };
-    let [file, folder, above] = ["sync kept/1", "sync kept", "sync ."];
-    let [write, data] = ["write kept/1", "sync the data of kept/1"];
-    let mut keeper = FolderKeeper::new(&disk, rt.alloc());
-    assert_eq!(rt; keeper.append_synced(1, b"one"), Ok(()));
-    notes.are(&rt, &["lock kept/1", file, folder, above, write, data]);
-    assert_eq!(rt; keeper.append_synced(1, b"two"), Ok(()));
-    notes.are(&rt, &[write, data]);
-    drop(keeper);
-    add(&rt, "kept/1", b"\0\x05t");
-    let mut keeper = FolderKeeper::new(&disk, rt.alloc());
-    kept_are(&rt, rt.alloc(), &mut keeper, 1, Some(b"one;two;"));
-    notes.are(&rt, &["lock kept/1"]);
-    assert_eq!(rt; keeper.append_synced(1, b"three"), Ok(()));
-    notes.are(&rt, &["cut kept/1", file, folder, above, write, data]);
+    syncs_in_order(&rt, rt.alloc(), &notes, &disk);
     remove_folder(&rt)
 }

@@ -6,6 +6,7 @@ use crate::notes::Notes;
 use crate::sockets::{FRAME, free_address, listening, other_socket};
 use edge_io::{EdgeRefusal, Failed, Links};
 use fabric_edge::UdpLinks;
+use std::process::Abort;
 use std::test::Fail;
 
 #[test]
@@ -48,6 +49,14 @@ fn refused(
     (sent, links.receive(2, &mut [0; 1500]))
 }
 
+/// Opens the endpoint of the actor beside those that listen.
+#[tactic(auto, using(crate::proofs::Listening::last_listens))]
+fn listen_too(rt: &impl Abort, links: &mut UdpLinks<'_, Loopback<'_>>, actor: u16, at: &str)
+    ensures { IsListening actor links.new.opened }
+{
+    assert_eq!(rt; links.listen(actor, at), Ok(()));
+}
+
 // The machine answers a frame to nobody by an error, which the socket's next call gives.
 #[test]
 fn a_receive_that_fails_is_said_once_until_a_datagram_comes(rt: HostRuntime) -> Result<(), Fail> {
@@ -59,7 +68,7 @@ fn a_receive_that_fails_is_said_once_until_a_datagram_comes(rt: HostRuntime) -> 
         peer: there.parse().ok(),
     };
     let mut links = listening(&rt, &machine, 1, &first);
-    assert_eq!(rt; links.listen(2, &here), Ok(()));
+    listen_too(&rt, &mut links, 2, &here);
     let fails = format!(in rt.alloc(); "fabric: receiving at {here} fails: ")?;
     assert_eq!(rt; refused(&mut links, &there), (Ok(()), Err(Failed)));
     notes.begin(&rt, 1, &fails);
