@@ -27,9 +27,9 @@ AtEachMoment Holds (Some c) h = (ago : ℕ) → Holds c (drop ago h)
 
 -- The run of the events that are accepted is safe.
 pub record IsSafe (j : Judged) : Type 0 where
-  -- The ring: at no moment do two instances hold one point, who is told to be taken over holds nothing from then on, and
-  -- points stay where they are told to be. No majorities of arbitrators answer two instances about each other, and they
-  -- keep one heir at most of each.
+  -- The ring: at no moment do two instances hold one point. An instance that is reported as taken over holds nothing from
+  -- then on, and points stay where the reports put them. No two majorities of arbitrators answer two instances about each
+  -- other, and they keep at most one heir of each.
   pub ring : RingSafe (accepted_run j)
   pub taken : TakenAfterLeave (accepted_run j)
   pub places : KeepsPlaces j.config (accepted_run j)
