@@ -3,10 +3,11 @@ ghost use Rattle.fabric_lemmas.specs.Maps.{rises};
 ghost use Rattle.ring_rules.specs.Arbiters.{first_accuser, no_table, takes_frame};
 ghost use Rattle.keep_log.specs.Places.{is_new, is_once};
 ghost use Rattle.arbiter_tables.specs.Registers.{are_placed, is_placed};
-ghost use Rattle.arbiter_core.specs.Arbiters.{Answers, Gives, entries, frame_call, fresh, most_entries, remember_call, restore_call};
+ghost use Rattle.arbiter_core.specs.Arbiters.{Answers, Gives, entries, frame_call, fresh, most_entries, remember_call};
+ghost use Rattle.arbiter_core.specs.Arbiters.{restore_call};
 ghost use Rattle.arbiter_core.specs.Memory.{KeepsIfShort};
 
-mod keeps;
+mod recording;
 mod questions;
 mod rulings;
 
@@ -19,7 +20,7 @@ use std::marker::Model;
 
 /// How many entries an arbitrator can keep: the accused instances, the claimers of later rounds, the prepared epochs,
 /// the votes, and the done configurations.
-pub const MOST_ENTRIES: usize = 1_000_000;
+pub const MAX_ARBITER_ENTRIES: usize = 1_000_000;
 
 /// An arbitrator: each accused instance with its first accuser, each later round about one with its first claimer, and
 /// the register of each partition. Contracts see the first two in the order in which they were kept.
@@ -68,7 +69,7 @@ impl Arbiter {
         ensures full { result ≡ nat_le most_entries (entries self.now) }
         ensures rises { rises self.now.registers ≡ true }
     {
-        self.table.entries() + self.registers.entries() >= MOST_ENTRIES
+        self.table.entries() + self.registers.entries() >= MAX_ARBITER_ENTRIES
     }
 
     /// Keeps what a record says.
@@ -128,9 +129,9 @@ impl Arbiter {
             && message.from.actor <= ARBITRATORS
     }
 
-    /// Answers an accusation, a claim or a question about a partition that a node sent to this arbitrator; a claim about a
-    /// victim that nobody has accused here and every other message change nothing and get no answer. `TableFull` comes
-    /// exactly where the 1,000,001st entry would be made.
+    /// Answers an accusation, a claim or a question about a partition that a node sent to this arbitrator; a claim
+    /// about a victim that nobody has accused here and every other message change nothing and get no answer.
+    /// `TableFull` comes exactly where the 1,000,001st entry would be made.
     pub fn on_frame(&mut self, message: &Message) -> Result<Answer, ArbiterError>
         ensures answers { Answers (frame_call message.now self.old) self.old self.new result }
         ensures memory { KeepsIfShort (frame_call message.now self.old) result }

@@ -3,8 +3,8 @@ ghost use Rattle.fabric_terms.specs.declared.record.Record.{Record};
 ghost use Rattle.ring_rules.specs.Arbiters.{Table};
 ghost use Rattle.arbiter_core.specs.Laws.{KeptForGood, RecordingOnce, RulingAgain, SettledAgain};
 
-/// What is recorded of an accusation is the first record of its victim, and what is recorded of a claim the first of its
-/// round, about an accused victim.
+/// What is recorded of an accusation is the first record of its victim, and what is recorded of a claim the first of
+/// its round, about an accused victim.
 pub fn what_is_recorded_is_new()
     ensures { (table : Table) → RecordingOnce table }
 {}

@@ -15,7 +15,7 @@ mod verdict;
 mod votes;
 
 pub use laws::{majorities_meet, one_decision};
-pub use quorum::{MAX_ARBITRATORS, is_majority};
+pub use quorum::is_majority;
 pub use tally::Tally;
 pub use verdict::{Verdict, VoteVerdict};
 pub use votes::VoteTally;

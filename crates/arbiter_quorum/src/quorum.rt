@@ -1,9 +1,6 @@
 ghost use Rattle.std.specs.Prelude.{◌≡◌};
 ghost use Rattle.arbiter_quorum.specs.Tallies.{is_majority};
 
-/// How many arbitrators there are at most.
-pub const MAX_ARBITRATORS: usize = 9;
-
 /// Whether this many are more than half of `arbitrators`.
 pub fn is_majority(arbitrators: u8, count: usize) -> bool
     ensures { result ≡ is_majority arbitrators count }

@@ -1,10 +1,11 @@
 ghost use Rattle.std.specs.Prelude.{◌≡◌, ◌≤◌, length, not};
-ghost use Rattle.arbiter_quorum.specs.Tallies.{count_of, has_answered, is_granted, is_refused, may_be_heir, no_answers, noted, verdict_of};
+ghost use Rattle.arbiter_quorum.specs.Tallies.{count_of, has_answered, is_granted, is_refused, may_be_heir, no_answers};
+ghost use Rattle.arbiter_quorum.specs.Tallies.{noted, verdict_of};
 
-use crate::quorum::{MAX_ARBITRATORS, is_majority};
+use crate::quorum::is_majority;
 use crate::verdict::Verdict;
 use arrayvec::ArrayVec;
-use ring_points::{Ruling, Who};
+use ring_points::{MAX_ARBITRATORS, Ruling, Who};
 use std::marker::Model;
 
 /// The first answer of each arbitrator on the accusation of `victim` by `me`. Contracts see it as the record of
@@ -23,7 +24,8 @@ impl Model for Tally {
 
     ghost Value = { Tally };
 
-    ghost view = { λ a. record { me = a.me; victim = a.victim; arbitrators = a.arbitrators; answers = a.answers.items } };
+    ghost view = { λ a. record { me = a.me; victim = a.victim; arbitrators = a.arbitrators;
+        answers = a.answers.items } };
 
     ghost invariant = { λ a. Counted a.arbitrators a.answers.items };
 }

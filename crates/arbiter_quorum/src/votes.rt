@@ -1,12 +1,13 @@
 ghost use Rattle.std.specs.Prelude.{◌≡◌, ◌≤◌, ◌==◌, find, length, option_map};
 ghost use Rattle.std.specs.List.{list_any};
 ghost use Rattle.arbiter_quorum.specs.Tallies.{has_answered};
-ghost use Rattle.arbiter_quorum.specs.Votes.{has_majority, kept_count, may_win, no_votes, one_may_win, same_config, unanswered, vote_noted, vote_verdict_of};
+ghost use Rattle.arbiter_quorum.specs.Votes.{has_majority, kept_count, may_win, no_votes, one_may_win, same_config};
+ghost use Rattle.arbiter_quorum.specs.Votes.{unanswered, vote_noted, vote_verdict_of};
 
-use crate::quorum::{MAX_ARBITRATORS, is_majority};
+use crate::quorum::is_majority;
 use crate::verdict::VoteVerdict;
 use arrayvec::ArrayVec;
-use ring_points::{Config, Epoch, Members};
+use ring_points::{Config, Epoch, MAX_ARBITRATORS, Members};
 use std::marker::Model;
 
 /// The configuration that an arbitrator kept. The default only fills places that hold no answer.

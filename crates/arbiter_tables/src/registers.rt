@@ -86,7 +86,8 @@ impl Registers {
         preparer: Who,
     ) -> Result<(), OutOfMemory>
         ensures ok { OnOk result (self.new ≡ register_after self.old (PreparedBy partition epoch preparer)) }
-        ensures entries { OnOk result (registered self.new + one_of (register_of partition self.old).prepared ≡ registered self.old + 1) }
+        ensures entries { OnOk result (registered self.new + one_of (register_of partition self.old).prepared
+            ≡ registered self.old + 1) }
         ensures stands { IsTrue (is_some (register_of partition self.old).prepared) → IsOk result }
         ensures err { OnErr result (self.new ≡ self.old) }
     {
@@ -113,7 +114,8 @@ impl Registers {
     #[tactic(auto, using(crate::proofs::Views::as_changes, crate::proofs::LookUps::as_registers, crate::proofs::Counts::as_counts))]
     pub fn finish(&mut self, config: &Config) -> Result<(), OutOfMemory>
         ensures ok { OnOk result (self.new ≡ register_after self.old (DoneFor config.now)) }
-        ensures entries { OnOk result (registered self.new + one_of (register_of config.now.partition self.old).done ≡ registered self.old + 1) }
+        ensures entries { OnOk result (registered self.new + one_of (register_of config.now.partition self.old).done
+            ≡ registered self.old + 1) }
         ensures stands { IsTrue (is_some (register_of config.now.partition self.old).done) → IsOk result }
         ensures err { OnErr result (self.new ≡ self.old) }
     {

@@ -5,7 +5,7 @@ use Rattle.std.proofs.lemmas.Bool.{and_parts, eqb-true}
 use Rattle.std.proofs.lemmas.Bool.Decides.{nat_tests}
 use Rattle.cluster_schedule.specs.Events.{FitsInstance, Hears, arbiter_did, arbiter_does, frame_of, hears, hears_as, kept_by}
 use Rattle.cluster_schedule.specs.Moments.{arbiter_acts_in, heard_in, hears_in}
-use Rattle.fabric_above.specs.Fabric.{fabric}
+use Rattle.unit_rules.specs.Fabric.{fabric}
 use Rattle.fabric_lemmas.specs.Maps.{at, put}
 use Rattle.fabric_terms.specs.declared.message.Message.{Message}
 use Rattle.ring_points.specs.Whos.{arbiter_actor}

@@ -3,7 +3,7 @@ use Rattle.std.proofs.Common.{arith, ◌≡◌, ◌≤◌, ◌+◌, ℕ, Bool, t
 use Rattle.std.specs.Prelude.{find, option_map, if◌then◌else◌}
 use Rattle.cluster_schedule.specs.Events.{Cluster, Comes, IsCluster, MayArrive, Turns, cluster_after, comes, events_of}
 use Rattle.cluster_schedule.specs.Moments.{clocks_at, entry_for, last_line, moments, seen_in}
-use Rattle.fabric_above.specs.Fabric.{fabric}
+use Rattle.unit_rules.specs.Fabric.{fabric}
 use Rattle.fabric_lemmas.specs.Maps.{at}
 use Rattle.fabric_terms.specs.declared.message.Body.{Body}
 use Rattle.fabric_terms.specs.declared.message.Message.{Message}

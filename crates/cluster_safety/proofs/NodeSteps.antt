@@ -7,7 +7,7 @@ use Rattle.std.proofs.lemmas.Option.{slice_get-get_or}
 use Rattle.cluster_schedule.proofs.Strange.{strange_frames}
 use Rattle.cluster_schedule.specs.Events.{Bids, Cluster, Comes, Fires, FitsInstance, Hears, MayArrive, comes, frame_of, hears, hears_as, kept_by, node_did, node_does}
 use Rattle.cluster_schedule.specs.Moments.{entry_for, heard_in, hears_in, node_acts_in, node_entry}
-use Rattle.fabric_above.specs.Fabric.{fabric, fabric_stays}
+use Rattle.unit_rules.specs.Fabric.{fabric, fabric_stays}
 use Rattle.fabric_lemmas.specs.Maps.{at, put}
 use Rattle.fabric_terms.specs.declared.command.Command.{Command}
 use Rattle.fabric_terms.specs.declared.message.Message.{Message}

@@ -7,7 +7,7 @@ use Rattle.edge_io.specs.declared.endpoint.Endpoint.{Endpoint}
 use Rattle.fabric_terms.specs.declared.command.Command.{Command}
 use Rattle.fabric_terms.specs.declared.config.FabricConfig.{FabricConfig}
 use Rattle.turn_rules.specs.Happenings.{Datagram, Absent, Failed, Comes, Begins, Turns, Bids, Hears, Fires, History}
-use Rattle.turn_rules.specs.Order.{Busy, Doing, Firing, Goes, IsInOrder, Place, Starting, Turning, arrive, coming, hearing, onward, rests}
+use Rattle.turn_rules.specs.Order.{Busy, Doing, Firing, Goes, IsInOrder, TurnPosition, Starting, Turning, arrive, coming, hearing, onward, rests}
 use Rattle.turn_rules.specs.Plans.{Plan, commands_in, is_node_at, is_order_at}
 use Rattle.turn_rules.specs.declared.order.Order.{Order}
 use Rattle.world_rules.specs.Schedules.{command_names}
@@ -28,7 +28,7 @@ Stands plan turn at Turning = (1 ≤ turn) × (is_node_at plan at ≡ true)
 Stands plan turn at (Busy left n) = (1 ≤ turn) × AreNamed plan at left
 Stands plan turn at Firing = (1 ≤ turn) × (is_node_at plan at ≡ true)
 
-abbrev pub StandsAt : Plan → Place → Type 0
+abbrev pub StandsAt : Plan → TurnPosition → Type 0
 StandsAt plan p = Stands plan p.turn p.at p.doing
 
 stands_arrive : (plan : Plan) (turn at : ℕ) → StandsAt plan (arrive plan turn at)
@@ -73,7 +73,7 @@ named_in plan turn at e here (o ∷ os) named = by_tests (o.turn == turn) (o.pla
     by_tests true false f rest = rest
     by_tests false b f rest = rest
 
-stands_next : (plan : Plan) (turn at : ℕ) (doing : Doing) (x : Comes) (p : Place) → IsClusterPlan plan → Stands plan turn at doing → Goes plan turn at doing x p → StandsAt plan p
+stands_next : (plan : Plan) (turn at : ℕ) (doing : Doing) (x : Comes) (p : TurnPosition) → IsClusterPlan plan → Stands plan turn at doing → Goes plan turn at doing x p → StandsAt plan p
 stands_next plan turn at Starting (Begins None) p cp s g = subst (StandsAt plan) (sym g.1) (stands_coming plan turn (at + 1))
 stands_next plan turn at Starting (Begins (Some reading)) p cp s g = subst (StandsAt plan) (sym g.1) (stands_coming plan turn (at + 1))
 stands_next plan turn at Starting (Turns reading) p cp s g = absurd g
@@ -104,7 +104,7 @@ stands_next plan turn at Firing (Bids command) p cp s g = absurd g
 stands_next plan turn at Firing (Hears answer) p cp s g = absurd g
 stands_next plan turn at Firing Fires p cp s g = subst (StandsAt plan) (sym g) (stands_coming plan turn (at + 1))
 
-pub stands : (plan : Plan) (h : History) (p : Place) → IsClusterPlan plan → IsInOrder plan h p → StandsAt plan p
+pub stands : (plan : Plan) (h : History) (p : TurnPosition) → IsClusterPlan plan → IsInOrder plan h p → StandsAt plan p
 stands plan [] p cp o = subst (StandsAt plan) (sym o) (stands_arrive plan 0 0)
 stands plan (x ∷ h) p cp o = let q = o.0 in stands_next plan q.turn q.at q.doing x.comes p cp (stands plan h q cp o.1.0) o.1.1.goes
 
@@ -131,5 +131,5 @@ on_hearing plan turn at n = by_test (nat_lt n 64)
     by_test true = omega arith
     by_test false = on_rests plan turn at
 
-pub turns_on : (turn : ℕ) (p q : Place) → turn ≤ q.turn → p ≡ q → turn ≤ p.turn
-turns_on turn p q le e = subst (λ (r : Place). turn ≤ r.turn) (sym e) le
+pub turns_on : (turn : ℕ) (p q : TurnPosition) → turn ≤ q.turn → p ≡ q → turn ≤ p.turn
+turns_on turn p q le e = subst (λ (r : TurnPosition). turn ≤ r.turn) (sym e) le

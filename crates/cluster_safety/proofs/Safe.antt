@@ -6,7 +6,7 @@ use Rattle.cluster_schedule.specs.Events.{events_of}
 use Rattle.cluster_schedule.specs.Laws.{IsSchedule}
 use Rattle.cluster_schedule.specs.Moments.{moments}
 use Rattle.cluster_schedule.specs.Steps.{steps_of}
-use Rattle.fabric_above.specs.Fabric.{fabric, fabric_stays}
+use Rattle.unit_rules.specs.Fabric.{fabric, fabric_stays}
 use Rattle.fabric_terms.specs.Primaries.{Safe}
 use Rattle.fabric_terms.specs.Runs.{Run}
 use Rattle.run_safety.proofs.Safe.{runs_are_safe_lem}

@@ -6,7 +6,7 @@ use Rattle.std.specs.Prelude.{slice_get}
 use Rattle.cluster_schedule.specs.Events.{Begins, Cluster, Stands, kept_by, node_did}
 use Rattle.cluster_schedule.specs.Moments.{node_entry}
 use Rattle.edge_io.specs.declared.endpoint.Endpoint.{Endpoint}
-use Rattle.fabric_above.specs.Fabric.{fabric}
+use Rattle.unit_rules.specs.Fabric.{fabric}
 use Rattle.fabric_lemmas.specs.Maps.{at, put}
 use Rattle.fabric_terms.specs.declared.record.Record.{Record}
 use Rattle.ring_points.specs.Whos.{arbiter_actor}

@@ -11,10 +11,10 @@ use Rattle.ring_rules.specs.declared.input.Input.{Input}
 use Rattle.ring_rules.specs.declared.input.Input.TheVariants as input
 use Rattle.frame_format.specs.Kinds.{message_of}
 use Rattle.turn_rules.specs.Happenings.{Absent, Begins, Bids, Comes, Datagram, Failed, Fires, Hears, History, Turns}
-use Rattle.turn_rules.specs.Order.{Busy, Doing, Firing, Goes, IsInOrder, IsNext, Place, Starting, Turning, arrive, hearing, onward, rests}
+use Rattle.turn_rules.specs.Order.{Busy, Doing, Firing, Goes, IsInOrder, IsNext, TurnPosition, Starting, Turning, arrive, hearing, onward, rests}
 use Rattle.turn_rules.specs.Plans.{Plan, Setting, is_node_at, is_of_node}
 use Rattle.turn_rules.specs.Process.{End, Process, acts, after, begins, clamped, hears_frame, joins, joins_as, joins_at, joins_with, nothing_yet, reads, reads_as, takes, unless_ended, unless_full}
-use Rattle.fabric_above.specs.Fabric.{fabric}
+use Rattle.unit_rules.specs.Fabric.{fabric}
 use Rattle.turn_rules.specs.Steps.{Stepped, arbiter_stepped, begun, begun_as, exceeds, node_stepped, present}
 use Rattle.world_rules.specs.Arbiters.{arbiter_begun}
 use Rattle.world_rules.specs.Events.{arbiter_number, is_arbiter_actor}
@@ -37,12 +37,12 @@ Settled plan at (Busy left n) = is_node_at plan at ≡ false
 Settled plan at Firing = ⊥
 
 -- as many actors have started as the place says
-pub record Live (plan : Plan) (p : Place) (q : Process) : Type 0 where
+pub record Live (plan : Plan) (p : TurnPosition) (q : Process) : Type 0 where
   pub started : p.turn ≡ 0 → length q.members ≡ p.at
   pub all : 1 ≤ p.turn → length plan.actors ≤ length q.members
   pub settled : Settled plan p.at p.doing → last_reading q.steps ≡ present q.last
 
-pub record GoesOn (s : Setting) (p : Place) (q : Process) : Type 0 where
+pub record GoesOn (s : Setting) (p : TurnPosition) (q : Process) : Type 0 where
   pub joined : JoinedBy s q
   pub live : q.end ≡ None → Live s.plan p q
 
@@ -54,14 +54,14 @@ not_fallen (Some former) reading h = grind (arith, nat_tests)
 
 -- In a turn: the same actors, and all of them have started.
 
-live_on : (plan : Plan) (p : Place) (old new : Process) (turn : ℕ) → 1 ≤ turn → turn ≤ p.turn → length plan.actors ≤ length old.members → length new.members ≡ length old.members →
+live_on : (plan : Plan) (p : TurnPosition) (old new : Process) (turn : ℕ) → 1 ≤ turn → turn ≤ p.turn → length plan.actors ≤ length old.members → length new.members ≡ length old.members →
     (Settled plan p.at p.doing → last_reading new.steps ≡ present new.last) → Live plan p new
 live_on plan p old new turn later le all same settled = record { started = λ zero. absurd (omega (arith, zero)); all = λ t. omega arith; settled = settled }
 
 -- nothing settles at a node's place before its firing
 unsettled_rests : (plan : Plan) (turn at : ℕ) → is_node_at plan at ≡ true → Settled plan (rests plan turn at).at (rests plan turn at).doing → ⊥
 unsettled_rests plan turn at e =
-    let fires : Place = record { turn = turn; at = at; doing = Firing } in
+    let fires : TurnPosition = record { turn = turn; at = at; doing = Firing } in
     let P : Bool → Type 0 = λ b. let q = if b then fires else onward plan turn at in Settled plan q.at q.doing → ⊥ in
     subst P (sym e) (λ h. h)
 
@@ -73,7 +73,7 @@ unsettled_hearing plan turn at n e = by_test (nat_lt n 64)
     by_test false h = unsettled_rests plan turn at e h
 
 -- where nothing was done
-still_settled : (plan : Plan) (at : ℕ) (p : Place) (q : Process) → (is_node_at plan at ≡ true → Settled plan p.at p.doing → ⊥) →
+still_settled : (plan : Plan) (at : ℕ) (p : TurnPosition) (q : Process) → (is_node_at plan at ≡ true → Settled plan p.at p.doing → ⊥) →
     (is_node_at plan at ≡ false → last_reading q.steps ≡ present q.last) → Settled plan p.at p.doing → last_reading q.steps ≡ present q.last
 still_settled plan at p q unsettled settled h = by_test (is_node_at plan at) refl
   where
@@ -180,7 +180,7 @@ module _ (s : Setting) (cp : IsClusterPlan s.plan) (kn : KeepsNothing s) (turn a
 
 -- One thing more.
 
-module _ (s : Setting) (cp : IsClusterPlan s.plan) (kn : KeepsNothing s) (turn at : ℕ) (p : Process) (q : Place) (live : p.end ≡ None) (j : JoinedBy s p) where
+module _ (s : Setting) (cp : IsClusterPlan s.plan) (kn : KeepsNothing s) (turn at : ℕ) (p : Process) (q : TurnPosition) (live : p.end ≡ None) (j : JoinedBy s p) where
   abbrev Next : Process → Type 0
   Next r = GoesOn s q r
 
@@ -212,12 +212,12 @@ module _ (s : Setting) (cp : IsClusterPlan s.plan) (kn : KeepsNothing s) (turn a
         live = λ h. live_on s.plan q p (record p { last = Some (clamped r) }) turn later le all refl (λ k. absurd (unsettled k));
       }
 
-goes_on : (s : Setting) (cp : IsClusterPlan s.plan) (kn : KeepsNothing s) (turn at : ℕ) (doing : Doing) (x : Comes) (p : Process) (q : Place) → p.end ≡ None → JoinedBy s p →
+goes_on : (s : Setting) (cp : IsClusterPlan s.plan) (kn : KeepsNothing s) (turn at : ℕ) (doing : Doing) (x : Comes) (p : Process) (q : TurnPosition) → p.end ≡ None → JoinedBy s p →
     Stands s.plan turn at doing → Live s.plan (record { turn = turn; at = at; doing = doing }) p → IsOwn (frames_of p.steps) x → Goes s.plan turn at doing x q → GoesOn s q (takes s turn p at x)
 goes_on s cp kn turn at Starting (Begins None) p q live j st l own g =
-    subst (λ (r : Place). GoesOn s r (joins s turn at p)) (sym g.1) (begins_arbiter s cp kn turn at p st (l.started st) (l.settled tt) live j g.0)
+    subst (λ (r : TurnPosition). GoesOn s r (joins s turn at p)) (sym g.1) (begins_arbiter s cp kn turn at p st (l.started st) (l.settled tt) live j g.0)
 goes_on s cp kn turn at Starting (Begins (Some r)) p q live j st l own g =
-    subst (λ (x : Place). GoesOn s x (begins s turn at p (Some r))) (sym g.1) (begins_node s cp kn turn at p st (l.started st) (l.settled tt) live j r g.0)
+    subst (λ (x : TurnPosition). GoesOn s x (begins s turn at p (Some r))) (sym g.1) (begins_node s cp kn turn at p st (l.started st) (l.settled tt) live j r g.0)
 goes_on s cp kn turn at Starting (Turns r) p q live j st l own g = absurd g
 goes_on s cp kn turn at Starting (Bids d) p q live j st l own g = absurd g
 goes_on s cp kn turn at Starting (Hears a) p q live j st l own g = absurd g
@@ -225,7 +225,7 @@ goes_on s cp kn turn at Starting Fires p q live j st l own g = absurd g
 goes_on s cp kn turn at Turning (Begins r) p q live j st l own g = absurd g
 goes_on s cp kn turn at Turning (Turns r) p q live j st l own g =
     clock_read s cp kn turn at p q live j r st.0 st.1 (l.all st.0) (turns_on turn q _ (omega arith) g)
-    (subst (λ (x : Place). Settled s.plan x.at x.doing → ⊥) (sym g) (λ h. let no : true ≡ false = sym st.1 ∙ h in cc))
+    (subst (λ (x : TurnPosition). Settled s.plan x.at x.doing → ⊥) (sym g) (λ h. let no : true ≡ false = sym st.1 ∙ h in cc))
 goes_on s cp kn turn at Turning (Bids d) p q live j st l own g = absurd g
 goes_on s cp kn turn at Turning (Hears a) p q live j st l own g = absurd g
 goes_on s cp kn turn at Turning Fires p q live j st l own g = absurd g
@@ -234,13 +234,13 @@ goes_on s cp kn turn at (Busy [] n) (Turns r) p q live j st l own g = absurd g
 goes_on s cp kn turn at (Busy [] n) (Bids d) p q live j st l own g = absurd g
 goes_on s cp kn turn at (Busy [] n) (Hears (Datagram bytes)) p q live j st l own g =
     heard s cp kn turn at p q live j (message_of bytes) own st.0 (turns_on turn q _ (on_hearing s.plan turn at (n + 1)) g) (l.all st.0) l.settled
-    (λ e. subst (λ (x : Place). Settled s.plan x.at x.doing → ⊥) (sym g) (unsettled_hearing s.plan turn at (n + 1) e))
+    (λ e. subst (λ (x : TurnPosition). Settled s.plan x.at x.doing → ⊥) (sym g) (unsettled_hearing s.plan turn at (n + 1) e))
 goes_on s cp kn turn at (Busy [] n) (Hears Absent) p q live j st l own g =
     rested s cp kn turn at p q live j st.0 (turns_on turn q _ (on_rests s.plan turn at) g) (l.all st.0) l.settled
-    (λ e. subst (λ (x : Place). Settled s.plan x.at x.doing → ⊥) (sym g) (unsettled_rests s.plan turn at e))
+    (λ e. subst (λ (x : TurnPosition). Settled s.plan x.at x.doing → ⊥) (sym g) (unsettled_rests s.plan turn at e))
 goes_on s cp kn turn at (Busy [] n) (Hears Failed) p q live j st l own g =
     rested s cp kn turn at p q live j st.0 (turns_on turn q _ (on_rests s.plan turn at) g) (l.all st.0) l.settled
-    (λ e. subst (λ (x : Place). Settled s.plan x.at x.doing → ⊥) (sym g) (unsettled_rests s.plan turn at e))
+    (λ e. subst (λ (x : TurnPosition). Settled s.plan x.at x.doing → ⊥) (sym g) (unsettled_rests s.plan turn at e))
 goes_on s cp kn turn at (Busy [] n) Fires p q live j st l own g = absurd g
 goes_on s cp kn turn at (Busy (c ∷ cs) n) (Begins r) p q live j st l own g = absurd g
 goes_on s cp kn turn at (Busy (c ∷ cs) n) (Turns r) p q live j st l own g = absurd g
@@ -259,9 +259,9 @@ goes_on s cp kn turn at Firing Fires p q live j st l own g =
 
 -- The whole history.
 
-pub all_joined : (s : Setting) → IsClusterPlan s.plan → KeepsNothing s → (h : History) (p : Place) → IsInOrder s.plan h p → OwnFrames s h → GoesOn s p (after s h)
+pub all_joined : (s : Setting) → IsClusterPlan s.plan → KeepsNothing s → (h : History) (p : TurnPosition) → IsInOrder s.plan h p → OwnFrames s h → GoesOn s p (after s h)
 all_joined s cp kn [] p o own =
-    subst (λ (q : Place). GoesOn s q nothing_yet) (sym o) (record {
+    subst (λ (q : TurnPosition). GoesOn s q nothing_yet) (sym o) (record {
       joined = joined_first s;
       live = λ h. record { started = λ zero. refl; all = λ t. absurd (omega (arith, t)); settled = λ k. refl };
     })
@@ -273,7 +273,7 @@ all_joined s cp kn (x ∷ h) p o own = by_end (all_joined s cp kn h o.0 o.1.0 ow
         let over : (after s h).end ≡ None → ⊥ = λ none. (let no : Some end ≡ None = sym e ∙ none in cc) in
         subst (GoesOn s p) (sym same) (record { joined = before.joined; live = λ none. absurd (over none) })
     by_end before None e =
-        let q : Place = o.0 in
+        let q : TurnPosition = o.0 in
         let n : IsNext s.plan q x p = o.1.1 in
         let same : after s (x ∷ h) ≡ takes s q.turn (after s h) q.at x.comes =
         ap (λ (o : Option End). unless_ended (after s h) o (takes s x.turn (after s h) x.place x.comes)) e

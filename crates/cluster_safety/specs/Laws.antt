@@ -5,11 +5,11 @@ use Rattle.fabric_terms.specs.Runs.{Clocks, Run}
 use Rattle.fabric_terms.specs.Sound.{IsSound}
 use Rattle.fabric_terms.specs.declared.message.Body.{Body}
 use Rattle.fabric_terms.specs.declared.record.Record.{Record}
-use Rattle.outside.specs.Told.{Told}
+use Rattle.edge_io.specs.Told.{Told}
 use Rattle.ring_points.specs.Whos.{node_instance}
 use Rattle.ring_points.specs.declared.who.Who.{Who}
 use Rattle.turn_rules.specs.Happenings.{History}
-use Rattle.turn_rules.specs.Order.{IsInOrder, Place}
+use Rattle.turn_rules.specs.Order.{IsInOrder, TurnPosition}
 use Rattle.turn_rules.specs.Plans.{Plan, Setting}
 use Rattle.turn_rules.specs.Process.{after}
 use Rattle.turn_rules.specs.Recalled.{Recalled}
@@ -21,7 +21,7 @@ use Rattle.cluster_safety.specs.Plans.{HoldsNothing, IsClusterPlan, KeepsNothing
 -- The steps of a cluster are the moments of a safe run: of a sound configuration, from empty records, in the order of its
 -- plan, where it hears its own frames alone. A reading above 10^15 counts as 10^15, as in the steps.
 abbrev pub ClusterIsSafe : Type 0
-ClusterIsSafe = (s : Setting) (h : History) (p : Place) → IsSound s.plan.config → IsClusterPlan s.plan → KeepsNothing s → IsInOrder s.plan h p → OwnFrames s h →
+ClusterIsSafe = (s : Setting) (h : History) (p : TurnPosition) → IsSound s.plan.config → IsClusterPlan s.plan → KeepsNothing s → IsInOrder s.plan h p → OwnFrames s h →
     Safe (moments_of (after s h).steps)
 
 -- a run that begins with a keeper that holds nothing begins with no record

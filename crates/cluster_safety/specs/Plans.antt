@@ -4,7 +4,7 @@ use Rattle.edge_io.specs.declared.endpoint.Endpoint.{Endpoint}
 use Rattle.fabric_terms.specs.declared.config.FabricConfig.{FabricConfig}
 use Rattle.fabric_terms.specs.declared.message.Message.{Message}
 use Rattle.fabric_terms.specs.declared.record.Record.{Record}
-use Rattle.outside.specs.Told.{Told}
+use Rattle.edge_io.specs.Told.{Told}
 use Rattle.frame_format.specs.Kinds.{message_of}
 use Rattle.turn_rules.specs.Happenings.{Comes, Datagram, Hears, History}
 use Rattle.turn_rules.specs.Plans.{Plan, Setting}

@@ -18,19 +18,19 @@ extreme exceeds newest (next ∷ older) =
     let former = extreme exceeds next older in if exceeds newest former then newest else former
 
 -- a bound, the last pair, and the pairs at which the clock was furthest behind and furthest ahead
-pub record Kept : Type 0 where
+pub record Extremes : Type 0 where
   pub bound : Bound
   pub latest : Pair
   pub behind : Pair
   pub ahead : Pair
 
 -- what is kept of these pairs, the newest first
-abbrev pub kept_of : Bound → List Pair → Option Kept
+abbrev pub kept_of : Bound → List Pair → Option Extremes
 kept_of bound [] = None
 kept_of bound (newest ∷ older) =
     Some (record { bound = bound; latest = newest; behind = extreme (is_further_behind bound) newest older; ahead = extreme (is_further_ahead bound) newest older })
 
 -- the drift stands for these pairs, the newest first
-pub record Stands (drift : Kept) (pairs : List Pair) : Type 0 where
+pub record Stands (drift : Extremes) (pairs : List Pair) : Type 0 where
   pub within : AllWithin drift.bound pairs
   pub kept : kept_of drift.bound pairs ≡ Some drift

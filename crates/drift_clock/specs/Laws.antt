@@ -3,7 +3,7 @@ use Rattle.std.specs.Prelude.{◌≡◌, ℕ, ◌+◌, ◌<◌, ◌≤◌, ◌�
 use Rattle.drift_clock.specs.declared.bound.Bound.{Bound}
 use Rattle.drift_clock.specs.Within.{Pair, Within, FitsAll, AllWithin, is_within, fits_all}
 use Rattle.drift_clock.specs.Wait.{wait}
-use Rattle.drift_clock.specs.Extremes.{Kept, Stands}
+use Rattle.drift_clock.specs.Extremes.{Extremes, Stands}
 use Rattle.drift_clock.specs.Refusals.{broken_with}
 
 -- While one clock within the bound advances by the wait for x, every other that was read no later
@@ -32,4 +32,4 @@ NamesTheBroken =
 
 -- the latest pair that is kept is the newest
 abbrev pub KeepsTheNewest : Type 0
-KeepsTheNewest = (drift : Kept) (newest : Pair) (older : List Pair) → Stands drift (newest ∷ older) → drift.latest ≡ newest
+KeepsTheNewest = (drift : Extremes) (newest : Pair) (older : List Pair) → Stands drift (newest ∷ older) → drift.latest ≡ newest

@@ -1,7 +1,8 @@
 -- What is true of the values that a Drift keeps.
 use Rattle.std.specs.Prelude.{◌≤◌}
 use Rattle.drift_clock.specs.declared.bound.Bound.{Bound}
-use Rattle.drift_clock.specs.declared.bound.TheConstants.{MAX_DRIFT, MAX_GRAIN, MAX_READING, MAX_TRUE_TIME}
+use Rattle.ring_points.specs.declared.limits.TheConstants.{MAX_DRIFT, MAX_GRAIN, MAX_READING}
+use Rattle.drift_clock.specs.declared.bound.TheConstants.{MAX_TRUE_TIME}
 use Rattle.drift_clock.specs.Within.{Pair}
 
 -- all is within the limits, and the latest pair is no earlier than the two extremes

@@ -2,7 +2,7 @@
 use Rattle.std.specs.Prelude.{ℕ, ◌+◌, ◌-◌, ◌*◌, Bool, List, [], ◌∷◌, Option, None, Some, nat_lt, if◌then◌else◌}
 use Rattle.drift_clock.specs.declared.bound.Bound.{Bound}
 use Rattle.drift_clock.specs.Within.{Pair}
-use Rattle.drift_clock.specs.Extremes.{Kept, extreme}
+use Rattle.drift_clock.specs.Extremes.{Extremes, extreme}
 
 -- how far the advance since the earlier pair is above the most that the bound allows, in thousandths of a tick
 abbrev pub fast_excess : Bound → Pair → Pair → ℕ
@@ -32,6 +32,6 @@ broken_with bound (newest ∷ older) now =
     first_of (nat_lt now.1 newest.1) newest (nat_lt 0 (fast_excess bound now fastest)) fastest (nat_lt 0 (slow_excess bound now slowest)) slowest
 
 -- the same of the pairs that are kept
-abbrev pub broken_with_kept : Kept → Pair → Option Pair
+abbrev pub broken_with_kept : Extremes → Pair → Option Pair
 broken_with_kept drift now =
     first_of (nat_lt now.1 drift.latest.1) drift.latest (nat_lt 0 (fast_excess drift.bound now drift.behind)) drift.behind (nat_lt 0 (slow_excess drift.bound now drift.ahead)) drift.ahead

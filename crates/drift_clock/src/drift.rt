@@ -3,8 +3,9 @@ ghost use Rattle.drift_clock.specs.Within.{Pair, FitsAll};
 ghost use Rattle.drift_clock.specs.Extremes.{Stands};
 ghost use Rattle.drift_clock.specs.Refusals.{broken_with, broken_with_kept};
 
-use crate::bound::{Bound, MAX_DRIFT, MAX_GRAIN, MAX_READING, MAX_TRUE_TIME};
+use crate::bound::{Bound, MAX_TRUE_TIME};
 use crate::pair::{Pair, further_ahead, further_behind, too_fast, too_slow};
+use ring_points::{MAX_DRIFT, MAX_GRAIN, MAX_READING};
 use std::marker::Model;
 
 /// A clock has left its bound: at `now`, against an `earlier` reading. Each is a true time and a
@@ -29,10 +30,10 @@ pub struct Drift {
 }
 
 impl Model for Drift {
-    ghost use Rattle.drift_clock.specs.Extremes.{Kept};
+    ghost use Rattle.drift_clock.specs.Extremes.{Extremes};
     ghost use Rattle.drift_clock.specs.Reach.{IsInReach};
 
-    ghost Value = { Kept };
+    ghost Value = { Extremes };
 
     ghost view = { λ a. record { bound = a.bound; latest = a.latest; behind = a.behind; ahead = a.ahead } };
 

@@ -13,7 +13,7 @@ mod laws;
 mod pair;
 mod wait;
 
-pub use bound::{Bound, MAX_DRIFT, MAX_GRAIN, MAX_READING, MAX_TRUE_TIME};
+pub use bound::{Bound, MAX_TRUE_TIME};
 pub use drift::{Drift, DriftBroken};
 pub use laws::{refusals_name_a_broken_pair, tests_decide, the_latest_is_the_newest, wait_covers};
 pub use wait::wait_of;

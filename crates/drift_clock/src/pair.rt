@@ -2,7 +2,8 @@ ghost use Rattle.std.specs.Prelude.{◌≡◌, ◌≤◌, nat_lt};
 ghost use Rattle.drift_clock.specs.Extremes.{is_further_ahead, is_further_behind};
 ghost use Rattle.drift_clock.specs.Refusals.{fast_excess, slow_excess};
 
-use crate::bound::{Bound, MAX_DRIFT, MAX_GRAIN, MAX_READING, MAX_TRUE_TIME};
+use crate::bound::{Bound, MAX_TRUE_TIME};
+use ring_points::{MAX_DRIFT, MAX_GRAIN, MAX_READING};
 
 /// A true time, and the reading that the clock shows then, in ticks.
 pub type Pair = (u64, u64);

@@ -1,7 +1,8 @@
 ghost use Rattle.std.specs.Prelude.{◌≡◌, ◌≤◌};
 ghost use Rattle.drift_clock.specs.Wait.{wait};
 
-use crate::bound::{Bound, MAX_DRIFT, MAX_GRAIN, MAX_READING};
+use crate::bound::Bound;
+use ring_points::{MAX_DRIFT, MAX_GRAIN, MAX_READING};
 
 /// How many ticks to wait by one clock within the bound, so that at least `x` ticks have passed on
 /// every other.

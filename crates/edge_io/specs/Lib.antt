@@ -4,3 +4,4 @@ pub mod Arrivals
 pub mod Readings
 pub mod Lists
 pub mod Memory
+pub mod Told

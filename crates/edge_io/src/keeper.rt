@@ -1,4 +1,5 @@
-ghost use Rattle.std.specs.Prelude.{◌≡◌, ◌≢◌, ◌∷◌, [], ℕ, List, Option, map, vec_items, IfOk, OnOk, OnErr, IsErr, IsErrOf};
+ghost use Rattle.std.specs.Prelude.{◌≡◌, ◌≢◌, ◌∷◌, [], ℕ, List, Option, map, vec_items, IfOk, OnOk, OnErr, IsErr};
+ghost use Rattle.std.specs.Prelude.{IsErrOf};
 ghost use Rattle.edge_io.specs.Edge.{Tells, Grew, GrewOrNot, HasCauseOf};
 ghost use Rattle.edge_io.specs.Plan.{Plan, FollowsPlan, FollowsPlanUnlessRefused};
 

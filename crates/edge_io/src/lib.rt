@@ -9,6 +9,7 @@
 
 mod clock;
 mod datagram;
+mod devices;
 mod endpoint;
 mod entries;
 mod fault_plan;
@@ -19,6 +20,7 @@ mod mem_keeper;
 mod mem_links;
 mod mem_sink;
 mod mem_source;
+mod outside;
 mod refusal;
 mod sink;
 mod source;
@@ -36,3 +38,5 @@ pub use mem_source::MemSource;
 pub use refusal::{EdgeRefusal, Failed};
 pub use sink::{Sink, write_all};
 pub use source::Source;
+pub use devices::Devices;
+pub use outside::Outside;

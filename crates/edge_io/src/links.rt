@@ -1,4 +1,5 @@
-ghost use Rattle.std.specs.Prelude.{◌≡◌, ◌≢◌, ◌≤◌, ◌∷◌, ◌++◌, [], ℕ, List, Option, IfOk, IfSome, OnOk, OnErr, IsErr, IsErrOf};
+ghost use Rattle.std.specs.Prelude.{◌≡◌, ◌≢◌, ◌≤◌, ◌∷◌, ◌++◌, [], ℕ, List, Option, IfOk, IfSome, OnOk, OnErr, IsErr};
+ghost use Rattle.std.specs.Prelude.{IsErrOf};
 ghost use Rattle.edge_io.specs.declared.endpoint.Endpoint.{Endpoint};
 ghost use Rattle.edge_io.specs.declared.datagram.Datagram.{Datagram};
 ghost use Rattle.edge_io.specs.Edge.{Grew, HasCause, HasCauseOf};
@@ -37,7 +38,8 @@ pub trait Links {
     /// Sends the bytes from an actor that listens to an address. A refused call sends nothing.
     fn send(&mut self, from: u16, to: &str, bytes: &[u8]) -> Result<(), EdgeRefusal>
         requires { IsListening from (opened self.old) }
-        ensures ok { OnOk result (Grew (sent self.old) (sent self.new) (record { from = from; to = to.now; bytes = bytes.now } ∷ [])) }
+        ensures ok { OnOk result (Grew (sent self.old) (sent self.new)
+            (record { from = from; to = to.now; bytes = bytes.now } ∷ [])) }
         ensures err { OnErr result (sent self.new ≡ sent self.old) }
         ensures opened { opened self.new ≡ opened self.old }
         ensures arrivals { (any : ℕ) → arrivals self.new any ≡ arrivals self.old any }
@@ -49,7 +51,8 @@ pub trait Links {
     fn receive(&mut self, actor: u16, into: &mut [u8; 1500]) -> Result<Option<usize>, Failed>
         requires { IsListening actor (opened self.old) }
         ensures length { IfOk result (λ answer. IfSome answer (λ n. n ≤ 1500)) }
-        ensures ok { IfOk result (λ answer. Receives (arrivals self.old actor) answer into.new (arrivals self.new actor)) }
+        ensures ok { IfOk result (λ answer. Receives (arrivals self.old actor) answer into.new
+            (arrivals self.new actor)) }
         ensures err { OnErr result (arrivals self.new actor ≡ arrivals self.old actor) }
         ensures others { (other : ℕ) → other ≢ actor → arrivals self.new other ≡ arrivals self.old other }
         ensures opened { opened self.new ≡ opened self.old }

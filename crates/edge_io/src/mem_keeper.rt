@@ -1,4 +1,5 @@
-ghost use Rattle.std.specs.Prelude.{◌≡◌, ◌≢◌, ◌∷◌, ◌++◌, [], ℕ, List, Option, Some, map, vec_items, IfOk, OnOk, OnErr, IsErr, IsErrOf, IsTrue, ◌%◌};
+ghost use Rattle.std.specs.Prelude.{◌≡◌, ◌≢◌, ◌∷◌, ◌++◌, [], Some, map, vec_items, IfOk, OnOk, OnErr, IsErr, IsErrOf};
+ghost use Rattle.std.specs.Prelude.{IsTrue, ◌%◌};
 ghost use Rattle.edge_io.specs.Edge.{HasCauseOf};
 ghost use Rattle.edge_io.specs.Lists.{records_of, AddsRecord};
 ghost use Rattle.edge_io.specs.Memory.{told_list};
@@ -69,7 +70,8 @@ fn add_record(
     actor: u16,
     bytes: &[u8],
 ) -> Result<(), AllocError>
-    ensures ok { OnOk result (AddsRecord actor bytes.now (map told_list lists.old.items) (map told_list lists.new.items)) }
+    ensures ok { OnOk result (AddsRecord actor bytes.now (map told_list lists.old.items)
+        (map told_list lists.new.items)) }
     ensures err { OnErr result (map told_list lists.new.items ≡ map told_list lists.old.items) }
 {
     let copy = Vec::from_slice(alloc, bytes)?;
@@ -126,8 +128,10 @@ impl Keeper for MemKeeper {
         ensures refused { IsTrue (next_fails self.old.faults.plan) → IsErr result }
 
         // A failing append keeps its record where the call's number is even.
-        ensures even { IsErrOf result EdgeRefusal.Failed → self.new.faults.plan.calls % 2 ≡ 0 → AddsRecord actor bytes.now self.old.lists self.new.lists }
-        ensures odd { IsErrOf result EdgeRefusal.Failed → self.new.faults.plan.calls % 2 ≢ 0 → self.new.lists ≡ self.old.lists }
+        ensures even { IsErrOf result EdgeRefusal.Failed → self.new.faults.plan.calls % 2 ≡ 0 →
+            AddsRecord actor bytes.now self.old.lists self.new.lists }
+        ensures odd { IsErrOf result EdgeRefusal.Failed → self.new.faults.plan.calls % 2 ≢ 0 →
+            self.new.lists ≡ self.old.lists }
     {
         if !self.faults.next_fails() {
             add_record(self.alloc, &mut self.lists, actor, bytes)?;

@@ -27,7 +27,8 @@ impl Model for MemLinks {
 
     ghost Value = { ToldLinks };
 
-    ghost view = { λ a. record { arrivals = map told_arrival a.arrivals.items; sent = a.sent.items; opened = a.opened.items; faults = a.faults } };
+    ghost view = { λ a. record { arrivals = map told_arrival a.arrivals.items; sent = a.sent.items;
+        opened = a.opened.items; faults = a.faults } };
 }
 
 impl MemLinks {
@@ -63,8 +64,11 @@ impl MemLinks {
 /// Takes the next arrival of the actor; None where it is absent or none is left.
 fn take_next(arrivals: &mut Vec<(u16, Option<Vec<u8>>)>, actor: u16) -> Option<Vec<u8>>
     ensures next { told_datagram result ≡ next_arrival (arrivals_at actor (map told_arrival arrivals.old.items)) }
-    ensures rest { arrivals_at actor (map told_arrival arrivals.new.items) ≡ drop 1 (arrivals_at actor (map told_arrival arrivals.old.items)) }
-    ensures others { (other : ℕ) → other ≢ actor → arrivals_at other (map told_arrival arrivals.new.items) ≡ arrivals_at other (map told_arrival arrivals.old.items) }
+    ensures rest { arrivals_at actor (map told_arrival arrivals.new.items) ≡ drop 1
+        (arrivals_at actor (map told_arrival arrivals.old.items)) }
+    ensures others { (other : ℕ) → other ≢ actor →
+        arrivals_at other (map told_arrival arrivals.new.items) ≡ arrivals_at other
+        (map told_arrival arrivals.old.items) }
 {
     let place = place_of(arrivals, actor)?;
     let (_, arrival) = arrivals.remove(place);

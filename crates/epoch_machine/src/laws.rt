@@ -1,4 +1,5 @@
-ghost use Rattle.epoch_machine.specs.Laws.{OnePrimary, NoOlder, WritesKept, CommittedStands, AnswersCovered, InvariantHolds};
+ghost use Rattle.epoch_machine.specs.Laws.{OnePrimary, NoOlder, WritesKept, CommittedStands, AnswersCovered};
+ghost use Rattle.epoch_machine.specs.Laws.{InvariantHolds};
 
 /// After every valid history the invariant holds; all other laws follow from it.
 pub fn invariant_holds()

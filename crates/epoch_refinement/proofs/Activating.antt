@@ -14,7 +14,6 @@ use Rattle.replica_core.specs.Roles.{is_member}
 use Rattle.replica_core.specs.Replicas.{Replica, raised}
 use Rattle.replica_core.specs.Calls.{unless}
 use Rattle.replica_core.proofs.Orders.{not_itself}
-use Rattle.epoch_machine.specs.Plans.{Plan}
 use Rattle.epoch_machine.specs.Plans as machine
 use Rattle.epoch_machine.specs.Settings.{Settings}
 use Rattle.epoch_machine.specs.World.{World, TellsPrimary}
@@ -25,36 +24,36 @@ use Rattle.epoch_machine.specs.Invariant.{Invariant}
 use Rattle.epoch_machine.proofs.Replaced.{put_at}
 use Rattle.epoch_machine.proofs.Kept.{active_sync, sync_plan, positive}
 use Rattle.epoch_machine.proofs.Histories.{deed_keeps}
-use Rattle.unit_rules.specs.declared.lead.Peer.{Peer}
+use Rattle.unit_rules.specs.declared.progress.PeerProgress.{PeerProgress}
 use Rattle.unit_rules.specs.Activations.{same_role, say_activated, role_begun, activate_answered, activate_received}
 use Rattle.unit_rules.specs.Deeds.{acted}
-use Rattle.unit_rules.specs.Leads.{first_lead}
-use Rattle.unit_rules.specs.Seats.{Lead, Seat}
+use Rattle.unit_rules.specs.Progress.{first_progress}
+use Rattle.unit_rules.specs.ReplicaStates.{ReplicationProgress, ReplicaState}
 use Rattle.epoch_refinement.specs.Epochs.{IsEpoch}
 use Rattle.epoch_refinement.specs.Refined.{Refined}
-use Rattle.epoch_refinement.specs.Seats.{IsNumbered, ShowsSeat, ShowsLead}
+use Rattle.epoch_refinement.specs.ReplicaStates.{IsNumbered, ShowsReplicaState, ShowsProgress}
 use Rattle.epoch_refinement.specs.Shown.{ShownActivate}
 use Rattle.epoch_refinement.proofs.Doing.{nothing_refined}
 use Rattle.epoch_refinement.proofs.Numbers.{older_not, same_epoch-true, one_epoch, real}
 use Rattle.epoch_refinement.proofs.Lasting.{deed_later, later_refl, sync_later}
 
 -- the peers of a new primary are these nodes, of whom nothing is confirmed
-peers_of : (next : ℕ) (ns : List ℕ) → map (λ (q : Peer). q.node) (map (λ n. record { node = n; confirmed = 0; next = next }) ns) ≡ ns
+peers_of : (next : ℕ) (ns : List ℕ) → map (λ (q : PeerProgress). q.node) (map (λ n. record { node = n; confirmed = 0; next = next }) ns) ≡ ns
 peers_of next [] = refl
 peers_of next (n ∷ ns) = ap (λ l. n ∷ l) (peers_of next ns)
 
-none_confirmed : (next : ℕ) (ns : List ℕ) (q : Peer) → IsMember q (map (λ n. record { node = n; confirmed = 0; next = next }) ns) → q.confirmed ≡ 0
+none_confirmed : (next : ℕ) (ns : List ℕ) (q : PeerProgress) → IsMember q (map (λ n. record { node = n; confirmed = 0; next = next }) ns) → q.confirmed ≡ 0
 none_confirmed next [] q m = absurd m
-none_confirmed next (n ∷ ns) q (inl e) = ap (λ (q : Peer). q.confirmed) e
+none_confirmed next (n ∷ ns) q (inl e) = ap (λ (q : PeerProgress). q.confirmed) e
 none_confirmed next (n ∷ ns) q (inr m) = none_confirmed next ns q m
 
 -- a lead that is seen is the one that stands there
-pub lead_is : (a b : Bool) (l m : Lead) → (if a && b then Some l else None) ≡ Some m → l ≡ m
-lead_is true true l m h = cc
-lead_is true false l m h = absurd (cc (h))
-lead_is false b l m h = absurd (cc (h))
+pub progress_is : (a b : Bool) (l m : ReplicationProgress) → (if a && b then Some l else None) ≡ Some m → l ≡ m
+progress_is true true l m h = cc
+progress_is true false l m h = absurd (cc (h))
+progress_is false b l m h = absurd (cc (h))
 
-module _ {c : Settings} {w : World} (inv : Invariant c w) (p : ℕ) (me : Who) (s : Seat) (shows : ShowsSeat w p me.actor s) where
+module _ {c : Settings} {w : World} (inv : Invariant c w) (p : ℕ) (me : Who) (s : ReplicaState) (shows : ShowsReplicaState w p me.actor s) where
   module _ (from : Who) (config : Config) (activate : ShownActivate w p config) (not_older : is_older config.epoch s.replica.promised ≡ false)
       (at : same_epoch s.replica.at config.epoch ≡ true) where
     joined_is : w.joined me.actor ≡ activate.plan.epoch
@@ -114,10 +113,10 @@ module _ {c : Settings} {w : World} (inv : Invariant c w) (p : ℕ) (me : Who) (
         numbered = shows.numbered;
         numbered_collected = subst IsNumbered (sym collected_same) shows.numbered_collected;
         idle = λ h. absurd (both_ways (is_older s.replica.at config.epoch) current h);
-        lead = λ m i.
-            let same : first_lead me.actor config (length s.replica.log) ≡ m =
-            lead_is true (not (is_older s.replica.at config.epoch)) (first_lead me.actor config (length s.replica.log)) m i in
-            subst (λ m. (q : machine.Role) × ShowsLead u me.actor (length s.replica.log) m q) same (
+        progress = λ m i.
+            let same : first_progress me.actor config (length s.replica.log) ≡ m =
+            progress_is true (not (is_older s.replica.at config.epoch)) (first_progress me.actor config (length s.replica.log)) m i in
+            subst (λ m. (q : machine.Role) × ShowsProgress u me.actor (length s.replica.log) m q) same (
               record { plan = activate.plan; floor = length (w.log me.actor); reported = 0 },
               record {
                 role = put_at w.role me.actor _;
@@ -160,7 +159,7 @@ module _ {c : Settings} {w : World} (inv : Invariant c w) (p : ℕ) (me : Who) (
         numbered = shows.numbered;
         numbered_collected = subst IsNumbered (sym collected_same) shows.numbered_collected;
         idle = λ h. refl;
-        lead = λ m i. absurd (cc (i));
+        progress = λ m i. absurd (cc (i));
       };
       sent = (activate.is.partition, tt, tt);
       told = refl;

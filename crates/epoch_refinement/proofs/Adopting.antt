@@ -11,15 +11,15 @@ use Rattle.epoch_machine.specs.Effects.{adopting, after}
 use Rattle.epoch_machine.specs.Invariant.{Invariant}
 use Rattle.epoch_machine.proofs.Replaced.{put_at}
 use Rattle.epoch_machine.proofs.Histories.{deed_keeps}
-use Rattle.unit_rules.specs.declared.lead.Taking.{Taking}
+use Rattle.unit_rules.specs.declared.progress.CatchUp.{CatchUp}
 use Rattle.unit_rules.specs.Copies.{adoption, nothing_adopted, log_adopted}
 use Rattle.unit_rules.specs.Deeds.{acted}
-use Rattle.unit_rules.specs.Leads.{is_primary}
-use Rattle.unit_rules.specs.Seats.{Seat}
+use Rattle.unit_rules.specs.Progress.{is_primary}
+use Rattle.unit_rules.specs.ReplicaStates.{ReplicaState}
 use Rattle.epoch_refinement.specs.Epochs.{IsEpoch}
 use Rattle.epoch_refinement.specs.Facts.{of_node, is_adopted, Has, Later}
 use Rattle.epoch_refinement.specs.Refined.{AllShown, Refined}
-use Rattle.epoch_refinement.specs.Seats.{IsNumbered, ShowsSeat}
+use Rattle.epoch_refinement.specs.ReplicaStates.{IsNumbered, ShowsReplicaState}
 use Rattle.epoch_refinement.specs.Shown.{ShownSync}
 use Rattle.epoch_refinement.specs.Told.{tells_all}
 use Rattle.epoch_refinement.proofs.Doing.{not_primary}
@@ -27,7 +27,7 @@ use Rattle.epoch_refinement.proofs.Lasting.{deed_later, later_trans, sync_later}
 
 -- what is adopted is told to who asked, whether it is empty or not
 
-pub adoption_shown : (w : World) (p : ℕ) (me : Who) (q : ℕ) (t : Taking) (is_own : Bool) (n : ℕ) → q ≡ p → IsEpoch n t.epoch →
+pub adoption_shown : (w : World) (p : ℕ) (me : Who) (q : ℕ) (t : CatchUp) (is_own : Bool) (n : ℕ) → q ≡ p → IsEpoch n t.epoch →
     Has w (is_adopted (record { node = me.actor; epoch = n })) → AllShown w p me (adoption q t is_own)
 adoption_shown w p me q t is_own n of is h = go (t.last == 0)
   where
@@ -35,7 +35,7 @@ adoption_shown w p me q t is_own n of is h = go (t.last == 0)
     go true = (of, (n, is, h), tt)
     go false = (tt, (of, (n, is, h), tt))
 
-pub adoption_tells : (node : ℕ) (log : List Entry) (q : ℕ) (t : Taking) (is_own : Bool) (before : List _) →
+pub adoption_tells : (node : ℕ) (log : List Entry) (q : ℕ) (t : CatchUp) (is_own : Bool) (before : List _) →
     tells_all node log (adoption q t is_own) before ≡ before
 adoption_tells node log q t is_own before = go (t.last == 0)
   where
@@ -44,24 +44,24 @@ adoption_tells node log q t is_own before = go (t.last == 0)
     go false = refl
 
 -- the log is adopted in a world where the epoch is promised and not adopted, and the node says so
-module _ {c : Settings} {w : World} (inv : Invariant c w) (p : ℕ) (me : Who) (t : Taking) (s : Seat) (shows : ShowsSeat w p me.actor s)
+module _ {c : Settings} {w : World} (inv : Invariant c w) (p : ℕ) (me : Who) (t : CatchUp) (s : ReplicaState) (shows : ShowsReplicaState w p me.actor s)
     (sync : ShownSync w t.epoch t.origin t.last) (promised : w.promised me.actor ≡ sync.plan.epoch) (before : w.joined me.actor < sync.plan.epoch) where
   pub may_adopt : MayAdopt w me.actor sync.plan
   may_adopt = record { synced = sync.synced; promised = promised; before = before }
 
-  -- this seat has the log
-  pub record Adopts (old : List Entry) (next : Seat) : Type 0 where
+  -- this replica has the log
+  pub record Adopts (old : List Entry) (next : ReplicaState) : Type 0 where
     pub partition : next.replica.partition ≡ p
     pub promised_is : next.replica.promised ≡ s.replica.promised
     pub at_is : next.replica.at ≡ t.epoch
     pub log_is : old ≡ next.replica.log
     pub room : length next.replica.log ≤ 100000
-    pub taken_is : next.taking ≡ s.taking
+    pub taken_is : next.catch_up ≡ s.catch_up
     pub numbered : IsNumbered next.replica.log
     pub numbered_collected : IsNumbered next.replica.collected
     pub role_is : is_primary next.replica.role ≡ false
 
-  pub adopts : (old : List Entry) (next : Seat) (is_own : Bool) → Adopts old next → Invariant c (adopting w me.actor sync.plan old) →
+  pub adopts : (old : List Entry) (next : ReplicaState) (is_own : Bool) → Adopts old next → Invariant c (adopting w me.actor sync.plan old) →
       Later (of_node me.actor) w (adopting w me.actor sync.plan old) →
       Refined c w p me (acted next (adoption next.replica.partition t is_own))
   adopts old next is_own has after_inv later = record {
@@ -80,7 +80,7 @@ module _ {c : Settings} {w : World} (inv : Invariant c w) (p : ℕ) (me : Who) (
       numbered = has.numbered;
       numbered_collected = has.numbered_collected;
       idle = λ h. has.role_is;
-      lead = λ l h. absurd (not_primary next l has.role_is h);
+      progress = λ l h. absurd (not_primary next l has.role_is h);
     };
     sent = adoption_shown (after (adopting w me.actor sync.plan old) (SaysAdopted me.actor)) p me next.replica.partition t is_own
         (replaced w.joined me.actor sync.plan.epoch me.actor) has.partition epoch_now (inl refl);

@@ -24,19 +24,19 @@ use Rattle.epoch_machine.proofs.Prefixes.{prefix_length}
 use Rattle.epoch_machine.proofs.Kept.{one_sync, sync_plan, positive}
 use Rattle.epoch_machine.proofs.Histories.{deed_keeps}
 use Rattle.unit_rules.specs.Deeds.{acted, still}
-use Rattle.unit_rules.specs.Seats.{Seat}
+use Rattle.unit_rules.specs.ReplicaStates.{ReplicaState}
 use Rattle.unit_rules.specs.Writes.{append_answered, append_received, say_appended}
 use Rattle.epoch_refinement.specs.Epochs.{IsEpoch}
 use Rattle.epoch_refinement.specs.Facts.{of_node, Later, is_append, Has}
 use Rattle.epoch_refinement.specs.Refined.{Refined}
-use Rattle.epoch_refinement.specs.Seats.{ShowsSeat}
+use Rattle.epoch_refinement.specs.ReplicaStates.{ShowsReplicaState}
 use Rattle.epoch_refinement.specs.Shown.{ShownAppend}
 use Rattle.epoch_refinement.proofs.Doing.{nothing_refined}
 use Rattle.epoch_refinement.proofs.Numbers.{real, older_not, same_epoch-true}
-use Rattle.epoch_refinement.proofs.Lasting.{deed_later, later_refl, later_trans, sync_later, lead_longer}
+use Rattle.epoch_refinement.proofs.Lasting.{deed_later, later_refl, later_trans, sync_later, progress_longer}
 use Rattle.epoch_refinement.proofs.Promising.{shows_later, numbered_push}
 
-module _ {c : Settings} {w : World} (inv : Invariant c w) (p : ℕ) (me : Who) (s : Seat) (shows : ShowsSeat w p me.actor s) where
+module _ {c : Settings} {w : World} (inv : Invariant c w) (p : ℕ) (me : Who) (s : ReplicaState) (shows : ShowsReplicaState w p me.actor s) where
   module _ (from : Who) (e : Epoch) (lsn : ℕ) (text : List ℕ) (append : ShownAppend w e lsn text)
       (not_older : is_older e s.replica.promised ≡ false) (at : same_epoch s.replica.at e ≡ true) where
     joined : IsEpoch (w.joined me.actor) e
@@ -130,7 +130,7 @@ module _ {c : Settings} {w : World} (inv : Invariant c w) (p : ℕ) (me : Who) (
             (let b = joined in b.small) shows.numbered;
         numbered_collected = shows.numbered_collected;
         idle = shows.idle;
-        lead = λ l h. let d = shows.lead l h in let i = d.1 in (d.0, lead_longer all i.role (let n = longer_length in omega arith) i);
+        progress = λ l h. let d = shows.progress l h in let i = d.1 in (d.0, progress_longer all i.role (let n = longer_length in omega arith) i);
       };
       sent = (
         (shows.partition, real append.plan.epoch e append.epoch (positive inv append.plan (sync_plan inv append.plan append.synced))),

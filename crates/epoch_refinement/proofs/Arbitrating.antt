@@ -67,7 +67,7 @@ beyond_none : {k p : ℕ} {w : World} (arbiter : ℕ) → Invariant (settings_to
 beyond_none arbiter inv = record {
   inv = inv;
   keeps = λ f h. h;
-  seats = λ n. record { promised = refl; joined = refl; log = refl; collected = refl; role = refl };
+  states = λ n. record { promised = refl; joined = refl; log = refl; collected = refl; role = refl };
   registers = λ a d. record { prepared = refl; preparer = refl; done = refl };
   managers = λ y s h. h;
 }
@@ -85,7 +85,7 @@ module _ {k : ℕ} {m : Machines} (inv : (p : ℕ) → Invariant (settings_to k)
           (record {
             inv = g.inv;
             keeps = g.later.keeps;
-            seats = λ n. g.later.beside.seats n (λ e. cc (e));
+            states = λ n. g.later.beside.states n (λ e. cc (e));
             registers = λ a d. g.later.beside.registers a (λ e. d cc);
             managers = λ y s h. manager_elsewhere g.later k q y s (λ e. cc (e)) h;
           })

@@ -21,35 +21,35 @@ use Rattle.epoch_machine.specs.Invariant.{Invariant}
 use Rattle.epoch_machine.proofs.Replaced.{put_at}
 use Rattle.epoch_machine.proofs.Kept.{active_sync, sync_plan, positive}
 use Rattle.epoch_machine.proofs.Histories.{deed_keeps}
-use Rattle.unit_rules.specs.declared.lead.Peer.{Peer}
+use Rattle.unit_rules.specs.declared.progress.PeerProgress.{PeerProgress}
 use Rattle.unit_rules.specs.Deeds.{still}
-use Rattle.unit_rules.specs.Leads.{is_primary, lead_of, confirmed_up_to, peer_confirms, confirmed_by, confirmed_of, most_confirmed}
-use Rattle.unit_rules.specs.Seats.{Lead, Seat}
+use Rattle.unit_rules.specs.Progress.{is_primary, progress_of, confirmed_up_to, peer_confirms, confirmed_by, confirmed_of, most_confirmed}
+use Rattle.unit_rules.specs.ReplicaStates.{ReplicationProgress, ReplicaState}
 use Rattle.unit_rules.specs.Writes.{commits, committed, appended_to, appended_received}
 use Rattle.epoch_refinement.specs.Epochs.{IsEpoch}
 use Rattle.epoch_refinement.specs.Facts.{of_node, Later, is_appended, Has}
 use Rattle.epoch_refinement.specs.Refined.{Refined}
-use Rattle.epoch_refinement.specs.Seats.{IsConfirmed, ShowsSeat, ShowsLead}
-use Rattle.epoch_refinement.proofs.Activating.{lead_is}
+use Rattle.epoch_refinement.specs.ReplicaStates.{IsConfirmed, ShowsReplicaState, ShowsProgress}
+use Rattle.epoch_refinement.proofs.Activating.{progress_is}
 use Rattle.epoch_refinement.proofs.Confirmed.{has_confirmed, Committable, committable, any_in, map_in}
 use Rattle.epoch_refinement.proofs.Doing.{nothing_refined}
 use Rattle.epoch_refinement.proofs.Numbers.{same_epoch-true, real}
 use Rattle.epoch_refinement.proofs.Lasting.{deed_later, later_trans, sync_later}
 
--- a lead that the world shows, at the seat of a primary
-module _ {c : Settings} {w : World} (inv : Invariant c w) (p : ℕ) (me : Who) (s : Seat) (shows : ShowsSeat w p me.actor s) (l : Lead) (r : Role)
-    (lead : ShowsLead w me.actor (length s.replica.log) l r) where
+-- progress that the world shows, at a primary
+module _ {c : Settings} {w : World} (inv : Invariant c w) (p : ℕ) (me : Who) (s : ReplicaState) (shows : ShowsReplicaState w p me.actor s) (l : ReplicationProgress) (r : Role)
+    (progress : ShowsProgress w me.actor (length s.replica.log) l r) where
   sound : SoundRole w.active w.told me.actor (w.promised me.actor) (w.joined me.actor) (w.log me.actor) r
-  sound = inv.roles me.actor r lead.role
+  sound = inv.roles me.actor r progress.role
 
   has_adopted : HasAdopted w me.actor
   has_adopted = sound.joined_is ∙ sym sound.promised_is
 
-  pub lead_epoch : IsEpoch r.plan.epoch s.replica.at
-  lead_epoch = subst (λ n. IsEpoch n s.replica.at) sound.joined_is shows.joined
+  pub progress_epoch : IsEpoch r.plan.epoch s.replica.at
+  progress_epoch = subst (λ n. IsEpoch n s.replica.at) sound.joined_is shows.joined
 
-  -- the seat with this lead
-  pub led : ShowsSeat w p me.actor (record s { lead = Some l })
+  -- the state with this progress
+  pub led : ShowsReplicaState w p me.actor (record s { progress = Some l })
   led = record {
     partition = shows.partition;
     promised = shows.promised;
@@ -62,8 +62,8 @@ module _ {c : Settings} {w : World} (inv : Invariant c w) (p : ℕ) (me : Who) (
     numbered = shows.numbered;
     numbered_collected = shows.numbered_collected;
     idle = shows.idle;
-    lead = λ m i. subst (λ m. (q : Role) × ShowsLead w me.actor (length s.replica.log) m q)
-        (lead_is (is_primary s.replica.role) (not (is_older s.replica.at s.replica.promised)) l m i) (r, lead);
+    progress = λ m i. subst (λ m. (q : Role) × ShowsProgress w me.actor (length s.replica.log) m q)
+        (progress_is (is_primary s.replica.role) (not (is_older s.replica.at s.replica.promised)) l m i) (r, progress);
   }
 
   abbrev v : World
@@ -85,7 +85,7 @@ module _ {c : Settings} {w : World} (inv : Invariant c w) (p : ℕ) (me : Who) (
       (λ a. peer (any_in (λ q. q.node == m && nat_le k q.confirmed) l.peers a))
       (or_cases (m == me.actor) (list_any (λ q. q.node == m && nat_le k q.confirmed) l.peers) h)
     where
-      peer : ((q : Peer) × IsMember q l.peers × ((q.node == m && nat_le k q.confirmed) ≡ true)) → HasAppended v.appended r.plan.epoch k m
+      peer : ((q : PeerProgress) × IsMember q l.peers × ((q.node == m && nat_le k q.confirmed) ≡ true)) → HasAppended v.appended r.plan.epoch k m
       peer a =
           let parts = and_parts (a.0.node == m) (nat_le k a.0.confirmed) a.2 in
           let enough = leb-true k a.0.confirmed parts.1 in
@@ -95,18 +95,18 @@ module _ {c : Settings} {w : World} (inv : Invariant c w) (p : ℕ) (me : Who) (
             sent = inr (subst (λ n. IsMember (appended_by n r.plan.epoch a.0.confirmed) w.appended) (eqb-true a.0.node m parts.0) has.0);
             enough = enough;
           })
-          (lead.confirmed a.0 a.1)
+          (progress.confirmed a.0 a.1)
 
   module _ (k : ℕ) (above : l.committed < k) (has : Committable me.actor last l r.plan.members k) where
     within : k ≤ last
     within = ⊎_elim (λ e. omega arith) (λ q. ⊎_elim (λ none. let e = q.2 in omega arith) (λ some. let e = q.2 in let le = some.1 in omega arith)
-        (lead.confirmed q.0 q.1)) has.one
+        (progress.confirmed q.0 q.1)) has.one
 
     can_commit : Can c v (Commits me.actor k r)
     can_commit = (
-      lead.role,
-      let f = lead.floor in omega arith,
-      ⊎_elim (λ none. omega arith) (λ some. omega arith) lead.reported,
+      progress.role,
+      let f = progress.floor in omega arith,
+      ⊎_elim (λ none. omega arith) (λ some. omega arith) progress.reported,
       let n = ap length shows.log in let le = within in omega arith,
       record { by = has_confirmed me.actor k l.peers; each = said k (omega arith) within; most = has.most },
     )
@@ -134,25 +134,25 @@ module _ {c : Settings} {w : World} (inv : Invariant c w) (p : ℕ) (me : Who) (
         numbered = shows.numbered;
         numbered_collected = shows.numbered_collected;
         idle = shows.idle;
-        lead = λ m i. subst (λ m. (q : Role) × ShowsLead u me.actor last m q)
-            (lead_is (is_primary s.replica.role) (not (is_older s.replica.at s.replica.promised)) (record l { committed = k }) m i)
+        progress = λ m i. subst (λ m. (q : Role) × ShowsProgress u me.actor last m q)
+            (progress_is (is_primary s.replica.role) (not (is_older s.replica.at s.replica.promised)) (record l { committed = k }) m i)
             (record r { reported = k }, new);
       };
       sent = (
-        (shows.partition, real r.plan.epoch s.replica.at lead_epoch (positive inv r.plan (sync_plan inv r.plan (active_sync inv r.plan sound.activated)))),
+        (shows.partition, real r.plan.epoch s.replica.at progress_epoch (positive inv r.plan (sync_plan inv r.plan (active_sync inv r.plan sound.activated)))),
         tt,
       );
-      told = λ i. TellsCommitted me.actor (let e = lead_epoch in e.is i) k (shows.log i) ∷ w.told;
+      told = λ i. TellsCommitted me.actor (let e = progress_epoch in e.is i) k (shows.log i) ∷ w.told;
     }
       where
-        new : ShowsLead u me.actor last (record l { committed = k }) (record r { reported = k })
+        new : ShowsProgress u me.actor last (record l { committed = k }) (record r { reported = k })
         new = record {
           role = put_at w.role me.actor (Some (record r { reported = k }));
-          floor = let f = lead.floor in omega arith;
+          floor = let f = progress.floor in omega arith;
           reported = inr refl;
-          member = lead.member;
-          peers = lead.peers;
-          confirmed = λ q m. ⊎_elim (λ none. inl none) (λ some. inr (all.keeps (is_appended _) some.0, some.1)) (lead.confirmed q m);
+          member = progress.member;
+          peers = progress.peers;
+          confirmed = λ q m. ⊎_elim (λ none. inl none) (λ some. inr (all.keeps (is_appended _) some.0, some.1)) (progress.confirmed q m);
         }
 
   pub committed_refines : Refined c w p me (committed l s)
@@ -162,33 +162,33 @@ module _ {c : Settings} {w : World} (inv : Invariant c w) (p : ℕ) (me : Who) (
       k = most_confirmed (confirmed_of l (length s.replica.log))
 
       go : (b : Bool) → nat_lt l.committed (most_confirmed (confirmed_of l (length s.replica.log))) ≡ b →
-          Refined c w p me (if b then commits l (most_confirmed (confirmed_of l (length s.replica.log))) s else still (record s { lead = Some l }))
+          Refined c w p me (if b then commits l (most_confirmed (confirmed_of l (length s.replica.log))) s else still (record s { progress = Some l }))
       go true h =
           let lt = ltb-true l.committed (most_confirmed (confirmed_of l (length s.replica.log))) h in
           commits_refined (most_confirmed (confirmed_of l (length s.replica.log))) lt
-          (committable me.actor (length s.replica.log) l r.plan.members lead.member lead.peers (omega arith))
+          (committable me.actor (length s.replica.log) l r.plan.members progress.member progress.peers (omega arith))
       go false h = nothing_refined inv led
 
 -- Appended: the frame shows what the sender said
 
-same_nodes : (node lsn own : ℕ) (peers : List Peer) →
-    map (λ (q : Peer). q.node) (map (peer_confirms node lsn own) peers) ≡ map (λ (q : Peer). q.node) peers
+same_nodes : (node lsn own : ℕ) (peers : List PeerProgress) →
+    map (λ (q : PeerProgress). q.node) (map (peer_confirms node lsn own) peers) ≡ map (λ (q : PeerProgress). q.node) peers
 same_nodes node lsn own [] = refl
 same_nodes node lsn own (q ∷ qs) = go (q.node == node) (same_nodes node lsn own qs)
   where
-    go : (b : Bool) → map (λ (q : Peer). q.node) (map (peer_confirms node lsn own) qs) ≡ map (λ (q : Peer). q.node) qs →
-        (cond b (record q { confirmed = confirmed_up_to lsn own q; next = lsn + 1 }) q).node ∷ map (λ (q : Peer). q.node) (map (peer_confirms node lsn own) qs)
-        ≡ q.node ∷ map (λ (q : Peer). q.node) qs
+    go : (b : Bool) → map (λ (q : PeerProgress). q.node) (map (peer_confirms node lsn own) qs) ≡ map (λ (q : PeerProgress). q.node) qs →
+        (cond b (record q { confirmed = confirmed_up_to lsn own q; next = lsn + 1 }) q).node ∷ map (λ (q : PeerProgress). q.node) (map (peer_confirms node lsn own) qs)
+        ≡ q.node ∷ map (λ (q : PeerProgress). q.node) qs
     go true e = ap (λ l. q.node ∷ l) e
     go false e = ap (λ l. q.node ∷ l) e
 
-module _ {c : Settings} {w : World} (inv : Invariant c w) (p : ℕ) (me : Who) (s : Seat) (shows : ShowsSeat w p me.actor s) where
-  module _ (l : Lead) (r : Role) (lead : ShowsLead w me.actor (length s.replica.log) l r) (node last : ℕ)
+module _ {c : Settings} {w : World} (inv : Invariant c w) (p : ℕ) (me : Who) (s : ReplicaState) (shows : ShowsReplicaState w p me.actor s) where
+  module _ (l : ReplicationProgress) (r : Role) (progress : ShowsProgress w me.actor (length s.replica.log) l r) (node last : ℕ)
       (said : Has w (is_appended (appended_by node r.plan.epoch last))) where
     abbrev own : ℕ
     own = length s.replica.log
 
-    confirmed_now : (q : Peer) → IsConfirmed w r own q → IsConfirmed w r own (peer_confirms node last own q)
+    confirmed_now : (q : PeerProgress) → IsConfirmed w r own q → IsConfirmed w r own (peer_confirms node last own q)
     confirmed_now q h = go (q.node == node) refl (nat_le last own) refl
       where
         new : q.node ≡ node → last ≤ own → IsConfirmed w r own (record q { confirmed = max q.confirmed last; next = last + 1 })
@@ -206,33 +206,33 @@ module _ {c : Settings} {w : World} (inv : Invariant c w) (p : ℕ) (me : Who) (
         go true i false j = h
         go false i d j = h
 
-    lead_now : ShowsLead w me.actor own (confirmed_by node last own l) r
-    lead_now = record {
-      role = lead.role;
-      floor = lead.floor;
-      reported = lead.reported;
-      member = lead.member;
-      peers = same_nodes node last own l.peers ∙ lead.peers;
+    progress_now : ShowsProgress w me.actor own (confirmed_by node last own l) r
+    progress_now = record {
+      role = progress.role;
+      floor = progress.floor;
+      reported = progress.reported;
+      member = progress.member;
+      peers = same_nodes node last own l.peers ∙ progress.peers;
       confirmed = λ q m.
           let o = map_in (peer_confirms node last own) l.peers q m in
-          subst (IsConfirmed w r own) (sym o.2) (confirmed_now o.0 (lead.confirmed o.0 o.1));
+          subst (IsConfirmed w r own) (sym o.2) (confirmed_now o.0 (progress.confirmed o.0 o.1));
     }
 
   pub appended_refines : (node last : ℕ) (e : Epoch) (n : ℕ) → IsEpoch n e → Has w (is_appended (appended_by node n last)) →
       Refined c w p me (appended_received node e last s)
   unfolding appended_received
-  appended_refines node last e n is said = go (lead_of s) refl
+  appended_refines node last e n is said = go (progress_of s) refl
     where
-      by : (l : Lead) → lead_of s ≡ Some l → (same : Bool) → same_epoch s.replica.at e ≡ same →
+      by : (l : ReplicationProgress) → progress_of s ≡ Some l → (same : Bool) → same_epoch s.replica.at e ≡ same →
           Refined c w p me (if same then committed (confirmed_by node last (length s.replica.log) l) s else still s)
       by l h true i =
-          let d = shows.lead l h in
-          let q = lead_epoch inv p me s shows l d.0 d.1 in
+          let d = shows.progress l h in
+          let q = progress_epoch inv p me s shows l d.0 d.1 in
           let number : n ≡ d.0.plan.epoch = is.is ∙ ap number_of (sym (same_epoch-true s.replica.at e i)) ∙ sym q.is in
           committed_refines inv p me s shows (confirmed_by node last (length s.replica.log) l) d.0
-          (lead_now l d.0 d.1 node last (subst (λ k. Has w (is_appended (appended_by node k last))) number said))
+          (progress_now l d.0 d.1 node last (subst (λ k. Has w (is_appended (appended_by node k last))) number said))
       by l h false i = nothing_refined inv shows
 
-      go : (o : Option Lead) → lead_of s ≡ o → Refined c w p me (appended_to node e last s o)
+      go : (o : Option ReplicationProgress) → progress_of s ≡ o → Refined c w p me (appended_to node e last s o)
       go None h = nothing_refined inv shows
       go (Some l) h = by l h (same_epoch s.replica.at e) refl

@@ -6,9 +6,9 @@ use Rattle.std.specs.Prelude.{not, map, filter}
 use Rattle.std.specs.List.{list_any, count_by}
 use Rattle.fabric_lemmas.specs.Members.{IsMember}
 use Rattle.epoch_machine.specs.Majorities.{count}
-use Rattle.unit_rules.specs.declared.lead.Peer.{Peer}
-use Rattle.unit_rules.specs.Leads.{greatest, is_confirmed, most_confirmed, confirmed_of}
-use Rattle.unit_rules.specs.Seats.{Lead}
+use Rattle.unit_rules.specs.declared.progress.PeerProgress.{PeerProgress}
+use Rattle.unit_rules.specs.Progress.{greatest, is_confirmed, most_confirmed, confirmed_of}
+use Rattle.unit_rules.specs.ReplicaStates.{ReplicationProgress}
 
 -- the greatest of numbers is one of them, or 0
 greatest_in : (ns : List ℕ) → 0 < greatest ns → IsMember (greatest ns) ns
@@ -44,7 +44,7 @@ in_any f (y ∷ ys) x (inl e) h = or_left (f y) (list_any f ys) (subst (λ z. f 
 in_any f (y ∷ ys) x (inr m) h = or_right (f y) (list_any f ys) (in_any f ys x m h)
 
 -- the primary, and whoever has confirmed so much
-abbrev pub has_confirmed : ℕ → ℕ → List Peer → ℕ → Bool
+abbrev pub has_confirmed : ℕ → ℕ → List PeerProgress → ℕ → Bool
 has_confirmed me k peers m = m == me || list_any (λ q. q.node == m && nat_le k q.confirmed) peers
 
 -- the others of a list, of which me is counted
@@ -86,7 +86,7 @@ member_less me (m ∷ ms) h = go (m == me) refl h (member_less me ms)
     go false e h rest = let lt = rest h in omega arith
 
 -- as many nodes are counted as peers pass
-peers_count : (by : ℕ → Bool) (k : ℕ) (peers : List Peer) → ((q : Peer) → IsMember q peers → nat_le k q.confirmed ≡ true → by q.node ≡ true) →
+peers_count : (by : ℕ → Bool) (k : ℕ) (peers : List PeerProgress) → ((q : PeerProgress) → IsMember q peers → nat_le k q.confirmed ≡ true → by q.node ≡ true) →
     count_by (nat_le k) (map (λ q. q.confirmed) peers) ≤ count by (map (λ q. q.node) peers)
 peers_count by k [] h = omega arith
 peers_count by k (q ∷ qs) h =
@@ -106,11 +106,11 @@ map_length f [] = refl
 map_length f (x ∷ xs) = ap suc (map_length f xs)
 
 -- the entry that is committed now is confirmed by a majority of the members, and the primary has it
-pub record Committable (me own : ℕ) (l : Lead) (ms : List ℕ) (k : ℕ) : Type 0 where
+pub record Committable (me own : ℕ) (l : ReplicationProgress) (ms : List ℕ) (k : ℕ) : Type 0 where
   pub most : length ms < count (has_confirmed me k l.peers) ms + count (has_confirmed me k l.peers) ms
-  pub one : (k ≡ own) ⊎ ((q : Peer) × IsMember q l.peers × (k ≡ q.confirmed))
+  pub one : (k ≡ own) ⊎ ((q : PeerProgress) × IsMember q l.peers × (k ≡ q.confirmed))
 
-pub committable : (me own : ℕ) (l : Lead) (ms : List ℕ) → list_any (λ m. m == me) ms ≡ true →
+pub committable : (me own : ℕ) (l : ReplicationProgress) (ms : List ℕ) → list_any (λ m. m == me) ms ≡ true →
     map (λ q. q.node) l.peers ≡ filter (λ m. not (m == me)) ms → 0 < most_confirmed (confirmed_of l own) →
     Committable me own l ms (most_confirmed (confirmed_of l own))
 committable me own l ms member nodes some = record {
@@ -121,10 +121,10 @@ committable me own l ms member nodes some = record {
       let c = peers_count by k l.peers confirms in
       let n = ap length nodes in
       let nc = ap (count by) nodes in
-      let ln = map_length (λ (q : Peer). q.node) l.peers in
-      let lc = map_length (λ (q : Peer). q.confirmed) l.peers in
+      let ln = map_length (λ (q : PeerProgress). q.node) l.peers in
+      let lc = map_length (λ (q : PeerProgress). q.confirmed) l.peers in
       let m = majority in omega arith;
-  one = ⊎_elim (λ e. inl e) (λ i. inr (map_in (λ (q : Peer). q.confirmed) l.peers k i)) found.0;
+  one = ⊎_elim (λ e. inl e) (λ i. inr (map_in (λ (q : PeerProgress). q.confirmed) l.peers k i)) found.0;
 }
   where
     k : ℕ
@@ -136,7 +136,7 @@ committable me own l ms member nodes some = record {
     mine : by me ≡ true
     mine = or_left (me == me) (list_any (λ q. q.node == me && nat_le k q.confirmed) l.peers) (eq-eqb me me refl)
 
-    confirms : (q : Peer) → IsMember q l.peers → nat_le k q.confirmed ≡ true → by q.node ≡ true
+    confirms : (q : PeerProgress) → IsMember q l.peers → nat_le k q.confirmed ≡ true → by q.node ≡ true
     confirms q m h =
         or_right (q.node == me) (list_any (λ r. r.node == q.node && nat_le k r.confirmed) l.peers)
         (in_any (λ r. r.node == q.node && nat_le k r.confirmed) l.peers q m
@@ -147,17 +147,17 @@ committable me own l ms member nodes some = record {
         filter_in (is_confirmed (confirmed_of l own)) (confirmed_of l own) k
         (greatest_in (filter (is_confirmed (confirmed_of l own)) (confirmed_of l own)) some)
 
-    majority : suc (length (map (λ (q : Peer). q.confirmed) l.peers)) < 2 * (1 + count_by (nat_le k) (map (λ (q : Peer). q.confirmed) l.peers))
+    majority : suc (length (map (λ (q : PeerProgress). q.confirmed) l.peers)) < 2 * (1 + count_by (nat_le k) (map (λ (q : PeerProgress). q.confirmed) l.peers))
     majority =
-        let lt = ltb-true (suc (length (map (λ (q : Peer). q.confirmed) l.peers))) (2 * count_by (nat_le k) (own ∷
-        map (λ (q : Peer). q.confirmed) l.peers)) found.1 in
+        let lt = ltb-true (suc (length (map (λ (q : PeerProgress). q.confirmed) l.peers))) (2 * count_by (nat_le k) (own ∷
+        map (λ (q : PeerProgress). q.confirmed) l.peers)) found.1 in
         go (nat_le k own)
-        (subst (λ n. suc (length (map (λ (q : Peer). q.confirmed) l.peers)) < 2 * n)
-        (sum_by-cons (λ n. cond (nat_le k n) 1 0) own (map (λ (q : Peer). q.confirmed) l.peers)) lt)
+        (subst (λ n. suc (length (map (λ (q : PeerProgress). q.confirmed) l.peers)) < 2 * n)
+        (sum_by-cons (λ n. cond (nat_le k n) 1 0) own (map (λ (q : PeerProgress). q.confirmed) l.peers)) lt)
       where
-        go : (b : Bool) → suc (length (map (λ (q : Peer). q.confirmed) l.peers)) < 2 * (cond b 1 0 + count_by (nat_le k)
-            (map (λ (q : Peer). q.confirmed) l.peers)) →
-            suc (length (map (λ (q : Peer). q.confirmed) l.peers)) < 2 * (1 + count_by (nat_le k) (map (λ (q : Peer). q.confirmed) l.peers))
+        go : (b : Bool) → suc (length (map (λ (q : PeerProgress). q.confirmed) l.peers)) < 2 * (cond b 1 0 + count_by (nat_le k)
+            (map (λ (q : PeerProgress). q.confirmed) l.peers)) →
+            suc (length (map (λ (q : PeerProgress). q.confirmed) l.peers)) < 2 * (1 + count_by (nat_le k) (map (λ (q : PeerProgress). q.confirmed) l.peers))
         go true lt = lt
         go false lt = omega arith
 

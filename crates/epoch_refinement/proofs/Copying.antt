@@ -25,16 +25,16 @@ use Rattle.epoch_machine.specs.Effects.{after}
 use Rattle.epoch_machine.specs.Invariant.{Invariant}
 use Rattle.epoch_machine.proofs.Replaced.{put_at}
 use Rattle.epoch_machine.proofs.Histories.{deed_keeps}
-use Rattle.unit_rules.specs.declared.lead.Taking.{Taking}
+use Rattle.unit_rules.specs.declared.progress.CatchUp.{CatchUp}
 use Rattle.unit_rules.specs.Copies.{fetch_next, adoption, piece_collected, is_wanted, piece_for, piece_received}
 use Rattle.unit_rules.specs.Deeds.{Keep, acted, still}
-use Rattle.unit_rules.specs.Leads.{is_primary}
-use Rattle.unit_rules.specs.Seats.{Seat, seated}
+use Rattle.unit_rules.specs.Progress.{is_primary}
+use Rattle.unit_rules.specs.ReplicaStates.{ReplicaState, replica_put}
 use Rattle.fabric_terms.specs.declared.record.Record.TheVariants as kept
 use Rattle.epoch_refinement.specs.Epochs.{IsEpoch}
 use Rattle.epoch_refinement.specs.Facts.{of_node, Later}
 use Rattle.epoch_refinement.specs.Refined.{Refined}
-use Rattle.epoch_refinement.specs.Seats.{IsNumbered, ShowsSeat}
+use Rattle.epoch_refinement.specs.ReplicaStates.{IsNumbered, ShowsReplicaState}
 use Rattle.epoch_refinement.specs.Shown.{ShownSync, ShownPiece}
 use Rattle.epoch_refinement.proofs.Doing.{after_refined, nothing_refined, not_primary}
 use Rattle.epoch_refinement.proofs.Numbers.{older_not, same_not, below_older, same_epoch-true, one_epoch}
@@ -42,9 +42,9 @@ use Rattle.epoch_refinement.proofs.Lasting.{deed_later, later_refl, sync_later}
 use Rattle.epoch_refinement.proofs.Promising.{numbered_none, numbered_push}
 use Rattle.epoch_refinement.proofs.Adopting.{Adopts, adopts}
 
-module _ {c : Settings} {w : World} (inv : Invariant c w) (p : ℕ) (me : Who) (s : Seat) (shows : ShowsSeat w p me.actor s) where
+module _ {c : Settings} {w : World} (inv : Invariant c w) (p : ℕ) (me : Who) (s : ReplicaState) (shows : ShowsReplicaState w p me.actor s) where
   -- an entry of the Sync last taken
-  module _ (t : Taking) (is_taken : s.taking ≡ Some t) (e : Epoch) (x : Entry) (piece : ShownPiece w e x) (same : same_epoch t.epoch e ≡ true)
+  module _ (t : CatchUp) (is_taken : s.catch_up ≡ Some t) (e : Epoch) (x : Entry) (piece : ShownPiece w e x) (same : same_epoch t.epoch e ≡ true)
       (not_at : same_epoch s.replica.at t.epoch ≡ false) (not_older : is_older t.epoch s.replica.promised ≡ false)
       (within : x.lsn ≤ t.last) where
     sync : ShownSync w t.epoch t.origin t.last
@@ -120,7 +120,7 @@ module _ {c : Settings} {w : World} (inv : Invariant c w) (p : ℕ) (me : Who) (
     abbrev more : Bool → Replica
     more first = record (raised t.epoch s.replica) { collected = before first ++ x ∷ [] }
 
-    collected_shows : (first : Bool) → x.lsn ≡ length (before first) + 1 → ShowsSeat (u first) p me.actor (seated s (more first))
+    collected_shows : (first : Bool) → x.lsn ≡ length (before first) + 1 → ShowsReplicaState (u first) p me.actor (replica_put s (more first))
     collected_shows first next = record {
       partition = shows.partition;
       promised = subst (IsEpoch (w.promised me.actor)) epoch_is shows.promised;
@@ -133,14 +133,14 @@ module _ {c : Settings} {w : World} (inv : Invariant c w) (p : ℕ) (me : Who) (
       numbered = shows.numbered;
       numbered_collected = numbered_push (before first) x next piece.small (numbered_before first);
       idle = λ h. role_now;
-      lead = λ l h. absurd (not_primary (seated s (more first)) l role_now h);
+      progress = λ l h. absurd (not_primary (replica_put s (more first)) l role_now h);
     }
 
     collects : (first final : Bool) → (x.lsn == t.last) ≡ final → x.lsn ≡ length (before first) + 1 →
         Refined c w p me
         (piece_collected t x s (Ok New, cond final (settled t.epoch (more first)) (more first)))
     collects first false h next =
-        subst (λ b. Refined c w p me (acted (seated s (more first)) (Keep (kept.Incoming s.replica.partition t.epoch x.lsn x.epoch x.bytes) ∷
+        subst (λ b. Refined c w p me (acted (replica_put s (more first)) (Keep (kept.Incoming s.replica.partition t.epoch x.lsn x.epoch x.bytes) ∷
         (if b then adoption s.replica.partition t false else fetch_next t (more first) ∷ [])))) (sym h)
         (record {
           after = u first;
@@ -151,7 +151,7 @@ module _ {c : Settings} {w : World} (inv : Invariant c w) (p : ℕ) (me : Who) (
           told = refl;
         })
     collects first true h next =
-        subst (λ b. Refined c w p me (acted (seated s (settled t.epoch (more first))) (Keep (kept.Incoming s.replica.partition t.epoch x.lsn x.epoch x.bytes) ∷
+        subst (λ b. Refined c w p me (acted (replica_put s (settled t.epoch (more first))) (Keep (kept.Incoming s.replica.partition t.epoch x.lsn x.epoch x.bytes) ∷
         (if b then adoption s.replica.partition t false else fetch_next t (settled t.epoch (more first)) ∷ [])))) (sym h)
         (after_refined (later first) (Keep (kept.Incoming s.replica.partition t.epoch x.lsn x.epoch x.bytes) ∷ []) tt (λ log. refl) done)
       where
@@ -166,9 +166,9 @@ module _ {c : Settings} {w : World} (inv : Invariant c w) (p : ℕ) (me : Who) (
         length_now : length (before first ++ x ∷ []) ≤ 100000
         length_now = let n = length-append (before first) (x ∷ []) in let le = within in let r = sync.room in omega arith
 
-        has_log : Adopts (deed_keeps inv (Collects me.actor sync.plan (before first) x) (can_collect first next)) p me t (seated s (more first))
+        has_log : Adopts (deed_keeps inv (Collects me.actor sync.plan (before first) x) (can_collect first next)) p me t (replica_put s (more first))
             (collected_shows first next) (sync_later (later first) sync) promised_is before_joined ((u first).collected me.actor)
-            (seated s (settled t.epoch (more first)))
+            (replica_put s (settled t.epoch (more first)))
         has_log = record {
           partition = shows.partition;
           promised_is = refl;
@@ -181,18 +181,18 @@ module _ {c : Settings} {w : World} (inv : Invariant c w) (p : ℕ) (me : Who) (
           role_is = role_now;
         }
 
-        done : Refined c (u first) p me (acted (seated s (settled t.epoch (more first))) (adoption s.replica.partition t false))
+        done : Refined c (u first) p me (acted (replica_put s (settled t.epoch (more first))) (adoption s.replica.partition t false))
         done =
-            adopts (deed_keeps inv (Collects me.actor sync.plan (before first) x) (can_collect first next)) p me t (seated s (more first))
+            adopts (deed_keeps inv (Collects me.actor sync.plan (before first) x) (can_collect first next)) p me t (replica_put s (more first))
             (collected_shows first next) (sync_later (later first) sync) promised_is before_joined ((u first).collected me.actor)
-            (seated s (settled t.epoch (more first))) false has_log
+            (replica_put s (settled t.epoch (more first))) false has_log
             (deed_keeps (deed_keeps inv (Collects me.actor sync.plan (before first) x) (can_collect first next)) (AdoptsCollected me.actor sync.plan) can)
             (deed_later (u first) (AdoptsCollected me.actor sync.plan))
 
     -- the same first entry again changes nothing
     held : (x.lsn == t.last) ≡ false → Refined c w p me (piece_collected t x s (Ok Held, s.replica))
     held h =
-        subst (λ b. Refined c w p me (acted (seated s s.replica) (Keep (kept.Incoming s.replica.partition t.epoch x.lsn x.epoch x.bytes) ∷
+        subst (λ b. Refined c w p me (acted (replica_put s s.replica) (Keep (kept.Incoming s.replica.partition t.epoch x.lsn x.epoch x.bytes) ∷
         (if b then adoption s.replica.partition t false else fetch_next t s.replica ∷ [])))) (sym h)
         (record {
           after = w;
@@ -236,9 +236,9 @@ module _ {c : Settings} {w : World} (inv : Invariant c w) (p : ℕ) (me : Who) (
 
   pub piece_refines : (e : Epoch) (x : Entry) → ShownPiece w e x → Refined c w p me (piece_received e x s)
   unfolding piece_received
-  piece_refines e x piece = go s.taking refl
+  piece_refines e x piece = go s.catch_up refl
     where
-      by : (t : Taking) → s.taking ≡ Some t → (wanted : Bool) → is_wanted t e x.lsn s.replica ≡ wanted →
+      by : (t : CatchUp) → s.catch_up ≡ Some t → (wanted : Bool) → is_wanted t e x.lsn s.replica ≡ wanted →
           (older : Bool) → is_older t.epoch s.replica.promised ≡ older → (at : Bool) → same_epoch s.replica.at t.epoch ≡ at →
           Refined c w p me (if wanted then piece_collected t x s (unless older (Older s.replica.promised) s.replica (held_if at s.replica
           (unless (is_gap t.epoch x.lsn s.replica)
@@ -258,6 +258,6 @@ module _ {c : Settings} {w : World} (inv : Invariant c w) (p : ℕ) (me : Who) (
           let d = and_parts (same_epoch t.epoch e) (not (same_epoch s.replica.at e)) b.0 in
           takes t h e x piece d.0 k j (leb-true x.lsn t.last a.1)
 
-      go : (o : Option Taking) → s.taking ≡ o → Refined c w p me (piece_for e x s o)
+      go : (o : Option CatchUp) → s.catch_up ≡ o → Refined c w p me (piece_for e x s o)
       go None h = nothing_refined inv shows
       go (Some t) h = by t h (is_wanted t e x.lsn s.replica) refl (is_older t.epoch s.replica.promised) refl (same_epoch s.replica.at t.epoch) refl

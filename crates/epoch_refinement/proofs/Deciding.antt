@@ -26,7 +26,7 @@ use Rattle.unit_rules.specs.declared.reconfig.Kind.TheVariants.{Create, Swap, He
 use Rattle.unit_rules.specs.declared.reconfig.Task.{Task}
 use Rattle.unit_rules.specs.Phases.{is_taken_up, voted_by, copied_with, done_with, activated_with}
 use Rattle.unit_rules.specs.Polls.{poll_of, arbiters_to, is_carried, has_answered}
-use Rattle.unit_rules.specs.Reconfigs.{Source, VotePhase, CopyPhase, DonePhase, ActivatePhase, Decide, Phase2, Phase3, Phase4}
+use Rattle.unit_rules.specs.Reconfigs.{OriginLog, VotePhase, CopyPhase, DonePhase, ActivatePhase, Decide, Phase2, Phase3, Phase4}
 use Rattle.unit_rules.specs.Transitions.{source_by, copies, after_vote, stores, after_copy, activates, after_done, after_activate}
 use Rattle.epoch_refinement.specs.Epochs.{IsEpoch, settings_to}
 use Rattle.epoch_refinement.specs.Reconfigs.{is_create, NoneAbove, ShowsPlan, ShowsPhase, ShowsTask, Went}
@@ -100,7 +100,7 @@ module _ {k : ℕ} {w : World} (inv : Invariant (settings_to k) w) (p : ℕ) (x 
     same_plan : IsPlanOf p plan config
     same_plan = let a = meet (arbiters_to k) ballots ballots in let b = a.1 in b.is
 
-    abbrev source : Source
+    abbrev source : OriginLog
     source = source_by q.task.kind config q.source
 
     -- of a create the log is none, and the primary's

@@ -13,11 +13,11 @@ use Rattle.fabric_terms.specs.declared.report.Report.{Report}
 use Rattle.fabric_terms.specs.declared.report.Report.TheVariants as report
 use Rattle.unit_rules.specs.Answers.{OnlyAnswers, is_answer}
 use Rattle.unit_rules.specs.Deeds.{Deed, Keep, Send, Tell, Acted, after_deeds, still}
-use Rattle.unit_rules.specs.Leads.{is_primary, lead_of}
-use Rattle.unit_rules.specs.Seats.{Lead, Seat}
+use Rattle.unit_rules.specs.Progress.{is_primary, progress_of}
+use Rattle.unit_rules.specs.ReplicaStates.{ReplicationProgress, ReplicaState}
 use Rattle.epoch_refinement.specs.Facts.{of_node, Later}
 use Rattle.epoch_refinement.specs.Refined.{AllShown, Refined}
-use Rattle.epoch_refinement.specs.Seats.{ShowsSeat}
+use Rattle.epoch_refinement.specs.ReplicaStates.{ShowsReplicaState}
 use Rattle.epoch_refinement.specs.Told.{tells_all, tells, IsOf}
 use Rattle.epoch_refinement.proofs.Lasting.{later_refl, later_trans, all_shown_later}
 
@@ -35,7 +35,7 @@ tells_append node log (Send to x ∷ ds) es before = tells_append node log ds es
 tells_append node log (Tell r ∷ ds) es before = tells_append node log ds es (tells node log r before)
 
 -- a row that comes after deeds, the world having come so far
-pub after_refined : {c : Settings} {w v : World} {p : ℕ} {me : Who} {a : Acted Seat} → Later (of_node me.actor) w v → (before : List Deed) →
+pub after_refined : {c : Settings} {w v : World} {p : ℕ} {me : Who} {a : Acted ReplicaState} → Later (of_node me.actor) w v → (before : List Deed) →
     AllShown v p me before → ((log : List Entry) → v.told ≡ tells_all me.actor log before w.told) → Refined c v p me a →
     Refined c w p me (after_deeds before a)
 after_refined {w = w} {v = v} {p = p} {me = me} {a = a} later before shown told r = record {
@@ -50,7 +50,7 @@ after_refined {w = w} {v = v} {p = p} {me = me} {a = a} later before shown told 
 }
 
 -- nothing is done
-pub nothing_refined : {c : Settings} {w : World} {p : ℕ} {me : Who} {s : Seat} → Invariant c w → ShowsSeat w p me.actor s → Refined c w p me (still s)
+pub nothing_refined : {c : Settings} {w : World} {p : ℕ} {me : Who} {s : ReplicaState} → Invariant c w → ShowsReplicaState w p me.actor s → Refined c w p me (still s)
 nothing_refined {w = w} inv shows = record { after = w; inv = inv; later = later_refl w; shows = shows; sent = tt; told = refl }
 
 -- An answer about names tells the machine nothing.
@@ -69,7 +69,7 @@ answer_tells node log (report.IsPrimary q e) h before = absurd (cc (h))
 answer_tells node log (report.Committed q e lsn) h before = absurd (cc (h))
 answer_tells node log r h before = refl
 
-pub answer_refined : {c : Settings} {w : World} {p : ℕ} {me : Who} {s : Seat} → Invariant c w → ShowsSeat w p me.actor s → (a : Acted Seat) → OnlyAnswers s a →
+pub answer_refined : {c : Settings} {w : World} {p : ℕ} {me : Who} {s : ReplicaState} → Invariant c w → ShowsReplicaState w p me.actor s → (a : Acted ReplicaState) → OnlyAnswers s a →
     Refined c w p me a
 answer_refined {c = c} {w = w} {p = p} {me = me} {s = s} inv shows a h = subst (Refined c w p me) (sym h.is) (record {
   after = w;
@@ -82,21 +82,21 @@ answer_refined {c = c} {w = w} {p = p} {me = me} {s = s} inv shows a h = subst (
 
 -- who is no primary, or has promised more, does not lead
 
-no_lead_by : (a b : Bool) (x : Option Lead) (l : Lead) → (a && b) ≡ false → (if a && b then x else None) ≡ Some l → ⊥
-no_lead_by true true x l none h = cc (none)
-no_lead_by true false x l none h = cc (h)
-no_lead_by false b x l none h = cc (h)
+no_progress_by : (a b : Bool) (x : Option ReplicationProgress) (l : ReplicationProgress) → (a && b) ≡ false → (if a && b then x else None) ≡ Some l → ⊥
+no_progress_by true true x l none h = cc (none)
+no_progress_by true false x l none h = cc (h)
+no_progress_by false b x l none h = cc (h)
 
-pub not_primary : (s : Seat) (l : Lead) → is_primary s.replica.role ≡ false → lead_of s ≡ Some l → ⊥
+pub not_primary : (s : ReplicaState) (l : ReplicationProgress) → is_primary s.replica.role ≡ false → progress_of s ≡ Some l → ⊥
 not_primary s l isnt h =
-    no_lead_by (is_primary s.replica.role) (not (is_older s.replica.at s.replica.promised)) s.lead l
+    no_progress_by (is_primary s.replica.role) (not (is_older s.replica.at s.replica.promised)) s.progress l
     (and_left (is_primary s.replica.role) (not (is_older s.replica.at s.replica.promised)) isnt) h
 
 -- who leads is a primary
-pub leads : (s : Seat) (l : Lead) → lead_of s ≡ Some l → (is_primary s.replica.role ≡ true) × (is_older s.replica.at s.replica.promised ≡ false)
+pub leads : (s : ReplicaState) (l : ReplicationProgress) → progress_of s ≡ Some l → (is_primary s.replica.role ≡ true) × (is_older s.replica.at s.replica.promised ≡ false)
 leads s l h = go (is_primary s.replica.role) (is_older s.replica.at s.replica.promised) h
   where
-    go : (a b : Bool) → (if a && not b then s.lead else None) ≡ Some l → (a ≡ true) × (b ≡ false)
+    go : (a b : Bool) → (if a && not b then s.progress else None) ≡ Some l → (a ≡ true) × (b ≡ false)
     go true false h = (refl, refl)
     go true true h = absurd (cc (h))
     go false b h = absurd (cc (h))

@@ -10,20 +10,20 @@ use Rattle.epoch_machine.specs.World.{World}
 use Rattle.unit_rules.specs.Manager.{Managed}
 use Rattle.unit_rules.specs.Reconfigs.{Reconfig, Prepare, Phase0, Phase1, Decide, Phase2, Phase3, Phase4}
 use Rattle.unit_rules.specs.Registers.{Register}
-use Rattle.unit_rules.specs.Seats.{Seat}
+use Rattle.unit_rules.specs.ReplicaStates.{ReplicaState}
 use Rattle.epoch_refinement.specs.Epochs.{IsEpoch}
 use Rattle.epoch_refinement.specs.Facts.{Actor, of_arbiter, of_node, of_manager, is_attempt, is_plan, is_synced, is_asked, is_adopted, is_kept, is_active, is_answer, is_promise, Later}
 use Rattle.epoch_refinement.specs.Reconfigs.{HasLeft, ShowsPhase, ShowsReconfig, ShowsManager, Went}
 use Rattle.epoch_refinement.specs.Registers.{ShowsRegister}
-use Rattle.epoch_refinement.specs.Seats.{ShowsSeat}
+use Rattle.epoch_refinement.specs.ReplicaStates.{ShowsReplicaState}
 use Rattle.epoch_refinement.specs.Shown.{IsDone, ShownPrepared, ShownPromised}
 use Rattle.epoch_refinement.proofs.Lasting.{voted_later}
 use Rattle.epoch_refinement.proofs.Promising.{shows_later}
 
 module _ {x : Actor} {w v : World} (later : Later x w v) where
-  pub seat_elsewhere : (p m : ℕ) (s : Seat) → (x ≡ of_node m → ⊥) → ShowsSeat w p m s → ShowsSeat v p m s
-  seat_elsewhere p m s d shows =
-      let same = later.beside.seats m d in shows_later later same.promised same.joined same.log same.collected same.role shows
+  pub state_elsewhere : (p m : ℕ) (s : ReplicaState) → (x ≡ of_node m → ⊥) → ShowsReplicaState w p m s → ShowsReplicaState v p m s
+  state_elsewhere p m s d shows =
+      let same = later.beside.states m d in shows_later later same.promised same.joined same.log same.collected same.role shows
 
   pub register_elsewhere : (p a : ℕ) (r : Register) → (x ≡ of_arbiter a → ⊥) → ShowsRegister w p a r → ShowsRegister v p a r
   register_elsewhere p a r d shows =

@@ -16,10 +16,10 @@ use Rattle.epoch_machine.specs.Invariant.{Invariant}
 use Rattle.epoch_machine.proofs.Histories.{deed_keeps}
 use Rattle.unit_rules.specs.Copies.{entry_given, fetch_received}
 use Rattle.unit_rules.specs.Deeds.{still}
-use Rattle.unit_rules.specs.Seats.{Seat, entry_at}
+use Rattle.unit_rules.specs.ReplicaStates.{ReplicaState, entry_at}
 use Rattle.epoch_refinement.specs.Epochs.{IsEpoch}
 use Rattle.epoch_refinement.specs.Refined.{Refined}
-use Rattle.epoch_refinement.specs.Seats.{ShowsSeat}
+use Rattle.epoch_refinement.specs.ReplicaStates.{ShowsReplicaState}
 use Rattle.epoch_refinement.specs.Shown.{ShownFetch}
 use Rattle.epoch_refinement.proofs.Doing.{nothing_refined}
 use Rattle.epoch_refinement.proofs.Numbers.{same_epoch-true}
@@ -38,7 +38,7 @@ entry_found lsn log x h = go (nat_le 1 lsn) refl h
     go true i h = (lsn - 1, let le = leb-true 1 lsn i in omega arith, place_found log (lsn - 1) x h)
     go false i h = absurd (cc (h))
 
-module _ {c : Settings} {w : World} (inv : Invariant c w) (p : ℕ) (me : Who) (s : Seat) (shows : ShowsSeat w p me.actor s) where
+module _ {c : Settings} {w : World} (inv : Invariant c w) (p : ℕ) (me : Who) (s : ReplicaState) (shows : ShowsReplicaState w p me.actor s) where
   pub fetch_refines : (from : Who) (e : Epoch) (lsn : ℕ) → ShownFetch w e me.actor → Refined c w p me (fetch_received from e lsn s)
   unfolding fetch_received
   fetch_refines from e lsn fetch = go (same_epoch s.replica.promised e) refl (entry_at lsn s.replica.log) refl

@@ -11,16 +11,16 @@ use Rattle.replica_core.specs.declared.entry.Entry.{Entry}
 use Rattle.epoch_machine.specs.World.{World}
 use Rattle.epoch_machine.specs.World as machine
 use Rattle.epoch_machine.specs.Invariant.{Invariant}
-use Rattle.unit_rules.specs.declared.lead.Peer.{Peer}
+use Rattle.unit_rules.specs.declared.progress.PeerProgress.{PeerProgress}
 use Rattle.unit_rules.specs.Deeds.{Deed, Keep, Send, Tell, acted, send_all}
-use Rattle.unit_rules.specs.Leads.{lead_of}
+use Rattle.unit_rules.specs.Progress.{progress_of}
 use Rattle.unit_rules.specs.Questions.{question, awaited, reconfig_fired}
 use Rattle.unit_rules.specs.Reconfigs.{Reconfig}
-use Rattle.unit_rules.specs.Seats.{Lead, Seat, first_seat, entry_at}
+use Rattle.unit_rules.specs.ReplicaStates.{ReplicationProgress, ReplicaState, first_state, entry_at}
 use Rattle.unit_rules.specs.Steps.{Failover, fired}
-use Rattle.unit_rules.specs.Writes.{entry_sent, lead_fired, seat_fired}
+use Rattle.unit_rules.specs.Writes.{entry_sent, progress_fired, state_fired}
 use Rattle.ring_points.specs.Whos.{node_instance}
-use Rattle.replica_records.specs.Seats.{seat_at}
+use Rattle.replica_records.specs.ReplicaStates.{state_at}
 use Rattle.epoch_refinement.specs.Epochs.{settings_to}
 use Rattle.epoch_refinement.specs.Nodes.{Machines, ShowsNode, AllSent, tells_of, AllReal, NodeRefined}
 use Rattle.epoch_refinement.specs.Reconfigs.{ShowsManager}
@@ -71,19 +71,19 @@ reconfig_sends : (r : Reconfig) → OnlySends (reconfig_fired r)
 unfolding reconfig_fired
 reconfig_sends r = all_to (question r) (map (λ actor. node_instance actor 0) (awaited r))
 
-seat_sends : (s : Seat) → OnlySends (seat_fired s)
-unfolding seat_fired
-seat_sends s = go (lead_of s)
+state_sends : (s : ReplicaState) → OnlySends (state_fired s)
+unfolding state_fired
+state_sends s = go (progress_of s)
   where
-    one : (q : Peer) (o : Option Entry) → OnlySends (entry_sent s.replica q o)
+    one : (q : PeerProgress) (o : Option Entry) → OnlySends (entry_sent s.replica q o)
     one q None = tt
     one q (Some entry) = tt
 
-    each : (qs : List Peer) → OnlySends (flat_map (λ q. entry_sent s.replica q (entry_at q.next s.replica.log)) qs)
+    each : (qs : List PeerProgress) → OnlySends (flat_map (λ q. entry_sent s.replica q (entry_at q.next s.replica.log)) qs)
     each [] = tt
     each (q ∷ qs) = sends_join (entry_sent s.replica q (entry_at q.next s.replica.log)) _ (one q (entry_at q.next s.replica.log)) (each qs)
 
-    go : (o : Option Lead) → OnlySends (lead_fired s.replica o)
+    go : (o : Option ReplicationProgress) → OnlySends (progress_fired s.replica o)
     go None = tt
     go (Some l) = each l.peers
 
@@ -128,45 +128,45 @@ flat_sent m x f (e ∷ es) each = sent_join m x (f e) (flat_map f es) (each e (i
 
 module _ {k : ℕ} {m : Machines} {x : Who} {s : Failover} (inv : (p : ℕ) → Invariant (settings_to k) (m p)) (shows : ShowsNode k m x s)
     (me : 0 < x.instance) where
-  part : (p : ℕ) → Refined (settings_to k) (m p) p x (acted (seat_at p s) (seat_fired (seat_at p s)))
-  part p = fire_refines (inv p) p x (seat_at p s) (shows.seats p)
+  part : (p : ℕ) → Refined (settings_to k) (m p) p x (acted (state_at p s) (state_fired (state_at p s)))
+  part p = fire_refines (inv p) p x (state_at p s) (shows.states p)
 
   abbrev after : Machines
-  after p = (fire_refines (inv p) p x (seat_at p s) (shows.seats p)).after
+  after p = (fire_refines (inv p) p x (state_at p s) (shows.states p)).after
 
   managers : (p : ℕ) → ShowsManager (after p) k p x s.managed
-  managers p = let r = fire_refines (inv p) p x (seat_at p s) (shows.seats p) in manager_elsewhere r.later k p x s.managed (λ e. cc (e)) (shows.managers p)
+  managers p = let r = fire_refines (inv p) p x (state_at p s) (shows.states p) in manager_elsewhere r.later k p x s.managed (λ e. cc (e)) (shows.managers p)
 
   only : OnlySends (fired s)
   only =
-      sends_join (flat_map (λ e. reconfig_fired e.1) s.managed.reconfigs) (flat_map (λ e. seat_fired e.1) s.seats)
+      sends_join (flat_map (λ e. reconfig_fired e.1) s.managed.reconfigs) (flat_map (λ e. state_fired e.1) s.states)
       (flat_sends (λ (e : ℕ × Reconfig). reconfig_fired e.1) s.managed.reconfigs (λ e. reconfig_sends e.1))
-      (flat_sends (λ (e : ℕ × Seat). seat_fired e.1) s.seats (λ e. seat_sends e.1))
+      (flat_sends (λ (e : ℕ × ReplicaState). state_fired e.1) s.states (λ e. state_sends e.1))
 
   pub fired_step : NodeRefined k m x (acted s (fired s))
   fired_step = record {
     after = after;
-    between = λ p. let r = fire_refines (inv p) p x (seat_at p s) (shows.seats p) in between_node r.inv r.later;
+    between = λ p. let r = fire_refines (inv p) p x (state_at p s) (shows.states p) in between_node r.inv r.later;
     shows = record {
-      seats = λ p. let r = fire_refines (inv p) p x (seat_at p s) (shows.seats p) in r.shows;
+      states = λ p. let r = fire_refines (inv p) p x (state_at p s) (shows.states p) in r.shows;
       managers = managers;
-      seats_rise = shows.seats_rise;
+      states_rise = shows.states_rise;
       reconfigs_rise = shows.reconfigs_rise;
     };
-    sent = sent_join after x (flat_map (λ e. reconfig_fired e.1) s.managed.reconfigs) (flat_map (λ e. seat_fired e.1) s.seats)
+    sent = sent_join after x (flat_map (λ e. reconfig_fired e.1) s.managed.reconfigs) (flat_map (λ e. state_fired e.1) s.states)
         (flat_sent after x (λ (e : ℕ × Reconfig). reconfig_fired e.1) s.managed.reconfigs
         (λ e i.
-        let r = fire_refines (inv e.0) e.0 x (seat_at e.0 s) (shows.seats e.0) in
+        let r = fire_refines (inv e.0) e.0 x (state_at e.0 s) (shows.states e.0) in
         all_sent after e.0 x (reconfig_fired e.1)
         (manager_fires r.inv e.0 x s.managed (managers e.0) me e.1 (member_at 0 s.managed.reconfigs shows.reconfigs_rise e i))))
-        (flat_sent after x (λ (e : ℕ × Seat). seat_fired e.1) s.seats
+        (flat_sent after x (λ (e : ℕ × ReplicaState). state_fired e.1) s.states
         (λ e i.
-        let r = fire_refines (inv e.0) e.0 x (seat_at e.0 s) (shows.seats e.0) in
-        let same : seat_at e.0 s ≡ e.1 = ap (λ o. unwrap_or o (first_seat e.0)) (member_at 0 s.seats shows.seats_rise e i) in
-        all_sent after e.0 x (seat_fired e.1) (subst (λ z. AllShown (after e.0) e.0 x (seat_fired z)) same r.sent)));
+        let r = fire_refines (inv e.0) e.0 x (state_at e.0 s) (shows.states e.0) in
+        let same : state_at e.0 s ≡ e.1 = ap (λ o. unwrap_or o (first_state e.0)) (member_at 0 s.states shows.states_rise e i) in
+        all_sent after e.0 x (state_fired e.1) (subst (λ z. AllShown (after e.0) e.0 x (state_fired z)) same r.sent)));
     told = λ p.
-        let r = fire_refines (inv p) p x (seat_at p s) (shows.seats p) in
-        r.told ∙ sends_tell_all x.actor (seat_at p s).replica.log (seat_fired (seat_at p s)) (seat_sends (seat_at p s)) (m p).told ∙
-        sym (sends_tell p x.actor (seat_at p s).replica.log (fired s) only (m p).told);
+        let r = fire_refines (inv p) p x (state_at p s) (shows.states p) in
+        r.told ∙ sends_tell_all x.actor (state_at p s).replica.log (state_fired (state_at p s)) (state_sends (state_at p s)) (m p).told ∙
+        sym (sends_tell p x.actor (state_at p s).replica.log (fired s) only (m p).told);
     real = sends_real (fired s) only;
   }

@@ -3,8 +3,8 @@ use Rattle.std.proofs.Common.{sym, ap, ◌∙◌, subst, arith}
 use Rattle.ring_points.specs.Epochs.{is_older}
 use Rattle.replica_core.specs.Replicas.{Replica}
 use Rattle.unit_rules.specs.Deeds.{still}
-use Rattle.unit_rules.specs.Seats.{Seat}
-use Rattle.replica_records.specs.Seats.{seat_at}
+use Rattle.unit_rules.specs.ReplicaStates.{ReplicaState}
+use Rattle.replica_records.specs.ReplicaStates.{state_at}
 use Rattle.replica_records.proofs.Starting.{go_on_lem}
 use Rattle.epoch_refinement.specs.Laws.{WhoShowsIsFit, StartsAreDeeds, LogsAreKept}
 use Rattle.epoch_refinement.specs.Refined.{Refined}
@@ -22,7 +22,7 @@ fit_lem c w p node s inv shows = record {
 
 pub start_lem : StartsAreDeeds
 start_lem c w p me s records inv shows kept =
-    subst (λ (z : Seat). Refined c w p me (still z)) (sym (go_on_lem records s kept p)) (restarts_are_deeds_lem c w p me (seat_at p s) inv shows)
+    subst (λ (z : ReplicaState). Refined c w p me (still z)) (sym (go_on_lem records s kept p)) (restarts_are_deeds_lem c w p me (state_at p s) inv shows)
 
 pub logs_lem : LogsAreKept
 logs_lem w p node s records shows kept = shows.log ∙ sym (ap (λ (r : Replica). r.log) (kept p))

@@ -9,12 +9,12 @@ use Rattle.epoch_machine.specs.World.{World}
 use Rattle.epoch_machine.specs.Plans.{Plan, Role}
 use Rattle.epoch_machine.specs.Deeds.{Deed, Prepares, Votes, KeepsDone, LeavesPrepare, Proposes, Syncs, AsksDone, Activates, RaisesPromise, AnswersPromise, AdoptsNothing, AdoptsOwn, AdoptsCollected, Collects, SendsPiece, SaysAdopted, Appends, SaysAppended, Restarts, BecomesPrimary, Writes, SendsAppend, Commits}
 use Rattle.epoch_machine.specs.Effects.{higher, adopting, after}
-use Rattle.epoch_refinement.specs.Facts.{Actor, of_node, of_arbiter, actor_of, SameSeat, SameRegister, Beside, Fact, is_answer, is_attempt, is_plan, is_ballot, is_synced, is_asked, is_kept, is_active, is_promise, is_piece, is_adopted, is_append, is_appended, Has, Later}
-use Rattle.unit_rules.specs.declared.lead.Peer.{Peer}
+use Rattle.epoch_refinement.specs.Facts.{Actor, of_node, of_arbiter, actor_of, SameReplicaState, SameRegister, Beside, Fact, is_answer, is_attempt, is_plan, is_ballot, is_synced, is_asked, is_kept, is_active, is_promise, is_piece, is_adopted, is_append, is_appended, Has, Later}
+use Rattle.unit_rules.specs.declared.progress.PeerProgress.{PeerProgress}
 use Rattle.unit_rules.specs.Deeds.{Deed as Act, Keep, Send, Tell}
-use Rattle.unit_rules.specs.Seats.{Lead}
+use Rattle.unit_rules.specs.ReplicaStates.{ReplicationProgress}
 use Rattle.epoch_refinement.specs.Refined.{AllShown}
-use Rattle.epoch_refinement.specs.Seats.{IsConfirmed, ShowsLead}
+use Rattle.epoch_refinement.specs.ReplicaStates.{IsConfirmed, ShowsProgress}
 use Rattle.epoch_refinement.specs.Shown.{ShownVoted, ShownSync, Shown}
 use Rattle.ring_points.specs.declared.unit.Config.{Config}
 use Rattle.ring_points.specs.declared.unit.Epoch.{Epoch}
@@ -35,8 +35,8 @@ deed_keeps_facts w (SendsAppend node place r entry) (is_append x) h = inr h
 deed_keeps_facts w (SaysAppended node) (is_appended x) h = inr h
 deed_keeps_facts w deed x h = h
 
-same_seat : (w : World) (m : ℕ) → SameSeat w w m
-same_seat w m = record { promised = refl; joined = refl; log = refl; collected = refl; role = refl }
+same_state : (w : World) (m : ℕ) → SameReplicaState w w m
+same_state w m = record { promised = refl; joined = refl; log = refl; collected = refl; role = refl }
 
 same_register : (w : World) (a : ℕ) → SameRegister w w a
 same_register w a = record { prepared = refl; preparer = refl; done = refl }
@@ -50,7 +50,7 @@ other_arbiter a b d e = d (ap of_arbiter e)
 
 adopting_beside : (w : World) (node : ℕ) (p : Plan) (log : List Entry) → Beside (of_node node) w (adopting w node p log)
 adopting_beside w node p log = record {
-  seats = λ m d. record {
+  states = λ m d. record {
     promised = refl;
     joined = put_other w.joined node p.epoch m (other_node node m d);
     log = put_other w.log node log m (other_node node m d);
@@ -65,7 +65,7 @@ adopting_beside w node p log = record {
 -- a deed of an actor
 deed_beside : (w : World) (deed : Deed) → Beside (actor_of deed) w (after w deed)
 deed_beside w (Prepares a to e) = record {
-  seats = λ m d. record { promised = refl; joined = refl; log = refl; collected = refl; role = refl };
+  states = λ m d. record { promised = refl; joined = refl; log = refl; collected = refl; role = refl };
   registers = λ b d. record {
     prepared = put_other w.prepared a e b (other_arbiter a b d);
     preparer = put_other w.preparer a to b (other_arbiter a b d);
@@ -75,25 +75,25 @@ deed_beside w (Prepares a to e) = record {
   plans = λ d. refl;
 }
 deed_beside w (KeepsDone a p) = record {
-  seats = λ m d. record { promised = refl; joined = refl; log = refl; collected = refl; role = refl };
+  states = λ m d. record { promised = refl; joined = refl; log = refl; collected = refl; role = refl };
   registers = λ b d. record { prepared = refl; preparer = refl; done = put_other w.done a (higher (w.done a) p) b (other_arbiter a b d) };
   attempts = λ d. refl;
   plans = λ d. refl;
 }
 deed_beside w (LeavesPrepare t) = record {
-  seats = λ m d. record { promised = refl; joined = refl; log = refl; collected = refl; role = refl };
+  states = λ m d. record { promised = refl; joined = refl; log = refl; collected = refl; role = refl };
   registers = λ b d. record { prepared = refl; preparer = refl; done = refl };
   attempts = λ d. absurd (d refl);
   plans = λ d. refl;
 }
 deed_beside w (Proposes p) = record {
-  seats = λ m d. record { promised = refl; joined = refl; log = refl; collected = refl; role = refl };
+  states = λ m d. record { promised = refl; joined = refl; log = refl; collected = refl; role = refl };
   registers = λ b d. record { prepared = refl; preparer = refl; done = refl };
   attempts = λ d. refl;
   plans = λ d. absurd (d refl);
 }
 deed_beside w (RaisesPromise node e) = record {
-  seats = λ m d. record {
+  states = λ m d. record {
     promised = put_other w.promised node e m (other_node node m d);
     joined = refl;
     log = refl;
@@ -108,7 +108,7 @@ deed_beside w (AdoptsNothing node p) = adopting_beside w node p []
 deed_beside w (AdoptsOwn node p) = adopting_beside w node p (w.log node)
 deed_beside w (AdoptsCollected node p) = adopting_beside w node p (w.collected node)
 deed_beside w (Collects node p before entry) = record {
-  seats = λ m d. record {
+  states = λ m d. record {
     promised = refl;
     joined = refl;
     log = refl;
@@ -120,7 +120,7 @@ deed_beside w (Collects node p before entry) = record {
   plans = λ d. refl;
 }
 deed_beside w (Appends node a) = record {
-  seats = λ m d. record {
+  states = λ m d. record {
     promised = refl;
     joined = refl;
     log = put_other w.log node (w.log node ++ (a.entry ∷ [])) m (other_node node m d);
@@ -132,7 +132,7 @@ deed_beside w (Appends node a) = record {
   plans = λ d. refl;
 }
 deed_beside w (Restarts node) = record {
-  seats = λ m d. record {
+  states = λ m d. record {
     promised = refl;
     joined = refl;
     log = refl;
@@ -144,13 +144,13 @@ deed_beside w (Restarts node) = record {
   plans = λ d. refl;
 }
 deed_beside w (BecomesPrimary node p) = record {
-  seats = λ m d. record { promised = refl; joined = refl; log = refl; collected = refl; role = put_other w.role node _ m (other_node node m d) };
+  states = λ m d. record { promised = refl; joined = refl; log = refl; collected = refl; role = put_other w.role node _ m (other_node node m d) };
   registers = λ b d. record { prepared = refl; preparer = refl; done = refl };
   attempts = λ d. refl;
   plans = λ d. refl;
 }
 deed_beside w (Writes node r entry) = record {
-  seats = λ m d. record {
+  states = λ m d. record {
     promised = refl;
     joined = refl;
     log = put_other w.log node (w.log node ++ (entry ∷ [])) m (other_node node m d);
@@ -162,13 +162,13 @@ deed_beside w (Writes node r entry) = record {
   plans = λ d. refl;
 }
 deed_beside w (Commits node last r) = record {
-  seats = λ m d. record { promised = refl; joined = refl; log = refl; collected = refl; role = put_other w.role node _ m (other_node node m d) };
+  states = λ m d. record { promised = refl; joined = refl; log = refl; collected = refl; role = put_other w.role node _ m (other_node node m d) };
   registers = λ b d. record { prepared = refl; preparer = refl; done = refl };
   attempts = λ d. refl;
   plans = λ d. refl;
 }
 deed_beside w deed = record {
-  seats = λ m d. record { promised = refl; joined = refl; log = refl; collected = refl; role = refl };
+  states = λ m d. record { promised = refl; joined = refl; log = refl; collected = refl; role = refl };
   registers = λ b d. record { prepared = refl; preparer = refl; done = refl };
   attempts = λ d. refl;
   plans = λ d. refl;
@@ -180,15 +180,15 @@ deed_later w deed = record { keeps = deed_keeps_facts w deed; beside = deed_besi
 pub later_refl : {x : Actor} (w : World) → Later x w w
 later_refl w = record {
   keeps = λ x h. h;
-  beside = record { seats = λ m d. same_seat w m; registers = λ a d. same_register w a; attempts = λ d. refl; plans = λ d. refl };
+  beside = record { states = λ m d. same_state w m; registers = λ a d. same_register w a; attempts = λ d. refl; plans = λ d. refl };
 }
 
 pub later_trans : {x : Actor} {u v w : World} → Later x u v → Later x v w → Later x u w
 later_trans a b = record {
   keeps = λ x h. b.keeps x (a.keeps x h);
   beside = record {
-    seats = λ m d.
-        let p = a.beside.seats m d in let q = b.beside.seats m d in record {
+    states = λ m d.
+        let p = a.beside.states m d in let q = b.beside.states m d in record {
           promised = q.promised ∙ p.promised;
           joined = q.joined ∙ p.joined;
           log = q.log ∙ p.log;
@@ -250,11 +250,11 @@ module _ {x : Actor} {w v : World} (later : Later x w v) where
   all_shown_later p from (Send to b ∷ ds) a = (a.0, shown_later p from to b a.1, all_shown_later p from ds a.2)
   all_shown_later p from (Tell r ∷ ds) a = (a.0, all_shown_later p from ds a.1)
 
-  pub confirmed_later : (r : Role) (last : ℕ) (q : Peer) → IsConfirmed w r last q → IsConfirmed v r last q
+  pub confirmed_later : (r : Role) (last : ℕ) (q : PeerProgress) → IsConfirmed w r last q → IsConfirmed v r last q
   confirmed_later r last q h = ⊎_elim (λ none. inl none) (λ some. inr (later.keeps (is_appended _) some.0, some.1)) h
 
-  pub lead_later : {node last : ℕ} {l : Lead} {r : Role} → v.role node ≡ Some r → ShowsLead w node last l r → ShowsLead v node last l r
-  lead_later {last = last} {r = r} role s = record {
+  pub progress_later : {node last : ℕ} {l : ReplicationProgress} {r : Role} → v.role node ≡ Some r → ShowsProgress w node last l r → ShowsProgress v node last l r
+  progress_later {last = last} {r = r} role s = record {
     role = role;
     floor = s.floor;
     reported = s.reported;
@@ -264,9 +264,9 @@ module _ {x : Actor} {w v : World} (later : Later x w v) where
   }
 
   -- a longer log does no harm to what is confirmed
-  pub lead_longer : {node last more : ℕ} {l : Lead} {r : Role} → v.role node ≡ Some r → last ≤ more → ShowsLead w node last l r →
-      ShowsLead v node more l r
-  lead_longer {last = last} {r = r} role le s = record {
+  pub progress_longer : {node last more : ℕ} {l : ReplicationProgress} {r : Role} → v.role node ≡ Some r → last ≤ more → ShowsProgress w node last l r →
+      ShowsProgress v node more l r
+  progress_longer {last = last} {r = r} role le s = record {
     role = role;
     floor = s.floor;
     reported = s.reported;

@@ -17,18 +17,18 @@ use Rattle.epoch_machine.specs.Invariant.{Invariant}
 use Rattle.epoch_machine.proofs.Replaced.{put_at, put_cases}
 use Rattle.unit_rules.specs.Deeds.{Deed, Keep, Send, Tell, Acted, acted}
 use Rattle.unit_rules.specs.Manager.{Managed}
-use Rattle.unit_rules.specs.Seats.{Seat, first_seat}
-use Rattle.unit_rules.specs.Steps.{Failover, by_manager, by_seat}
-use Rattle.replica_records.specs.Seats.{seat_at}
+use Rattle.unit_rules.specs.ReplicaStates.{ReplicaState, first_state}
+use Rattle.unit_rules.specs.Steps.{Failover, by_manager, by_state}
+use Rattle.replica_records.specs.ReplicaStates.{state_at}
 use Rattle.epoch_refinement.specs.Epochs.{settings_to}
 use Rattle.epoch_refinement.specs.Facts.{of_node, Later}
 use Rattle.epoch_refinement.specs.Nodes.{Machines, ShowsNode, AllSent, is_told_of, tells_of, IsRealIn, AllReal, Between, NodeRefined}
 use Rattle.epoch_refinement.specs.Reconfigs.{NoneAbove, ShowsReconfig, ShowsManager, Went, ManagerWent}
 use Rattle.epoch_refinement.specs.Refined.{AllShown, Refined}
-use Rattle.epoch_refinement.specs.Seats.{ShowsSeat}
+use Rattle.epoch_refinement.specs.ReplicaStates.{ShowsReplicaState}
 use Rattle.epoch_refinement.specs.Shown.{Shown}
 use Rattle.epoch_refinement.specs.Told.{tells, tells_all, IsOf}
-use Rattle.epoch_refinement.proofs.Elsewhere.{seat_elsewhere, manager_elsewhere, manager_beside}
+use Rattle.epoch_refinement.proofs.Elsewhere.{state_elsewhere, manager_elsewhere, manager_beside}
 
 -- Deeds of one partition.
 
@@ -96,7 +96,7 @@ pub between_none : {k p : ℕ} {x : Who} {w : World} → Invariant (settings_to 
 between_none inv = record {
   inv = inv;
   keeps = λ f h. h;
-  seats = λ n d. record { promised = refl; joined = refl; log = refl; collected = refl; role = refl };
+  states = λ n d. record { promised = refl; joined = refl; log = refl; collected = refl; role = refl };
   registers = λ a. record { prepared = refl; preparer = refl; done = refl };
   managers = λ y s d shows. shows;
 }
@@ -105,7 +105,7 @@ pub between_node : {k p : ℕ} {x : Who} {w v : World} → Invariant (settings_t
 between_node {k = k} {p = p} {x = x} inv later = record {
   inv = inv;
   keeps = later.keeps;
-  seats = λ n d. later.beside.seats n (λ e. d cc);
+  states = λ n d. later.beside.states n (λ e. d cc);
   registers = λ a. later.beside.registers a (λ e. cc (e));
   managers = λ y s d shows. manager_elsewhere later k p y s (λ e. cc (e)) shows;
 }
@@ -114,7 +114,7 @@ pub between_manager : {k p : ℕ} {x : Who} {w : World} {n : ℕ} {Holds : World
 between_manager {p = p} g = record {
   inv = g.inv;
   keeps = g.later.keeps;
-  seats = λ n d. g.later.beside.seats n (λ e. cc (e));
+  states = λ n d. g.later.beside.states n (λ e. cc (e));
   registers = λ a. g.later.beside.registers a (λ e. cc (e));
   managers = λ y s d shows. manager_beside g p y s d shows;
 }
@@ -135,41 +135,41 @@ same_shows {w = w} {k = k} {p = p} {x = x} {s = s} {t = t} reconfigs units shows
 
 module _ {k : ℕ} {m : Machines} {x : Who} {s : Failover} (inv : (p : ℕ) → Invariant (settings_to k) (m p)) (shows : ShowsNode k m x s) (q : ℕ) where
   -- in the partition q something is done, and the new state is the old one elsewhere
-  pub one_part : (v : World) (t : Failover) (ds : List Deed) → Between k q x (m q) v → ShowsSeat v q x.actor (seat_at q t) → ShowsManager v k q x t.managed →
-      ((p : ℕ) → (q ≡ p → ⊥) → ShowsSeat (m p) p x.actor (seat_at p t) × ShowsManager (m p) k p x t.managed) →
-      (rises t.seats ≡ true) → (rises t.managed.reconfigs ≡ true) → AllShown v q x ds →
-      v.told ≡ tells_all x.actor (seat_at q t).replica.log ds (m q).told → NodeRefined k m x (acted t ds)
-  one_part v t ds between seat manager others seats_rise reconfigs_rise shown told = record {
+  pub one_part : (v : World) (t : Failover) (ds : List Deed) → Between k q x (m q) v → ShowsReplicaState v q x.actor (state_at q t) → ShowsManager v k q x t.managed →
+      ((p : ℕ) → (q ≡ p → ⊥) → ShowsReplicaState (m p) p x.actor (state_at p t) × ShowsManager (m p) k p x t.managed) →
+      (rises t.states ≡ true) → (rises t.managed.reconfigs ≡ true) → AllShown v q x ds →
+      v.told ≡ tells_all x.actor (state_at q t).replica.log ds (m q).told → NodeRefined k m x (acted t ds)
+  one_part v t ds between state manager others states_rise reconfigs_rise shown told = record {
     after = replaced m q v;
     between = put_cases (λ p u. Between k p x (m p) u) m q v between (λ p d. between_none (inv p));
     shows = record {
-      seats = put_cases (λ p u. ShowsSeat u p x.actor (seat_at p t)) m q v seat (λ p d. (others p d).0);
+      states = put_cases (λ p u. ShowsReplicaState u p x.actor (state_at p t)) m q v state (λ p d. (others p d).0);
       managers = put_cases (λ p u. ShowsManager u k p x t.managed) m q v manager (λ p d. (others p d).1);
-      seats_rise = seats_rise;
+      states_rise = states_rise;
       reconfigs_rise = reconfigs_rise;
     };
     sent = all_sent (replaced m q v) q x ds (subst (λ u. AllShown u q x ds) (sym (put_at m q v)) shown);
-    told = put_cases (λ p u. u.told ≡ tells_of p x.actor (seat_at p t).replica.log ds (m p).told) m q v
-        (told ∙ sym (told_here v q x.actor (seat_at q t).replica.log x ds shown (m q).told))
-        (λ p d. sym (told_there v p q x.actor (seat_at p t).replica.log x ds shown d (m p).told));
+    told = put_cases (λ p u. u.told ≡ tells_of p x.actor (state_at p t).replica.log ds (m p).told) m q v
+        (told ∙ sym (told_here v q x.actor (state_at q t).replica.log x ds shown (m q).told))
+        (λ p d. sym (told_there v p q x.actor (state_at p t).replica.log x ds shown d (m p).told));
     real = all_real v q x ds shown;
   }
 
-  put_there : (p : ℕ) → (q ≡ p → ⊥) → (a : Seat) → at p (put q a s.seats) ≡ at p s.seats
-  put_there p d a = at-put q a s.seats p ∙ ap (λ b. cond b (Some a) (at p s.seats)) (apart p q q refl d)
+  put_there : (p : ℕ) → (q ≡ p → ⊥) → (a : ReplicaState) → at p (put q a s.states) ≡ at p s.states
+  put_there p d a = at-put q a s.states p ∙ ap (λ b. cond b (Some a) (at p s.states)) (apart p q q refl d)
 
-  put_here : (a : Seat) → seat_at q (record s { seats = put q a s.seats }) ≡ a
-  put_here a = ap (λ o. unwrap_or o (first_seat q)) (at-put q a s.seats q ∙ ap (λ b. cond b (Some a) (at q s.seats)) (eq-eqb q q refl))
+  put_here : (a : ReplicaState) → state_at q (record s { states = put q a s.states }) ≡ a
+  put_here a = ap (λ o. unwrap_or o (first_state q)) (at-put q a s.states q ∙ ap (λ b. cond b (Some a) (at q s.states)) (eq-eqb q q refl))
 
   -- a row of the partition's replica
-  pub seat_step : (a : Acted Seat) → Refined (settings_to k) (m q) q x a → NodeRefined k m x (by_seat q s a)
-  seat_step a r =
-      one_part r.after (record s { seats = put q a.state s.seats }) a.deeds (between_node r.inv r.later)
-      (subst (ShowsSeat r.after q x.actor) (sym (put_here a.state)) r.shows)
+  pub state_step : (a : Acted ReplicaState) → Refined (settings_to k) (m q) q x a → NodeRefined k m x (by_state q s a)
+  state_step a r =
+      one_part r.after (record s { states = put q a.state s.states }) a.deeds (between_node r.inv r.later)
+      (subst (ShowsReplicaState r.after q x.actor) (sym (put_here a.state)) r.shows)
       (manager_elsewhere r.later k q x s.managed (λ e. cc (e)) (shows.managers q))
-      (λ p d. (subst (ShowsSeat (m p) p x.actor) (ap (λ o. unwrap_or o (first_seat p)) (sym (put_there p d a.state))) (shows.seats p), shows.managers p))
-      (rises-put q a.state s.seats shows.seats_rise) shows.reconfigs_rise r.sent
-      (r.told ∙ ap (λ (z : Seat). tells_all x.actor z.replica.log a.deeds (m q).told) (sym (put_here a.state)))
+      (λ p d. (subst (ShowsReplicaState (m p) p x.actor) (ap (λ o. unwrap_or o (first_state p)) (sym (put_there p d a.state))) (shows.states p), shows.managers p))
+      (rises-put q a.state s.states shows.states_rise) shows.reconfigs_rise r.sent
+      (r.told ∙ ap (λ (z : ReplicaState). tells_all x.actor z.replica.log a.deeds (m q).told) (sym (put_here a.state)))
 
   -- a row of its manager, which leaves what it knows of other partitions
   pub manager_step : (a : Acted Managed) → ManagerWent k q (m q) x a →
@@ -180,6 +180,6 @@ module _ {k : ℕ} {m : Machines} {x : Who} {s : Failover} (inv : (p : ℕ) → 
   manager_step a went beside rises_on silent =
       let g = went.1 in
       one_part g.after (record s { managed = a.state }) a.deeds (between_manager g)
-      (seat_elsewhere g.later q x.actor (seat_at q s) (λ e. cc (e)) (shows.seats q)) g.holds.0
-      (λ p d. (shows.seats p, let b = beside p d in same_shows b.0 b.1 (shows.managers p))) shows.seats_rise rises_on g.holds.1
-      (g.told ∙ sym (silent g.after (seat_at q s).replica.log g.holds.1 (m q).told))
+      (state_elsewhere g.later q x.actor (state_at q s) (λ e. cc (e)) (shows.states q)) g.holds.0
+      (λ p d. (shows.states p, let b = beside p d in same_shows b.0 b.1 (shows.managers p))) shows.states_rise rises_on g.holds.1
+      (g.told ∙ sym (silent g.after (state_at q s).replica.log g.holds.1 (m q).told))

@@ -31,7 +31,7 @@ use Rattle.unit_rules.specs.declared.reconfig.Kind.TheVariants.{Create, Swap, He
 use Rattle.unit_rules.specs.Choices.{is_among, highest_done}
 use Rattle.unit_rules.specs.Phases.{config_of}
 use Rattle.unit_rules.specs.Polls.{arbiters_to, answers_in, is_carried}
-use Rattle.unit_rules.specs.Reconfigs.{Source, PreparePhase, Reconfig, Prepare, Phase0, Phase1, Decide, task_of}
+use Rattle.unit_rules.specs.Reconfigs.{OriginLog, PreparePhase, Reconfig, Prepare, Phase0, Phase1, Decide, task_of}
 use Rattle.unit_rules.specs.Transitions.{first_of, create_placed, heal_placed, prepared_as, is_refused, enters, proposes, asks_promises}
 use Rattle.epoch_refinement.specs.Epochs.{IsEpoch, settings_to}
 use Rattle.epoch_refinement.specs.Reconfigs.{is_create, is_lose, is_preparing, HasLeft, NoneAbove, ShowsPhase, ShowsTask, Went}
@@ -130,7 +130,7 @@ module _ {k : ℕ} {w : World} (inv : Invariant (settings_to k) w) (p : ℕ) (x 
     abbrev config : Config
     config = config_of q.task (first_of placed) (rising placed)
 
-    abbrev source : Source
+    abbrev source : OriginLog
     source = record { origin = first_of placed; last = 0 }
 
     can : Can (settings_to k) w (LeavesPrepare (record { who = x; epoch = n; prev = None }))

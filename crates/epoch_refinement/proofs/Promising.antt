@@ -19,16 +19,16 @@ use Rattle.epoch_machine.specs.Effects.{after}
 use Rattle.epoch_machine.specs.Invariant.{Invariant}
 use Rattle.epoch_machine.proofs.Replaced.{put_at}
 use Rattle.epoch_machine.proofs.Histories.{deed_keeps}
-use Rattle.unit_rules.specs.Leads.{is_primary}
+use Rattle.unit_rules.specs.Progress.{is_primary}
 use Rattle.unit_rules.specs.Promises.{promise_answered, promise_received}
-use Rattle.unit_rules.specs.Seats.{Seat, seated}
+use Rattle.unit_rules.specs.ReplicaStates.{ReplicaState, replica_put}
 use Rattle.epoch_refinement.specs.Epochs.{IsEpoch}
 use Rattle.epoch_refinement.specs.Facts.{Actor, Later}
 use Rattle.epoch_refinement.specs.Refined.{Refined}
-use Rattle.epoch_refinement.specs.Seats.{IsNumbered, ShowsSeat}
+use Rattle.epoch_refinement.specs.ReplicaStates.{IsNumbered, ShowsReplicaState}
 use Rattle.epoch_refinement.proofs.Doing.{not_primary}
 use Rattle.epoch_refinement.proofs.Numbers.{older_not, same_not, below_older, same_epoch-true, real}
-use Rattle.epoch_refinement.proofs.Lasting.{deed_later, later_refl, later_trans, sync_later, lead_later}
+use Rattle.epoch_refinement.proofs.Lasting.{deed_later, later_refl, later_trans, sync_later, progress_later}
 
 abbrev pub raising : World → ℕ → ℕ → World
 raising w node n = after w (RaisesPromise node n)
@@ -51,9 +51,9 @@ numbered_push xs y next small numbered = record {
       (λ i. let same = ap (λ (z : Entry). z.lsn) i.0 in let p = i.1 in omega arith) (push_cases xs y place x h);
 }
 
--- a seat still shows after a deed that changes nothing of its node
-pub shows_later : {x : Actor} {w v : World} {p node : ℕ} {s : Seat} → Later x w v → v.promised node ≡ w.promised node → v.joined node ≡ w.joined node →
-    v.log node ≡ w.log node → v.collected node ≡ w.collected node → v.role node ≡ w.role node → ShowsSeat w p node s → ShowsSeat v p node s
+-- a replica still shows after a deed that changes nothing of its node
+pub shows_later : {x : Actor} {w v : World} {p node : ℕ} {s : ReplicaState} → Later x w v → v.promised node ≡ w.promised node → v.joined node ≡ w.joined node →
+    v.log node ≡ w.log node → v.collected node ≡ w.collected node → v.role node ≡ w.role node → ShowsReplicaState w p node s → ShowsReplicaState v p node s
 shows_later {s = s} later promised joined log collected role shows = record {
   partition = shows.partition;
   promised = subst (λ n. IsEpoch n s.replica.promised) (sym promised) shows.promised;
@@ -66,7 +66,7 @@ shows_later {s = s} later promised joined log collected role shows = record {
   numbered = shows.numbered;
   numbered_collected = shows.numbered_collected;
   idle = shows.idle;
-  lead = λ l h. let d = shows.lead l h in let i = d.1 in (d.0, lead_later later (role ∙ i.role) i);
+  progress = λ l h. let d = shows.progress l h in let i = d.1 in (d.0, progress_later later (role ∙ i.role) i);
 }
 
 -- a role that is lost is none of a primary
@@ -76,7 +76,7 @@ demoted_not IdleSecondary = refl
 demoted_not ActiveSecondary = refl
 demoted_not Primary = refl
 
-module _ {c : Settings} {w : World} (inv : Invariant c w) (p : ℕ) (me : Who) (s : Seat) (shows : ShowsSeat w p me.actor s) where
+module _ {c : Settings} {w : World} (inv : Invariant c w) (p : ℕ) (me : Who) (s : ReplicaState) (shows : ShowsReplicaState w p me.actor s) where
   module _ (e : Epoch) (n : ℕ) (is : IsEpoch n e) (above : w.promised me.actor < n) where
     older : is_older s.replica.promised e ≡ true
     older = below_older s.replica.promised e shows.promised is above
@@ -84,8 +84,8 @@ module _ {c : Settings} {w : World} (inv : Invariant c w) (p : ℕ) (me : Who) (
     no_primary : is_primary (raised e s.replica).role ≡ false
     no_primary = subst (λ b. is_primary (cond b (demoted s.replica.role) s.replica.role) ≡ false) (sym older) (demoted_not s.replica.role)
 
-    -- the seat shows the world where its promise was raised
-    pub raised_shows : ShowsSeat (after w (RaisesPromise me.actor n)) p me.actor (seated s (raised e s.replica))
+    -- the replica shows the world where its promise was raised
+    pub raised_shows : ShowsReplicaState (after w (RaisesPromise me.actor n)) p me.actor (replica_put s (raised e s.replica))
     raised_shows = record {
       partition = shows.partition;
       promised = subst (λ k. IsEpoch k e) (sym (put_at w.promised me.actor n)) is;
@@ -98,7 +98,7 @@ module _ {c : Settings} {w : World} (inv : Invariant c w) (p : ℕ) (me : Who) (
       numbered = shows.numbered;
       numbered_collected = subst (λ b. IsNumbered (cond b [] s.replica.collected)) (sym older) numbered_none;
       idle = λ h. no_primary;
-      lead = λ l h. absurd (not_primary (seated s (raised e s.replica)) l no_primary h);
+      progress = λ l h. absurd (not_primary (replica_put s (raised e s.replica)) l no_primary h);
     }
 
   -- the promise is raised where it is neither older nor the same

@@ -23,7 +23,7 @@ use Rattle.unit_rules.specs.Choices.{furthest}
 use Rattle.unit_rules.specs.Deeds.{Acted}
 use Rattle.unit_rules.specs.Phases.{config_of, primary_by, chosen_from, chosen_of}
 use Rattle.unit_rules.specs.Polls.{arbiters_to, answers_in, is_carried}
-use Rattle.unit_rules.specs.Reconfigs.{Source, PromisePhase, Reconfig, Phase1, Decide, Step}
+use Rattle.unit_rules.specs.Reconfigs.{OriginLog, PromisePhase, Reconfig, Phase1, Decide, Step}
 use Rattle.unit_rules.specs.Transitions.{after_promise, proposes}
 use Rattle.epoch_refinement.specs.Epochs.{IsEpoch, settings_to}
 use Rattle.epoch_refinement.specs.Reconfigs.{is_create, HasLeft, NoneAbove, ShowsPhase, ShowsTask, Went}
@@ -61,7 +61,7 @@ module _ {k : ℕ} {w : World} (inv : Invariant (settings_to k) w) (p : ℕ) (x 
     abbrev config : Config
     config = config_of q.task (primary_by q.task.kind q) q.members
 
-    abbrev source : Source
+    abbrev source : OriginLog
     source = record { origin = o.0; last = o.1.last }
 
     -- the log of the origin is the base

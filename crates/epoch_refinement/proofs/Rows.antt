@@ -58,7 +58,7 @@ restarts_are_deeds_lem c w p me s inv shows = record {
     numbered = shows.numbered;
     numbered_collected = numbered_none;
     idle = λ h. refl;
-    lead = λ m i. absurd (cc (i));
+    progress = λ m i. absurd (cc (i));
   };
   sent = tt;
   told = refl;

@@ -24,22 +24,22 @@ use Rattle.unit_rules.specs.Copies.{sync_received, fetch_received, piece_receive
 use Rattle.unit_rules.specs.Deeds.{Acted, still, refuse}
 use Rattle.unit_rules.specs.Loads.{Site, loads}
 use Rattle.unit_rules.specs.Manager.{reconfig_commanded}
-use Rattle.unit_rules.specs.Seats.{Seat, first_seat}
-use Rattle.unit_rules.specs.Steps.{Failover, by_manager, at_seat, at_found, at_standing, answer, frame_row, manage, command_row, failover_step}
+use Rattle.unit_rules.specs.ReplicaStates.{ReplicaState, first_state}
+use Rattle.unit_rules.specs.Steps.{Failover, by_manager, at_state, at_found, at_standing, answer, frame_row, manage, command_row, failover_step}
 use Rattle.unit_rules.specs.Writes.{appended_received, write_commanded}
 use Rattle.unit_rules.proofs.Answered.{names_only_answer, resolve_only_answers}
-use Rattle.replica_records.specs.Seats.{seat_at}
+use Rattle.replica_records.specs.ReplicaStates.{state_at}
 use Rattle.epoch_refinement.specs.Epochs.{settings_to}
 use Rattle.epoch_refinement.specs.Laws.{StepsAreDeeds}
 use Rattle.epoch_refinement.specs.Nodes.{Machines, ShowsNode, NodeRefined, Arrives}
 use Rattle.epoch_refinement.specs.Reconfigs.{IsAnswerOf}
 use Rattle.epoch_refinement.specs.Refined.{Refined}
-use Rattle.epoch_refinement.specs.Rows.{seat_received}
+use Rattle.epoch_refinement.specs.Rows.{state_received}
 use Rattle.epoch_refinement.specs.Shown.{partition_of, Shown, ShownPrepared}
 use Rattle.epoch_refinement.proofs.Doing.{answer_refined}
 use Rattle.epoch_refinement.proofs.Firing.{fired_step}
 use Rattle.epoch_refinement.proofs.Managers.{answered_step, commanded_step}
-use Rattle.epoch_refinement.proofs.Parts.{between_none, seat_step}
+use Rattle.epoch_refinement.proofs.Parts.{between_none, state_step}
 use Rattle.epoch_refinement.proofs.Rows.{frames_are_deeds_lem, writes_are_deeds_lem}
 
 module _ {k : ℕ} {m : Machines} {x : Who} {s : Failover} (inv : (p : ℕ) → Invariant (settings_to k) (m p)) (shows : ShowsNode k m x s)
@@ -49,22 +49,22 @@ module _ {k : ℕ} {m : Machines} {x : Who} {s : Failover} (inv : (p : ℕ) → 
   nothing = record { after = m; between = λ p. between_none (inv p); shows = shows; sent = tt; told = λ p. refl; real = tt }
 
   -- a row of the replica that was found, or else nothing of the kind
-  standing : (q : ℕ) (row : Seat → Acted Seat) (none : Acted Failover) → NodeRefined k m x none → Refined (settings_to k) (m q) q x (row (seat_at q s)) →
+  standing : (q : ℕ) (row : ReplicaState → Acted ReplicaState) (none : Acted Failover) → NodeRefined k m x none → Refined (settings_to k) (m q) q x (row (state_at q s)) →
       NodeRefined k m x (at_standing q row none s)
-  standing q row none otherwise r = go (at q s.seats) refl
+  standing q row none otherwise r = go (at q s.states) refl
     where
-      go : (o : Option Seat) → at q s.seats ≡ o → NodeRefined k m x (at_found q row none s o)
+      go : (o : Option ReplicaState) → at q s.states ≡ o → NodeRefined k m x (at_found q row none s o)
       go None i = otherwise
-      go (Some seat) i =
-          let same : seat_at q s ≡ seat = ap (λ o. unwrap_or o (first_seat q)) i in
-          seat_step inv shows q (row seat) (subst (λ z. Refined (settings_to k) (m q) q x (row z)) same r)
+      go (Some state) i =
+          let same : state_at q s ≡ state = ap (λ o. unwrap_or o (first_state q)) i in
+          state_step inv shows q (row state) (subst (λ z. Refined (settings_to k) (m q) q x (row z)) same r)
 
   -- a frame that comes to the replica
   received : (f : Message) → Arrives m x f → Refined (settings_to k) (m (partition_of f.body)) (partition_of f.body) x
-      (seat_received x f.from f.body (seat_at (partition_of f.body) s))
+      (state_received x f.from f.body (state_at (partition_of f.body) s))
   received f h =
-      frames_are_deeds_lem (settings_to k) (m (partition_of f.body)) (partition_of f.body) x (seat_at (partition_of f.body) s) (inv (partition_of f.body))
-      (shows.seats (partition_of f.body)) f.from f.to f.body h.here h.shown
+      frames_are_deeds_lem (settings_to k) (m (partition_of f.body)) (partition_of f.body) x (state_at (partition_of f.body) s) (inv (partition_of f.body))
+      (shows.states (partition_of f.body)) f.from f.to f.body h.here h.shown
 
   module _ (c : Site) (now : ℕ) (r : Ring) (is_me : r.me ≡ x) where
     -- an answer that comes to the manager
@@ -93,24 +93,24 @@ module _ {k : ℕ} {m : Machines} {x : Who} {s : Failover} (inv : (p : ℕ) → 
     frame_step from to (body.Adopted q e last) h = answered from q e (body.Adopted q e last) refl h.shown
     frame_step from to (body.Activated q e) h = answered from q e (body.Activated q e) refl h.shown
     frame_step from to (body.Older q e kept) h = answered from q e (body.Older q e kept) refl h.shown
-    frame_step from to (body.Promise q e) h = seat_step inv shows q _ (received (record { from = from; to = to; body = body.Promise q e }) h)
+    frame_step from to (body.Promise q e) h = state_step inv shows q _ (received (record { from = from; to = to; body = body.Promise q e }) h)
     frame_step from to (body.Sync q e origin last) h =
-        subst (λ (y : Who). NodeRefined k m x (at_seat q (sync_received y.actor (record {
+        subst (λ (y : Who). NodeRefined k m x (at_state q (sync_received y.actor (record {
           epoch = e;
           origin = origin;
           last = last;
           asker = from;
         })) s)) (sym is_me)
-        (seat_step inv shows q _ (received (record { from = from; to = to; body = body.Sync q e origin last }) h))
+        (state_step inv shows q _ (received (record { from = from; to = to; body = body.Sync q e origin last }) h))
     frame_step from to (body.Fetch q e lsn) h =
         standing q (fetch_received from e lsn) (still s) nothing (received (record { from = from; to = to; body = body.Fetch q e lsn }) h)
     frame_step from to (body.Piece q e lsn entry_epoch text) h =
         standing q (piece_received e (record { epoch = entry_epoch; lsn = lsn; bytes = text })) (still s) nothing
         (received (record { from = from; to = to; body = body.Piece q e lsn entry_epoch text }) h)
     frame_step from to (body.Activate config) h =
-        subst (λ (y : Who). NodeRefined k m x (at_seat config.partition (activate_received y.actor from config) s)) (sym is_me)
-        (seat_step inv shows config.partition _ (received (record { from = from; to = to; body = body.Activate config }) h))
-    frame_step from to (body.Append q e lsn text) h = seat_step inv shows q _ (received (record { from = from; to = to; body = body.Append q e lsn text }) h)
+        subst (λ (y : Who). NodeRefined k m x (at_state config.partition (activate_received y.actor from config) s)) (sym is_me)
+        (state_step inv shows config.partition _ (received (record { from = from; to = to; body = body.Activate config }) h))
+    frame_step from to (body.Append q e lsn text) h = state_step inv shows q _ (received (record { from = from; to = to; body = body.Append q e lsn text }) h)
     frame_step from to (body.Appended q e last) h =
         standing q (appended_received from.actor e last) (still s) nothing (received (record { from = from; to = to; body = body.Appended q e last }) h)
     frame_step from to b h = nothing
@@ -123,17 +123,17 @@ module _ {k : ℕ} {m : Machines} {x : Who} {s : Failover} (inv : (p : ℕ) → 
     command_step same (command.Write q text) =
         standing q (write_commanded text) (refuse verb.Write reason.NotPrimary s)
         (record { after = m; between = λ p. between_none (inv p); shows = shows; sent = tt; told = λ p. refl; real = (tt, tt) })
-        (writes_are_deeds_lem (settings_to k) (m q) q x (seat_at q s) (inv q) (shows.seats q) text)
+        (writes_are_deeds_lem (settings_to k) (m q) q x (state_at q s) (inv q) (shows.states q) text)
     command_step same (command.Units range) =
         record { after = m; between = λ p. between_none (inv p); shows = shows; sent = tt; told = λ p. refl; real = (tt, tt) }
     command_step same (command.Resolve q name) =
         standing q (resolve_commanded name) (refuse verb.Resolve reason.NotPrimary s)
         (record { after = m; between = λ p. between_none (inv p); shows = shows; sent = tt; told = λ p. refl; real = (tt, tt) })
-        (answer_refined (inv q) (shows.seats q) (resolve_commanded name (seat_at q s)) (resolve_only_answers name (seat_at q s)))
+        (answer_refined (inv q) (shows.states q) (resolve_commanded name (state_at q s)) (resolve_only_answers name (state_at q s)))
     command_step same (command.Names q range) =
         standing q (names_commanded range) (refuse verb.Names reason.NotPrimary s)
         (record { after = m; between = λ p. between_none (inv p); shows = shows; sent = tt; told = λ p. refl; real = (tt, tt) })
-        (answer_refined (inv q) (shows.seats q) (names_commanded range (seat_at q s)) (names_only_answer range (seat_at q s)))
+        (answer_refined (inv q) (shows.states q) (names_commanded range (state_at q s)) (names_only_answer range (state_at q s)))
     command_step same d = nothing
 
 pub steps_lem : StepsAreDeeds

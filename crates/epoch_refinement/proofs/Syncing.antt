@@ -15,7 +15,7 @@ use Rattle.replica_core.specs.declared.role.Role.{Role}
 use Rattle.replica_core.specs.declared.role.Role.TheVariants.{None as NoRole, IdleSecondary, ActiveSecondary, Primary}
 use Rattle.replica_core.specs.Roles.{demoted, is_idle}
 use Rattle.replica_core.specs.Replicas.{Replica, raised, adopted}
-use Rattle.replica_core.specs.Calls.{Outcome, unless, held_if, adopt_own_call, idle_call}
+use Rattle.replica_core.specs.Calls.{unless, held_if, adopt_own_call, idle_call}
 use Rattle.replica_core.specs.Calls as call
 use Rattle.replica_core.proofs.Orders.{not_itself}
 use Rattle.epoch_machine.specs.Settings.{Settings}
@@ -25,14 +25,14 @@ use Rattle.epoch_machine.specs.Guards.{Can}
 use Rattle.epoch_machine.specs.Effects.{after}
 use Rattle.epoch_machine.specs.Invariant.{Invariant}
 use Rattle.epoch_machine.proofs.Histories.{deed_keeps}
-use Rattle.unit_rules.specs.declared.lead.Taking.{Taking}
+use Rattle.unit_rules.specs.declared.progress.CatchUp.{CatchUp}
 use Rattle.unit_rules.specs.Copies.{fetch_next, own_adopted, copy_begun, sync_taken, sync_answered, sync_received}
 use Rattle.unit_rules.specs.Deeds.{Keep, Send, Tell, acted}
-use Rattle.unit_rules.specs.Leads.{is_primary}
-use Rattle.unit_rules.specs.Seats.{Seat, seated}
+use Rattle.unit_rules.specs.Progress.{is_primary}
+use Rattle.unit_rules.specs.ReplicaStates.{ReplicaState, replica_put}
 use Rattle.epoch_refinement.specs.Epochs.{IsEpoch}
 use Rattle.epoch_refinement.specs.Refined.{Refined}
-use Rattle.epoch_refinement.specs.Seats.{IsNumbered, ShowsSeat}
+use Rattle.epoch_refinement.specs.ReplicaStates.{IsNumbered, ShowsReplicaState}
 use Rattle.epoch_refinement.specs.Shown.{ShownSync}
 use Rattle.epoch_refinement.proofs.Adopting.{may_adopt, Adopts, adopts}
 use Rattle.epoch_refinement.proofs.Doing.{after_refined, nothing_refined, not_primary}
@@ -85,7 +85,7 @@ made_idle e r same = go (is_older e r.promised) not_older (same_epoch r.promised
     }
 
 -- a Sync of the promised epoch
-module _ {c : Settings} {w : World} (inv : Invariant c w) (p : ℕ) (me : Who) (t : Taking) (s : Seat) (shows : ShowsSeat w p me.actor s)
+module _ {c : Settings} {w : World} (inv : Invariant c w) (p : ℕ) (me : Who) (t : CatchUp) (s : ReplicaState) (shows : ShowsReplicaState w p me.actor s)
     (sync : ShownSync w t.epoch t.origin t.last) (is_promised : s.replica.promised ≡ t.epoch) where
   number_is : w.promised me.actor ≡ sync.plan.epoch
   number_is =
@@ -98,10 +98,10 @@ module _ {c : Settings} {w : World} (inv : Invariant c w) (p : ℕ) (me : Who) (
   is_idle_now : IsIdle idle s.replica
   is_idle_now = made_idle t.epoch s.replica is_promised
 
-  abbrev next : Seat
-  next = record s { replica = (idle_call t.epoch s.replica).1; taking = Some t }
+  abbrev next : ReplicaState
+  next = record s { replica = (idle_call t.epoch s.replica).1; catch_up = Some t }
 
-  next_shows : ShowsSeat w p me.actor next
+  next_shows : ShowsReplicaState w p me.actor next
   next_shows =
       let i = is_idle_now in record {
         partition = i.partition ∙ shows.partition;
@@ -110,18 +110,18 @@ module _ {c : Settings} {w : World} (inv : Invariant c w) (p : ℕ) (me : Who) (
         log = shows.log ∙ sym i.log_is;
         room = subst (λ (l : List Entry). length l ≤ 100000) (sym i.log_is) shows.room;
         collected = λ lt. shows.collected lt ∙ sym i.collected_is;
-        taken = λ u h. let same : t ≡ u = cc in subst (λ (t : Taking). ShownSync w t.epoch t.origin t.last) same sync;
+        taken = λ u h. let same : t ≡ u = cc in subst (λ (t : CatchUp). ShownSync w t.epoch t.origin t.last) same sync;
         reached = reached;
         numbered = subst IsNumbered (sym i.log_is) shows.numbered;
         numbered_collected = subst IsNumbered (sym i.collected_is) shows.numbered_collected;
         idle = λ h. i.role_is;
-        lead = λ l h. absurd (not_primary next l i.role_is h);
+        progress = λ l h. absurd (not_primary next l i.role_is h);
       }
     where
-      reached : (u : Taking) (m : ℕ) → Some t ≡ Some u → IsEpoch m u.epoch → m ≤ w.promised me.actor
+      reached : (u : CatchUp) (m : ℕ) → Some t ≡ Some u → IsEpoch m u.epoch → m ≤ w.promised me.actor
       reached u m h i =
           let same : t ≡ u = cc in
-          let j : IsEpoch m t.epoch = subst (λ (t : Taking). IsEpoch m t.epoch) (sym same) i in
+          let j : IsEpoch m t.epoch = subst (λ (t : CatchUp). IsEpoch m t.epoch) (sym same) i in
           let e = sync.epoch in let a = j.is in let b = e.is in let q = number_is in omega arith
 
   module _ (apart : same_epoch s.replica.at t.epoch ≡ false) where
@@ -154,7 +154,7 @@ module _ {c : Settings} {w : World} (inv : Invariant c w) (p : ℕ) (me : Who) (
     same_collected = ap (λ b. cond b [] next.replica.collected) not_above
 
     has_log : (old log : List Entry) → old ≡ log → length log ≤ 100000 → IsNumbered log →
-        Adopts inv p me t next next_shows sync number_is before old (seated next (adopted t.epoch log next.replica))
+        Adopts inv p me t next next_shows sync number_is before old (replica_put next (adopted t.epoch log next.replica))
     has_log old log same room numbered =
         let i = is_idle_now in record {
           partition = i.partition ∙ shows.partition;
@@ -173,7 +173,7 @@ module _ {c : Settings} {w : World} (inv : Invariant c w) (p : ℕ) (me : Who) (
     adopts_own true whole h own =
         let can : Can c w (AdoptsNothing me.actor sync.plan) =
         (may_adopt inv p me t next next_shows sync number_is before, let a = eqb-true t.last 0 h in let l = sync.last_is in omega arith) in
-        adopts inv p me t next next_shows sync number_is before [] (seated next (adopted t.epoch [] next.replica)) true
+        adopts inv p me t next next_shows sync number_is before [] (replica_put next (adopted t.epoch [] next.replica)) true
         (has_log [] [] refl (omega arith) numbered_none)
         (deed_keeps inv (AdoptsNothing me.actor sync.plan) can) (deed_later w (AdoptsNothing me.actor sync.plan))
     adopts_own false true h own =
@@ -183,7 +183,7 @@ module _ {c : Settings} {w : World} (inv : Invariant c w) (p : ℕ) (me : Who) (
           let a = eqb-false t.last 0 h in let l = sync.last_is in
               omega arith,
         ) in
-        adopts inv p me t next next_shows sync number_is before (w.log me.actor) (seated next (adopted t.epoch next.replica.log next.replica)) true
+        adopts inv p me t next next_shows sync number_is before (w.log me.actor) (replica_put next (adopted t.epoch next.replica.log next.replica)) true
         (has_log (w.log me.actor) next.replica.log next_shows.log next_shows.room next_shows.numbered)
         (deed_keeps inv (AdoptsOwn me.actor sync.plan) can) (deed_later w (AdoptsOwn me.actor sync.plan))
     adopts_own false false h own = nothing_refined inv next_shows
@@ -225,8 +225,8 @@ module _ {c : Settings} {w : World} (inv : Invariant c w) (p : ℕ) (me : Who) (
           }
       go false i = copies i (t.last == 0) (t.origin == me.actor) refl refl
 
-module _ {c : Settings} {w : World} (inv : Invariant c w) (p : ℕ) (me : Who) (s : Seat) (shows : ShowsSeat w p me.actor s) where
-  pub sync_refines : (t : Taking) → ShownSync w t.epoch t.origin t.last → Refined c w p me (sync_received me.actor t s)
+module _ {c : Settings} {w : World} (inv : Invariant c w) (p : ℕ) (me : Who) (s : ReplicaState) (shows : ShowsReplicaState w p me.actor s) where
+  pub sync_refines : (t : CatchUp) → ShownSync w t.epoch t.origin t.last → Refined c w p me (sync_received me.actor t s)
   unfolding sync_received
   sync_refines t sync = go (is_older t.epoch s.replica.promised) refl (same_epoch s.replica.promised t.epoch) refl
     where
@@ -249,5 +249,5 @@ module _ {c : Settings} {w : World} (inv : Invariant c w) (p : ℕ) (me : Who) (
           let later = deed_later w (RaisesPromise me.actor n) in
           after_refined later (Keep (kept.PromisedAt s.replica.partition t.epoch) ∷ Tell (report.Promised s.replica.partition t.epoch) ∷ [])
           ((shows.partition, real n t.epoch is (omega arith)), tt) (λ log. ap (λ k. TellsPromised me.actor k ∷ w.told) is.is)
-          (taken_refines (deed_keeps inv (RaisesPromise me.actor n) above) p me t (seated s (raised t.epoch s.replica))
+          (taken_refines (deed_keeps inv (RaisesPromise me.actor n) above) p me t (replica_put s (raised t.epoch s.replica))
           (raised_shows inv p me s shows t.epoch n is above) (sync_later later sync) refl)

@@ -68,7 +68,7 @@ actor_of (SendsAppend node place r entry) = of_node node
 actor_of (Commits node last r) = of_node node
 
 -- the replica of this node is as it was
-pub record SameSeat (w v : World) (m : ℕ) : Type 0 where
+pub record SameReplicaState (w v : World) (m : ℕ) : Type 0 where
   pub promised : v.promised m ≡ w.promised m
   pub joined : v.joined m ≡ w.joined m
   pub log : v.log m ≡ w.log m
@@ -83,7 +83,7 @@ pub record SameRegister (w v : World) (a : ℕ) : Type 0 where
 
 -- all but the actor is as it was
 pub record Beside (x : Actor) (w v : World) : Type 0 where
-  pub seats : (m : ℕ) → (x ≡ of_node m → ⊥) → SameSeat w v m
+  pub states : (m : ℕ) → (x ≡ of_node m → ⊥) → SameReplicaState w v m
   pub registers : (a : ℕ) → (x ≡ of_arbiter a → ⊥) → SameRegister w v a
   pub attempts : (x ≡ of_manager → ⊥) → v.attempts ≡ w.attempts
   pub plans : (x ≡ of_manager → ⊥) → v.plans ≡ w.plans

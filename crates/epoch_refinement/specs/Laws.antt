@@ -23,30 +23,30 @@ use Rattle.unit_rules.specs.Starts.{replica_of, replicas_after_all}
 use Rattle.unit_rules.specs.Steps.{Failover, failover_begun, failover_step}
 use Rattle.unit_rules.specs.Registers.{Register, Reply, Registers, question_received, registers_after}
 use Rattle.epoch_refinement.specs.Nodes.{Machines, ShowsNode, NodeRefined, Comes, ShowsArbiter, ArbiterRefined}
-use Rattle.unit_rules.specs.Seats.{Seat}
-use Rattle.unit_rules.specs.Writes.{write_commanded, seat_fired}
+use Rattle.unit_rules.specs.ReplicaStates.{ReplicaState}
+use Rattle.unit_rules.specs.Writes.{write_commanded, state_fired}
 use Rattle.replica_records.specs.Kept.{AreKept, IsFit}
-use Rattle.replica_records.specs.Seats.{seat_at, begun_again}
+use Rattle.replica_records.specs.ReplicaStates.{state_at, begun_again}
 use Rattle.epoch_refinement.specs.Refined.{AllShown, Refined}
 use Rattle.epoch_refinement.specs.Registers.{ShowsRegister, RefinedReply}
-use Rattle.epoch_refinement.specs.Rows.{seat_received, register_answers}
-use Rattle.epoch_refinement.specs.Seats.{ShowsSeat}
+use Rattle.epoch_refinement.specs.Rows.{state_received, register_answers}
+use Rattle.epoch_refinement.specs.ReplicaStates.{ShowsReplicaState}
 use Rattle.epoch_refinement.specs.Shown.{partition_of, Shown}
 
 -- it holds of every replica of a partition that shows a world of the machine
-abbrev pub OfReplicas : (Settings → World → ℕ → Who → Seat → Type 0) → Type 0
-OfReplicas Holds = (c : Settings) (w : World) (p : ℕ) (me : Who) (s : Seat) → Invariant c w → ShowsSeat w p me.actor s → Holds c w p me s
+abbrev pub OfReplicas : (Settings → World → ℕ → Who → ReplicaState → Type 0) → Type 0
+OfReplicas Holds = (c : Settings) (w : World) (p : ℕ) (me : Who) (s : ReplicaState) → Invariant c w → ShowsReplicaState w p me.actor s → Holds c w p me s
 
 -- whatever frame comes to its node that was sent
 abbrev pub ReplicaFramesAreDeeds : Type 0
 ReplicaFramesAreDeeds =
-    OfReplicas (λ c w p me s. (from to : Who) (b : Body) → to.actor ≡ me.actor → Shown w p from to b → Refined c w p me (seat_received me from b s))
+    OfReplicas (λ c w p me s. (from to : Who) (b : Body) → to.actor ≡ me.actor → Shown w p from to b → Refined c w p me (state_received me from b s))
 
 abbrev pub WritesAreDeeds : Type 0
 WritesAreDeeds = OfReplicas (λ c w p me s. (text : List ℕ) → Refined c w p me (write_commanded text s))
 
 abbrev pub FiringsAreDeeds : Type 0
-FiringsAreDeeds = OfReplicas (λ c w p me s. Refined c w p me (acted s (seat_fired s)))
+FiringsAreDeeds = OfReplicas (λ c w p me s. Refined c w p me (acted s (state_fired s)))
 
 abbrev pub RestartsAreDeeds : Type 0
 RestartsAreDeeds = OfReplicas (λ c w p me s. Refined c w p me (still (begun_again s)))
@@ -98,16 +98,16 @@ BeginningsAreShown =
 
 -- a replica that shows a world of its partition's machine is one that records what it becomes
 abbrev pub WhoShowsIsFit : Type 0
-WhoShowsIsFit = (c : Settings) (w : World) (p node : ℕ) (s : Seat) → Invariant c w → ShowsSeat w p node s → IsFit p s
+WhoShowsIsFit = (c : Settings) (w : World) (p node : ℕ) (s : ReplicaState) → Invariant c w → ShowsReplicaState w p node s → IsFit p s
 
 -- so a start is deeds of the machine, which has the replica of the instance before
 abbrev pub StartsAreDeeds : Type 0
 StartsAreDeeds =
-    (c : Settings) (w : World) (p : ℕ) (me : Who) (s : Failover) (records : List Record) → Invariant c w → ShowsSeat w p me.actor (seat_at p s) →
-    AreKept records s → Refined c w p me (still (seat_at p (failover_begun records)))
+    (c : Settings) (w : World) (p : ℕ) (me : Who) (s : Failover) (records : List Record) → Invariant c w → ShowsReplicaState w p me.actor (state_at p s) →
+    AreKept records s → Refined c w p me (still (state_at p (failover_begun records)))
 
 -- and the machine's log is that of the records
 abbrev pub LogsAreKept : Type 0
 LogsAreKept =
-    (w : World) (p node : ℕ) (s : Failover) (records : List Record) → ShowsSeat w p node (seat_at p s) → AreKept records s →
+    (w : World) (p node : ℕ) (s : Failover) (records : List Record) → ShowsReplicaState w p node (state_at p s) → AreKept records s →
     w.log node ≡ (replica_of p (replicas_after_all [] records)).log

@@ -2,7 +2,7 @@ pub mod Epochs
 pub mod Facts
 pub mod Shown
 pub mod Told
-pub mod Seats
+pub mod ReplicaStates
 pub mod Refined
 pub mod Registers
 pub mod Reconfigs

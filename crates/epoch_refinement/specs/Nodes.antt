@@ -15,12 +15,12 @@ use Rattle.unit_rules.specs.Deeds.{Deed, Keep, Send, Tell, Acted}
 use Rattle.unit_rules.specs.Manager.{Managed}
 use Rattle.unit_rules.specs.Registers.{Registers, register_of}
 use Rattle.unit_rules.specs.Steps.{Failover}
-use Rattle.replica_records.specs.Seats.{seat_at}
+use Rattle.replica_records.specs.ReplicaStates.{state_at}
 use Rattle.epoch_refinement.specs.Epochs.{IsReal, settings_to}
-use Rattle.epoch_refinement.specs.Facts.{Fact, Has, SameSeat, SameRegister}
+use Rattle.epoch_refinement.specs.Facts.{Fact, Has, SameReplicaState, SameRegister}
 use Rattle.epoch_refinement.specs.Reconfigs.{ShowsManager}
 use Rattle.epoch_refinement.specs.Registers.{ShowsRegister}
-use Rattle.epoch_refinement.specs.Seats.{ShowsSeat}
+use Rattle.epoch_refinement.specs.ReplicaStates.{ShowsReplicaState}
 use Rattle.epoch_refinement.specs.Shown.{partition_of, Shown}
 use Rattle.epoch_refinement.specs.Told.{tells}
 
@@ -30,9 +30,9 @@ Machines = ℕ → World
 
 -- the node of the instance x: in each partition its replica and its manager
 pub record ShowsNode (k : ℕ) (m : Machines) (x : Who) (s : Failover) : Type 0 where
-  pub seats : (p : ℕ) → ShowsSeat (m p) p x.actor (seat_at p s)
+  pub states : (p : ℕ) → ShowsReplicaState (m p) p x.actor (state_at p s)
   pub managers : (p : ℕ) → ShowsManager (m p) k p x s.managed
-  pub seats_rise : rises s.seats ≡ true
+  pub states_rise : rises s.states ≡ true
   pub reconfigs_rise : rises s.managed.reconfigs ≡ true
 
 -- each frame that is sent shows what the machine of its partition has
@@ -75,7 +75,7 @@ AllReal (Tell r ∷ ds) = IsRealIn r × AllReal ds
 pub record Between (k p : ℕ) (x : Who) (w v : World) : Type 0 where
   pub inv : Invariant (settings_to k) v
   pub keeps : (f : Fact) → Has w f → Has v f
-  pub seats : (n : ℕ) → (x.actor ≡ n → ⊥) → SameSeat w v n
+  pub states : (n : ℕ) → (x.actor ≡ n → ⊥) → SameReplicaState w v n
   pub registers : (a : ℕ) → SameRegister w v a
   pub managers : (y : Who) (s : Managed) → (x ≡ y → ⊥) → ShowsManager w k p y s → ShowsManager v k p y s
 
@@ -85,7 +85,7 @@ pub record NodeRefined (k : ℕ) (m : Machines) (x : Who) (a : Acted Failover) :
   pub between : (p : ℕ) → Between k p x (m p) (after p)
   pub shows : ShowsNode k after x a.state
   pub sent : AllSent after x a.deeds
-  pub told : (p : ℕ) → (after p).told ≡ tells_of p x.actor (seat_at p a.state).replica.log a.deeds (m p).told
+  pub told : (p : ℕ) → (after p).told ≡ tells_of p x.actor (state_at p a.state).replica.log a.deeds (m p).told
   pub real : AllReal a.deeds
 
 -- a frame that comes to x was sent, to it or to whichever instance runs
@@ -106,7 +106,7 @@ ShowsArbiter m arbiter rs = (p : ℕ) → ShowsRegister (m p) p arbiter (registe
 pub record Beyond (k p arbiter : ℕ) (w v : World) : Type 0 where
   pub inv : Invariant (settings_to k) v
   pub keeps : (f : Fact) → Has w f → Has v f
-  pub seats : (n : ℕ) → SameSeat w v n
+  pub states : (n : ℕ) → SameReplicaState w v n
   pub registers : (a : ℕ) → (arbiter ≡ a → ⊥) → SameRegister w v a
   pub managers : (y : Who) (s : Managed) → ShowsManager w k p y s → ShowsManager v k p y s
 

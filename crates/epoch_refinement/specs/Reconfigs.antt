@@ -27,7 +27,7 @@ use Rattle.unit_rules.specs.declared.reconfig.Task.{Task}
 use Rattle.unit_rules.specs.Deeds.{Acted}
 use Rattle.unit_rules.specs.Manager.{Managed}
 use Rattle.unit_rules.specs.Polls.{Poll, arbiters_to}
-use Rattle.unit_rules.specs.Reconfigs.{Source, Reconfig, Prepare, Phase0, Phase1, Decide, Phase2, Phase3, Phase4, Step, Stay, Finished, Superseded, Refused, task_of}
+use Rattle.unit_rules.specs.Reconfigs.{OriginLog, Reconfig, Prepare, Phase0, Phase1, Decide, Phase2, Phase3, Phase4, Step, Stay, Finished, Superseded, Refused, task_of}
 use Rattle.epoch_refinement.specs.Epochs.{IsEpoch, settings_to}
 use Rattle.epoch_refinement.specs.Facts.{is_attempt, is_plan, is_synced, is_adopted, is_kept, of_manager, Has, Later}
 use Rattle.epoch_refinement.specs.Refined.{AllShown}
@@ -55,7 +55,7 @@ pub record HasLeft (w : World) (x : Who) (n : ℕ) (plan : Plan) : Type 0 where
   pub none : (q : Plan) → IsMember q w.plans → q.epoch ≡ n → ⊥
 
 -- a proposed plan: its configuration, and the origin and the length of its base; of a create the primary's empty log
-pub record ShowsPlan (p : ℕ) (plan : Plan) (n : ℕ) (kind : Kind) (config : Config) (source : Source) : Type 0 where
+pub record ShowsPlan (p : ℕ) (plan : Plan) (n : ℕ) (kind : Kind) (config : Config) (source : OriginLog) : Type 0 where
   pub is : IsPlanOf p plan config
   pub epoch_is : plan.epoch ≡ n
   pub origin_is : plan.origin ≡ source.origin

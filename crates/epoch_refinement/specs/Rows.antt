@@ -8,19 +8,19 @@ use Rattle.unit_rules.specs.Copies.{sync_received, fetch_received, piece_receive
 use Rattle.unit_rules.specs.Deeds.{Acted, still}
 use Rattle.unit_rules.specs.Promises.{promise_received}
 use Rattle.unit_rules.specs.Registers.{Register, Reply, prepare_received, vote_received, done_received}
-use Rattle.unit_rules.specs.Seats.{Seat}
+use Rattle.unit_rules.specs.ReplicaStates.{ReplicaState}
 use Rattle.unit_rules.specs.Writes.{append_received, appended_received}
 
 -- what the replica at the node of me makes of a frame from x
-abbrev pub seat_received : (me x : Who) → Body → Seat → Acted Seat
-seat_received me x (body.Promise p epoch) s = promise_received x epoch s
-seat_received me x (body.Sync p epoch origin last) s = sync_received me.actor (record { epoch = epoch; origin = origin; last = last; asker = x }) s
-seat_received me x (body.Fetch p epoch lsn) s = fetch_received x epoch lsn s
-seat_received me x (body.Piece p epoch lsn entry_epoch text) s = piece_received epoch (record { epoch = entry_epoch; lsn = lsn; bytes = text }) s
-seat_received me x (body.Activate config) s = activate_received me.actor x config s
-seat_received me x (body.Append p epoch lsn text) s = append_received x epoch lsn text s
-seat_received me x (body.Appended p epoch last) s = appended_received x.actor epoch last s
-seat_received me x _ s = still s
+abbrev pub state_received : (me x : Who) → Body → ReplicaState → Acted ReplicaState
+state_received me x (body.Promise p epoch) s = promise_received x epoch s
+state_received me x (body.Sync p epoch origin last) s = sync_received me.actor (record { epoch = epoch; origin = origin; last = last; asker = x }) s
+state_received me x (body.Fetch p epoch lsn) s = fetch_received x epoch lsn s
+state_received me x (body.Piece p epoch lsn entry_epoch text) s = piece_received epoch (record { epoch = entry_epoch; lsn = lsn; bytes = text }) s
+state_received me x (body.Activate config) s = activate_received me.actor x config s
+state_received me x (body.Append p epoch lsn text) s = append_received x epoch lsn text s
+state_received me x (body.Appended p epoch last) s = appended_received x.actor epoch last s
+state_received me x _ s = still s
 
 -- what an arbitrator's register answers x
 abbrev pub register_answers : Who → Body → Register → Option Reply

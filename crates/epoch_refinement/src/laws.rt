@@ -1,7 +1,10 @@
-ghost use Rattle.epoch_refinement.specs.Laws.{AnswersAreDeeds, BeginningsAreShown, CommandsAreDeeds, FiringsAreDeeds, LogsAreKept, ManagerAnswersAreDeeds, QuestionsAreDeeds, QuestionsAreShown, ReplicaFramesAreDeeds, RestartsAreDeeds, StartsAreDeeds, StepsAreDeeds, WhoShowsIsFit, WritesAreDeeds};
+ghost use Rattle.epoch_refinement.specs.Laws.{AnswersAreDeeds, BeginningsAreShown, CommandsAreDeeds, FiringsAreDeeds};
+ghost use Rattle.epoch_refinement.specs.Laws.{LogsAreKept, ManagerAnswersAreDeeds, QuestionsAreDeeds};
+ghost use Rattle.epoch_refinement.specs.Laws.{QuestionsAreShown, ReplicaFramesAreDeeds, RestartsAreDeeds};
+ghost use Rattle.epoch_refinement.specs.Laws.{StartsAreDeeds, StepsAreDeeds, WhoShowsIsFit, WritesAreDeeds};
 
-/// Whatever frame comes to a replica that was sent, in whatever order and however often, what it makes of it is deeds of
-/// the machine of its partition: what it sends is sent there, and what it tells is told there.
+/// Whatever frame comes to a replica that was sent, in whatever order and however often, what it makes of it is deeds
+/// of the machine of its partition: what it sends is sent there, and what it tells is told there.
 pub fn frames_are_deeds()
     ensures { ReplicaFramesAreDeeds }
 {}

@@ -1,11 +1,11 @@
-//! The rules of partitions on the machine of their laws: each row of a replica, of an arbitrator and of a manager is deeds
-//! of that machine.
+//! The rules of partitions on the machine of their laws: each row of a replica, of an arbitrator and of a manager is
+//! deeds of that machine.
 //!
-//! A partition has a machine of its own. A replica shows the machine's replica of its node, an arbitrator's register the
-//! machine's arbitrator, a manager's reconfiguration its attempt and its plan, and each frame of the partition what was
-//! done before it was sent: `specs/Shown.antt`, `specs/Seats.antt`, `specs/Registers.antt` and `specs/Reconfigs.antt` say
-//! so. Each row of the rules keeps that, and does nothing that the machine forbids. So whoever carries a world of the
-//! machine along with the real one has the machine's laws of the real one.
+//! A partition has a machine of its own. A replica shows the machine's replica of its node, an arbitrator's register
+//! the machine's arbitrator, a manager's reconfiguration its attempt and its plan, and each frame of the partition what
+//! was done before it was sent: `specs/Shown.antt`, `specs/ReplicaStates.antt`, `specs/Registers.antt` and
+//! `specs/Reconfigs.antt` say so. Each row of the rules keeps that, and does nothing that the machine forbids. So
+//! whoever carries a world of the machine along with the real one has the machine's laws of the real one.
 #![tactic(auto)]
 
 mod laws;

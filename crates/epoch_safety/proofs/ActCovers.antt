@@ -22,14 +22,14 @@ use Rattle.world_rules.specs.Nodes.{NodeState, both_did, comes_above}
 use Rattle.world_rules.specs.Uppers.{Did}
 use Rattle.world_rules.specs.Worlds.{World, Running, Stepped, node_acted}
 use Rattle.run_facts.proofs.Happens.{CameTo}
-use Rattle.replica_records.specs.Seats.{seat_at}
+use Rattle.replica_records.specs.ReplicaStates.{state_at}
 use Rattle.epoch_refinement.specs.Epochs.{settings_to}
 use Rattle.epoch_refinement.specs.Nodes.{Machines, NodeRefined}
 use Rattle.epoch_refinement.proofs.Losing.{settings_sound}
 use Rattle.run_promises.specs.Reports.{IsAmong, log_in}
 use Rattle.epoch_safety.proofs.ActFollows.{Numbered, actor, shows, refined, kept_now, busy_follows, commit_above}
 use Rattle.epoch_safety.proofs.Committing.{LeadsAt}
-use Rattle.epoch_safety.proofs.Covering.{Covers, lead_covers}
+use Rattle.epoch_safety.proofs.Covering.{Covers, progress_covers}
 use Rattle.epoch_safety.proofs.Follows.{Follows}
 use Rattle.epoch_safety.proofs.NodeFollows.{Named, kept_at}
 use Rattle.epoch_safety.proofs.StepCommits.{asks_in, step_told, reports_told}
@@ -64,7 +64,7 @@ module _ (c : FabricConfig) (w : World units) (t : Tellings) (m : Machines) (n :
       r = refined c w t m n f node i s there stay passed came
 
       -- the log that the records amount to now
-      logs : (p : ℕ) → log_in stepped.world x.actor p ≡ (seat_at p row.state).replica.log
+      logs : (p : ℕ) → log_in stepped.world x.actor p ≡ (state_at p row.state).replica.log
       logs p =
           (λ j. (replica_of p (replicas_after_all []
           (kept_at s.reading s.pairs busy named f (busy_follows c w t m n f node i s there stay passed came) x.actor (sym (actor c w t m n f node i s there)) j))).log)
@@ -74,10 +74,10 @@ module _ (c : FabricConfig) (w : World units) (t : Tellings) (m : Machines) (n :
           Covers (settings_to k) (r.after p) (number_of e) last (log_in stepped.world y.actor p)
       act_covers y p e last a =
           let above = commit_above c w t m n f node i s there (reports_of row.deeds) p e last a.1 in
-          let seats = (shows c w t m n f node i s there stay passed came).seats in
-          let leads : LeadsAt (seat_at p row.state) e last
+          let states = (shows c w t m n f node i s there stay passed came).states in
+          let leads : LeadsAt (state_at p row.state) e last
           = reports_told (asks_in i) s.node.above row.state row.deeds (Committed p e last)
-          (step_told (asks_in i) s.node.above (site_of c x.actor) s.reading new.ring i refl) above (λ q. (seats q).partition) in
+          (step_told (asks_in i) s.node.above (site_of c x.actor) s.reading new.ring i refl) above (λ q. (states q).partition) in
           subst (λ (log : List Entry). Covers (settings_to k) (r.after p) (number_of e) last log)
           (sym (ap (λ (z : Who). log_in stepped.world z.actor p) (sym a.0) ∙ logs p))
-          (lead_covers (r.between p).inv (settings_sound k) (r.shows.seats p) e last leads)
+          (progress_covers (r.between p).inv (settings_sound k) (r.shows.states p) e last leads)

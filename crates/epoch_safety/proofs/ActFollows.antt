@@ -37,11 +37,11 @@ use Rattle.world_rules.specs.Worlds.{World, Running, kept_of}
 use Rattle.run_facts.proofs.Happens.{CameTo}
 use Rattle.run_facts.proofs.Kept.{boots_append}
 use Rattle.run_facts.proofs.Steps.{Stepped, ring_stepped}
-use Rattle.replica_records.specs.Seats.{seat_at, begun_again}
+use Rattle.replica_records.specs.ReplicaStates.{state_at, begun_again}
 use Rattle.epoch_refinement.specs.Epochs.{settings_to}
 use Rattle.epoch_refinement.specs.Nodes.{Machines, ShowsNode, NodeRefined, Comes}
 use Rattle.epoch_refinement.specs.Reconfigs.{ShowsManager}
-use Rattle.epoch_refinement.specs.Seats.{ShowsSeat}
+use Rattle.epoch_refinement.specs.ReplicaStates.{ShowsReplicaState}
 use Rattle.epoch_refinement.specs.Shown.{partition_of, Shown}
 use Rattle.epoch_refinement.proofs.Stepping as deeds
 use Rattle.replica_records.specs.Kept.{AreKept}
@@ -157,9 +157,9 @@ module _ (c : FabricConfig) (w : World units) (t : Tellings) (m : Machines) (n :
     others = λ p q d. record { promised = refl; joined = refl; log = refl; collected = refl; role = refl };
     registers = λ p a. record { prepared = refl; preparer = refl; done = refl };
     managers = λ p y u d shows. shows;
-    seats = λ p. f.seats node p;
+    states = λ p. f.states node p;
     begins = λ p.
-        subst (λ (r : List Record). seat_at p (failover_begun r) ≡ begun_again (seat_at p (f.last node))) (sym (append-nil kept))
+        subst (λ (r : List Record). state_at p (failover_begun r) ≡ begun_again (state_at p (f.last node))) (sym (append-nil kept))
         (f.begins node p (f.low node s there));
     here = λ stay. f.here node s there (stayed stay);
     acts = λ stay.
@@ -210,10 +210,10 @@ module _ (c : FabricConfig) (w : World units) (t : Tellings) (m : Machines) (n :
 
     pub shows : ShowsNode k m x old
     shows = record {
-      seats = λ p.
-          subst (λ (z : ℕ × Failover). ShowsSeat (m p) p z.0 (seat_at p z.1)) (λ j. (sym actor j, f.here node s there (stayed stay) j)) (f.seats node p);
+      states = λ p.
+          subst (λ (z : ℕ × Failover). ShowsReplicaState (m p) p z.0 (state_at p z.1)) (λ j. (sym actor j, f.here node s there (stayed stay) j)) (f.states node p);
       managers = λ p. subst (λ (z : Who). ShowsManager (m p) k p z old.managed) (sym stepped.name) (acting.managers p);
-      seats_rise = acting.seats_rise;
+      states_rise = acting.states_rise;
       reconfigs_rise = acting.reconfigs_rise;
     }
 
@@ -225,7 +225,7 @@ module _ (c : FabricConfig) (w : World units) (t : Tellings) (m : Machines) (n :
     pub kept_now : AreKept (kept ++ records_of a.deeds) a.state
     kept_now =
         records.steps_lem (site_of c x.actor) s.reading new.ring old i kept
-        (λ p. fit_lem (settings_to k) (m p) p x.actor (seat_at p old) (f.inv p) (shows.seats p)) acting.kept
+        (λ p. fit_lem (settings_to k) (m p) p x.actor (state_at p old) (f.inv p) (shows.states p)) acting.kept
 
     pub busy_follows : Follow k w m refined.after x node a.state busy
     busy_follows = record {
@@ -235,15 +235,15 @@ module _ (c : FabricConfig) (w : World units) (t : Tellings) (m : Machines) (n :
       counted = counted (records_of a.deeds);
       inv = λ p. (refined.between p).inv;
       keeps = λ p. (refined.between p).keeps;
-      others = λ p q d. (refined.between p).seats q (λ e. d (sym actor ∙ e));
+      others = λ p q d. (refined.between p).states q (λ e. d (sym actor ∙ e));
       registers = λ p b. (refined.between p).registers b;
       managers = λ p y u d. (refined.between p).managers y u d;
-      seats = λ p. subst (λ z. ShowsSeat (refined.after p) p z (seat_at p a.state)) actor (refined.shows.seats p);
+      states = λ p. subst (λ z. ShowsReplicaState (refined.after p) p z (state_at p a.state)) actor (refined.shows.states p);
       begins = λ p. go_on_lem (kept ++ records_of a.deeds) a.state kept_now p;
       here = λ stay. refl;
       acts = λ stay. record {
         managers = refined.shows.managers;
-        seats_rise = refined.shows.seats_rise;
+        states_rise = refined.shows.states_rise;
         reconfigs_rise = refined.shows.reconfigs_rise;
         kept = kept_now;
       };
@@ -251,7 +251,7 @@ module _ (c : FabricConfig) (w : World units) (t : Tellings) (m : Machines) (n :
           (append_cases z new.sent (frames_of a.deeds) h);
       told = λ p.
           refined.told p
-          ∙ (sym (tells_reports p x.actor (seat_at p a.state).replica.log a.deeds (m p).told)
+          ∙ (sym (tells_reports p x.actor (state_at p a.state).replica.log a.deeds (m p).told)
           ∙ ((λ j. tells_on p (actor j) (sym (ap (λ (r : Replica). r.log) (kept_now p)) j) (reports_of a.deeds) (m p).told)
           ∙ sym (quiet_reports p (replica_of p (replicas_after_all [] (kept ++ records_of a.deeds))).log (reports_of a.deeds) (m p).told)));
     }

@@ -10,7 +10,7 @@ use Rattle.unit_rules.specs.Units.{units}
 use Rattle.world_rules.specs.Runs.{History, run_of}
 use Rattle.world_rules.specs.Schedules.{Valid}
 use Rattle.epoch_safety.specs.Laws.{AnswersAreCovered}
-use Rattle.run_promises.specs.Reports.{Reports, log_after}
+use Rattle.run_promises.specs.Reports.{HasReported, log_after}
 use Rattle.epoch_safety.proofs.Followed.{FollowedAfter, followed}
 use Rattle.epoch_safety.proofs.Primaries.{numbered}
 use Rattle.epoch_safety.proofs.Written.{committed_told, loss_is}
@@ -24,7 +24,7 @@ pub answers_covered_lem : AnswersAreCovered
 answers_covered_lem is_frame c h sound valid i j p last committed e own x y le earlier now not_older loss =
     let at : FollowedAfter c (drop j h) = followed is_frame c sound (drop j h) (valid_drop is_frame c h j valid) in
     let since : drop (i - j) (drop j h) ≡ drop i h = drop-drop (i - j) j h ∙ ap (λ n. drop n h) (let e : j + (i - j) ≡ i = omega arith in e) in
-    let before = committed_told c (drop j h) at (i - j) p last e x (subst (λ (z : History). Reports (run_of units c z) x (Committed p e last)) (sym since) earlier) in
+    let before = committed_told c (drop j h) at (i - j) p last e x (subst (λ (z : History). HasReported (run_of units c z) x (Committed p e last)) (sym since) earlier) in
     let mine = committed_told c (drop j h) at 0 p committed own y now in
     let both =
     at.covers y p own committed now x.actor (number_of e) last (log_after c (drop (i - j) (drop j h)) x.actor p) before.0

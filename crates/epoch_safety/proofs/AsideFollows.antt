@@ -30,7 +30,7 @@ module _ (k : ℕ) (w : World units) (t : Tellings) (m : Machines) (f : Follows 
   aside_follows time nodes arbiters are recorded = record {
     inv = f.inv;
     last = f.last;
-    seats = f.seats;
+    states = f.states;
     begins = f.begins;
     low = λ q s h. let r = are q s h in f.low q r.0 r.1;
     here = λ q s h.

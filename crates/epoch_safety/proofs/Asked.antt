@@ -24,9 +24,9 @@ use Rattle.ring_rules.specs.Steps.{ring_step}
 use Rattle.name_rules.specs.Names.{NameMap, names_of}
 use Rattle.unit_rules.specs.Answers.{answered, listing, names_commanded, ready, resolution, resolve_commanded}
 use Rattle.unit_rules.specs.Deeds.{Acted, Tell, refuse, reports_of, unless}
-use Rattle.unit_rules.specs.Leads.{lead_of}
+use Rattle.unit_rules.specs.Progress.{progress_of}
 use Rattle.unit_rules.specs.Loads.{Site, site_of}
-use Rattle.unit_rules.specs.Seats.{Seat, first_seat}
+use Rattle.unit_rules.specs.ReplicaStates.{ReplicaState, first_state}
 use Rattle.unit_rules.specs.Steps.{Failover, at_found, at_standing, failover_step}
 use Rattle.unit_rules.specs.Units.{units}
 use Rattle.world_rules.specs.Above.{is_ring_report}
@@ -35,7 +35,7 @@ use Rattle.world_rules.specs.Nodes.{above_if, comes_above}
 use Rattle.world_rules.specs.Worlds.{World, Running}
 use Rattle.world_rules.proofs.Rows.{node_step-is}
 use Rattle.run_facts.proofs.Steps.{Stepped, ring_stepped}
-use Rattle.replica_records.specs.Seats.{seat_at}
+use Rattle.replica_records.specs.ReplicaStates.{state_at}
 use Rattle.ring_apart.specs.Apart.{is_unit_report}
 use Rattle.ring_apart.proofs.Steps.{steps_apart_lem}
 use Rattle.epoch_safety.specs.Answers.{AnswersAreByEntries, named_at}
@@ -84,34 +84,34 @@ not_refused r h question why m =
     cc (h, same)
 
 -- a question at a replica
-abbrev asked : Verb → (ℕ → NameMap → Report) → Seat → Acted Seat
-asked question answer s = answered question (answer s.replica.partition) s (ready (lead_of s))
+abbrev asked : Verb → (ℕ → NameMap → Report) → ReplicaState → Acted ReplicaState
+asked question answer s = answered question (answer s.replica.partition) s (ready (progress_of s))
 
 -- the same at a node
 abbrev asked_at : ℕ → Verb → (ℕ → NameMap → Report) → Failover → Acted Failover
 asked_at partition question answer u = at_standing partition (asked question answer) (refuse question reason.NotPrimary u) u
 
 module _ (r : Report) (told : tells_names r ≡ true) (partition : ℕ) (question : Verb) (answer : ℕ → NameMap → Report) where
-  record From (s : Seat) : Type 0 where
+  record From (s : ReplicaState) : Type 0 where
     pub count : ℕ
-    pub is_ready : ready (lead_of s) ≡ Ok count
+    pub is_ready : ready (progress_of s) ≡ Ok count
     pub is : r ≡ answer s.replica.partition (names_of (take count s.replica.log))
 
-  from_seat : (s : Seat) → IsMember r (reports_of (asked question answer s).deeds) → From s
-  from_seat s m = by (ready (lead_of s)) refl m
+  from_state : (s : ReplicaState) → IsMember r (reports_of (asked question answer s).deeds) → From s
+  from_state s m = by (ready (progress_of s)) refl m
     where
-      by : (o : Result ℕ Reason) → ready (lead_of s) ≡ o → IsMember r (reports_of (answered question (answer s.replica.partition) s o).deeds) → From s
+      by : (o : Result ℕ Reason) → ready (progress_of s) ≡ o → IsMember r (reports_of (answered question (answer s.replica.partition) s o).deeds) → From s
       by (Err why) is n = absurd (not_refused r told question why n)
       by (Ok count) is n =
           record { count = count; is_ready = is; is = one_told r (answer s.replica.partition (names_of (take count s.replica.log))) n }
 
-  from_node : (u : Failover) → IsMember r (reports_of (asked_at partition question answer u).deeds) → From (seat_at partition u)
-  from_node u m = by (at partition u.seats) refl m
+  from_node : (u : Failover) → IsMember r (reports_of (asked_at partition question answer u).deeds) → From (state_at partition u)
+  from_node u m = by (at partition u.states) refl m
     where
-      by : (o : Option Seat) → at partition u.seats ≡ o →
-          IsMember r (reports_of (at_found partition (asked question answer) (refuse question reason.NotPrimary u) u o).deeds) → From (seat_at partition u)
+      by : (o : Option ReplicaState) → at partition u.states ≡ o →
+          IsMember r (reports_of (at_found partition (asked question answer) (refuse question reason.NotPrimary u) u o).deeds) → From (state_at partition u)
       by None is n = absurd (not_refused r told question reason.NotPrimary n)
-      by (Some s) is n = subst From (sym (ap (λ (o : Option Seat). unwrap_or o (first_seat partition)) is)) (from_seat s n)
+      by (Some s) is n = subst From (sym (ap (λ (o : Option ReplicaState). unwrap_or o (first_state partition)) is)) (from_state s n)
 
   module _ (c : FabricConfig) (w : World units) (node : ℕ) (x : Who) (i : Input) (row : (site : Site) (now : ℕ) (ring : Ring) (u : Failover) →
       failover_step site now ring u i ≡ asked_at partition question answer u) where
@@ -142,11 +142,11 @@ module _ (r : Report) (told : tells_names r ≡ true) (partition : ℕ) (questio
         go false is m = absurd (from_above r told set s.reading i s.node.ring [] m)
         go true is m =
             let stay : is_left new.ring.phase ≡ false = not-true (is_left new.ring.phase) (and_parts (not (is_left new.ring.phase)) (comes_above set s.node.ring i) is).0 in
-            let from : From (seat_at partition s.node.above) =
+            let from : From (state_at partition s.node.above) =
             from_node s.node.above
             (subst (λ (a : Acted Failover). IsMember r (reports_of a.deeds)) (row (site_of c new.ring.me.actor) s.reading new.ring s.node.above)
             (from_above r told set s.reading i s.node.ring (reports_of (failover_step (site_of c new.ring.me.actor) s.reading new.ring s.node.above i).deeds) m)) in
-            let names : NameMap = names_of (take from.count (seat_at partition s.node.above).replica.log) in
+            let names : NameMap = names_of (take from.count (state_at partition s.node.above).replica.log) in
             record {
               running = s;
               there = there;

@@ -22,11 +22,11 @@ use Rattle.world_rules.specs.Uppers.{Did}
 use Rattle.world_rules.specs.Worlds.{World, kept_of}
 use Rattle.run_facts.proofs.Kept.{boots_append}
 use Rattle.run_facts.proofs.Steps.{started_as}
-use Rattle.replica_records.specs.Seats.{seat_at, begun_again}
+use Rattle.replica_records.specs.ReplicaStates.{state_at, begun_again}
 use Rattle.epoch_refinement.specs.Epochs.{settings_to}
 use Rattle.epoch_refinement.specs.Nodes.{Machines}
 use Rattle.epoch_refinement.specs.Refined.{Refined}
-use Rattle.epoch_refinement.specs.Seats.{ShowsSeat}
+use Rattle.epoch_refinement.specs.ReplicaStates.{ShowsReplicaState}
 use Rattle.epoch_refinement.proofs.Elsewhere.{manager_elsewhere}
 use Rattle.epoch_refinement.proofs.Rows.{restarts_are_deeds_lem}
 use Rattle.replica_records.specs.Kept.{AreKept}
@@ -96,9 +96,9 @@ module _ (c : FabricConfig) (w : World units) (t : Tellings) (m : Machines) (k :
     others = λ p q e. record { promised = refl; joined = refl; log = refl; collected = refl; role = refl };
     registers = λ p a. record { prepared = refl; preparer = refl; done = refl };
     managers = λ p y u e shows. shows;
-    seats = λ p. f.seats node p;
+    states = λ p. f.states node p;
     begins = λ p.
-        subst (λ (r : List Record). seat_at p (failover_begun r) ≡ begun_again (seat_at p (f.last node))) (sym none) (f.begins node p low);
+        subst (λ (r : List Record). state_at p (failover_begun r) ≡ begun_again (state_at p (f.last node))) (sym none) (f.begins node p low);
     here = λ stay. absurd (both_ways (is_left ring.ring.phase) stay left);
     acts = λ stay. absurd (both_ways (is_left ring.ring.phase) stay left);
     sent = λ z e. absurd e;
@@ -113,8 +113,8 @@ module _ (c : FabricConfig) (w : World units) (t : Tellings) (m : Machines) (k :
 
   -- else its replicas begin again
 
-  pub restart : (p : ℕ) → Refined (settings_to k) (m p) p me (still (begun_again (seat_at p (f.last node))))
-  restart p = restarts_are_deeds_lem (settings_to k) (m p) p me (seat_at p (f.last node)) (f.inv p) (f.seats node p)
+  pub restart : (p : ℕ) → Refined (settings_to k) (m p) p me (still (begun_again (state_at p (f.last node))))
+  restart p = restarts_are_deeds_lem (settings_to k) (m p) p me (state_at p (f.last node)) (f.inv p) (f.states node p)
 
   abbrev pub restarted : Machines
   restarted p = (restart p).after
@@ -127,16 +127,16 @@ module _ (c : FabricConfig) (w : World units) (t : Tellings) (m : Machines) (k :
     counted = counted false h;
     inv = λ p. (restart p).inv;
     keeps = λ p. (restart p).later.keeps;
-    others = λ p q e. (restart p).later.beside.seats q (λ i. e cc);
+    others = λ p q e. (restart p).later.beside.states q (λ i. e cc);
     registers = λ p a. (restart p).later.beside.registers a (λ i. cc (i));
     managers = λ p y u e shows. manager_elsewhere (restart p).later k p y u (λ i. cc (i)) shows;
-    seats = λ p. subst (ShowsSeat (restarted p) p node) (sym (f.begins node p low)) (restart p).shows;
+    states = λ p. subst (ShowsReplicaState (restarted p) p node) (sym (f.begins node p low)) (restart p).shows;
     begins = λ p. go_on_lem (records ++ boot_kept records) (failover_begun records) kept p;
     here = λ stay. refl;
     acts = λ stay. record {
       managers = λ p.
           manager_elsewhere (restart p).later k p me no_units (λ i. cc (i)) (f.fresh me p (let e = number_now records false h in omega arith));
-      seats_rise = starts_rise_lem records;
+      states_rise = starts_rise_lem records;
       reconfigs_rise = refl;
       kept = kept;
     };

@@ -14,8 +14,8 @@ use Rattle.epoch_machine.specs.World.{World, whole, TellsCommitted}
 use Rattle.epoch_machine.proofs.Kept.{Secured, active_sync, kept_in_base, one_sync}
 use Rattle.epoch_machine.proofs.Prefixes.{agree_prefix, agree_trans, prefix_append}
 use Rattle.epoch_machine.proofs.Writing.{role_log}
-use Rattle.unit_rules.specs.Seats.{Seat}
-use Rattle.epoch_refinement.specs.Seats.{ShowsLead, ShowsSeat}
+use Rattle.unit_rules.specs.ReplicaStates.{ReplicaState}
+use Rattle.epoch_refinement.specs.ReplicaStates.{ShowsProgress, ShowsReplicaState}
 use Rattle.epoch_safety.proofs.Committing.{LeadsAt}
 
 -- the first entries of the log, so many of them, begin with all that was reported committed up to this epoch
@@ -24,13 +24,13 @@ Covers c w epoch committed log =
     (x e last : ℕ) (l : List Entry) → IsMember (TellsCommitted x e last l) w.told → e ≤ epoch → c.data_loss e ≡ c.data_loss epoch →
     (last ≤ committed) × (take last log ≡ take last l)
 
-module _ {c : Settings} {w : World} (inv : Invariant c w) (sound : IsSound c) {p node : ℕ} {s : Seat} (shows : ShowsSeat w p node s) (epoch : Epoch) (n : ℕ)
+module _ {c : Settings} {w : World} (inv : Invariant c w) (sound : IsSound c) {p node : ℕ} {s : ReplicaState} (shows : ShowsReplicaState w p node s) (epoch : Epoch) (n : ℕ)
     (leads : LeadsAt s epoch n) where
   abbrev r : Role
-  r = (shows.lead leads.lead leads.is).0
+  r = (shows.progress leads.progress leads.is).0
 
-  shown : ShowsLead w node (length s.replica.log) leads.lead r
-  shown = (shows.lead leads.lead leads.is).1
+  shown : ShowsProgress w node (length s.replica.log) leads.progress r
+  shown = (shows.progress leads.progress leads.is).1
 
   role : SoundRole w.active w.told node (w.promised node) (w.joined node) (w.log node) r
   role = inv.roles node r shown.role
@@ -70,8 +70,8 @@ module _ {c : Settings} {w : World} (inv : Invariant c w) (sound : IsSound c) {p
         sym all.same,
       )
 
-  pub lead_covers : Covers c w (number_of epoch) n s.replica.log
-  lead_covers x e k l m le loss =
+  pub progress_covers : Covers c w (number_of epoch) n s.replica.log
+  progress_covers x e k l m le loss =
       let both : (k ≤ n) × (take k (w.log node) ≡ take k l) =
       ⊎_elim (λ lt. lower x e k l m lt (loss ∙ ap c.data_loss (sym own)))
       (λ ge. same x e k l m (let o = own in omega arith)) (cases_lt e r.plan.epoch) in

@@ -44,7 +44,7 @@ use Rattle.epoch_refinement.specs.Epochs.{settings_to}
 use Rattle.epoch_refinement.specs.Nodes.{Machines}
 use Rattle.epoch_refinement.proofs.Beginning.{beginnings_lem}
 use Rattle.ring_apart.specs.Apart.{is_unit_report}
-use Rattle.run_promises.specs.Reports.{IsAmong, Reports, log_in, log_after}
+use Rattle.run_promises.specs.Reports.{IsAmong, HasReported, log_in, log_after}
 use Rattle.epoch_safety.proofs.ActCovers.{act_covers}
 use Rattle.epoch_safety.proofs.ActFollows.{Numbered, silent_follows, busy_follows, refined, real_reports, commit_above}
 use Rattle.epoch_safety.proofs.AsideFollows.{aside_follows, node_stops_follows, arbiter_stops_follows, arbiter_starts_follows}
@@ -75,7 +75,7 @@ pub record FollowedAfter (c : FabricConfig) (h : History) : Type 0 where
   pub machines : Machines
   pub follows : Follows (length c.arbiters) (world_after units c h) (told_of c h) machines
   pub real : IsRealHistory c h
-  pub covers : (x : Who) (p : ℕ) (e : Epoch) (last : ℕ) → Reports (run_of units c h) x (Committed p e last) →
+  pub covers : (x : Who) (p : ℕ) (e : Epoch) (last : ℕ) → HasReported (run_of units c h) x (Committed p e last) →
       Covers (settings_to (length c.arbiters)) (machines p) (number_of e) last (log_after c h x.actor p)
 
 -- no node has the number of an arbitrator's actor
@@ -217,7 +217,7 @@ module _ (is_frame : List ℕ → Bool) (c : FabricConfig) (sound : IsSound c) w
   at_first = record {
     inv = λ p. empty_sound (settings_to k);
     last = λ node. failover_begun [];
-    seats = λ node p. (beginnings_lem k (node_instance node 0)).0.seats p;
+    states = λ node p. (beginnings_lem k (node_instance node 0)).0.states p;
     begins = λ node p low. refl;
     low = λ node s there. absurd (cc (there));
     here = λ node s there. absurd (cc (there));

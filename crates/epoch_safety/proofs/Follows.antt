@@ -20,11 +20,11 @@ use Rattle.unit_rules.specs.Units.{units}
 use Rattle.world_rules.specs.Arbiters.{ArbiterState}
 use Rattle.world_rules.specs.Nodes.{boots_of}
 use Rattle.world_rules.specs.Worlds.{World, Running, kept_of, posted}
-use Rattle.replica_records.specs.Seats.{seat_at, begun_again}
+use Rattle.replica_records.specs.ReplicaStates.{state_at, begun_again}
 use Rattle.epoch_refinement.specs.Epochs.{settings_to}
 use Rattle.epoch_refinement.specs.Nodes.{Machines, ShowsArbiter}
 use Rattle.epoch_refinement.specs.Reconfigs.{ShowsManager}
-use Rattle.epoch_refinement.specs.Seats.{ShowsSeat}
+use Rattle.epoch_refinement.specs.ReplicaStates.{ShowsReplicaState}
 use Rattle.epoch_refinement.specs.Shown.{partition_of, Shown}
 use Rattle.replica_records.specs.Kept.{AreKept}
 use Rattle.epoch_safety.proofs.Telling.{Tellings}
@@ -40,7 +40,7 @@ registers_in w arbiter = registers_after [] (kept_of w (arbiter_actor arbiter))
 -- a node that has not left: the instance x is the machines' manager, and its records amount to its replicas
 pub record Acting (k : ℕ) (m : Machines) (records : List Record) (x : Who) (u : Failover) : Type 0 where
   pub managers : (p : ℕ) → ShowsManager (m p) k p x u.managed
-  pub seats_rise : rises u.seats ≡ true
+  pub states_rise : rises u.states ≡ true
   pub reconfigs_rise : rises u.managed.reconfigs ≡ true
   pub kept : AreKept records u
 
@@ -48,8 +48,8 @@ pub record Acting (k : ℕ) (m : Machines) (records : List Record) (x : Who) (u 
 pub record Follows (k : ℕ) (w : World units) (t : Tellings) (m : Machines) : Type 0 where
   pub inv : (p : ℕ) → Invariant (settings_to k) (m p)
   pub last : ℕ → Failover
-  pub seats : (node p : ℕ) → ShowsSeat (m p) p node (seat_at p (last node))
-  pub begins : (node p : ℕ) → node < 32768 → seat_at p (failover_begun (kept_of w node)) ≡ begun_again (seat_at p (last node))
+  pub states : (node p : ℕ) → ShowsReplicaState (m p) p node (state_at p (last node))
+  pub begins : (node p : ℕ) → node < 32768 → state_at p (failover_begun (kept_of w node)) ≡ begun_again (state_at p (last node))
   -- no node has the number of an arbitrator's actor
   pub low : (node : ℕ) (s : Running units) → at node w.nodes ≡ Some s → node < 32768
   pub here : (node : ℕ) (s : Running units) → at node w.nodes ≡ Some s → is_left s.node.ring.phase ≡ false → last node ≡ s.node.above

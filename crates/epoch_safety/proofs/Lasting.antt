@@ -7,13 +7,13 @@ use Rattle.fabric_terms.specs.declared.message.Body.{Body}
 use Rattle.fabric_terms.specs.declared.message.Body.TheVariants as body
 use Rattle.epoch_machine.specs.Plans.{Role}
 use Rattle.epoch_machine.specs.World.{World}
-use Rattle.unit_rules.specs.declared.lead.Peer.{Peer}
+use Rattle.unit_rules.specs.declared.progress.PeerProgress.{PeerProgress}
 use Rattle.unit_rules.specs.Registers.{Register}
-use Rattle.unit_rules.specs.Seats.{Lead, Seat}
+use Rattle.unit_rules.specs.ReplicaStates.{ReplicationProgress, ReplicaState}
 use Rattle.epoch_refinement.specs.Epochs.{IsEpoch}
-use Rattle.epoch_refinement.specs.Facts.{SameSeat, SameRegister, Fact, is_answer, is_plan, is_ballot, is_synced, is_asked, is_kept, is_active, is_promise, is_piece, is_adopted, is_append, is_appended, Has}
+use Rattle.epoch_refinement.specs.Facts.{SameReplicaState, SameRegister, Fact, is_answer, is_plan, is_ballot, is_synced, is_asked, is_kept, is_active, is_promise, is_piece, is_adopted, is_append, is_appended, Has}
 use Rattle.epoch_refinement.specs.Registers.{ShowsRegister}
-use Rattle.epoch_refinement.specs.Seats.{IsConfirmed, ShowsLead, ShowsSeat}
+use Rattle.epoch_refinement.specs.ReplicaStates.{IsConfirmed, ShowsProgress, ShowsReplicaState}
 use Rattle.epoch_refinement.specs.Shown.{IsDone, ShownSync, ShownVoted, Shown}
 
 module _ (w v : World) (keeps : (x : Fact) → Has w x → Has v x) where
@@ -57,11 +57,11 @@ module _ (w v : World) (keeps : (x : Fact) → Has w x → Has v x) where
   shown_lasts p from to (body.Appended q e last) s = (s.0, s.1, keeps (is_appended _) s.2)
   shown_lasts p from to b s = s
 
-  confirmed_lasts : (r : Role) (last : ℕ) (q : Peer) → IsConfirmed w r last q → IsConfirmed v r last q
+  confirmed_lasts : (r : Role) (last : ℕ) (q : PeerProgress) → IsConfirmed w r last q → IsConfirmed v r last q
   confirmed_lasts r last q h = ⊎_elim (λ none. inl none) (λ some. inr (keeps (is_appended _) some.0, some.1)) h
 
-  lead_lasts : {node last : ℕ} {l : Lead} {r : Role} → v.role node ≡ Some r → ShowsLead w node last l r → ShowsLead v node last l r
-  lead_lasts {last = last} {r = r} role s = record {
+  progress_lasts : {node last : ℕ} {l : ReplicationProgress} {r : Role} → v.role node ≡ Some r → ShowsProgress w node last l r → ShowsProgress v node last l r
+  progress_lasts {last = last} {r = r} role s = record {
     role = role;
     floor = s.floor;
     reported = s.reported;
@@ -71,8 +71,8 @@ module _ (w v : World) (keeps : (x : Fact) → Has w x → Has v x) where
   }
 
   -- a replica that is as it was
-  pub seat_lasts : {p node : ℕ} {s : Seat} → SameSeat w v node → ShowsSeat w p node s → ShowsSeat v p node s
-  seat_lasts {s = s} same shows = record {
+  pub state_lasts : {p node : ℕ} {s : ReplicaState} → SameReplicaState w v node → ShowsReplicaState w p node s → ShowsReplicaState v p node s
+  state_lasts {s = s} same shows = record {
     partition = shows.partition;
     promised = subst (λ n. IsEpoch n s.replica.promised) (sym same.promised) shows.promised;
     joined = subst (λ n. IsEpoch n s.replica.at) (sym same.joined) shows.joined;
@@ -84,7 +84,7 @@ module _ (w v : World) (keeps : (x : Fact) → Has w x → Has v x) where
     numbered = shows.numbered;
     numbered_collected = shows.numbered_collected;
     idle = shows.idle;
-    lead = λ l h. let d = shows.lead l h in let i = d.1 in (d.0, lead_lasts (same.role ∙ i.role) i);
+    progress = λ l h. let d = shows.progress l h in let i = d.1 in (d.0, progress_lasts (same.role ∙ i.role) i);
   }
 
   -- a register that is as it was

@@ -6,25 +6,25 @@ use Rattle.fabric_terms.specs.declared.report.Reason.{Reason}
 use Rattle.fabric_terms.specs.declared.report.Reason.TheVariants as reason
 use Rattle.epoch_machine.specs.Epochs.{number_of}
 use Rattle.epoch_machine.proofs.Kept.{active_sync, positive, sync_plan}
-use Rattle.replica_records.specs.Seats.{seat_at}
+use Rattle.replica_records.specs.ReplicaStates.{state_at}
 use Rattle.epoch_refinement.specs.Epochs.{IsEpoch, IsReal}
-use Rattle.epoch_refinement.specs.Seats.{ShowsSeat}
+use Rattle.epoch_refinement.specs.ReplicaStates.{ShowsReplicaState}
 use Rattle.epoch_refinement.proofs.Losing.{settings_sound}
 use Rattle.epoch_refinement.proofs.Numbers.{number_older_not, real}
 use Rattle.unit_rules.specs.Answers.{ready}
-use Rattle.unit_rules.specs.Leads.{lead_of}
-use Rattle.unit_rules.specs.Seats.{Lead, Seat}
+use Rattle.unit_rules.specs.Progress.{progress_of}
+use Rattle.unit_rules.specs.ReplicaStates.{ReplicationProgress, ReplicaState}
 use Rattle.unit_rules.specs.Steps.{Failover}
 use Rattle.epoch_safety.specs.Laws.{NamesAreCovered}
 use Rattle.run_promises.specs.Reports.{log_after}
 use Rattle.epoch_safety.proofs.Committing.{LeadsAt}
-use Rattle.epoch_safety.proofs.Covering.{lead_covers}
+use Rattle.epoch_safety.proofs.Covering.{progress_covers}
 use Rattle.epoch_safety.proofs.Followed.{FollowedAfter, followed}
 use Rattle.epoch_safety.proofs.Primaries.{numbered}
 use Rattle.epoch_safety.proofs.Written.{committed_told, loss_is}
 
 -- what a primary that is ready holds committed is what it answers by
-is_ready : (o : Option Lead) (count : ℕ) → ready o ≡ Ok count → (l : Lead) × (o ≡ Some l) × (l.committed ≡ count)
+is_ready : (o : Option ReplicationProgress) (count : ℕ) → ready o ≡ Ok count → (l : ReplicationProgress) × (o ≡ Some l) × (l.committed ≡ count)
 is_ready None count h = absurd (cc (h))
 is_ready (Some l) count h = (l, refl, by (nat_lt l.begun l.committed) h)
   where
@@ -43,21 +43,21 @@ is_ready (Some l) count h = (l, refl, by (nat_lt l.begun l.committed) h)
 pub names_covered_lem : NamesAreCovered
 names_covered_lem is_frame c h sound valid node p count s there stay is_now i last e x earlier not_older loss =
     let k : ℕ = length c.arbiters in
-    let seat : Seat = seat_at p s.node.above in
+    let state : ReplicaState = state_at p s.node.above in
     let f : FollowedAfter c h = followed is_frame c sound h valid in
     let inv = f.follows.inv p in
-    let shows : ShowsSeat (f.machines p) p node seat =
-    subst (λ (u : Failover). ShowsSeat (f.machines p) p node (seat_at p u)) (f.follows.here node s there stay) (f.follows.seats node p) in
-    let r = is_ready (lead_of seat) count is_now in
-    let leads : LeadsAt seat seat.replica.at count = record { lead = r.0; is = r.1; committed_is = r.2; at_is = refl } in
-    let shown = shows.lead r.0 r.1 in
+    let shows : ShowsReplicaState (f.machines p) p node state =
+    subst (λ (u : Failover). ShowsReplicaState (f.machines p) p node (state_at p u)) (f.follows.here node s there stay) (f.follows.states node p) in
+    let r = is_ready (progress_of state) count is_now in
+    let leads : LeadsAt state state.replica.at count = record { progress = r.0; is = r.1; committed_is = r.2; at_is = refl } in
+    let shown = shows.progress r.0 r.1 in
     let role = inv.roles node shown.0 (let l = shown.1 in l.role) in
-    let own : IsEpoch shown.0.plan.epoch seat.replica.at = subst (λ n. IsEpoch n seat.replica.at) role.joined_is shows.joined in
-    let is_real : IsReal seat.replica.at =
-    real shown.0.plan.epoch seat.replica.at own (positive inv shown.0.plan (sync_plan inv shown.0.plan (active_sync inv shown.0.plan role.activated))) in
+    let own : IsEpoch shown.0.plan.epoch state.replica.at = subst (λ n. IsEpoch n state.replica.at) role.joined_is shows.joined in
+    let is_real : IsReal state.replica.at =
+    real shown.0.plan.epoch state.replica.at own (positive inv shown.0.plan (sync_plan inv shown.0.plan (active_sync inv shown.0.plan role.activated))) in
     let before = committed_told c h f i p last e x earlier in
-    let both : (last ≤ count) × (take last seat.replica.log ≡ take last (log_after c (drop i h) x.actor p)) =
-    lead_covers inv (settings_sound k) shows seat.replica.at count leads x.actor (number_of e) last (log_after c (drop i h) x.actor p) before.0
-    (number_older_not seat.replica.at e (numbered seat.replica.at is_real) (numbered e before.1) not_older)
-    (loss_is e before.1 ∙ (loss ∙ sym (loss_is seat.replica.at is_real))) in
-    (both.0, take-take last count seat.replica.log both.0 ∙ both.1)
+    let both : (last ≤ count) × (take last state.replica.log ≡ take last (log_after c (drop i h) x.actor p)) =
+    progress_covers inv (settings_sound k) shows state.replica.at count leads x.actor (number_of e) last (log_after c (drop i h) x.actor p) before.0
+    (number_older_not state.replica.at e (numbered state.replica.at is_real) (numbered e before.1) not_older)
+    (loss_is e before.1 ∙ (loss ∙ sym (loss_is state.replica.at is_real))) in
+    (both.0, take-take last count state.replica.log both.0 ∙ both.1)

@@ -20,17 +20,17 @@ use Rattle.world_rules.specs.Nodes.{NodeState, boots_of}
 use Rattle.world_rules.specs.Uppers.{Did}
 use Rattle.world_rules.specs.Worlds.{World, Running, kept_of, node_acted, posted}
 use Rattle.run_facts.proofs.Kept.{put_cases, kept_here, kept_there, boots_append}
-use Rattle.replica_records.specs.Seats.{seat_at, begun_again}
+use Rattle.replica_records.specs.ReplicaStates.{state_at, begun_again}
 use Rattle.epoch_refinement.specs.Epochs.{settings_to}
-use Rattle.epoch_refinement.specs.Facts.{Fact, Has, SameSeat, SameRegister}
+use Rattle.epoch_refinement.specs.Facts.{Fact, Has, SameReplicaState, SameRegister}
 use Rattle.epoch_refinement.specs.Nodes.{Machines}
 use Rattle.epoch_refinement.specs.Reconfigs.{ShowsManager}
 use Rattle.epoch_refinement.specs.Registers.{ShowsRegister}
-use Rattle.epoch_refinement.specs.Seats.{ShowsSeat}
+use Rattle.epoch_refinement.specs.ReplicaStates.{ShowsReplicaState}
 use Rattle.epoch_refinement.specs.Shown.{partition_of, Shown}
 use Rattle.replica_records.specs.Kept.{AreKept}
 use Rattle.epoch_safety.proofs.Follows.{Acting, Follows, no_units, registers_in, posted_cases}
-use Rattle.epoch_safety.proofs.Lasting.{shown_lasts, seat_lasts, register_lasts}
+use Rattle.epoch_safety.proofs.Lasting.{shown_lasts, state_lasts, register_lasts}
 use Rattle.epoch_safety.proofs.Telling.{Tellings, tells_on, tells_after}
 
 -- what is under each number
@@ -45,11 +45,11 @@ pub record Follow (k : ℕ) (w : World units) (m v : Machines) (x : Who) (node :
   pub counted : x.instance ≤ boots_of (kept_of w node ++ d.records)
   pub inv : (p : ℕ) → Invariant (settings_to k) (v p)
   pub keeps : (p : ℕ) (f : Fact) → Has (m p) f → Has (v p) f
-  pub others : (p q : ℕ) → (node ≡ q → ⊥) → SameSeat (m p) (v p) q
+  pub others : (p q : ℕ) → (node ≡ q → ⊥) → SameReplicaState (m p) (v p) q
   pub registers : (p a : ℕ) → SameRegister (m p) (v p) a
   pub managers : (p : ℕ) (y : Who) (s : Managed) → (x ≡ y → ⊥) → ShowsManager (m p) k p y s → ShowsManager (v p) k p y s
-  pub seats : (p : ℕ) → ShowsSeat (v p) p node (seat_at p last)
-  pub begins : (p : ℕ) → seat_at p (failover_begun (kept_of w node ++ d.records)) ≡ begun_again (seat_at p last)
+  pub states : (p : ℕ) → ShowsReplicaState (v p) p node (state_at p last)
+  pub begins : (p : ℕ) → state_at p (failover_begun (kept_of w node ++ d.records)) ≡ begun_again (state_at p last)
   pub here : is_left d.state.ring.phase ≡ false → last ≡ d.state.above
   pub acts : is_left d.state.ring.phase ≡ false → Acting k v (kept_of w node ++ d.records) x d.state.above
   pub sent : (z : Who × Body) → IsMember z d.sent → Shown (v (partition_of z.1)) (partition_of z.1) x z.0 z.1
@@ -95,19 +95,19 @@ module _ {k : ℕ} {w : World units} {t : Tellings} {m v : Machines} {x : Who} {
   other_who q s apart there same =
       eqb-false node q apart (sym e.actor ∙ (ap (λ (z : Who). z.actor) same ∙ named q s there))
 
-  seats_now : (q p : ℕ) → ShowsSeat (v p) p q (seat_at p (latest q))
-  seats_now q p = go (node == q) refl
+  states_now : (q p : ℕ) → ShowsReplicaState (v p) p q (state_at p (latest q))
+  states_now q p = go (node == q) refl
     where
-      go : (b : Bool) → (node == q) ≡ b → ShowsSeat (v p) p q (seat_at p (cond b last (f.last q)))
-      go true h = subst (λ n. ShowsSeat (v p) p n (seat_at p last)) (eqb-true node q h) (e.seats p)
-      go false h = seat_lasts (m p) (v p) (e.keeps p) (e.others p q (eqb-false node q h)) (f.seats q p)
+      go : (b : Bool) → (node == q) ≡ b → ShowsReplicaState (v p) p q (state_at p (cond b last (f.last q)))
+      go true h = subst (λ n. ShowsReplicaState (v p) p n (state_at p last)) (eqb-true node q h) (e.states p)
+      go false h = state_lasts (m p) (v p) (e.keeps p) (e.others p q (eqb-false node q h)) (f.states q p)
 
-  begins_now : (q p : ℕ) → q < 32768 → seat_at p (failover_begun (kept_of after q)) ≡ begun_again (seat_at p (latest q))
+  begins_now : (q p : ℕ) → q < 32768 → state_at p (failover_begun (kept_of after q)) ≡ begun_again (state_at p (latest q))
   begins_now q p low = go (node == q) refl
     where
-      go : (b : Bool) → (node == q) ≡ b → seat_at p (failover_begun (kept_of after q)) ≡ begun_again (seat_at p (cond b last (f.last q)))
-      go true h = ap (λ (r : List Record). seat_at p (failover_begun r)) (kept_at q (eqb-true node q h)) ∙ e.begins p
-      go false h = ap (λ (r : List Record). seat_at p (failover_begun r)) (kept_apart q h) ∙ f.begins q p low
+      go : (b : Bool) → (node == q) ≡ b → state_at p (failover_begun (kept_of after q)) ≡ begun_again (state_at p (cond b last (f.last q)))
+      go true h = ap (λ (r : List Record). state_at p (failover_begun r)) (kept_at q (eqb-true node q h)) ∙ e.begins p
+      go false h = ap (λ (r : List Record). state_at p (failover_begun r)) (kept_apart q h) ∙ f.begins q p low
 
   latest_at : (q : ℕ) → node ≡ q → latest q ≡ last
   latest_at q same = ap (λ b. cond b last (f.last q)) (eq-eqb node q same)
@@ -121,7 +121,7 @@ module _ {k : ℕ} {w : World units} {t : Tellings} {m v : Machines} {x : Who} {
   other_acts q s apart there stay =
       let a = f.acts q s there stay in record {
         managers = λ p. e.managers p s.node.ring.me s.node.above.managed (other_who q s apart there) (a.managers p);
-        seats_rise = a.seats_rise;
+        states_rise = a.states_rise;
         reconfigs_rise = a.reconfigs_rise;
         kept = subst (λ (r : List Record). AreKept r s.node.above) (sym (kept_apart q apart)) a.kept;
       }
@@ -159,7 +159,7 @@ module _ {k : ℕ} {w : World units} {t : Tellings} {m v : Machines} {x : Who} {
   node_follows = record {
     inv = e.inv;
     last = latest;
-    seats = seats_now;
+    states = states_now;
     begins = begins_now;
     low = λ q s h. put_cases (λ z. q < 32768) node new w.nodes q s h (λ same. subst (λ n. n < 32768) same e.low) (λ apart there. f.low q s there);
     here = λ q s h.

@@ -10,7 +10,7 @@ use Rattle.fabric_terms.specs.declared.report.Report.{Report}
 use Rattle.fabric_terms.specs.Sound.{IsSound}
 use Rattle.join_phases.specs.Phases.{is_left}
 use Rattle.name_rules.specs.Names.{NameMap}
-use Rattle.replica_records.specs.Seats.{seat_at}
+use Rattle.replica_records.specs.ReplicaStates.{state_at}
 use Rattle.ring_points.specs.declared.who.Who.{Who}
 use Rattle.ring_rules.specs.declared.input.Input.{Input}
 use Rattle.ring_rules.specs.declared.input.Input.TheVariants as input
@@ -29,7 +29,7 @@ use Rattle.world_rules.specs.Events.{acts_at, world_step}
 use Rattle.world_rules.specs.Runs.{History, world_after}
 use Rattle.world_rules.specs.Schedules.{Valid}
 use Rattle.world_rules.specs.Worlds.{World, Running}
-use Rattle.epoch_refinement.specs.Seats.{ShowsSeat}
+use Rattle.epoch_refinement.specs.ReplicaStates.{ShowsReplicaState}
 use Rattle.epoch_safety.specs.Answers.{named_at}
 use Rattle.epoch_safety.specs.Laws.{AnswersAreOfCommitted}
 use Rattle.epoch_safety.proofs.Asked.{answers_by_entries_lem}
@@ -43,11 +43,11 @@ module _ (is_frame : List ℕ → Bool) (c : FabricConfig) (sound : IsSound c) (
 
   -- a node's replica of a partition names it
   own_partition : (node p : ℕ) (s : Running units) → at node w.nodes ≡ Some s → is_left s.node.ring.phase ≡ false →
-      (seat_at p s.node.above).replica.partition ≡ p
+      (state_at p s.node.above).replica.partition ≡ p
   own_partition node p s there stay =
       let f : FollowedAfter c h = followed is_frame c sound h valid in
-      let shows : ShowsSeat (f.machines p) p node (seat_at p s.node.above) =
-      subst (λ (u : Failover). ShowsSeat (f.machines p) p node (seat_at p u)) (f.follows.here node s there stay) (f.follows.seats node p) in
+      let shows : ShowsReplicaState (f.machines p) p node (state_at p s.node.above) =
+      subst (λ (u : Failover). ShowsReplicaState (f.machines p) p node (state_at p u)) (f.follows.here node s there stay) (f.follows.states node p) in
       shows.partition
 
   -- who does something at a node is its instance

@@ -27,9 +27,9 @@ use Rattle.world_rules.proofs.Rows.{arbiter_step-is}
 use Rattle.run_facts.proofs.ArbiterSteps.{Answered, arbiter_stepped}
 use Rattle.run_facts.proofs.Kept.{put_cases, kept_here, kept_there, boots_still}
 use Rattle.run_facts.proofs.Tables.{two_arbiters}
-use Rattle.replica_records.specs.Seats.{seat_at}
+use Rattle.replica_records.specs.ReplicaStates.{state_at}
 use Rattle.epoch_refinement.specs.Epochs.{settings_to}
-use Rattle.epoch_refinement.specs.Facts.{Fact, Has, SameSeat, SameRegister}
+use Rattle.epoch_refinement.specs.Facts.{Fact, Has, SameReplicaState, SameRegister}
 use Rattle.epoch_refinement.specs.Nodes.{Machines, ShowsArbiter, ArbiterRefined}
 use Rattle.epoch_refinement.specs.Reconfigs.{ShowsManager}
 use Rattle.epoch_refinement.specs.Registers.{ShowsRegister}
@@ -37,7 +37,7 @@ use Rattle.epoch_refinement.specs.Shown.{partition_of, Shown}
 use Rattle.epoch_refinement.proofs.Arbitrating.{questions_are_deeds_lem}
 use Rattle.replica_records.specs.Kept.{AreKept}
 use Rattle.epoch_safety.proofs.Follows.{Follows, no_units, registers_in, posted_cases}
-use Rattle.epoch_safety.proofs.Lasting.{shown_lasts, seat_lasts, register_lasts}
+use Rattle.epoch_safety.proofs.Lasting.{shown_lasts, state_lasts, register_lasts}
 use Rattle.epoch_safety.proofs.Sending.{frames_shown}
 use Rattle.epoch_safety.proofs.Telling.{Tellings, tells_after}
 
@@ -47,7 +47,7 @@ pub record Rule (k : ℕ) (w : World units) (m v : Machines) (arbiter : ℕ) (d 
   pub boots : boots_of d.records ≡ 0
   pub inv : (p : ℕ) → Invariant (settings_to k) (v p)
   pub keeps : (p : ℕ) (f : Fact) → Has (m p) f → Has (v p) f
-  pub seats : (p q : ℕ) → SameSeat (m p) (v p) q
+  pub states : (p q : ℕ) → SameReplicaState (m p) (v p) q
   pub others : (p a : ℕ) → (arbiter_actor arbiter ≡ a → ⊥) → SameRegister (m p) (v p) a
   pub managers : (p : ℕ) (y : Who) (s : Managed) → ShowsManager (m p) k p y s → ShowsManager (v p) k p y s
   pub beside : d.state.beside ≡ registers_after [] (kept_of w (arbiter_actor arbiter) ++ d.records)
@@ -106,14 +106,14 @@ module _ {k : ℕ} {w : World units} {t : Tellings} {m v : Machines} {arbiter : 
   rule_follows = record {
     inv = e.inv;
     last = f.last;
-    seats = λ q p. seat_lasts (m p) (v p) (e.keeps p) (e.seats p q) (f.seats q p);
-    begins = λ q p low. ap (λ (r : List Record). seat_at p (failover_begun r)) (kept_node q low) ∙ f.begins q p low;
+    states = λ q p. state_lasts (m p) (v p) (e.keeps p) (e.states p q) (f.states q p);
+    begins = λ q p low. ap (λ (r : List Record). state_at p (failover_begun r)) (kept_node q low) ∙ f.begins q p low;
     low = f.low;
     here = f.here;
     acts = λ q s there stay.
         let a = f.acts q s there stay in record {
           managers = λ p. e.managers p s.node.ring.me s.node.above.managed (a.managers p);
-          seats_rise = a.seats_rise;
+          states_rise = a.states_rise;
           reconfigs_rise = a.reconfigs_rise;
           kept = subst (λ (r : List Record). AreKept r s.node.above) (sym (kept_node q (f.low q s there))) a.kept;
         };
@@ -187,7 +187,7 @@ module _ (c : FabricConfig) (k : ℕ) (w : World units) (t : Tellings) (m : Mach
       boots = a.boots;
       inv = f.inv;
       keeps = λ p g h. h;
-      seats = λ p q. record { promised = refl; joined = refl; log = refl; collected = refl; role = refl };
+      states = λ p q. record { promised = refl; joined = refl; log = refl; collected = refl; role = refl };
       others = λ p b e. record { prepared = refl; preparer = refl; done = refl };
       managers = λ p y u shows. shows;
       beside =
@@ -221,7 +221,7 @@ module _ (c : FabricConfig) (k : ℕ) (w : World units) (t : Tellings) (m : Mach
       boots = a.boots;
       inv = λ p. (refined.beyond p).inv;
       keeps = λ p. (refined.beyond p).keeps;
-      seats = λ p. (refined.beyond p).seats;
+      states = λ p. (refined.beyond p).states;
       others = λ p. (refined.beyond p).registers;
       managers = λ p. (refined.beyond p).managers;
       beside =

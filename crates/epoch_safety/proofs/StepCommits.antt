@@ -28,11 +28,11 @@ use Rattle.unit_rules.specs.Deeds.{Deed, Keep, Send, Tell, Acted, acted, still, 
 use Rattle.unit_rules.specs.Loads.{Site, loads}
 use Rattle.unit_rules.specs.Questions.{reconfig_fired}
 use Rattle.unit_rules.specs.Reconfigs.{Reconfig}
-use Rattle.unit_rules.specs.Seats.{Seat, first_seat}
-use Rattle.unit_rules.specs.Steps.{Failover, answer, at_found, at_standing, by_seat, command_row, failover_step, fired, frame_row, manage}
-use Rattle.unit_rules.specs.Writes.{appended_received, seat_fired, write_commanded}
+use Rattle.unit_rules.specs.ReplicaStates.{ReplicaState, first_state}
+use Rattle.unit_rules.specs.Steps.{Failover, answer, at_found, at_standing, by_state, command_row, failover_step, fired, frame_row, manage}
+use Rattle.unit_rules.specs.Writes.{appended_received, state_fired, write_commanded}
 use Rattle.world_rules.specs.Above.{is_ring_report}
-use Rattle.replica_records.specs.Seats.{seat_at}
+use Rattle.replica_records.specs.ReplicaStates.{state_at}
 use Rattle.unit_rules.proofs.Answered.{names_only_answer, resolve_only_answers}
 use Rattle.run_promises.specs.Questions.{asks_names}
 use Rattle.epoch_safety.proofs.Committing.{LeadsAt, CommitsOf, IsCommitOf, ArePlain, IsPlain, plain_join, promise_plain, sync_plain, fetch_plain, piece_plain, activate_plain, append_plain, fired_plain, appended_commits, write_commits}
@@ -40,12 +40,12 @@ use Rattle.epoch_safety.proofs.Managing.{answered_plain, commanded_plain, fires_
 
 -- each replica is of the partition under which it stands
 abbrev pub AreOwn : Failover → Type 0
-AreOwn s = (p : ℕ) → (seat_at p s).replica.partition ≡ p
+AreOwn s = (p : ℕ) → (state_at p s).replica.partition ≡ p
 
 -- what a step may report, by what stood before it and what stands now: a commit by its partition's primary at this node, and
 -- names only where it is asked about them
 abbrev pub IsTold : Bool → (old new : Failover) → Report → Type 0
-IsTold asked old new (report.Committed p e last) = AreOwn old → LeadsAt (seat_at p new) e last
+IsTold asked old new (report.Committed p e last) = AreOwn old → LeadsAt (state_at p new) e last
 IsTold asked old new (report.Resolved p name value) = asked ≡ true
 IsTold asked old new (report.Unresolved p name) = asked ≡ true
 IsTold asked old new (report.NameList p names) = asked ≡ true
@@ -76,22 +76,22 @@ module _ (asked : Bool) (s : Failover) where
       one (report.NameList p names) n = absurd n
       one r n = tt
 
-  seat_told : (p q : ℕ) (a : Seat) (new : Failover) → (AreOwn s → p ≡ q) → seat_at q new ≡ a → (ds : List Deed) → CommitsOf p a ds → AreTold asked s new ds
-  seat_told p q a new own is [] h = tt
-  seat_told p q a new own is (Keep r ∷ ds) h = seat_told p q a new own is ds h
-  seat_told p q a new own is (Send to b ∷ ds) h = seat_told p q a new own is ds h
-  seat_told p q a new own is (Tell r ∷ ds) h = (one r h.0, seat_told p q a new own is ds h.1)
+  state_told : (p q : ℕ) (a : ReplicaState) (new : Failover) → (AreOwn s → p ≡ q) → state_at q new ≡ a → (ds : List Deed) → CommitsOf p a ds → AreTold asked s new ds
+  state_told p q a new own is [] h = tt
+  state_told p q a new own is (Keep r ∷ ds) h = state_told p q a new own is ds h
+  state_told p q a new own is (Send to b ∷ ds) h = state_told p q a new own is ds h
+  state_told p q a new own is (Tell r ∷ ds) h = (one r h.0, state_told p q a new own is ds h.1)
     where
       one : (r : Report) → IsCommitOf p a r → IsTold asked s new r
       one (report.Committed of e last) n =
-          λ are. subst (λ z. LeadsAt (seat_at z new) e last) (sym (n.0 ∙ own are)) (subst (λ (z : Seat). LeadsAt z e last) (sym is) n.1)
+          λ are. subst (λ z. LeadsAt (state_at z new) e last) (sym (n.0 ∙ own are)) (subst (λ (z : ReplicaState). LeadsAt z e last) (sym is) n.1)
       one (report.Resolved of name value) n = absurd n
       one (report.Unresolved of name) n = absurd n
       one (report.NameList of names) n = absurd n
       one r n = tt
 
-  answer_told : asked ≡ true → (new : Failover) (z : Seat) (a : Acted Seat) → OnlyAnswers z a → AreTold asked s new a.deeds
-  answer_told is_asked new z a h = subst (λ (b : Acted Seat). AreTold asked s new b.deeds) (sym h.is) (one h.told h.answers, tt)
+  answer_told : asked ≡ true → (new : Failover) (z : ReplicaState) (a : Acted ReplicaState) → OnlyAnswers z a → AreTold asked s new a.deeds
+  answer_told is_asked new z a h = subst (λ (b : Acted ReplicaState). AreTold asked s new b.deeds) (sym h.is) (one h.told h.answers, tt)
     where
       one : (r : Report) → is_answer r ≡ true → IsTold asked s new r
       one (report.Resolved p name value) h = is_asked
@@ -108,34 +108,34 @@ module _ (asked : Bool) (s : Failover) where
 
   -- Rows of a replica that stands.
 
-  standing : (q : ℕ) (row : Seat → Acted Seat) (none : Acted Failover) → ArePlain none.deeds →
-      ((z : Seat) → CommitsOf z.replica.partition (row z).state (row z).deeds) → Fine (at_standing q row none s)
-  standing q row none otherwise h = go (at q s.seats) refl
+  standing : (q : ℕ) (row : ReplicaState → Acted ReplicaState) (none : Acted Failover) → ArePlain none.deeds →
+      ((z : ReplicaState) → CommitsOf z.replica.partition (row z).state (row z).deeds) → Fine (at_standing q row none s)
+  standing q row none otherwise h = go (at q s.states) refl
     where
-      is : (a : Seat) → seat_at q (record s { seats = put q a s.seats }) ≡ a
-      is a = ap (λ o. unwrap_or o (first_seat q)) (at-put q a s.seats q ∙ ap (λ b. cond b (Some a) (at q s.seats)) (eq-eqb q q refl))
+      is : (a : ReplicaState) → state_at q (record s { states = put q a s.states }) ≡ a
+      is a = ap (λ o. unwrap_or o (first_state q)) (at-put q a s.states q ∙ ap (λ b. cond b (Some a) (at q s.states)) (eq-eqb q q refl))
 
-      go : (o : Option Seat) → at q s.seats ≡ o → Fine (at_found q row none s o)
+      go : (o : Option ReplicaState) → at q s.states ≡ o → Fine (at_found q row none s o)
       go None i = silently none otherwise
       go (Some z) i =
-          seat_told z.replica.partition q (row z).state (by_seat q s (row z)).state
-          (λ are. sym (ap (λ (o : Option Seat). (unwrap_or o (first_seat q)).replica.partition) i) ∙ are q) (is (row z).state) (row z).deeds (h z)
+          state_told z.replica.partition q (row z).state (by_state q s (row z)).state
+          (λ are. sym (ap (λ (o : Option ReplicaState). (unwrap_or o (first_state q)).replica.partition) i) ∙ are q) (is (row z).state) (row z).deeds (h z)
 
-  standing_plain : (q : ℕ) (row : Seat → Acted Seat) (none : Acted Failover) → ArePlain none.deeds → ((z : Seat) → ArePlain (row z).deeds) →
+  standing_plain : (q : ℕ) (row : ReplicaState → Acted ReplicaState) (none : Acted Failover) → ArePlain none.deeds → ((z : ReplicaState) → ArePlain (row z).deeds) →
       Fine (at_standing q row none s)
-  standing_plain q row none otherwise h = go (at q s.seats)
+  standing_plain q row none otherwise h = go (at q s.states)
     where
-      go : (o : Option Seat) → Fine (at_found q row none s o)
+      go : (o : Option ReplicaState) → Fine (at_found q row none s o)
       go None = silently none otherwise
-      go (Some z) = silently (by_seat q s (row z)) (h z)
+      go (Some z) = silently (by_state q s (row z)) (h z)
 
-  standing_answers : asked ≡ true → (q : ℕ) (row : Seat → Acted Seat) (none : Acted Failover) → ArePlain none.deeds → ((z : Seat) → OnlyAnswers z (row z)) →
+  standing_answers : asked ≡ true → (q : ℕ) (row : ReplicaState → Acted ReplicaState) (none : Acted Failover) → ArePlain none.deeds → ((z : ReplicaState) → OnlyAnswers z (row z)) →
       Fine (at_standing q row none s)
-  standing_answers is_asked q row none otherwise h = go (at q s.seats)
+  standing_answers is_asked q row none otherwise h = go (at q s.states)
     where
-      go : (o : Option Seat) → Fine (at_found q row none s o)
+      go : (o : Option ReplicaState) → Fine (at_found q row none s o)
       go None = silently none otherwise
-      go (Some z) = answer_told is_asked (by_seat q s (row z)).state z (row z) (h z)
+      go (Some z) = answer_told is_asked (by_state q s (row z)).state z (row z) (h z)
 
   module _ (c : Site) (now : ℕ) (r : Ring) where
     answered : (from : Who) (q : ℕ) (e : Epoch) (b : Body) → Fine (answer c now r from.actor q e b s)
@@ -157,18 +157,18 @@ module _ (asked : Bool) (s : Failover) where
     frame_told from (body.Adopted q e last) = answered from q e (body.Adopted q e last)
     frame_told from (body.Activated q e) = answered from q e (body.Activated q e)
     frame_told from (body.Older q e higher) = answered from q e (body.Older q e higher)
-    frame_told from (body.Promise q e) = silently (frame_row c now r from (body.Promise q e) s) (promise_plain from e (seat_at q s))
+    frame_told from (body.Promise q e) = silently (frame_row c now r from (body.Promise q e) s) (promise_plain from e (state_at q s))
     frame_told from (body.Sync q e origin last) =
         silently (frame_row c now r from (body.Sync q e origin last) s)
-        (sync_plain r.me.actor (record { epoch = e; origin = origin; last = last; asker = from }) (seat_at q s))
+        (sync_plain r.me.actor (record { epoch = e; origin = origin; last = last; asker = from }) (state_at q s))
     frame_told from (body.Fetch q e lsn) = standing_plain q (fetch_received from e lsn) (still s) tt (fetch_plain from e lsn)
     frame_told from (body.Piece q e lsn entry_epoch text) =
         standing_plain q (piece_received e (record { epoch = entry_epoch; lsn = lsn; bytes = text })) (still s) tt
         (piece_plain e (record { epoch = entry_epoch; lsn = lsn; bytes = text }))
     frame_told from (body.Activate config) =
-        silently (frame_row c now r from (body.Activate config) s) (activate_plain r.me.actor from config (seat_at config.partition s))
+        silently (frame_row c now r from (body.Activate config) s) (activate_plain r.me.actor from config (state_at config.partition s))
     frame_told from (body.Append q e lsn text) =
-        silently (frame_row c now r from (body.Append q e lsn text) s) (append_plain from e lsn text (seat_at q s))
+        silently (frame_row c now r from (body.Append q e lsn text) s) (append_plain from e lsn text (state_at q s))
     frame_told from (body.Appended q e last) =
         standing q (appended_received from.actor e last) (still s) tt (λ z. appended_commits z.replica.partition from.actor e last z refl)
     frame_told from b = tt
@@ -188,15 +188,15 @@ module _ (asked : Bool) (s : Failover) where
     command_told d h = tt
 
   fire_told : Fine (acted s (fired s))
-  fire_told = silently (acted s (fired s)) (plain_join (flat_map (λ e. reconfig_fired e.1) s.managed.reconfigs) _ (again s.managed.reconfigs) (sent s.seats))
+  fire_told = silently (acted s (fired s)) (plain_join (flat_map (λ e. reconfig_fired e.1) s.managed.reconfigs) _ (again s.managed.reconfigs) (sent s.states))
     where
       again : (es : List (ℕ × Reconfig)) → ArePlain (flat_map (λ e. reconfig_fired e.1) es)
       again [] = tt
       again (e ∷ es) = plain_join (reconfig_fired e.1) _ (fires_plain e.1) (again es)
 
-      sent : (es : List (ℕ × Seat)) → ArePlain (flat_map (λ e. seat_fired e.1) es)
+      sent : (es : List (ℕ × ReplicaState)) → ArePlain (flat_map (λ e. state_fired e.1) es)
       sent [] = tt
-      sent (e ∷ es) = plain_join (seat_fired e.1) _ (fired_plain e.1) (sent es)
+      sent (e ∷ es) = plain_join (state_fired e.1) _ (fired_plain e.1) (sent es)
 
   pub step_told : (c : Site) (now : ℕ) (r : Ring) (i : Input) → asks_in i ≡ asked → Fine (failover_step c now r s i)
   unfolding failover_step

@@ -24,7 +24,7 @@ use Rattle.world_rules.specs.Events.{world_step}
 use Rattle.world_rules.specs.Runs.{History, run_of, world_after}
 use Rattle.world_rules.specs.Worlds.{World, Stepped}
 use Rattle.epoch_safety.specs.Laws.{WritesAreKept}
-use Rattle.run_promises.specs.Reports.{IsAmong, Reports, log_in, log_after}
+use Rattle.run_promises.specs.Reports.{IsAmong, HasReported, log_in, log_after}
 use Rattle.epoch_safety.proofs.Entries.{AreReal, IsRealEntry, IsRealHistory}
 use Rattle.epoch_safety.proofs.Followed.{FollowedAfter, followed}
 use Rattle.epoch_safety.proofs.Primaries.{numbered}
@@ -99,7 +99,7 @@ reported_in p w (Some e) x r z a real says before =
       real_member e.reports r real m,
     )
 
-pub reported : (c : FabricConfig) (h : History) (p : ℕ) (x : Who) (r : Report) (z : machine.Report) → Reports (run_of units c h) x r → IsRealHistory c h →
+pub reported : (c : FabricConfig) (h : History) (p : ℕ) (x : Who) (r : Report) (z : machine.Report) → HasReported (run_of units c h) x r → IsRealHistory c h →
     Says p x.actor (log_after c h x.actor p) r z → IsMember z (told_of c h p) × IsRealIn r
 reported c [] p x r z a real says = absurd a
 reported c (e ∷ h) p x r z a real says =
@@ -123,14 +123,14 @@ pub loss_is : (e : Epoch) → IsReal e → loss_of (number_of e) ≡ e.data_loss
 loss_is e real = let s = real.small in let o = real.some in omega arith
 
 module _ (c : FabricConfig) (h : History) (at : FollowedAfter c h) where
-  pub committed_told : (i p last : ℕ) (e : Epoch) (x : Who) → Reports (run_of units c (drop i h)) x (report.Committed p e last) →
+  pub committed_told : (i p last : ℕ) (e : Epoch) (x : Who) → HasReported (run_of units c (drop i h)) x (report.Committed p e last) →
       IsMember (TellsCommitted x.actor (number_of e) last (log_after c (drop i h) x.actor p)) (at.machines p).told × IsReal e
   committed_told i p last e x a =
       let r = reported c (drop i h) p x (report.Committed p e last) _ a (real_drop c h i at.real)
       (says_committed p x.actor (log_after c (drop i h) x.actor p) e last) in
       (subst (IsMember _) (sym (at.follows.told p)) (told_grows c h p i _ r.0), r.1)
 
-  primary_told : (j p : ℕ) (e : Epoch) (y : Who) → Reports (run_of units c (drop j h)) y (report.IsPrimary p e) →
+  primary_told : (j p : ℕ) (e : Epoch) (y : Who) → HasReported (run_of units c (drop j h)) y (report.IsPrimary p e) →
       IsMember (TellsPrimary y.actor (number_of e) (log_after c (drop j h) y.actor p)) (at.machines p).told × IsReal e
   primary_told j p e y a =
       let r = reported c (drop j h) p y (report.IsPrimary p e) _ a (real_drop c h j at.real) (says_primary p y.actor (log_after c (drop j h) y.actor p) e) in

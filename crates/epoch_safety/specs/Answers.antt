@@ -8,7 +8,7 @@ use Rattle.fabric_terms.specs.declared.event.Event.TheVariants.{Do}
 use Rattle.fabric_terms.specs.declared.report.Report.{Report}
 use Rattle.ring_points.specs.declared.interval.Interval.{Interval}
 use Rattle.ring_points.specs.declared.who.Who.{Who}
-use Rattle.replica_records.specs.Seats.{seat_at}
+use Rattle.replica_records.specs.ReplicaStates.{state_at}
 use Rattle.run_promises.specs.Answers.{AnsweredBy}
 use Rattle.run_promises.specs.Questions.{is_question, tells_names}
 use Rattle.run_promises.specs.Reports.{IsAmong}
@@ -20,7 +20,7 @@ use Rattle.world_rules.specs.Worlds.{World, Running}
 -- the partition that a node's replica of it names, which in a valid run is that one
 abbrev pub named_at : ℕ → Option (Running units) → ℕ
 named_at partition None = partition
-named_at partition (Some s) = (seat_at partition s.node.above).replica.partition
+named_at partition (Some s) = (state_at partition s.node.above).replica.partition
 
 -- Whatever node is asked in whatever world, each answer that is reported at the question is of the entries by which the node
 -- was ready to answer.

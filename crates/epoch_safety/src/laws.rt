@@ -1,5 +1,6 @@
 ghost use Rattle.epoch_safety.specs.Answers.{AnswersAreByEntries, OnlyQuestionsAreAnswered};
-ghost use Rattle.epoch_safety.specs.Laws.{AnswersAreCovered, AnswersAreOfCommitted, NamesAreCovered, RunsHaveNoOlder, RunsHaveOnePrimary, WritesAreKept};
+ghost use Rattle.epoch_safety.specs.Laws.{AnswersAreCovered, AnswersAreOfCommitted, NamesAreCovered, RunsHaveNoOlder};
+ghost use Rattle.epoch_safety.specs.Laws.{RunsHaveOnePrimary, WritesAreKept};
 
 /// In no valid run of a sound configuration do two nodes report that they are primary of one partition in one epoch.
 pub fn runs_have_one_primary()
@@ -13,8 +14,8 @@ pub fn runs_have_no_older()
 {}
 
 /// Once `last` entries of a partition are reported committed, the log of each primary of a later epoch of the same data
-/// loss number begins with them when it reports itself primary, whichever of the two reports is the earlier one. A log is
-/// what the node's synced records amount to after the event of the report.
+/// loss number begins with them when it reports itself primary, whichever of the two reports is the earlier one. A log
+/// is what the node's synced records amount to after the event of the report.
 pub fn writes_are_kept()
     ensures { WritesAreKept }
 {}
@@ -25,27 +26,27 @@ pub fn answers_are_covered()
     ensures { AnswersAreCovered }
 {}
 
-/// Whoever may answer about names answers by entries that begin with all that was reported committed before, in epochs up
-/// to its own of the same data loss number. So no answer leaves out a name that a committed write has set.
+/// Whoever may answer about names answers by entries that begin with all that was reported committed before, in epochs
+/// up to its own of the same data loss number. So no answer leaves out a name that a committed write has set.
 pub fn names_are_covered()
     ensures { NamesAreCovered }
 {}
 
-/// Whoever reports an answer about names at a question was ready to answer, and told what the names are that these entries
-/// leave.
+/// Whoever reports an answer about names at a question was ready to answer, and told what the names are that these
+/// entries leave.
 pub fn answers_are_by_entries()
     ensures { AnswersAreByEntries }
 {}
 
-/// Whatever comes, an answer about names is reported at a question about names alone: at no start, stop, firing, frame or
-/// other command.
+/// Whatever comes, an answer about names is reported at a question about names alone: at no start, stop, firing, frame
+/// or other command.
 pub fn only_questions_are_answered()
     ensures { OnlyQuestionsAreAnswered }
 {}
 
-/// Each answer about names that a valid run reports answers the question that came at that event, of the partition that it
-/// asked about. It says what the names are that so many entries of the node's log leave. These begin with all that was
-/// reported committed of that partition before, in epochs up to the replica's own of the same data loss number.
+/// Each answer about names that a valid run reports answers the question that came at that event, of the partition that
+/// it asked about. It says what the names are that so many entries of the node's log leave. These begin with all that
+/// was reported committed of that partition before, in epochs up to the replica's own of the same data loss number.
 pub fn answers_are_of_committed()
     ensures { AnswersAreOfCommitted }
 {}

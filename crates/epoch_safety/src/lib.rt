@@ -1,9 +1,9 @@
 //! The safety of partitions: one primary an epoch, no older write, and committed writes survive, over every valid run.
 //!
-//! A machine for each partition follows the events of a run (`epoch_machine`): a node's replicas are what its synced records
-//! amount to (`replica_records`), an arbitrator's registers too, each step of a node is deeds of the machines
-//! (`epoch_refinement`), and the ring does nothing of partitions (`ring_apart`). So the laws of the machine are laws of the
-//! run. They stand on the rules of the ring, of units and of the world.
+//! A machine for each partition follows the events of a run (`epoch_machine`): a node's replicas are what its synced
+//! records amount to (`replica_records`), an arbitrator's registers too, each step of a node is deeds of the machines
+//! (`epoch_refinement`), and the ring does nothing of partitions (`ring_apart`). So the laws of the machine are laws of
+//! the run. They stand on the rules of the ring, of units and of the world.
 #![tactic(auto)]
 
 mod laws;

@@ -1,9 +1,9 @@
 -- The list of arbitrators.
 use Rattle.std.specs.Prelude.{ℕ, ◌+◌, List, [], ◌∷◌, Result, Ok}
+use Rattle.ring_points.specs.Limits.{most_arbiters}
 use Rattle.serde_json.specs.Data.{Data}
 use Rattle.fabric_config.specs.declared.error.ConfigError.{ConfigError}
 use Rattle.fabric_config.specs.declared.field.Field.{Field}
-use Rattle.fabric_config.specs.Checks.{◌>>=◌}
 use Rattle.fabric_config.specs.Numbers.{required}
 use Rattle.fabric_config.specs.Entries.{list_of, entry_of, address_of}
 
@@ -26,5 +26,5 @@ entries_of place (d ∷ ds) = do
 -- all arbitrators, numbered from 1
 unfoldable pub arbiters_of : Data → Result (List (ℕ × List ℕ)) ConfigError
 arbiters_of d = do
-  entries ← list_of Field.Arbiters 9 d
+  entries ← list_of Field.Arbiters most_arbiters d
   entries_of 1 entries

@@ -2,6 +2,7 @@
 use Rattle.std.specs.Prelude.{ℕ, ◌||◌, ◌==◌, Bool, List, length, Option, Some, None, is_some, Result, Ok, Err, if◌then◌else◌}
 use Rattle.std.specs.List.{list_any}
 use Rattle.std.specs.Str.{is_utf8}
+use Rattle.ring_points.specs.Limits.{least_lease, most_lease, most_rounds}
 use Rattle.serde_json.specs.Data.{Data}
 use Rattle.serde_json.specs.Read.{read}
 use Rattle.serde_json.specs.Find.{as_object}
@@ -25,12 +26,12 @@ document_of line = if is_utf8 line then if_object (read line) else Err NotJson
 -- the checks of an object, in their order
 unfoldable pub config_of : Data → Result FabricConfig ConfigError
 config_of d = do
-  lease ← required Field.Lease 10 1000000000 d
-  answer ← required Field.Answer 1 1000000000 d
+  lease ← required Field.Lease least_lease most_lease d
+  answer ← required Field.Answer 1 most_lease d
   drift ← required Field.Drift 0 100 d
   grain ← required Field.Grain 0 1000000 d
   near ← optional Field.Near 0 4 0 d
-  rounds ← optional Field.Rounds 1 8 1 d
+  rounds ← optional Field.Rounds 1 most_rounds 1 d
   nodes ← nodes_of lease d
   arbiters ← arbiters_of d
   first ← first_of nodes d

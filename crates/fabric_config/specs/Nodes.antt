@@ -1,6 +1,7 @@
 -- The list of nodes, and the first node.
 use Rattle.std.specs.Prelude.{ℕ, ◌==◌, ◌||◌, Bool, List, [], ◌∷◌, ◌++◌, find, Option, Some, None, option_map, option_and_then, Result, Ok, Err, if◌then◌else◌}
 use Rattle.std.specs.List.{list_any}
+use Rattle.ring_points.specs.Limits.{least_lease, most_domains, most_lease, most_node_number, most_nodes}
 use Rattle.serde_json.specs.Data.{Data}
 use Rattle.serde_json.specs.Find.{get, as_str}
 use Rattle.ring_points.specs.declared.point.Point.{Point}
@@ -8,7 +9,7 @@ use Rattle.fabric_terms.specs.declared.config.NodeEntry.{NodeEntry}
 use Rattle.fabric_config.specs.declared.error.ConfigError.{ConfigError}
 use Rattle.fabric_config.specs.declared.error.ConfigError.TheVariants.{OutOfRange, Repeated}
 use Rattle.fabric_config.specs.declared.field.Field.{Field}
-use Rattle.fabric_config.specs.Checks.{◌>>=◌, or_missing}
+use Rattle.fabric_config.specs.Checks.{or_missing}
 use Rattle.fabric_config.specs.Fields.{name_of}
 use Rattle.fabric_config.specs.Numbers.{whole, required, optional}
 use Rattle.fabric_config.specs.Points.{point_of}
@@ -22,11 +23,11 @@ point_in d =
 unfoldable pub node_of : ℕ → Data → Result NodeEntry ConfigError
 node_of lease d = do
   entry ← entry_of Field.Nodes d
-  number ← required Field.Node 1 999 entry
+  number ← required Field.Node 1 most_node_number entry
   place ← point_in entry
-  domain ← optional Field.Domain 1 64 1 entry
+  domain ← optional Field.Domain 1 most_domains 1 entry
   address ← address_of entry
-  longest ← optional Field.Longest 10 1000000000 lease entry
+  longest ← optional Field.Longest least_lease most_lease lease entry
   Ok (record { node = number; point = place; domain = domain; at = address; longest = longest })
 
 -- one entry after another
@@ -55,7 +56,7 @@ unless_repeated nodes (Some node) = Err (Repeated node)
 -- all nodes: their entries, and then that none repeats an earlier one
 unfoldable pub nodes_of : ℕ → Data → Result (List NodeEntry) ConfigError
 nodes_of lease d = do
-  entries ← list_of Field.Nodes 64 d
+  entries ← list_of Field.Nodes most_nodes d
   nodes ← entries_of lease entries
   unless_repeated nodes (first_repeated [] nodes)
 

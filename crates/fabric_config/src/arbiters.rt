@@ -1,4 +1,4 @@
-ghost use Rattle.std.specs.Prelude.{◌≡◌, ◌<◌, ◌^◌, length, map};
+ghost use Rattle.std.specs.Prelude.{◌<◌, ◌^◌, length, map};
 ghost use Rattle.serde_json.specs.View.{view};
 ghost use Rattle.fabric_config.specs.Checks.{Reads};
 ghost use Rattle.fabric_config.specs.Arbiters.{arbiter_of, entries_of, arbiters_of};
@@ -6,8 +6,9 @@ ghost use Rattle.fabric_config.specs.Arbiters.{arbiter_of, entries_of, arbiters_
 use crate::entries::{read_address, read_list};
 use crate::error::ConfigError;
 use crate::field::Field;
-use crate::limits::{Limits, MOST_ARBITERS};
+use crate::limits::Limits;
 use crate::numbers::required;
+use ring_points::MAX_ARBITRATORS;
 use fabric_terms::{Address, Arbiters};
 use serde_json::Value;
 use std::alloc::Global;
@@ -48,6 +49,6 @@ fn read_entries(alloc: Global, values: &[Value]) -> Result<Arbiters, ConfigError
 pub fn read_arbiters(alloc: Global, object: &Value) -> Result<Arbiters, ConfigError>
     ensures { Reads (arbiters_of (view object.now)) result }
 {
-    let values = read_list(object, Field::Arbiters, MOST_ARBITERS)?;
+    let values = read_list(object, Field::Arbiters, MAX_ARBITRATORS as u64)?;
     read_entries(alloc, values)
 }

@@ -1,4 +1,4 @@
-ghost use Rattle.std.specs.Prelude.{◌≡◌, ◌≤◌, length, map, IfOk, Ok, Err, MatchResult};
+ghost use Rattle.std.specs.Prelude.{◌≤◌, length, map, IfOk, Ok};
 ghost use Rattle.serde_json.specs.View.{view};
 ghost use Rattle.fabric_config.specs.Checks.{Reads, ReadsAs};
 ghost use Rattle.fabric_config.specs.Entries.{address_of, list_of};

@@ -1,4 +1,7 @@
 use crate::field::Field;
+use ring_points::{
+    MAX_DOMAINS, MAX_DRIFT, MAX_GRAIN, MAX_LEASE, MAX_NODE_NUMBER, MAX_ROUNDS, MIN_LEASE,
+};
 
 /// A field of a whole number, with the least and the greatest value that it may have.
 #[derive(Clone, Copy)]
@@ -11,29 +14,29 @@ pub struct Limits {
 /// In ticks.
 pub const LEASE: Limits = Limits {
     field: Field::Lease,
-    least: 10,
-    greatest: 1_000_000_000,
+    least: MIN_LEASE,
+    greatest: MAX_LEASE,
 };
 
 /// In ticks.
 pub const ANSWER: Limits = Limits {
     field: Field::Answer,
     least: 1,
-    greatest: 1_000_000_000,
+    greatest: MAX_LEASE,
 };
 
 /// Per mille of each span.
 pub const DRIFT: Limits = Limits {
     field: Field::Drift,
     least: 0,
-    greatest: 100,
+    greatest: MAX_DRIFT,
 };
 
 /// In ticks.
 pub const GRAIN: Limits = Limits {
     field: Field::Grain,
     least: 0,
-    greatest: 1_000_000,
+    greatest: MAX_GRAIN,
 };
 
 /// In nodes on each side.
@@ -49,25 +52,22 @@ pub const DEFAULT_NEAR: u64 = 0;
 pub const ROUNDS: Limits = Limits {
     field: Field::Rounds,
     least: 1,
-    greatest: 8,
+    greatest: MAX_ROUNDS as u64,
 };
 
 /// The rounds where the line does not say.
 pub const DEFAULT_ROUNDS: u64 = 1;
 
-/// How many nodes there are at most.
-pub const MOST_NODES: u64 = 64;
-
 pub const NODE: Limits = Limits {
     field: Field::Node,
     least: 1,
-    greatest: 999,
+    greatest: MAX_NODE_NUMBER as u64,
 };
 
 pub const DOMAIN: Limits = Limits {
     field: Field::Domain,
     least: 1,
-    greatest: 64,
+    greatest: MAX_DOMAINS as u64,
 };
 
 /// The domain of a node whose entry names none.
@@ -76,9 +76,7 @@ pub const DEFAULT_DOMAIN: u64 = 1;
 /// In ticks.
 pub const LONGEST: Limits = Limits {
     field: Field::Longest,
-    least: 10,
-    greatest: 1_000_000_000,
+    least: MIN_LEASE,
+    greatest: MAX_LEASE,
 };
 
-/// How many arbitrators there are at most.
-pub const MOST_ARBITERS: u64 = 9;

@@ -2,16 +2,17 @@ ghost use Rattle.std.specs.Prelude.{◌≡◌, ◌≤◌, map, []};
 ghost use Rattle.std.specs.List.{list_any};
 ghost use Rattle.serde_json.specs.View.{view};
 ghost use Rattle.fabric_config.specs.Checks.{Reads};
-ghost use Rattle.fabric_config.specs.Nodes.{point_in, node_of, entries_of, nodes_of, repeats, first_repeated, listed, first_of};
+ghost use Rattle.fabric_config.specs.Nodes.{point_in, node_of, entries_of, nodes_of, repeats, first_repeated, listed};
+ghost use Rattle.fabric_config.specs.Nodes.{first_of};
 
 use crate::entries::{read_address, read_list};
 use crate::error::ConfigError;
 use crate::field::Field;
-use crate::limits::{DEFAULT_DOMAIN, DOMAIN, LONGEST, MOST_NODES, NODE};
+use crate::limits::{DEFAULT_DOMAIN, DOMAIN, LONGEST, NODE};
 use crate::numbers::{optional, required, whole};
 use crate::point::point_of;
+use ring_points::{MAX_NODES, Point};
 use fabric_terms::{NodeEntry, Nodes};
-use ring_points::Point;
 use serde_json::Value;
 use std::alloc::Global;
 
@@ -97,7 +98,7 @@ pub fn read_nodes(alloc: Global, object: &Value, lease: u64) -> Result<Nodes, Co
     requires greatest { lease ≤ 1000000000 }
     ensures { Reads (nodes_of lease (view object.now)) result }
 {
-    let values = read_list(object, Field::Nodes, MOST_NODES)?;
+    let values = read_list(object, Field::Nodes, MAX_NODES as u64)?;
     let nodes = read_entries(alloc, values, lease)?;
     match first_repeated(nodes.as_slice()) {
         Some(node) => Err(ConfigError::Repeated(node)),

@@ -1,6 +1,7 @@
 ghost use Rattle.std.specs.Prelude.{◌≡◌, Ok, Err, codes};
 ghost use Rattle.fabric_config.specs.Config.{config_of_line};
-ghost use Rattle.fabric_config.specs.Worked.{line_of, one_node, node_1_twice, settings, without_drift, with_drift_200, one_node_config};
+ghost use Rattle.fabric_config.specs.Worked.{line_of, one_node, node_1_twice, settings, without_drift, with_drift_200};
+ghost use Rattle.fabric_config.specs.Worked.{one_node_config};
 
 use crate::error::ConfigError;
 use crate::field::Field;

@@ -20,8 +20,8 @@ enum Standing<R: LockFiles> {
 }
 
 /// The files of records, one for each actor. A file is locked as it is read, and stays so: a second process of an actor
-/// reads the records, and is refused its first append. Reading changes nothing, so a process that was started by mistake
-/// leaves the records as they are.
+/// reads the records, and is refused its first append. Reading changes nothing, so a process that was started by
+/// mistake leaves the records as they are.
 #[derive(Drop)]
 pub struct Folder<'a, R: LockFiles> {
     rt: &'a R,

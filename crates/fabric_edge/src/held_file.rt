@@ -38,8 +38,9 @@ impl<R: Files> HeldFile<R> {
         Ok(())
     }
 
-    /// Cuts off what is no whole record at the end, and waits until the file and its name are kept for good. So a record
-    /// that a process wrote, and could not sync before it ended, is kept once the next process goes on behind it.
+    /// Cuts off what is no whole record at the end, and waits until the file and its name are kept for good. So a
+    /// record that a process wrote, and could not sync before it ended, is kept once the next process goes on behind
+    /// it.
     fn settle(&mut self, rt: &R, alloc: Global) -> io::Result<()> {
         self.file.seek(SeekFrom::Start(0))?;
         let bytes = bytes_of(alloc, &mut self.file)?;

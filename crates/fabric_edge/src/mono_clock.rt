@@ -6,9 +6,9 @@ use edge_io::Clock;
 use std::marker::Model;
 use std::time::Duration;
 
-/// The machine's clock that never goes back and goes on while the machine is suspended, in milliseconds since this value
-/// was made. Where the machine cannot read it, the last reading comes again. Where it could not as this value was made,
-/// the time is counted from the first reading. Contracts see the last reading.
+/// The machine's clock that never goes back and goes on while the machine is suspended, in milliseconds since this
+/// value was made. Where the machine cannot read it, the last reading comes again. Where it could not as this value was
+/// made, the time is counted from the first reading. Contracts see the last reading.
 #[derive(Drop)]
 pub struct MonoClock<'a, R: BootClock> {
     rt: &'a R,

@@ -9,7 +9,7 @@ const TURN: u64 = 5;
 const REST: u64 = 1;
 
 /// How often a wait rests at most, whatever the clock shows: so many rests are a whole turn.
-pub const MOST_RESTS: usize = 5;
+pub const MAX_RESTS: usize = 5;
 
 /// The pace of a process: when the present turn has lasted long enough. Nodes that have a link send frames
 /// at each firing. If every frame ended the wait of its receiver, two of them would wake each other without

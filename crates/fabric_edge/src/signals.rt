@@ -4,7 +4,7 @@ ghost use Rattle.std.specs.IoError.{error_kind};
 use std::io::{Error, ErrorKind};
 
 /// How often a call is made at most where a signal cuts it short each time.
-pub const MOST_CALLS: usize = 64;
+pub const MAX_CALLS: usize = 64;
 
 /// Whether a signal cut the call short, so that it is to be made again.
 pub fn is_cut_short(error: &Error) -> bool

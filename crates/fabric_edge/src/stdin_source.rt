@@ -1,7 +1,7 @@
 ghost use Rattle.std.specs.Prelude.{◌≡◌, ◌≤◌, length, IfOk};
 
 use crate::failures::Failures;
-use crate::signals::{MOST_CALLS, is_cut_short};
+use crate::signals::{MAX_CALLS, is_cut_short};
 use edge_io::{Failed, Source};
 use std::io;
 use std::io::{ErrorKind, Read};
@@ -37,7 +37,7 @@ impl<'a, R: Input> StdinSource<'a, R> {
 fn read_some<R: Read>(reader: &mut R, into: &mut [u8]) -> io::Result<usize>
     ensures { IfOk result (λ n. n ≤ length into.old) }
 {
-    for _ in 0..MOST_CALLS {
+    for _ in 0..MAX_CALLS {
         match reader.read(into) {
             Err(error) if is_cut_short(&error) => {}
             read => return read,

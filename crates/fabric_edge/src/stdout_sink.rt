@@ -1,7 +1,7 @@
 ghost use Rattle.std.specs.Prelude.{◌≡◌, ◌≤◌, length, IfOk};
 
 use crate::failures::Failures;
-use crate::signals::{MOST_CALLS, is_cut_short};
+use crate::signals::{MAX_CALLS, is_cut_short};
 use edge_io::{EdgeRefusal, Sink};
 use std::io;
 use std::io::{ErrorKind, Write};
@@ -37,7 +37,7 @@ impl<'a, R: Print> StdoutSink<'a, R> {
 fn write_some<W: Write>(writer: &mut W, bytes: &[u8]) -> io::Result<usize>
     ensures { IfOk result (λ n. n ≤ length bytes.now) }
 {
-    for _ in 0..MOST_CALLS {
+    for _ in 0..MAX_CALLS {
         match writer.write(bytes) {
             Err(error) if is_cut_short(&error) => {}
             written => return written,

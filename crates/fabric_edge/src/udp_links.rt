@@ -3,7 +3,7 @@ ghost use Rattle.edge_io.specs.Arrivals.{IsListening};
 
 use crate::failures::Failures;
 use crate::outage::Outage;
-use crate::pace::{MOST_RESTS, Pace};
+use crate::pace::{MAX_RESTS, Pace};
 use crate::peers::Peers;
 use edge_io::{EdgeRefusal, Endpoint, Failed, Links, SocketAddress};
 use std::alloc::{AllocError, Global};
@@ -131,7 +131,7 @@ fn awaited<R: Clock>(
     ensures { IfOk result (λ answer. IfSome answer (λ n. n ≤ length into.old)) }
 {
     let mut found = next_datagram(socket, into);
-    for _ in 0..MOST_RESTS {
+    for _ in 0..MAX_RESTS {
         if matches!(found, Ok(Some(_))) || !pace.rests() {
             break;
         }

@@ -18,7 +18,7 @@ use Rattle.replica_core.specs.declared.role.Role.TheVariants.{IdleSecondary}
 use Rattle.replica_core.specs.Calls.{Outcome, activate_call, adopt_call, adopt_collected_call, adopt_own_call, append_call, collected_call, held_if, idle_call, is_ahead, is_collected, is_empty, is_gap, own_adopted, promise_call, unless}
 use Rattle.replica_core.specs.Replicas.{Replica, adopted, collected_in, collected_with, collecting, raised, settled, uncollected, written}
 use Rattle.replica_core.specs.Roles.{is_idle, is_member, role_of}
-use Rattle.fabric_fit.specs.Seats.{EntryInRange, LogInRange, ReplicaInRange}
+use Rattle.fabric_fit.specs.ReplicaStates.{EntryInRange, LogInRange, ReplicaInRange}
 
 -- a refusal names an epoch that fits
 abbrev pub RefusalInRange : ReplicaRefusal → Type 0

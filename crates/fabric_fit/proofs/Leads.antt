@@ -6,10 +6,10 @@ use Rattle.std.proofs.lemmas.List.Elements.{All-cons, All-filter, All-head, All-
 use Rattle.fabric_terms.specs.Fields.{is_config, is_last, is_node, is_word}
 use Rattle.ring_points.specs.declared.unit.Config.{Config}
 use Rattle.ring_points.specs.Epochs.{is_older}
-use Rattle.unit_rules.specs.declared.lead.Peer.{Peer}
-use Rattle.unit_rules.specs.Leads.{confirmed_by, confirmed_of, confirmed_up_to, first_lead, first_peer, greatest, is_confirmed, is_primary, lead_of, most_confirmed, peer_confirms}
-use Rattle.unit_rules.specs.Seats.{Lead, Seat}
-use Rattle.fabric_fit.specs.Seats.{LeadInRange, LeadsInRange, PeerInRange, SeatInRange}
+use Rattle.unit_rules.specs.declared.progress.PeerProgress.{PeerProgress}
+use Rattle.unit_rules.specs.Progress.{confirmed_by, confirmed_of, confirmed_up_to, first_progress, first_peer, greatest, is_confirmed, is_primary, progress_of, most_confirmed, peer_confirms}
+use Rattle.unit_rules.specs.ReplicaStates.{ReplicationProgress, ReplicaState}
+use Rattle.fabric_fit.specs.ReplicaStates.{ProgressInRange, PrimaryProgressInRange, PeerInRange, ReplicaStateInRange}
 use Rattle.fabric_fit.proofs.Members.{config_parts, members_nodes}
 
 abbrev IsLast : ℕ → Type 0
@@ -20,8 +20,8 @@ IsLast n = IsTrue (is_last n)
 first_peer_in_range : (last node : ℕ) → IsTrue (is_last last) → IsTrue (is_node node) → PeerInRange (first_peer last node)
 first_peer_in_range last node h k = let few = leb-true last 100000 h in record { node = k; confirmed = refl; next = omega arith }
 
-pub first_lead_in_range : (me : ℕ) (config : Config) (last : ℕ) → IsTrue (is_config config) → IsTrue (is_last last) → LeadInRange (first_lead me config last)
-first_lead_in_range me config last h k = record {
+pub first_progress_in_range : (me : ℕ) (config : Config) (last : ℕ) → IsTrue (is_config config) → IsTrue (is_last last) → ProgressInRange (first_progress me config last)
+first_progress_in_range me config last h k = record {
   peers =
       All-map PeerInRange (first_peer last) (filter (λ n. not (n == me)) config.members)
       (All-weaker (λ n. IsTrue (is_node n)) (λ n. PeerInRange (first_peer last n)) (λ n node. first_peer_in_range last n k node)
@@ -30,13 +30,13 @@ first_lead_in_range me config last h k = record {
   committed = k;
 }
 
-pub lead_of_in_range : (s : Seat) → SeatInRange s → LeadsInRange (lead_of s)
-lead_of_in_range s h = cond_both (is_primary s.replica.role && not (is_older s.replica.at s.replica.promised)) s.lead None LeadsInRange (λ f. h.lead) (λ f. tt)
+pub progress_of_in_range : (s : ReplicaState) → ReplicaStateInRange s → PrimaryProgressInRange (progress_of s)
+progress_of_in_range s h = cond_both (is_primary s.replica.role && not (is_older s.replica.at s.replica.promised)) s.progress None PrimaryProgressInRange (λ f. h.progress) (λ f. tt)
 
 -- A member confirms.
 
 module _ (node last own : ℕ) (said : IsTrue (is_word last)) (has : IsTrue (is_last own)) where
-  confirmed_in_range : (p : Peer) → IsTrue (is_last p.confirmed) → IsTrue (is_last (confirmed_up_to last own p))
+  confirmed_in_range : (p : PeerProgress) → IsTrue (is_last p.confirmed) → IsTrue (is_last (confirmed_up_to last own p))
   confirmed_in_range p h =
       cond_both (nat_le last own) (max p.confirmed last) p.confirmed IsLast
       (λ f. let before = leb-true p.confirmed 100000 h in
@@ -45,14 +45,14 @@ module _ (node last own : ℕ) (said : IsTrue (is_word last)) (has : IsTrue (is_
       le-leb (max p.confirmed last) 100000 (omega arith))
       (λ f. h)
 
-  peer_in_range : (p : Peer) → PeerInRange p → PeerInRange (peer_confirms node last own p)
+  peer_in_range : (p : PeerProgress) → PeerInRange p → PeerInRange (peer_confirms node last own p)
   peer_in_range p h =
       let word = ltb-true last 4294967296 said in
       cond_both (p.node == node) (record p { confirmed = confirmed_up_to last own p; next = last + 1 }) p PeerInRange
       (λ f. record { node = h.node; confirmed = confirmed_in_range p h.confirmed; next = omega arith })
       (λ f. h)
 
-  pub confirmed_by_in_range : (l : Lead) → LeadInRange l → LeadInRange (confirmed_by node last own l)
+  pub confirmed_by_in_range : (l : ReplicationProgress) → ProgressInRange l → ProgressInRange (confirmed_by node last own l)
   confirmed_by_in_range l h = record {
     peers =
         All-map PeerInRange (peer_confirms node last own) l.peers
@@ -69,7 +69,7 @@ greatest_in_range (n ∷ ns) h =
     let behind = leb-true (greatest ns) 100000 (greatest_in_range ns (All-tail IsLast n ns h)) in
     le-leb (max n (greatest ns)) 100000 (omega arith)
 
-pub most_in_range : (l : Lead) (own : ℕ) → LeadInRange l → IsTrue (is_last own) → IsTrue (is_last (most_confirmed (confirmed_of l own)))
+pub most_in_range : (l : ReplicationProgress) (own : ℕ) → ProgressInRange l → IsTrue (is_last own) → IsTrue (is_last (most_confirmed (confirmed_of l own)))
 most_in_range l own h k =
     let all : List ℕ = confirmed_of l own in
     greatest_in_range (filter (is_confirmed all) all)

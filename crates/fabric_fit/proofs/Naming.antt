@@ -26,10 +26,10 @@ use Rattle.replica_core.specs.declared.entry.Entry.{Entry}
 use Rattle.frames_fit.specs.Formats.{ReportInRange}
 use Rattle.unit_rules.specs.Answers.{answered, listing, names_commanded, ready, resolution, resolve_commanded, resolved}
 use Rattle.unit_rules.specs.Deeds.{Tell}
-use Rattle.unit_rules.specs.Leads.{lead_of, reported_of}
-use Rattle.unit_rules.specs.Seats.{Lead, Seat}
+use Rattle.unit_rules.specs.Progress.{progress_of, reported_of}
+use Rattle.unit_rules.specs.ReplicaStates.{ReplicationProgress, ReplicaState}
 use Rattle.fabric_fit.specs.Deeds.{ActedInRange}
-use Rattle.fabric_fit.specs.Seats.{SeatInRange}
+use Rattle.fabric_fit.specs.ReplicaStates.{ReplicaStateInRange}
 use Rattle.fabric_fit.proofs.Deeds.{does_one}
 use Rattle.fabric_fit.proofs.Telling.{partition_told}
 
@@ -154,26 +154,26 @@ listed_names_in_range partition range es p =
 
 -- The rows.
 
-module _ (question : Verb) (answer : NameMap → Report) (s : Seat) (fine : SeatInRange s) (told : (es : List Entry) → ReportInRange (answer (names_of es))) where
-  abbrev Asked : Option Lead → Type 0
-  Asked o = ActedInRange SeatInRange (answered question answer s (ready o))
+module _ (question : Verb) (answer : NameMap → Report) (s : ReplicaState) (fine : ReplicaStateInRange s) (told : (es : List Entry) → ReportInRange (answer (names_of es))) where
+  abbrev Asked : Option ReplicationProgress → Type 0
+  Asked o = ActedInRange ReplicaStateInRange (answered question answer s (ready o))
 
-  pub asked_in_range : (o : Option Lead) → Asked o
-  asked_in_range None = does_one SeatInRange s (Tell (report.Refused question reason.NotPrimary)) fine tt
+  pub asked_in_range : (o : Option ReplicationProgress) → Asked o
+  asked_in_range None = does_one ReplicaStateInRange s (Tell (report.Refused question reason.NotPrimary)) fine tt
   asked_in_range (Some l) = by_test (reported_of l == 0)
     where
-      by_test : (b : Bool) → ActedInRange SeatInRange (answered question answer s (if b then Err reason.NotReady else Ok (reported_of l)))
-      by_test true = does_one SeatInRange s (Tell (report.Refused question reason.NotReady)) fine tt
-      by_test false = does_one SeatInRange s (Tell (answer (names_of (take (reported_of l) s.replica.log)))) fine (told (take (reported_of l) s.replica.log))
+      by_test : (b : Bool) → ActedInRange ReplicaStateInRange (answered question answer s (if b then Err reason.NotReady else Ok (reported_of l)))
+      by_test true = does_one ReplicaStateInRange s (Tell (report.Refused question reason.NotReady)) fine tt
+      by_test false = does_one ReplicaStateInRange s (Tell (answer (names_of (take (reported_of l) s.replica.log)))) fine (told (take (reported_of l) s.replica.log))
 
-pub resolve_commanded_in_range : (name : List ℕ) → IsName name → (s : Seat) → SeatInRange s → ActedInRange SeatInRange (resolve_commanded name s)
+pub resolve_commanded_in_range : (name : List ℕ) → IsName name → (s : ReplicaState) → ReplicaStateInRange s → ActedInRange ReplicaStateInRange (resolve_commanded name s)
 unfolding resolve_commanded
 resolve_commanded_in_range name h s fine =
     let p = partition_told s.replica.partition fine.replica.partition in
-    asked_in_range verb.Resolve (resolution s.replica.partition name) s fine (λ es. resolved_in_range s.replica.partition name es p h) (lead_of s)
+    asked_in_range verb.Resolve (resolution s.replica.partition name) s fine (λ es. resolved_in_range s.replica.partition name es p h) (progress_of s)
 
-pub names_commanded_in_range : (range : Interval) (s : Seat) → SeatInRange s → ActedInRange SeatInRange (names_commanded range s)
+pub names_commanded_in_range : (range : Interval) (s : ReplicaState) → ReplicaStateInRange s → ActedInRange ReplicaStateInRange (names_commanded range s)
 unfolding names_commanded
 names_commanded_in_range range s fine =
     let p = partition_told s.replica.partition fine.replica.partition in
-    asked_in_range verb.Names (listing s.replica.partition range) s fine (λ es. listed_names_in_range s.replica.partition range es p) (lead_of s)
+    asked_in_range verb.Names (listing s.replica.partition range) s fine (λ es. listed_names_in_range s.replica.partition range es p) (progress_of s)

@@ -17,9 +17,9 @@ use Rattle.replica_core.specs.Calls.{Outcome, promise_call}
 use Rattle.replica_core.specs.Replicas.{Replica}
 use Rattle.unit_rules.specs.Deeds.{Keep, Send, Tell}
 use Rattle.unit_rules.specs.Promises.{promise_answered, promise_received, raise_told, say_older}
-use Rattle.unit_rules.specs.Seats.{Seat, last_of, seated}
+use Rattle.unit_rules.specs.ReplicaStates.{ReplicaState, last_of, replica_put}
 use Rattle.fabric_fit.specs.Deeds.{ActedInRange, DeedInRange}
-use Rattle.fabric_fit.specs.Seats.{ReplicaInRange, SeatInRange}
+use Rattle.fabric_fit.specs.ReplicaStates.{ReplicaInRange, ReplicaStateInRange}
 use Rattle.fabric_fit.proofs.Calls.{OutcomeInRange, RefusalInRange, promise_in_range}
 use Rattle.fabric_fit.proofs.Deeds.{deeds_from, no_deeds, one_deed, sends}
 use Rattle.fabric_fit.proofs.Telling.{unit_told}
@@ -32,8 +32,8 @@ pub last_fits : (r : Replica) → ReplicaInRange r → IsTrue (is_last (last_of 
 last_fits r h = le-leb (length r.log) 100000 h.log.room
 
 -- with a replica that is in range
-pub seated_in_range : (s : Seat) (r : Replica) → SeatInRange s → ReplicaInRange r → SeatInRange (seated s r)
-seated_in_range s r h k = record { replica = k; taking = h.taking; lead = h.lead }
+pub replica_put_in_range : (s : ReplicaState) (r : Replica) → ReplicaStateInRange s → ReplicaInRange r → ReplicaStateInRange (replica_put s r)
+replica_put_in_range s r h k = record { replica = k; catch_up = h.catch_up; progress = h.progress }
 
 module _ (asker : Who) (addressed : IsTrue (is_addressee asker)) (partition : ℕ) (epoch : Epoch) (unit : IsTrue (is_unit partition epoch)) where
   pub older_in_range : (refusal : ReplicaRefusal) → RefusalInRange refusal → All DeedInRange (say_older asker partition epoch refusal)
@@ -48,14 +48,14 @@ module _ (asker : Who) (addressed : IsTrue (is_addressee asker)) (partition : �
       (one_deed (Tell (report.Promised partition epoch)) (unit_told partition epoch unit))
   raise_in_range Held = no_deeds
 
-module _ (asker : Who) (addressed : IsTrue (is_addressee asker)) (epoch : Epoch) (fits : IsTrue (is_epoch epoch)) (s : Seat) (fine : SeatInRange s) where
-  answered_in_range : (o : Outcome Done) → OutcomeInRange o → ActedInRange SeatInRange (promise_answered asker epoch s o)
+module _ (asker : Who) (addressed : IsTrue (is_addressee asker)) (epoch : Epoch) (fits : IsTrue (is_epoch epoch)) (s : ReplicaState) (fine : ReplicaStateInRange s) where
+  answered_in_range : (o : Outcome Done) → OutcomeInRange o → ActedInRange ReplicaStateInRange (promise_answered asker epoch s o)
   answered_in_range (Err refusal, r) h =
       record { state = fine; deeds = older_in_range asker addressed r.partition epoch (unit_from r.partition epoch h.replica.partition fits) refusal h.answer }
   answered_in_range (Ok done, r) h =
       let unit = unit_from r.partition epoch h.replica.partition fits in
       record {
-        state = seated_in_range s r fine h.replica;
+        state = replica_put_in_range s r fine h.replica;
         deeds =
             All-append DeedInRange (raise_told r.partition epoch done) (Send asker (body.Promised r.partition epoch r.at (last_of r)) ∷ [])
             (raise_in_range asker addressed r.partition epoch unit done)
@@ -65,6 +65,6 @@ module _ (asker : Who) (addressed : IsTrue (is_addressee asker)) (epoch : Epoch)
             (and_from (is_unit r.partition epoch) (is_epoch r.at) unit h.replica.at) (last_fits r h.replica))));
       }
 
-  pub promise_received_in_range : ActedInRange SeatInRange (promise_received asker epoch s)
+  pub promise_received_in_range : ActedInRange ReplicaStateInRange (promise_received asker epoch s)
   unfolding promise_received
   promise_received_in_range = answered_in_range (promise_call epoch s.replica) (promise_in_range epoch s.replica fits fine.replica)

@@ -38,13 +38,13 @@ use Rattle.unit_rules.specs.Manager.{Managed, manager_answered, reconfig_command
 use Rattle.unit_rules.specs.Promises.{promise_received}
 use Rattle.unit_rules.specs.Questions.{reconfig_fired}
 use Rattle.unit_rules.specs.Reconfigs.{Reconfig}
-use Rattle.unit_rules.specs.Seats.{Seat, first_seat}
-use Rattle.unit_rules.specs.Steps.{Failover, answer, at_found, at_seat, at_standing, by_manager, by_seat, command_row, failover_step, fired, frame_row, manage}
-use Rattle.unit_rules.specs.Writes.{append_received, appended_received, seat_fired, write_commanded}
+use Rattle.unit_rules.specs.ReplicaStates.{ReplicaState, first_state}
+use Rattle.unit_rules.specs.Steps.{Failover, answer, at_found, at_state, at_standing, by_manager, by_state, command_row, failover_step, fired, frame_row, manage}
+use Rattle.unit_rules.specs.Writes.{append_received, appended_received, state_fired, write_commanded}
 use Rattle.fabric_fit.specs.Deeds.{ActedInRange, DeedInRange}
 use Rattle.fabric_fit.specs.Failovers.{FailoverInRange}
 use Rattle.fabric_fit.specs.Managers.{ManagedInRange, ReconfigInRange, is_kind}
-use Rattle.fabric_fit.specs.Seats.{SeatInRange}
+use Rattle.fabric_fit.specs.ReplicaStates.{ReplicaStateInRange}
 use Rattle.fabric_fit.proofs.Activations.{activate_received_in_range}
 use Rattle.fabric_fit.proofs.Answers.{sender_addressed}
 use Rattle.fabric_fit.proofs.Asking.{reconfig_fired_in_range}
@@ -56,8 +56,8 @@ use Rattle.fabric_fit.proofs.Members.{config_parts}
 use Rattle.fabric_fit.proofs.Naming.{names_commanded_in_range, resolve_commanded_in_range}
 use Rattle.fabric_fit.proofs.Placing.{loads_in_range}
 use Rattle.fabric_fit.proofs.Promises.{promise_received_in_range}
-use Rattle.fabric_fit.proofs.Starts.{first_seat_in_range}
-use Rattle.fabric_fit.proofs.Writes.{append_received_in_range, appended_received_in_range, seat_fired_in_range, write_commanded_in_range}
+use Rattle.fabric_fit.proofs.Starts.{first_state_in_range}
+use Rattle.fabric_fit.proofs.Writes.{append_received_in_range, appended_received_in_range, state_fired_in_range, write_commanded_in_range}
 
 abbrev pub Acts : Acted Failover → Type 0
 Acts a = ActedInRange FailoverInRange a
@@ -69,27 +69,27 @@ module _ (s : Failover) (fine : FailoverInRange s) where
   -- At the manager, and at the replica of a partition.
 
   by_manager_in_range : (a : Acted Managed) → ActedInRange ManagedInRange a → Acts (by_manager s a)
-  by_manager_in_range a h = record { state = record { managed = h.state; seats = fine.seats }; deeds = h.deeds }
+  by_manager_in_range a h = record { state = record { managed = h.state; states = fine.states }; deeds = h.deeds }
 
-  by_seat_in_range : (partition : ℕ) (a : Acted Seat) → ActedInRange SeatInRange a → Acts (by_seat partition s a)
-  by_seat_in_range partition a h =
-      record { state = record { managed = fine.managed; seats = put_each SeatInRange partition a.state s.seats h.state fine.seats }; deeds = h.deeds }
+  by_state_in_range : (partition : ℕ) (a : Acted ReplicaState) → ActedInRange ReplicaStateInRange a → Acts (by_state partition s a)
+  by_state_in_range partition a h =
+      record { state = record { managed = fine.managed; states = put_each ReplicaStateInRange partition a.state s.states h.state fine.states }; deeds = h.deeds }
 
-  at_seat_in_range : (partition : ℕ) → IsTrue (is_short partition) → (row : Seat → Acted Seat) → ((t : Seat) → SeatInRange t → ActedInRange SeatInRange (row t))
-      → Acts (at_seat partition row s)
-  at_seat_in_range partition h row each = found (at partition s.seats) refl
+  at_state_in_range : (partition : ℕ) → IsTrue (is_short partition) → (row : ReplicaState → Acted ReplicaState) → ((t : ReplicaState) → ReplicaStateInRange t → ActedInRange ReplicaStateInRange (row t))
+      → Acts (at_state partition row s)
+  at_state_in_range partition h row each = found (at partition s.states) refl
     where
-      found : (o : Option Seat) → at partition s.seats ≡ o → Acts (by_seat partition s (row (unwrap_or o (first_seat partition))))
-      found None e = by_seat_in_range partition (row (first_seat partition)) (each (first_seat partition) (first_seat_in_range partition h))
-      found (Some t) e = by_seat_in_range partition (row t) (each t (at_each SeatInRange partition s.seats t fine.seats e))
+      found : (o : Option ReplicaState) → at partition s.states ≡ o → Acts (by_state partition s (row (unwrap_or o (first_state partition))))
+      found None e = by_state_in_range partition (row (first_state partition)) (each (first_state partition) (first_state_in_range partition h))
+      found (Some t) e = by_state_in_range partition (row t) (each t (at_each ReplicaStateInRange partition s.states t fine.states e))
 
-  at_standing_in_range : (partition : ℕ) (row : Seat → Acted Seat) (none : Acted Failover) → ((t : Seat) → SeatInRange t → ActedInRange SeatInRange (row t))
+  at_standing_in_range : (partition : ℕ) (row : ReplicaState → Acted ReplicaState) (none : Acted Failover) → ((t : ReplicaState) → ReplicaStateInRange t → ActedInRange ReplicaStateInRange (row t))
       → Acts none → Acts (at_standing partition row none s)
-  at_standing_in_range partition row none each h = found (at partition s.seats) refl
+  at_standing_in_range partition row none each h = found (at partition s.states) refl
     where
-      found : (o : Option Seat) → at partition s.seats ≡ o → Acts (at_found partition row none s o)
+      found : (o : Option ReplicaState) → at partition s.states ≡ o → Acts (at_found partition row none s o)
       found None e = h
-      found (Some t) e = by_seat_in_range partition (row t) (each t (at_each SeatInRange partition s.seats t fine.seats e))
+      found (Some t) e = by_state_in_range partition (row t) (each t (at_each ReplicaStateInRange partition s.states t fine.states e))
 
   module _ (c : FabricConfig) (sound : IsSound c) (now : ℕ) (r : Ring) where
     abbrev site : Site
@@ -119,12 +119,12 @@ module _ (s : Failover) (fine : FailoverInRange s) where
       frame_in_range (body.Older partition epoch kept) h = answer_in_range x.actor partition epoch (body.Older partition epoch kept) h
       frame_in_range (body.Promise partition epoch) h =
           let unit = and_parts (is_short partition) (is_epoch epoch) h in
-          at_seat_in_range partition unit.0 (promise_received x epoch) (promise_received_in_range x addressed epoch unit.1)
+          at_state_in_range partition unit.0 (promise_received x epoch) (promise_received_in_range x addressed epoch unit.1)
       frame_in_range (body.Sync partition epoch origin last) h =
           let parts = and_parts (is_unit partition epoch && is_node origin) (is_last last) h in
           let more = and_parts (is_unit partition epoch) (is_node origin) parts.0 in
           let unit = and_parts (is_short partition) (is_epoch epoch) more.0 in
-          at_seat_in_range partition unit.0 (sync_received r.me.actor (record { epoch = epoch; origin = origin; last = last; asker = x }))
+          at_state_in_range partition unit.0 (sync_received r.me.actor (record { epoch = epoch; origin = origin; last = last; asker = x }))
           (sync_received_in_range (record { epoch = epoch; origin = origin; last = last; asker = x })
           (record { epoch = unit.1; origin = more.1; last = parts.1; asker = sends }) r.me.actor)
       frame_in_range (body.Fetch partition epoch lsn) h =
@@ -137,11 +137,11 @@ module _ (s : Failover) (fine : FailoverInRange s) where
           (piece_received_in_range epoch (record { epoch = entry_epoch; lsn = lsn; bytes = text }) of parts.1) still_in_range
       frame_in_range (body.Activate config) h =
           let unit = and_parts (is_short config.partition) (is_epoch config.epoch) (config_parts config h).unit in
-          at_seat_in_range config.partition unit.0 (activate_received r.me.actor x config) (activate_received_in_range r.me.actor x addressed config h)
+          at_state_in_range config.partition unit.0 (activate_received r.me.actor x config) (activate_received_in_range r.me.actor x addressed config h)
       frame_in_range (body.Append partition epoch lsn text) h =
           let parts = and_parts (is_unit partition epoch && is_word lsn) (is_payload text) h in
           let unit = and_parts (is_short partition) (is_epoch epoch) (and_parts (is_unit partition epoch) (is_word lsn) parts.0).0 in
-          at_seat_in_range partition unit.0 (append_received x epoch lsn text) (append_received_in_range x addressed epoch unit.1 lsn text parts.1)
+          at_state_in_range partition unit.0 (append_received x epoch lsn text) (append_received_in_range x addressed epoch unit.1 lsn text parts.1)
       frame_in_range (body.Appended partition epoch last) h =
           let word = (and_parts (is_unit partition epoch) (is_word last) h).1 in
           at_standing_in_range partition (appended_received x.actor epoch last) (still s) (λ t k. appended_received_in_range t k x.actor epoch last word) still_in_range
@@ -183,16 +183,16 @@ module _ (s : Failover) (fine : FailoverInRange s) where
         All-append DeedInRange (reconfig_fired e.1) (flat_map (λ e. reconfig_fired e.1) es)
         (reconfig_fired_in_range e.1 (All-head (λ e. ReconfigInRange e.1) e es h)) (reconfigs_fired es (All-tail (λ e. ReconfigInRange e.1) e es h))
 
-    seats_fired : (es : List (ℕ × Seat)) → Each SeatInRange es → All DeedInRange (flat_map (λ e. seat_fired e.1) es)
-    seats_fired [] h = no_deeds
-    seats_fired (e ∷ es) h =
-        All-append DeedInRange (seat_fired e.1) (flat_map (λ e. seat_fired e.1) es)
-        (seat_fired_in_range e.1 (All-head (λ e. SeatInRange e.1) e es h)) (seats_fired es (All-tail (λ e. SeatInRange e.1) e es h))
+    states_fired : (es : List (ℕ × ReplicaState)) → Each ReplicaStateInRange es → All DeedInRange (flat_map (λ e. state_fired e.1) es)
+    states_fired [] h = no_deeds
+    states_fired (e ∷ es) h =
+        All-append DeedInRange (state_fired e.1) (flat_map (λ e. state_fired e.1) es)
+        (state_fired_in_range e.1 (All-head (λ e. ReplicaStateInRange e.1) e es h)) (states_fired es (All-tail (λ e. ReplicaStateInRange e.1) e es h))
 
     fired_in_range : All DeedInRange (fired s)
     fired_in_range =
-        All-append DeedInRange (flat_map (λ e. reconfig_fired e.1) s.managed.reconfigs) (flat_map (λ e. seat_fired e.1) s.seats)
-        (reconfigs_fired s.managed.reconfigs fine.managed.reconfigs) (seats_fired s.seats fine.seats)
+        All-append DeedInRange (flat_map (λ e. reconfig_fired e.1) s.managed.reconfigs) (flat_map (λ e. state_fired e.1) s.states)
+        (reconfigs_fired s.managed.reconfigs fine.managed.reconfigs) (states_fired s.states fine.states)
 
     pub step_in_range : (i : Input) → InputInFormat i → Acts (failover_step site now r s i)
     unfolding failover_step

@@ -13,19 +13,19 @@ use Rattle.replica_core.specs.declared.entry.Entry.{Entry}
 use Rattle.replica_core.specs.declared.refusal.Done.{Done}
 use Rattle.replica_core.specs.Calls.{Outcome, adopt_call, adopt_collected_call, adopt_own_call, append_call, promise_call}
 use Rattle.replica_core.specs.Replicas.{Replica, first_replica, uncollected}
-use Rattle.unit_rules.specs.Seats.{first_seat, seated}
-use Rattle.unit_rules.specs.Starts.{Replicas, adopt_kept, called, past_all, replica_of, replicas_after, replicas_after_all, seats_begun, without_collected}
+use Rattle.unit_rules.specs.ReplicaStates.{first_state, replica_put}
+use Rattle.unit_rules.specs.Starts.{Replicas, adopt_kept, called, past_all, replica_of, replicas_after, replicas_after_all, states_begun, without_collected}
 use Rattle.fabric_fit.specs.Records.{KeptRecord}
-use Rattle.fabric_fit.specs.Seats.{ReplicaInRange, SeatInRange, SeatsInRange}
+use Rattle.fabric_fit.specs.ReplicaStates.{ReplicaInRange, ReplicaStateInRange, ReplicaStatesInRange}
 use Rattle.fabric_fit.proofs.Calls.{OutcomeInRange, adopt_collected_in_range, adopt_in_range, adopt_own_in_range, append_in_range, empty_log, promise_in_range, uncollected_in_range}
 
--- A first replica, and a first seat.
+-- A first replica, and its first state.
 
 pub first_in_range : (partition : ℕ) → IsTrue (is_short partition) → ReplicaInRange (first_replica partition)
 first_in_range partition h = record { partition = h; promised = refl; at = refl; log = empty_log; collected = empty_log }
 
-pub first_seat_in_range : (partition : ℕ) → IsTrue (is_short partition) → SeatInRange (first_seat partition)
-first_seat_in_range partition h = record { replica = first_in_range partition h; taking = tt; lead = tt }
+pub first_state_in_range : (partition : ℕ) → IsTrue (is_short partition) → ReplicaStateInRange (first_state partition)
+first_state_in_range partition h = record { replica = first_in_range partition h; catch_up = tt; progress = tt }
 
 -- Replicas after a record.
 
@@ -81,11 +81,11 @@ after_all_in_range rs [] h k = h
 after_all_in_range rs (r ∷ more) h k =
     after_all_in_range (replicas_after rs r) more (after_in_range rs r h (All-head KeptRecord r more k)) (All-tail KeptRecord r more k)
 
--- The seats.
+-- The replica states.
 
-pub seats_begun_in_range : (records : List Record) → All KeptRecord records → SeatsInRange (seats_begun records)
-seats_begun_in_range records k =
+pub states_begun_in_range : (records : List Record) → All KeptRecord records → ReplicaStatesInRange (states_begun records)
+states_begun_in_range records k =
     let rs : Replicas = without_collected (replicas_after_all [] records) in
-    All-map (λ e. SeatInRange e.1) (λ e. (e.0, seated (first_seat e.0) e.1)) rs
-    (All-weaker (λ e. ReplicaInRange e.1) (λ e. SeatInRange (seated (first_seat e.0) e.1)) (λ e f. record { replica = f; taking = tt; lead = tt }) rs
+    All-map (λ e. ReplicaStateInRange e.1) (λ e. (e.0, replica_put (first_state e.0) e.1)) rs
+    (All-weaker (λ e. ReplicaInRange e.1) (λ e. ReplicaStateInRange (replica_put (first_state e.0) e.1)) (λ e f. record { replica = f; catch_up = tt; progress = tt }) rs
     (without_in_range (replicas_after_all [] records) (after_all_in_range [] records (All-nil (λ e. ReplicaInRange e.1)) k)))

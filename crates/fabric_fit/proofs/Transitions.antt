@@ -28,7 +28,7 @@ use Rattle.unit_rules.specs.Deeds.{Acted, still}
 use Rattle.unit_rules.specs.Manager.{reason_of}
 use Rattle.unit_rules.specs.Phases.{Choice, activate_ends, config_of, copy_ends, done_ends, prepare_ends, promise_ends, promised_with, swap_ends, vote_ends}
 use Rattle.unit_rules.specs.Polls.{arbiters_to, poll_of}
-use Rattle.unit_rules.specs.Reconfigs.{ActivatePhase, CopyPhase, Decide, DonePhase, Finished, Phase0, Phase1, Phase2, Phase3, Phase4, Prepare, PreparePhase, PromisePhase, Reconfig, Refused, Source, Stay, Step, Superseded, SwapPhase, VotePhase, task_of}
+use Rattle.unit_rules.specs.Reconfigs.{ActivatePhase, CopyPhase, Decide, DonePhase, Finished, Phase0, Phase1, Phase2, Phase3, Phase4, Prepare, PreparePhase, PromisePhase, Reconfig, Refused, OriginLog, Stay, Step, Superseded, SwapPhase, VotePhase, task_of}
 use Rattle.unit_rules.specs.Transitions.{activates, after_activate, after_copy, after_done, after_prepare, after_promise, after_swap, after_vote, answer_received, answered_by, asks_promises, begun, carried, copies, create_placed, enters, first_of, goes_on, heal_placed, is_refused, lose_begun, prepared_as, proposes, source_by, stays, stores, swap_begun}
 use Rattle.fabric_fit.specs.Deeds.{ActedInRange}
 use Rattle.fabric_fit.specs.Managers.{ActivateInRange, CopyInRange, DoneInRange, PrepareInRange, PromiseInRange, ReconfigInRange, SourceInRange, SwapInRange, TaskInRange, VoteInRange, are_members, is_kind, is_arbitrator, is_standing, is_told}
@@ -72,7 +72,7 @@ module _ (t : Task) (fine : TaskInRange t) where
   pub epoch_fits : IsTrue (is_epoch t.epoch)
   epoch_fits = (and_parts (is_short t.partition) (is_epoch t.epoch) fine.unit).1
 
-  proposed : (config : Config) (source : Source) → IsTrue (is_config config) → SourceInRange source → StepActs (proposes t config source)
+  proposed : (config : Config) (source : OriginLog) → IsTrue (is_config config) → SourceInRange source → StepActs (proposes t config source)
   proposed config source h k =
       let p : VotePhase = record { task = t; config = config; source = source; votes = no_votes t.arbitrators } in
       entered (Decide p)
@@ -141,13 +141,13 @@ module _ (t : Task) (fine : TaskInRange t) where
 
   -- After the votes.
 
-  source_in_range : (kind : Kind) (config : Config) (source : Source) → IsTrue (is_config config) → SourceInRange source → SourceInRange (source_by kind config source)
+  source_in_range : (kind : Kind) (config : Config) (source : OriginLog) → IsTrue (is_config config) → SourceInRange source → SourceInRange (source_by kind config source)
   source_in_range (Create count) config source h k =
       let parts = config_parts config h in
       record { origin = member_node config.primary config.members parts.members parts.primary; last = refl }
   source_in_range kind config source h k = k
 
-  copied : (config : Config) (source : Source) → IsTrue (is_config config) → SourceInRange source → StepActs (copies t config source)
+  copied : (config : Config) (source : OriginLog) → IsTrue (is_config config) → SourceInRange source → StepActs (copies t config source)
   copied config source h k =
       let nodes = members_nodes config.members (config_parts config h).members in
       entered (Phase2 (record { task = t; config = config; source = source; poll = poll_of config.members }))

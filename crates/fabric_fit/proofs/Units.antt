@@ -17,7 +17,7 @@ use Rattle.fabric_fit.proofs.Answers.{question_in_format}
 use Rattle.fabric_fit.proofs.Deeds.{did_in_format}
 use Rattle.fabric_fit.proofs.Ranges.{after_in_range}
 use Rattle.fabric_fit.proofs.Rows.{step_in_range}
-use Rattle.fabric_fit.proofs.Starts.{seats_begun_in_range}
+use Rattle.fabric_fit.proofs.Starts.{states_begun_in_range}
 
 -- no unit is known at the start
 pub none_known : UnitsInRange []
@@ -37,7 +37,7 @@ units_send = record {
   above_begun = λ c me records sound h kept.
       record {
         managed = record { units = none_known; reconfigs = All-nil (λ e. ReconfigInRange e.1) };
-        seats = seats_begun_in_range records kept;
+        states = states_begun_in_range records kept;
       };
   above_step = λ c now r s i sound reads h above fits.
       did_in_format FailoverInRange (failover_step (site_of c r.me.actor) now r s i) (step_in_range s above c sound now r i fits);

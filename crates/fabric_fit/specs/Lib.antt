@@ -1,7 +1,7 @@
 pub mod Records
 pub mod Registers
 pub mod Deeds
-pub mod Seats
+pub mod ReplicaStates
 pub mod Managers
 pub mod Failovers
 pub mod Steps

@@ -13,7 +13,7 @@ use Rattle.unit_rules.specs.declared.reconfig.Task.{Task}
 use Rattle.unit_rules.specs.Choices.{is_among}
 use Rattle.unit_rules.specs.Manager.{Managed}
 use Rattle.unit_rules.specs.Polls.{Poll}
-use Rattle.unit_rules.specs.Reconfigs.{ActivatePhase, CopyPhase, Decide, DonePhase, Phase0, Phase1, Phase2, Phase3, Phase4, Prepare, PreparePhase, PromisePhase, Reconfig, Source, SwapPhase, VotePhase}
+use Rattle.unit_rules.specs.Reconfigs.{ActivatePhase, CopyPhase, Decide, DonePhase, Phase0, Phase1, Phase2, Phase3, Phase4, Prepare, PreparePhase, PromisePhase, Reconfig, OriginLog, SwapPhase, VotePhase}
 
 -- What is known of a partition.
 
@@ -69,7 +69,7 @@ is_told x = true
 abbrev pub are_members : List ℕ → Bool
 are_members nodes = nat_le (length nodes) 7 && rises_above 0 nodes
 
-pub record SourceInRange (s : Source) : Type 0 where
+pub record SourceInRange (s : OriginLog) : Type 0 where
   pub origin : IsTrue (is_node s.origin)
   pub last : IsTrue (is_last s.last)
 

@@ -1,5 +1,6 @@
-ghost use Rattle.fabric_above.specs.Fabric.{fabric};
-ghost use Rattle.fabric_fit.specs.Steps.{ArbitersBeginInFormat, ArbitersStayInFormat, NodesBeginInFormat, NodesStayInFormat};
+ghost use Rattle.unit_rules.specs.Fabric.{fabric};
+ghost use Rattle.fabric_fit.specs.Steps.{ArbitersBeginInFormat, ArbitersStayInFormat, NodesBeginInFormat};
+ghost use Rattle.fabric_fit.specs.Steps.{NodesStayInFormat};
 ghost use Rattle.frames_fit.specs.Laws.{FramesAreInFormat, ReportsAreInRange};
 
 /// Every frame of a valid schedule, whose events are in their ranges, is in the ranges of frames.

@@ -1,4 +1,3 @@
-// The last text of a command.
 ghost use Rattle.fabric_status.specs.Writes.{Wrote};
 
 use crate::status::Status;

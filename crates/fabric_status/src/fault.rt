@@ -1,5 +1,4 @@
-// The last line at a status.
-ghost use Rattle.std.specs.Prelude.{◌≡◌, ◌++◌, ◌∷◌, [], decimal, codes, OnOk};
+ghost use Rattle.std.specs.Prelude.{◌≡◌, ◌++◌, codes, OnOk};
 ghost use Rattle.fabric_status.specs.Faults.{fault_line};
 ghost use Rattle.text_fields.specs.Texts.{Keeps};
 

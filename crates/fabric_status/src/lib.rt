@@ -2,8 +2,8 @@
 //!
 //! Every command ends with one of these statuses, and all but four write a last line that says which, so that who reads
 //! the output alone knows too. The crate decides nothing; it stands on the errors of configurations and on the devices'
-//! traits. It promises one code and one line a status, and that what a sink has more at the end is that line, or a front
-//! of it where the sink wants memory or fails.
+//! traits. It promises one code and one line a status, and that what a sink has more at the end is that line, or a
+//! front of it where the sink wants memory or fails.
 #![tactic(auto)]
 
 mod ends;

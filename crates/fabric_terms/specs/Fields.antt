@@ -1,6 +1,8 @@
 -- The values that a field of a frame can have.
 use Rattle.std.specs.Prelude.{ℕ, Bool, true, false, ◌&&◌, ◌||◌, List, [], ◌∷◌, length, nat_le, nat_lt, ◌==◌, Option, Some, None}
 use Rattle.std.specs.List.{list_any}
+use Rattle.ring_points.specs.Limits.{least_lease, most_hops, most_lease, most_log_entries, most_members}
+use Rattle.ring_points.specs.Limits.{most_node_number, most_reading, most_rounds, most_write}
 use Rattle.ring_points.specs.declared.who.Who.{Who}
 use Rattle.ring_points.specs.declared.unit.Epoch.{Epoch}
 use Rattle.ring_points.specs.declared.unit.Config.{Config}
@@ -30,24 +32,24 @@ is_session mine yours = is_counted mine && is_counted yours
 
 -- a reading of a clock
 abbrev pub is_stamp : ℕ → Bool
-is_stamp n = nat_le n 1000000000000000
+is_stamp n = nat_le n most_reading
 
 -- the length of a lease
 abbrev pub is_lease : ℕ → Bool
-is_lease n = is_within 10 1000000000 n
+is_lease n = is_within least_lease most_lease n
 
 -- the number of the last entry of a log
 abbrev pub is_last : ℕ → Bool
-is_last n = nat_le n 100000
+is_last n = nat_le n most_log_entries
 
 abbrev pub is_hops : ℕ → Bool
-is_hops n = nat_le n 64
+is_hops n = nat_le n most_hops
 
 abbrev pub is_round : ℕ → Bool
-is_round n = is_within 1 8 n
+is_round n = is_within 1 most_rounds n
 
 abbrev pub is_node : ℕ → Bool
-is_node n = is_within 1 999 n
+is_node n = is_within 1 most_node_number n
 
 -- an instance of a node
 abbrev pub is_who : Who → Bool
@@ -82,15 +84,15 @@ is_unit partition epoch = is_short partition && is_epoch epoch
 -- nodes above one, each above the one before
 abbrev pub rises_above : ℕ → List ℕ → Bool
 rises_above below [] = true
-rises_above below (n ∷ ns) = nat_lt below n && nat_le n 999 && rises_above n ns
+rises_above below (n ∷ ns) = nat_lt below n && nat_le n most_node_number && rises_above n ns
 
 -- nodes, rising, and the primary among them
 abbrev pub has_members : Config → Bool
 has_members c = rises_above 0 c.members && list_any (λ n. n == c.primary) c.members
 
--- a configuration, with at most 7 members
+-- a configuration, with no more members than it may have
 abbrev pub is_config : Config → Bool
-is_config c = (is_unit c.partition c.epoch && is_short c.primary && nat_le (length c.members) 7) && has_members c
+is_config c = (is_unit c.partition c.epoch && is_short c.primary && nat_le (length c.members) most_members) && has_members c
 
 -- a configuration of this partition and epoch
 abbrev pub same_unit : ℕ → Epoch → Config → Bool
@@ -101,6 +103,6 @@ abbrev pub is_done : Option Config → Bool
 is_done None = true
 is_done (Some c) = is_config c
 
--- at most 512 bytes
+-- the bytes of a write
 abbrev pub is_payload : List ℕ → Bool
-is_payload text = nat_le (length text) 512
+is_payload text = nat_le (length text) most_write

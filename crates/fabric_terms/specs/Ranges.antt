@@ -1,5 +1,8 @@
 -- The ranges of what schedules are made of: numbers, points, texts, commands and events.
 use Rattle.std.specs.Prelude.{◌⊎◌, ◌≡◌, ◌≢◌, ℕ, ◌≤◌, ◌<◌, ◌^◌, List, length, Option, Some, None, All, IsTrue}
+use Rattle.ring_points.specs.Limits.{least_lease, most_arbiters, most_frame, most_lease, most_listed_names}
+use Rattle.ring_points.specs.Limits.{most_members, most_name, most_name_value, most_node_number, most_nodes}
+use Rattle.ring_points.specs.Limits.{most_reading, most_write}
 use Rattle.ring_points.specs.declared.interval.Interval.{Interval}
 use Rattle.ring_points.specs.declared.unit.Epoch.{Epoch}
 use Rattle.ring_points.specs.declared.who.Who.{Who}
@@ -17,16 +20,16 @@ use Rattle.fabric_terms.specs.declared.report.Report.TheVariants as report
 
 -- no number of a line is above this
 abbrev pub most : ℕ
-most = 10 ^ 15
+most = most_reading
 
 abbrev pub IsNumber : ℕ → Type 0
 IsNumber n = n ≤ most
 
 abbrev pub IsNode : ℕ → Type 0
-IsNode n = (1 ≤ n) × (n ≤ 999)
+IsNode n = (1 ≤ n) × (n ≤ most_node_number)
 
 abbrev pub IsArbiter : ℕ → Type 0
-IsArbiter a = (arbiter_actor 1 ≤ a) × (a ≤ arbiter_actor 9)
+IsArbiter a = (arbiter_actor 1 ≤ a) × (a ≤ arbiter_actor most_arbiters)
 
 abbrev pub IsActor : ℕ → Type 0
 IsActor a = IsNode a ⊎ IsArbiter a
@@ -41,20 +44,20 @@ abbrev pub IsPartition : ℕ → Type 0
 IsPartition p = p ≤ 65535
 
 abbrev pub IsMembers : ℕ → Type 0
-IsMembers c = (1 ≤ c) × (c ≤ 7)
+IsMembers c = (1 ≤ c) × (c ≤ most_members)
 
 abbrev pub IsLease : ℕ → Type 0
-IsLease ticks = (10 ≤ ticks) × (ticks ≤ 1000000000)
+IsLease ticks = (least_lease ≤ ticks) × (ticks ≤ most_lease)
 
 abbrev pub IsText : List ℕ → Type 0
-IsText text = (1 ≤ length text) × (length text ≤ 512) × All (λ b. (32 ≤ b) × (b ≤ 126)) text
+IsText text = (1 ≤ length text) × (length text ≤ most_write) × All (λ b. (32 ≤ b) × (b ≤ 126)) text
 
 -- a visible sign, but for the comma
 abbrev pub IsNameByte : ℕ → Type 0
 IsNameByte b = (33 ≤ b) × (b ≤ 126) × (b ≢ 44)
 
 abbrev pub IsName : List ℕ → Type 0
-IsName name = (1 ≤ length name) × (length name ≤ 64) × All IsNameByte name
+IsName name = (1 ≤ length name) × (length name ≤ most_name) × All IsNameByte name
 
 abbrev pub IsSpan : Interval → Type 0
 IsSpan i = IsPoint i.lo × IsPoint i.hi × (i.lo ≤ i.hi)
@@ -81,10 +84,10 @@ abbrev pub IsReading : ℕ × ℕ → Type 0
 IsReading r = IsNode r.0 × IsNumber r.1
 
 abbrev pub AreReadings : List (ℕ × ℕ) → Type 0
-AreReadings readings = (length readings ≤ 64) × All IsReading readings
+AreReadings readings = (length readings ≤ most_nodes) × All IsReading readings
 
 abbrev pub IsJunk : List ℕ → Type 0
-IsJunk bytes = (1 ≤ length bytes) × (length bytes ≤ 1200) × All IsByte bytes
+IsJunk bytes = (1 ≤ length bytes) × (length bytes ≤ most_frame) × All IsByte bytes
 
 -- the numbers, texts and lists of an event are in their ranges
 abbrev pub Fits : Event → Type 0
@@ -125,7 +128,7 @@ AreRanges ranges = IsTrue (is_proper ranges)
 
 -- what a name stands for
 abbrev pub IsNameValue : List ℕ → Type 0
-IsNameValue value = (1 ≤ length value) × (length value ≤ 400) × All (λ b. (32 ≤ b) × (b ≤ 126)) value
+IsNameValue value = (1 ≤ length value) × (length value ≤ most_name_value) × All (λ b. (32 ≤ b) × (b ≤ 126)) value
 
 abbrev pub FitsReason : Reason → Type 0
 FitsReason (TooFew n) = IsByte n
@@ -155,7 +158,7 @@ FitsReport (report.Superseded partition epoch) = IsPartition partition × IsEpoc
 FitsReport (report.UnitList partitions) = All IsPartition partitions
 FitsReport (report.Resolved partition name value) = IsPartition partition × IsName name × IsNameValue value
 FitsReport (report.Unresolved partition name) = IsPartition partition × IsName name
-FitsReport (report.NameList partition names) = IsPartition partition × (length names ≤ 64) × All IsName names
+FitsReport (report.NameList partition names) = IsPartition partition × (length names ≤ most_listed_names) × All IsName names
 FitsReport (report.Refused command reason) = FitsReason reason
 
 -- the reading of a node's clock; an arbitrator has none

@@ -1,22 +1,24 @@
 ghost use Rattle.std.specs.Prelude.{◌≡◌, ◌≤◌, ◌<◌, ◌∷◌, ◌++◌, [], length};
 
 use arrayvec::ArrayVec;
+use ring_points::MAX_WRITE;
 use std::marker::Model;
 
 /// The bytes of a write: at most 512, in the value itself. Contracts see them as their list.
 #[derive(Drop)]
 pub struct Payload {
-    bytes: ArrayVec<u8, 512>,
+    bytes: ArrayVec<u8, MAX_WRITE>,
 }
 
 impl Model for Payload {
     ghost use Rattle.std.specs.Prelude.{◌≤◌, List, ℕ, length};
+    ghost use Rattle.ring_points.specs.Limits.{most_write};
 
     ghost Value = { List ℕ };
 
     ghost view = { λ a. a.bytes.items };
 
-    ghost invariant = { λ a. length a.bytes.items ≤ 512 };
+    ghost invariant = { λ a. length a.bytes.items ≤ most_write };
 }
 
 impl Payload {
@@ -31,7 +33,7 @@ impl Payload {
 
     /// A copy of these bytes.
     pub fn from_slice(bytes: &[u8]) -> Self
-        requires { length bytes.now ≤ 512 }
+        requires { length bytes.now ≤ MAX_WRITE }
         ensures { result ≡ bytes.now }
     {
         let mut copy = ArrayVec::new();
@@ -50,14 +52,14 @@ impl Payload {
 
     pub fn as_slice(&self) -> &[u8]
         ensures bytes { result.now ≡ self.now }
-        ensures short { length result.now ≤ 512 }
+        ensures short { length result.now ≤ MAX_WRITE }
     {
         self.bytes.as_slice()
     }
 
     /// Adds a byte at the end.
     pub fn push(&mut self, byte: u8)
-        requires { length self.old < 512 }
+        requires { length self.old < MAX_WRITE }
         ensures { self.new ≡ self.old ++ byte ∷ [] }
     {
         self.bytes.push(byte);

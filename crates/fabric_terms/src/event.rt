@@ -2,6 +2,7 @@ ghost use Rattle.std.specs.Prelude.{◌≡◌, ◌≤◌, ◌<◌, ◌∷◌, �
 
 use crate::command::Command;
 use arrayvec::ArrayVec;
+use ring_points::{FRAME_LIMIT, MAX_NODES};
 use std::marker::Model;
 
 /// What a schedule makes happen.
@@ -26,17 +27,18 @@ pub enum Event {
 /// Up to 64 nodes, each with the reading of its clock. Contracts see them as their list.
 #[derive(Drop)]
 pub struct Readings {
-    pairs: ArrayVec<(u16, u64), 64>,
+    pairs: ArrayVec<(u16, u64), MAX_NODES>,
 }
 
 impl Model for Readings {
     ghost use Rattle.std.specs.Prelude.{◌≤◌, List, ℕ, length};
+    ghost use Rattle.ring_points.specs.Limits.{most_nodes};
 
     ghost Value = { List (ℕ × ℕ) };
 
     ghost view = { λ a. a.pairs.items };
 
-    ghost invariant = { λ a. length a.pairs.items ≤ 64 };
+    ghost invariant = { λ a. length a.pairs.items ≤ most_nodes };
 }
 
 impl Readings {
@@ -57,7 +59,7 @@ impl Readings {
 
     /// Adds a node's reading at the end.
     pub fn push(&mut self, node: u16, reading: u64)
-        requires { length self.old < 64 }
+        requires { length self.old < MAX_NODES }
         ensures { self.new ≡ self.old ++ (node, reading) ∷ [] }
     {
         self.pairs.push((node, reading));
@@ -67,17 +69,18 @@ impl Readings {
 /// Up to 1,200 bytes. Contracts see them as their list.
 #[derive(Drop)]
 pub struct JunkBytes {
-    bytes: ArrayVec<u8, 1200>,
+    bytes: ArrayVec<u8, FRAME_LIMIT>,
 }
 
 impl Model for JunkBytes {
     ghost use Rattle.std.specs.Prelude.{◌≤◌, List, ℕ, length};
+    ghost use Rattle.ring_points.specs.Limits.{most_frame};
 
     ghost Value = { List ℕ };
 
     ghost view = { λ a. a.bytes.items };
 
-    ghost invariant = { λ a. length a.bytes.items ≤ 1200 };
+    ghost invariant = { λ a. length a.bytes.items ≤ most_frame };
 }
 
 impl JunkBytes {
@@ -98,7 +101,7 @@ impl JunkBytes {
 
     /// Adds a byte at the end.
     pub fn push(&mut self, byte: u8)
-        requires { length self.old < 1200 }
+        requires { length self.old < FRAME_LIMIT }
         ensures { self.new ≡ self.old ++ byte ∷ [] }
     {
         self.bytes.push(byte);

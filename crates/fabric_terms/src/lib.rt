@@ -9,6 +9,7 @@
 mod bytes;
 mod command;
 mod config;
+mod copy;
 mod event;
 mod memory;
 mod message;
@@ -19,11 +20,12 @@ mod report;
 
 pub use bytes::Payload;
 pub use command::Command;
+pub use copy::copy_of;
 pub use config::{Address, Arbiters, FabricConfig, NodeEntry, Nodes};
 pub use event::{Event, JunkBytes, Readings};
 pub use memory::OutOfMemory;
 pub use message::{Body, Message};
 pub use names::{NameText, NameTexts, NameValue};
-pub use outbox::{OUTBOX_LIMIT, Outbox};
+pub use outbox::Outbox;
 pub use record::Record;
 pub use report::{Head, Partitions, Reason, Report, Verb, Why};

@@ -1,22 +1,24 @@
 ghost use Rattle.std.specs.Prelude.{◌≡◌, ◌≤◌, ◌<◌, ◌∷◌, ◌++◌, [], length};
 
 use arrayvec::ArrayVec;
+use ring_points::MAX_NAME;
 use std::marker::Model;
 
 /// A name of the name service: at most 64 bytes, in the value itself. Contracts see it as its list.
 #[derive(Drop)]
 pub struct NameText {
-    bytes: ArrayVec<u8, 64>,
+    bytes: ArrayVec<u8, MAX_NAME>,
 }
 
 impl Model for NameText {
     ghost use Rattle.std.specs.Prelude.{◌≤◌, List, ℕ, length};
+    ghost use Rattle.ring_points.specs.Limits.{most_name};
 
     ghost Value = { List ℕ };
 
     ghost view = { λ a. a.bytes.items };
 
-    ghost invariant = { λ a. length a.bytes.items ≤ 64 };
+    ghost invariant = { λ a. length a.bytes.items ≤ most_name };
 }
 
 impl NameText {
@@ -31,7 +33,7 @@ impl NameText {
 
     /// A name of these bytes.
     pub fn from_slice(bytes: &[u8]) -> Self
-        requires { length bytes.now ≤ 64 }
+        requires { length bytes.now ≤ MAX_NAME }
         ensures { result ≡ bytes.now }
     {
         let mut copy = ArrayVec::new();
@@ -50,14 +52,14 @@ impl NameText {
 
     pub fn as_slice(&self) -> &[u8]
         ensures bytes { result.now ≡ self.now }
-        ensures short { length result.now ≤ 64 }
+        ensures short { length result.now ≤ MAX_NAME }
     {
         self.bytes.as_slice()
     }
 
     /// Adds a byte at the end.
     pub fn push(&mut self, byte: u8)
-        requires { length self.old < 64 }
+        requires { length self.old < MAX_NAME }
         ensures { self.new ≡ self.old ++ byte ∷ [] }
     {
         self.bytes.push(byte);

@@ -3,14 +3,12 @@ ghost use Rattle.fabric_terms.specs.Sent.{from_all};
 
 use crate::message::{Body, Message};
 use arrayvec::ArrayVec;
-use ring_points::Who;
+use ring_points::{OUTBOX_LIMIT, Who};
 use std::marker::Model;
 use std::mem;
 
-/// How many messages an outbox holds.
-pub const OUTBOX_LIMIT: usize = 192;
-
-/// What one step sends, in its order, each with its addressee: at most `OUTBOX_LIMIT` messages. Contracts see them as their list.
+/// What one step sends, in its order, each with its addressee: at most `OUTBOX_LIMIT` messages. Contracts see them as
+/// their list.
 #[derive(Drop)]
 pub struct Outbox {
     messages: ArrayVec<(Who, Body), OUTBOX_LIMIT>,
@@ -20,12 +18,13 @@ impl Model for Outbox {
     ghost use Rattle.std.specs.Prelude.{◌≤◌, List, length};
     ghost use Rattle.ring_points.specs.declared.who.Who.{Who};
     ghost use Rattle.fabric_terms.specs.declared.message.Body.{Body};
+    ghost use Rattle.ring_points.specs.Limits.{most_messages};
 
     ghost Value = { List (Who × Body) };
 
     ghost view = { λ o. o.messages.items };
 
-    ghost invariant = { λ o. length o.messages.items ≤ 192 };
+    ghost invariant = { λ o. length o.messages.items ≤ most_messages };
 }
 
 impl Outbox {

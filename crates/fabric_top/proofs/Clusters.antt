@@ -1,32 +1,32 @@
 -- A cluster's run is safe, since its history is in the order of a cluster's plan.
 use Rattle.std.proofs.Common.{◌≡◌, ℕ, List, ◌∷◌, length, Result, Ok, Err, refl, inl, inr}
-use Rattle.cluster_plans.proofs.Clusters.{read_for_cluster}
+use Rattle.fabric_top.proofs.ClusterPlans.{read_for_cluster}
 use Rattle.cluster_safety.specs.Plans.{HoldsNothing}
 use Rattle.cluster_safety.proofs.Recalling.{nothing_recalled}
 use Rattle.cluster_safety.proofs.Safe.{cluster_is_safe_lem}
-use Rattle.crew_runs.specs.Causes.{IsCrewRun}
-use Rattle.crew_runs.specs.Runs.{RunsCrew, RunsJudged, Seen, failed, read, short}
+use Rattle.fabric_top.specs.CrewCauses.{IsCrewRun}
+use Rattle.fabric_top.specs.CrewRuns.{RunsCrew, RunsJudged, Seen, failed, read, short}
 use Rattle.fabric_status.specs.declared.status.Refusal.{Refusal}
 use Rattle.fabric_status.specs.declared.status.Status.{Status}
 use Rattle.fabric_terms.specs.declared.record.Record.{Record}
-use Rattle.outside.specs.Told.{Told}
+use Rattle.edge_io.specs.Told.{Told}
 use Rattle.turn_plans.specs.Plans.{judge_plan}
 use Rattle.turn_plans.specs.declared.crew.Crew.TheVariants as crew
 use Rattle.turn_rules.specs.Ends.{Broken, Stopped}
 use Rattle.turn_rules.specs.Happenings.{History}
-use Rattle.turn_rules.specs.Order.{IsInOrder, Place}
+use Rattle.turn_rules.specs.Order.{IsInOrder, TurnPosition}
 use Rattle.turn_rules.specs.Plans.{Plan}
 use Rattle.turn_rules.specs.Recalled.{Recalled}
 use Rattle.turn_rules.specs.Whole.{Ends, StoppedRun, setting, with_endpoints}
 use Rattle.turn_rules.specs.Works.{Work}
-use Rattle.turn_rules.specs.declared.stop.Stop.{Stop}
-use Rattle.turn_rules.specs.declared.stop.Stop.TheVariants as stop
+use Rattle.turn_rules.specs.declared.stop_cause.StopCause.{StopCause}
+use Rattle.turn_rules.specs.declared.stop_cause.StopCause.TheVariants as stop
 use Rattle.fabric_top.specs.Clusters.{IsSafeBroken, IsSafeCluster, IsSafeFor, IsSafeJudged, IsSafeRun, IsSafeStopped, IsSafeUntil, RunsCluster}
 
 module _ (turns : ℕ) (bytes : List ℕ) (plan : Plan) (judged : judge_plan crew.Cluster turns bytes ≡ Ok plan) (a : Told) (nothing : HoldsNothing plan.actors a) where
   -- from what was recalled, which is nothing
   module _ (kept : List (List Record)) (recalled : Recalled plan.actors a kept) (whole : length kept ≡ length plan.actors) where
-    safe_for : (h : History) (p : Place) → IsInOrder plan h p → IsSafeFor (setting plan kept) h
+    safe_for : (h : History) (p : TurnPosition) → IsInOrder plan h p → IsSafeFor (setting plan kept) h
     safe_for h p order = λ own.
         let is = read_for_cluster turns bytes plan judged in
         cluster_is_safe_lem (setting plan kept) h p is.0 is.1 (nothing_recalled plan a kept recalled whole nothing) order own
@@ -34,7 +34,7 @@ module _ (turns : ℕ) (bytes : List ℕ) (plan : Plan) (judged : judge_plan cre
     safe_broken : (b d : Told) (part : Work) (k : Broken (setting plan kept) b d part) → IsSafeBroken (setting plan kept) b d part k
     safe_broken b d part k = (safe_for k.before k.order.0 k.order.1.0, safe_for (k.last ∷ k.before) k.place k.order)
 
-    safe_stopped : (b d : Told) (stopped : Stop) (k : Stopped (setting plan kept) b d stopped) → IsSafeStopped (setting plan kept) b d stopped k
+    safe_stopped : (b d : Told) (stopped : StopCause) (k : Stopped (setting plan kept) b d stopped) → IsSafeStopped (setting plan kept) b d stopped k
     safe_stopped b d stop.OutOfMemory k = safe_broken b d k.0 k.1
     safe_stopped b d stop.WriteFault k = safe_broken b d k.0 k.1.0
     safe_stopped b d stop.KeepFault k = safe_broken b d k.0 k.1.0
@@ -44,10 +44,10 @@ module _ (turns : ℕ) (bytes : List ℕ) (plan : Plan) (judged : judge_plan cre
     safe_stopped b d stop.LinkFault k = tt
     safe_stopped b d (stop.BadKeep i) k = tt
 
-  safe_until : (d : Told) (stopped : Stop) (k : StoppedRun plan a d stopped) → IsSafeUntil plan a d stopped k
+  safe_until : (d : Told) (stopped : StopCause) (k : StoppedRun plan a d stopped) → IsSafeUntil plan a d stopped k
   safe_until d stopped k = safe_stopped k.0 k.1.0 k.1.1 (with_endpoints plan a) d stopped k.1.2
 
-  safe_run : (r : Result (Unit {0}) Stop) (d : Told) (k : Ends plan a r d) → IsSafeRun plan a r d k
+  safe_run : (r : Result (Unit {0}) StopCause) (d : Told) (k : Ends plan a r d) → IsSafeRun plan a r d k
   safe_run (Ok done) d k = safe_for k.0 k.1.0 k.1.1 k.1.2.history _ k.1.2.order
   safe_run (Err stop.OutOfMemory) d (inl recalled) = tt
   safe_run (Err stop.OutOfMemory) d (inr (inl opening)) = tt

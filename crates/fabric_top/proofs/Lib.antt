@@ -3,3 +3,9 @@ pub mod Audited
 pub mod Clusters
 pub mod Generated
 pub mod NoMemory
+pub mod Splits
+pub mod Values
+pub mod CrewCauses
+mod ClusterActors
+mod ClusterOrders
+pub mod ClusterPlans

@@ -1,9 +1,9 @@
 -- Where memory is out before a command begins, no device is used, and each command may end so.
 use Rattle.std.proofs.Common.{◌≢◌, ℕ, Option, Some, None, inl, inr, refl}
-use Rattle.command_words.specs.declared.form.Form.{Form}
-use Rattle.command_words.specs.declared.form.Form.TheVariants as form
-use Rattle.crew_runs.specs.Causes.{IsCrewRun}
-use Rattle.crew_runs.specs.Runs.{Seen, short}
+use Rattle.fabric_top.specs.declared.form.Form.{Form}
+use Rattle.fabric_top.specs.declared.form.Form.TheVariants as form
+use Rattle.fabric_top.specs.CrewCauses.{IsCrewRun}
+use Rattle.fabric_top.specs.CrewRuns.{Seen, short}
 use Rattle.fabric_status.specs.declared.status.Status.TheVariants as status
 use Rattle.schedule_generate.proofs.Closing.{nothing_sent}
 use Rattle.schedule_generate.specs.Texts.{Writing, drill_writing, generate_writing}

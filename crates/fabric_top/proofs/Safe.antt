@@ -10,7 +10,7 @@ use Rattle.std.proofs.lemmas.List.Elements.{All-contains, All-nil}
 use Rattle.fabric_terms.specs.Reports.{told}
 use Rattle.ring_points.specs.declared.unit.Epoch.{Epoch}
 use Rattle.ring_points.specs.declared.who.Who.{Who}
-use Rattle.fabric_above.specs.Fabric.{fabric_stays, fabric}
+use Rattle.unit_rules.specs.Fabric.{fabric_stays, fabric}
 use Rattle.ring_safety.proofs.Safe.{answers_exclude_lem, one_heir_lem, places_are_kept_lem}
 use Rattle.epoch_safety.specs.Laws.{OverValidRuns}
 use Rattle.epoch_safety.proofs.Answers.{valid_drop}

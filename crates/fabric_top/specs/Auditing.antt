@@ -1,6 +1,6 @@
 -- What `audit` does.
 use Rattle.std.specs.Prelude.{◌≡◌, ◌≢◌, ℕ, List, [], Option, Some, Ok}
-use Rattle.crew_runs.specs.Runs.{Seen}
+use Rattle.fabric_top.specs.CrewRuns.{Seen}
 use Rattle.edge_io.specs.Edge.{HasRisen}
 use Rattle.fabric_status.specs.declared.status.Status.{Status}
 use Rattle.fabric_status.specs.declared.status.Status.TheVariants as status

@@ -1,14 +1,14 @@
 -- What `cluster` does: the run of all actors in one process, whose steps are safe.
 use mathlib.Core.Logic.{inl, inr}
-use Rattle.std.specs.Prelude.{ℕ, List, ◌∷◌, Result, Ok, Err}
+use Rattle.std.specs.Prelude.{ℕ, ◌∷◌, Result, Ok, Err}
 use Rattle.cluster_safety.specs.Moments.{moments_of}
 use Rattle.cluster_safety.specs.Plans.{HoldsNothing, OwnFrames}
-use Rattle.crew_runs.specs.Causes.{IsCrewRun}
-use Rattle.crew_runs.specs.Runs.{RunsCrew, RunsJudged, Seen, failed, read, short}
+use Rattle.fabric_top.specs.CrewCauses.{IsCrewRun}
+use Rattle.fabric_top.specs.CrewRuns.{RunsCrew, RunsJudged, Seen, failed, read, short}
 use Rattle.fabric_status.specs.declared.status.Refusal.{Refusal}
 use Rattle.fabric_status.specs.declared.status.Status.{Status}
 use Rattle.fabric_terms.specs.Primaries.{Safe}
-use Rattle.outside.specs.Told.{Told}
+use Rattle.edge_io.specs.Told.{Told}
 use Rattle.turn_plans.specs.Plans.{judge_plan}
 use Rattle.turn_plans.specs.declared.crew.Crew.TheVariants as crew
 use Rattle.turn_rules.specs.Ends.{Broken, Stopped}
@@ -17,8 +17,8 @@ use Rattle.turn_rules.specs.Plans.{Plan, Setting}
 use Rattle.turn_rules.specs.Process.{after}
 use Rattle.turn_rules.specs.Whole.{Ends, StoppedRun, setting, with_endpoints}
 use Rattle.turn_rules.specs.Works.{Work}
-use Rattle.turn_rules.specs.declared.stop.Stop.{Stop}
-use Rattle.turn_rules.specs.declared.stop.Stop.TheVariants as stop
+use Rattle.turn_rules.specs.declared.stop_cause.StopCause.{StopCause}
+use Rattle.turn_rules.specs.declared.stop_cause.StopCause.TheVariants as stop
 
 -- The steps of what has come are the moments of a safe run, where each datagram that was taken is no frame or equals one that
 -- was sent before. The clock's reading is the true time, and the reading of every running node.
@@ -29,7 +29,7 @@ IsSafeFor s h = OwnFrames s h → Safe (moments_of (after s h).steps)
 abbrev pub IsSafeBroken : (s : Setting) (a b : Told) (part : Work) → Broken s a b part → Type 0
 IsSafeBroken s a b part k = IsSafeFor s k.before × IsSafeFor s (k.last ∷ k.before)
 
-abbrev pub IsSafeStopped : (s : Setting) (a b : Told) (stopped : Stop) → Stopped s a b stopped → Type 0
+abbrev pub IsSafeStopped : (s : Setting) (a b : Told) (stopped : StopCause) → Stopped s a b stopped → Type 0
 IsSafeStopped s a b stop.OutOfMemory k = IsSafeBroken s a b k.0 k.1
 IsSafeStopped s a b stop.WriteFault k = IsSafeBroken s a b k.0 k.1.0
 IsSafeStopped s a b stop.KeepFault k = IsSafeBroken s a b k.0 k.1.0
@@ -39,11 +39,11 @@ IsSafeStopped s a b stop.TableFull k = IsSafeFor s k.history
 IsSafeStopped s a b stop.LinkFault k = Unit {0}
 IsSafeStopped s a b (stop.BadKeep i) k = Unit {0}
 
-abbrev pub IsSafeUntil : (plan : Plan) (a b : Told) (stopped : Stop) → StoppedRun plan a b stopped → Type 0
+abbrev pub IsSafeUntil : (plan : Plan) (a b : Told) (stopped : StopCause) → StoppedRun plan a b stopped → Type 0
 IsSafeUntil plan a b stopped k = IsSafeStopped (setting plan k.0) (with_endpoints plan a) b stopped k.1.2
 
 -- the steps that a run tells of, however it ends; some ends come before the first step
-abbrev pub IsSafeRun : (plan : Plan) (a : Told) (r : Result (Unit {0}) Stop) (b : Told) → Ends plan a r b → Type 0
+abbrev pub IsSafeRun : (plan : Plan) (a : Told) (r : Result (Unit {0}) StopCause) (b : Told) → Ends plan a r b → Type 0
 IsSafeRun plan a (Ok done) b k = IsSafeFor (setting plan k.0) k.1.2.history
 IsSafeRun plan a (Err stop.OutOfMemory) b (inl recalled) = Unit {0}
 IsSafeRun plan a (Err stop.OutOfMemory) b (inr (inl opening)) = Unit {0}

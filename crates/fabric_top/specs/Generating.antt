@@ -1,6 +1,6 @@
 -- What `generate` and `drill` do.
 use Rattle.std.specs.Prelude.{◌≡◌, ◌≢◌, ℕ, List, Option}
-use Rattle.crew_runs.specs.Runs.{Seen}
+use Rattle.fabric_top.specs.CrewRuns.{Seen}
 use Rattle.fabric_status.specs.Writes.{Wrote}
 use Rattle.fabric_status.specs.declared.status.Status.{Status}
 use Rattle.fabric_status.specs.declared.status.Status.TheVariants as status

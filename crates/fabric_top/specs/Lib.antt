@@ -7,3 +7,8 @@ pub mod Writing
 pub mod Generating
 pub mod Clusters
 pub mod Top
+pub mod Forms
+pub mod Splits
+pub mod CrewRuns
+pub mod CrewCauses
+pub mod ClusterPlans

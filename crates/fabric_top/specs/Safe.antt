@@ -1,6 +1,6 @@
 -- What is promised of the run of a schedule.
 use Rattle.std.specs.Prelude.{ℕ, drop, Option, Some, None}
-use Rattle.fabric_above.specs.Fabric.{fabric}
+use Rattle.unit_rules.specs.Fabric.{fabric}
 use Rattle.fabric_terms.specs.Places.{PlaceKept}
 use Rattle.fabric_terms.specs.Primaries.{NoOlder, OnePrimary}
 use Rattle.fabric_terms.specs.Runs.{Run, RingSafe}

@@ -1,9 +1,9 @@
 -- What the top call does.
 use Rattle.std.specs.Prelude.{Option, Some, None}
-use Rattle.command_words.specs.declared.form.Form.{Form}
-use Rattle.command_words.specs.declared.form.Form.TheVariants as form
-use Rattle.crew_runs.specs.Causes.{IsCrewRun}
-use Rattle.crew_runs.specs.Runs.{Seen}
+use Rattle.fabric_top.specs.declared.form.Form.{Form}
+use Rattle.fabric_top.specs.declared.form.Form.TheVariants as form
+use Rattle.fabric_top.specs.CrewCauses.{IsCrewRun}
+use Rattle.fabric_top.specs.CrewRuns.{Seen}
 use Rattle.fabric_status.specs.declared.status.Status.{Status}
 use Rattle.schedule_generate.specs.Texts.{drill_writing, generate_writing}
 use Rattle.turn_plans.specs.declared.crew.Crew.TheVariants as crew

@@ -1,6 +1,6 @@
 -- What is done where the words are none of the forms.
 use Rattle.std.specs.Prelude.{◌⊎◌, ℕ, List, Option}
-use Rattle.crew_runs.specs.Runs.{Seen}
+use Rattle.fabric_top.specs.CrewRuns.{Seen}
 use Rattle.edge_io.specs.Edge.{Grew, GrewByFront, HasRisen}
 use Rattle.fabric_status.specs.Faults.{fault_line}
 use Rattle.fabric_status.specs.declared.status.Status.{Status}

@@ -1,18 +1,17 @@
-// The command of a form.
-ghost use Rattle.std.specs.Prelude.{◌≡◌, ◌≢◌, Some};
-ghost use Rattle.command_words.specs.Forms.{FitsForm};
+ghost use Rattle.std.specs.Prelude.{◌≢◌, Some};
+ghost use Rattle.fabric_top.specs.Forms.{FitsForm};
 ghost use Rattle.fabric_top.specs.Top.{Does};
-ghost use Rattle.outside.specs.Told.{Loans};
+ghost use Rattle.edge_io.specs.Told.{Loans};
 ghost use Rattle.turn_rules.specs.Whole.{told_of};
 
-use crate::audits::audit_source;
-use crate::crews::run_actors;
-use crate::generates::{drill_schedule, generate_schedule};
-use crate::replays::replay_source;
-use crate::traces::trace_source;
-use crate::writes::writes_source;
-use command_words::Form;
-use crew_runs::Crew;
+use crate::audit_command::audit_source;
+use crate::actors_command::run_actors;
+use crate::generate_command::{drill_schedule, generate_schedule};
+use crate::replay_command::replay_source;
+use crate::trace_command::trace_source;
+use crate::writes_command::writes_source;
+use crate::form::Form;
+use turn_plans::Crew;
 use edge_io::{Clock, Keeper, Links, Sink, Source};
 use fabric_status::Status;
 use std::alloc::Global;

@@ -1,23 +1,32 @@
 //! The program's top call: the words say which command runs, and each command is one call below.
 //!
-//! It stands on the words, on the commands and on the devices' traits. Its promise is the promise of the program: what is
-//! written is the report of the run that the rules define, each status comes exactly where the words and the bytes say so,
-//! and the run of a schedule is safe: no two nodes ever hold one point of the ring, who is taken over holds nothing any
-//! more, and every point stays where it is told to be; a partition has at most one primary in an epoch, no node accepts a
-//! write of an older epoch than one that it promised, committed writes stay, and answers about names rest on them. Of the
-//! steps of a cluster in one process, from empty records, where it hears its own frames alone, it promises that no two nodes
-//! hold one point, that who is taken over holds nothing any more, and the same of primaries and of older writes.
+//! It stands on the words, on the commands and on the devices' traits. Its promise is the promise of the program: what
+//! is written is the report of the run that the rules define, each status comes exactly where the words and the bytes
+//! say so, and the run of a schedule is safe: no two nodes ever hold one point of the ring, who is taken over holds
+//! nothing any more, and every point stays where it is told to be; a partition has at most one primary in an epoch, no
+//! node accepts a write of an older epoch than one that it promised, committed writes stay, and answers about names
+//! rest on them. Of the steps of a cluster in one process, from empty records, where it hears its own frames alone, it
+//! promises that no two nodes hold one point, that who is taken over holds nothing any more, and the same of primaries
+//! and of older writes.
 #![tactic(auto)]
 
-mod audits;
-mod crews;
+mod audit_command;
+mod crew_run;
+mod actors_command;
+mod form;
 mod forms;
-mod generates;
-mod replays;
+mod generate_command;
+mod laws;
+mod read;
+mod replay_command;
+mod split;
 mod top;
-mod traces;
+mod trace_command;
 mod usage;
-mod writes;
+mod words;
+mod worked;
+mod writes_command;
 
 pub use fabric_status::Status;
 pub use top::fabric_main;
+pub use laws::a_clusters_plan_is_read;

@@ -1,27 +1,27 @@
-// The top call.
 ghost use Rattle.std.specs.Prelude.{◌≡◌, ℕ, List, None, Some, map, string_bytes};
-ghost use Rattle.command_words.specs.Forms.{form_of};
+ghost use Rattle.fabric_top.specs.Forms.{form_of};
 ghost use Rattle.fabric_top.specs.Safe.{IsSafe};
 ghost use Rattle.fabric_top.specs.Top.{Does};
-ghost use Rattle.outside.specs.Told.{Loans};
+ghost use Rattle.edge_io.specs.Told.{Loans};
 ghost use Rattle.schedule_rules.specs.Schedule.{judge};
 ghost use Rattle.turn_rules.specs.Whole.{told_of};
 
 use crate::forms::run_form;
 use crate::usage::usage;
-use command_words::read_form;
+use crate::words::read_form;
 use edge_io::{Clock, Keeper, Links, Sink, Source};
 use fabric_status::Status;
 use std::alloc::Global;
 
 /// All that the program does: the words say what.
 ///
-/// `replay` reads a schedule from the source, to its end, and writes its report to the sink; `trace` writes its transcript,
-/// and `writes` the committed logs of its run. `audit` reads a transcript and writes the verdict on the run that it is.
-/// `generate` writes the schedule that its words make, `drill` the numbers of its run; neither reads. `node`,
-/// `arbiter` and `cluster` read a configuration and commands from the source, to its end, and then run the actors that the
-/// words name, over the links, the keeper and the clock. Words that are none of the forms are Usage, and nothing is read.
-/// Where memory is out while words that are a form are split, the status is OutOfMemory, and no device is used.
+/// `replay` reads a schedule from the source, to its end, and writes its report to the sink; `trace` writes its
+/// transcript, and `writes` the committed logs of its run. `audit` reads a transcript and writes the verdict on the run
+/// that it is. `generate` writes the schedule that its words make, `drill` the numbers of its run; neither reads.
+/// `node`, `arbiter` and `cluster` read a configuration and commands from the source, to its end, and then run the
+/// actors that the words name, over the links, the keeper and the clock. Words that are none of the forms are Usage,
+/// and nothing is read. Where memory is out while words that are a form are split, the status is OutOfMemory, and no
+/// device is used.
 pub fn fabric_main<S: Source, K: Sink, N: Links, D: Keeper, C: Clock>(
     alloc: Global,
     words: &[String],

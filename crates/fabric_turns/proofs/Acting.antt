@@ -14,7 +14,7 @@ use Rattle.fabric_terms.specs.Sent.{from_all}
 use Rattle.fabric_turns.proofs.Doing.{did_on, did_nothing, handed_along, nothing, risen_from, stays_on}
 use Rattle.fabric_turns.specs.Runs.{Run, At, Came, Meets, Stands, IsStep, IsReady, IsLast}
 use Rattle.fabric_turns.specs.Steps.{StepsAt, RefusedAt, left_at, why_of, work_in}
-use Rattle.outside.specs.Told.{Told}
+use Rattle.edge_io.specs.Told.{Told}
 use Rattle.ring_rules.specs.declared.input.Input.{Input}
 use Rattle.std.specs.Prelude.{◌≤◌, IfSome}
 use Rattle.turn_effects.specs.Carried.{CarriedMore, CarriesOut}
@@ -25,13 +25,13 @@ use Rattle.turn_rules.specs.Effects.{Did, IsPart}
 use Rattle.turn_rules.specs.Ends.{Ended, Broken, Stopped}
 use Rattle.turn_rules.specs.Handed.{failures_of}
 use Rattle.turn_rules.specs.Happenings.{Happening, History}
-use Rattle.turn_rules.specs.Order.{Place}
+use Rattle.turn_rules.specs.Order.{TurnPosition}
 use Rattle.turn_rules.specs.Plans.{Plan, Setting}
 use Rattle.turn_rules.specs.Process.{Process, End, Left, Full, after, takes, acts, acts_as, acts_at, acts_with, unless_full, unless_ended, left_end}
 use Rattle.turn_rules.specs.Steps.{Member, Step, Stepped, exceeds, left_of, stepped}
 use Rattle.turn_rules.specs.Works.{Work, head_of, work_of, work_with, works_of}
-use Rattle.turn_rules.specs.declared.stop.Stop.{Stop}
-use Rattle.turn_rules.specs.declared.stop.Stop.TheVariants as stop
+use Rattle.turn_rules.specs.declared.stop_cause.StopCause.{StopCause}
+use Rattle.turn_rules.specs.declared.stop_cause.StopCause.TheVariants as stop
 
 -- One more of what comes.
 
@@ -130,7 +130,7 @@ ready_on plan old b turn place i deed new c ready t opened = record {
         (t.endpoint, (ap (λ (k : ℕ). slice_get plan.actors k) changed.0 ∙ t.named, subst (λ (w : Running). IsOf plan.config t.endpoint.actor w) (sym changed.1) t.runs)))
         (set_cases old.members place j t.next t.member z t.here here)
 
-pub carried_opened : (s : Work) (b c : Told) (r : Result (Unit {0}) Stop) → CarriesOut s b c r → c.opened ≡ b.opened
+pub carried_opened : (s : Work) (b c : Told) (r : Result (Unit {0}) StopCause) → CarriesOut s b c r → c.opened ≡ b.opened
 carried_opened s b c (Ok done) k = k.stays.opened
 carried_opened s b c (Err stop.OutOfMemory) k = k.1.1.stays.opened
 carried_opened s b c (Err stop.WriteFault) k = k.1.1.stays.opened
@@ -150,16 +150,16 @@ work_is c d new deed k =
     ∙ ap (λ (ms : List Message). work_with c (head_of d.step) d.step.records ms deed.outcome.reports) k.frames
     ∙ ap (λ (rs : List Report). work_with c (head_of d.step) d.step.records (from_all d.step.who d.step.sent) rs) k.reports
 
-pub carried_for : (c c' : FabricConfig) (d : Stepped) (new : Member) (deed : Deed) (b e : Told) (r : Result (Unit {0}) Stop) → c' ≡ c → Makes d new deed → CarriesOut (work_in c' deed) b e r → CarriesOut (work_of c d.step) b e r
+pub carried_for : (c c' : FabricConfig) (d : Stepped) (new : Member) (deed : Deed) (b e : Told) (r : Result (Unit {0}) StopCause) → c' ≡ c → Makes d new deed → CarriesOut (work_in c' deed) b e r → CarriesOut (work_of c d.step) b e r
 carried_for c c' d new deed b e r same k w =
     subst (λ (v : Work). CarriesOut v b e r) (ap (λ (f : FabricConfig). work_in f deed) same ∙ work_is c d new deed k) w
 
 -- How a step ends.
 
-pub did_step : (s : Setting) (a b c : Told) (new : Run) (h : History) (x : Happening) (p : Place) (place : ℕ) (step : Step) → Came s a b h x p → Acted s h x place step new → CarriedMore (work_of s.plan.config step) b c → Did (works_of s.plan.config (after s (x ∷ h)).steps) (failures_of (x ∷ h)) a c
+pub did_step : (s : Setting) (a b c : Told) (new : Run) (h : History) (x : Happening) (p : TurnPosition) (place : ℕ) (step : Step) → Came s a b h x p → Acted s h x place step new → CarriedMore (work_of s.plan.config step) b c → Did (works_of s.plan.config (after s (x ∷ h)).steps) (failures_of (x ∷ h)) a c
 did_step s a b c new h x p place step m d k = subst (λ (ss : List Step). Did (works_of s.plan.config ss) (failures_of (x ∷ h)) a c) (sym d.steps) (did_on (works_of s.plan.config (after s h).steps) (work_of s.plan.config step) (failures_of (x ∷ h)) a b c m.did k.did)
 
-pub short_at : (s : Setting) (a b : Told) (h : History) (x : Happening) (p : Place) → Came s a b h x p → (part : Work) × Broken s a b part
+pub short_at : (s : Setting) (a b : Told) (h : History) (x : Happening) (p : TurnPosition) → Came s a b h x p → (part : Work) × Broken s a b part
 short_at s a b h x p m = (
   nothing,
   record {
@@ -175,7 +175,7 @@ short_at s a b h x p m = (
   },
 )
 
-pub done_at : (s : Setting) (a b c : Told) (new : Run) (h : History) (x : Happening) (p : Place) (place : ℕ) (step : Step) → Came s a b h x p → Acted s h x place step new → CarriedMore (work_of s.plan.config step) b c → IsLast new.last b.last → left_at new.members place ≡ None → At s a c new (x ∷ h) p
+pub done_at : (s : Setting) (a b c : Told) (new : Run) (h : History) (x : Happening) (p : TurnPosition) (place : ℕ) (step : Step) → Came s a b h x p → Acted s h x place step new → CarriedMore (work_of s.plan.config step) b c → IsLast new.last b.last → left_at new.members place ≡ None → At s a c new (x ∷ h) p
 done_at s a b c new h x p place step m d k clock stays = record {
   order = m.order;
   stands = record {
@@ -189,7 +189,7 @@ done_at s a b c new h x p place step m d k clock stays = record {
   stays = stays_on a b c m.stays k.stays;
 }
 
-pub left_from : (s : Setting) (a b c : Told) (new : Run) (h : History) (x : Happening) (p : Place) (place : ℕ) (step : Step) (why : Why) → Came s a b h x p → Acted s h x place step new → CarriedMore (work_of s.plan.config step) b c → left_at new.members place ≡ Some why → Ended s a c (Left why)
+pub left_from : (s : Setting) (a b c : Told) (new : Run) (h : History) (x : Happening) (p : TurnPosition) (place : ℕ) (step : Step) (why : Why) → Came s a b h x p → Acted s h x place step new → CarriedMore (work_of s.plan.config step) b c → left_at new.members place ≡ Some why → Ended s a c (Left why)
 left_from s a b c new h x p place step why m d k left = record {
   history = x ∷ h;
   place = p;
@@ -200,7 +200,7 @@ left_from s a b c new h x p place step why m d k left = record {
   stays = stays_on a b c m.stays k.stays;
 }
 
-broken_at : (s : Setting) (a b c : Told) (new : Run) (h : History) (x : Happening) (p : Place) (place : ℕ) (step : Step) (part : Work) → Came s a b h x p → Acted s h x place step new → IsPart part (work_of s.plan.config step) → CarriedMore part b c → Broken s a c part
+broken_at : (s : Setting) (a b c : Told) (new : Run) (h : History) (x : Happening) (p : TurnPosition) (place : ℕ) (step : Step) (part : Work) → Came s a b h x p → Acted s h x place step new → IsPart part (work_of s.plan.config step) → CarriedMore part b c → Broken s a c part
 broken_at s a b c new h x p place step part m d is k = record {
   before = h;
   last = x;
@@ -213,7 +213,7 @@ broken_at s a b c new h x p place step part m d is k = record {
   stays = stays_on a b c m.stays k.stays;
 }
 
-pub broken_from : (s : Setting) (a b c : Told) (new : Run) (h : History) (x : Happening) (p : Place) (place : ℕ) (step : Step) (r : Stop) → Came s a b h x p → Acted s h x place step new → CarriesOut (work_of s.plan.config step) b c (Err r) → Stopped s a c r
+pub broken_from : (s : Setting) (a b c : Told) (new : Run) (h : History) (x : Happening) (p : TurnPosition) (place : ℕ) (step : Step) (r : StopCause) → Came s a b h x p → Acted s h x place step new → CarriesOut (work_of s.plan.config step) b c (Err r) → Stopped s a c r
 broken_from s a b c new h x p place step stop.OutOfMemory m d k = (k.0, broken_at s a b c new h x p place step k.0 m d k.1.0 k.1.1)
 broken_from s a b c new h x p place step stop.WriteFault m d k =
     (k.0, (broken_at s a b c new h x p place step k.0 m d k.1.0 k.1.1, risen_from a.sink_faults b.sink_faults c.sink_faults m.stays.sink k.1.2))
@@ -226,7 +226,7 @@ broken_from s a b c new h x p place step (stop.BadKeep n) m d k = absurd k
 broken_from s a b c new h x p place step stop.TableFull m d k = absurd k
 
 -- an arbitrator can keep no more
-pub full_ended : (s : Setting) (a b : Told) (h : History) (x : Happening) (p : Place) → Came s a b h x p → (after s (x ∷ h)).end ≡ Some Full → (after s (x ∷ h)).steps ≡ (after s h).steps → Ended s a b Full
+pub full_ended : (s : Setting) (a b : Told) (h : History) (x : Happening) (p : TurnPosition) → Came s a b h x p → (after s (x ∷ h)).end ≡ Some Full → (after s (x ∷ h)).steps ≡ (after s h).steps → Ended s a b Full
 full_ended s a b h x p m ended steps = record {
   history = x ∷ h;
   place = p;
@@ -239,26 +239,26 @@ full_ended s a b h x p m ended steps = record {
 
 -- the same of a step of one that runs
 
-pub act_full : (s : Setting) (a b : Told) (run : Run) (h : History) (x : Happening) (p : Place) (turn place : ℕ) (i : Input) → Meets s a b run h x p → IsStep s h x turn place i → RefusedAt s.plan turn place i run → Ended s a b Full
+pub act_full : (s : Setting) (a b : Told) (run : Run) (h : History) (x : Happening) (p : TurnPosition) (turn place : ℕ) (i : Input) → Meets s a b run h x p → IsStep s h x turn place i → RefusedAt s.plan turn place i run → Ended s a b Full
 act_full s a b run h x p turn place i m is r =
     let there : slice_get (after s h).members place ≡ Some (seen r.member) = ap (λ (ms : List Member). slice_get ms place) m.stands.members ∙ seen_at run.members place r.member r.here in
     let e : after s (x ∷ h) ≡ record (after s h) { end = Some Full } = after_next s h x m.stands.on ∙ is ∙ full_at s turn (after s h) place i (seen r.member) run.last there m.stands.last r.full in
     full_ended s a b h x p m.came (ap (λ (q : Process). q.end) e) (ap (λ (q : Process). q.steps) e)
 
-pub act_done : (s : Setting) (a b c : Told) (old new : Run) (h : History) (x : Happening) (p : Place) (turn place : ℕ) (i : Input) (deed : Deed) (config : FabricConfig) → config ≡ s.plan.config → Meets s a b old h x p → IsStep s h x turn place i
+pub act_done : (s : Setting) (a b c : Told) (old new : Run) (h : History) (x : Happening) (p : TurnPosition) (turn place : ℕ) (i : Input) (deed : Deed) (config : FabricConfig) → config ≡ s.plan.config → Meets s a b old h x p → IsStep s h x turn place i
     → StepsAt s.plan turn place i old deed new → (done : Unit {0}) → CarriesOut (work_in config deed) b c (Ok done) → left_at new.members place ≡ None → At s a c new (x ∷ h) p
 act_done s a b c old new h x p turn place i deed config same m is t done k stays =
     let d : Stepped = stepped s.plan.config turn old.last i (seen t.member) in
     done_at s a b c new h x p place d.step m.came (acted s b old h x turn place i deed new m.stands is t) (carried_for s.plan.config config d (seen t.next) deed b c (Ok done) same t.does.makes k)
     (subst (λ (o : Option ℕ). IsLast o b.last) (sym (ap (λ (r : Run). r.last) t.now)) m.stands.clock) stays
 
-pub act_left : (s : Setting) (a b c : Told) (old new : Run) (h : History) (x : Happening) (p : Place) (turn place : ℕ) (i : Input) (deed : Deed) (config : FabricConfig) (why : Why) → config ≡ s.plan.config → Meets s a b old h x p → IsStep s h x turn place i
+pub act_left : (s : Setting) (a b c : Told) (old new : Run) (h : History) (x : Happening) (p : TurnPosition) (turn place : ℕ) (i : Input) (deed : Deed) (config : FabricConfig) (why : Why) → config ≡ s.plan.config → Meets s a b old h x p → IsStep s h x turn place i
     → StepsAt s.plan turn place i old deed new → (done : Unit {0}) → CarriesOut (work_in config deed) b c (Ok done) → left_at new.members place ≡ Some why → Ended s a c (Left why)
 act_left s a b c old new h x p turn place i deed config why same m is t done k left =
     let d : Stepped = stepped s.plan.config turn old.last i (seen t.member) in
     left_from s a b c new h x p place d.step why m.came (acted s b old h x turn place i deed new m.stands is t) (carried_for s.plan.config config d (seen t.next) deed b c (Ok done) same t.does.makes k) left
 
-pub act_broken : (s : Setting) (a b c : Told) (old new : Run) (h : History) (x : Happening) (p : Place) (turn place : ℕ) (i : Input) (deed : Deed) (config : FabricConfig) (r : Stop) → config ≡ s.plan.config → Meets s a b old h x p → IsStep s h x turn place i
+pub act_broken : (s : Setting) (a b c : Told) (old new : Run) (h : History) (x : Happening) (p : TurnPosition) (turn place : ℕ) (i : Input) (deed : Deed) (config : FabricConfig) (r : StopCause) → config ≡ s.plan.config → Meets s a b old h x p → IsStep s h x turn place i
     → StepsAt s.plan turn place i old deed new → CarriesOut (work_in config deed) b c (Err r) → Stopped s a c r
 act_broken s a b c old new h x p turn place i deed config r same m is t k =
     let d : Stepped = stepped s.plan.config turn old.last i (seen t.member) in

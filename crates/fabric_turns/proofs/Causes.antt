@@ -3,19 +3,19 @@ use Rattle.std.proofs.Common.{arith, ◌≡◌, ◌<◌, ◌≤◌, ◌+◌, ◌
 use Rattle.std.proofs.lemmas.List.{length-append, length-take-le}
 use Rattle.edge_io.specs.Edge.{HasRisen}
 use Rattle.edge_io.specs.declared.endpoint.Endpoint.{Endpoint}
-use Rattle.outside.specs.Told.{Told}
+use Rattle.edge_io.specs.Told.{Told}
 use Rattle.turn_rules.specs.Effects.{WroteMore}
 use Rattle.turn_rules.specs.Ends.{Stopped}
 use Rattle.turn_rules.specs.Plans.{Plan, Setting}
 use Rattle.turn_rules.specs.Whole.{setting, Ends, Finishes, StoppedRun, OpenedOnly, Cause, Completes, last_line, status_of, with_endpoints}
 use Rattle.fabric_status.specs.declared.status.Status.{Status}
 use Rattle.fabric_status.specs.declared.status.Status.TheVariants as status
-use Rattle.turn_rules.specs.declared.stop.Stop.{Stop}
-use Rattle.turn_rules.specs.declared.stop.Stop.TheVariants as stop
+use Rattle.turn_rules.specs.declared.stop_cause.StopCause.{StopCause}
+use Rattle.turn_rules.specs.declared.stop_cause.StopCause.TheVariants as stop
 
 -- the sink's count only rises before the last line
 
-stopped_sink : (s : Setting) (a c : Told) (r : Stop) → Stopped s a c r → a.sink_faults ≤ c.sink_faults
+stopped_sink : (s : Setting) (a c : Told) (r : StopCause) → Stopped s a c r → a.sink_faults ≤ c.sink_faults
 stopped_sink s a c stop.OutOfMemory k = k.1.stays.sink
 stopped_sink s a c stop.WriteFault k = k.1.0.stays.sink
 stopped_sink s a c stop.KeepFault k = k.1.0.stays.sink
@@ -25,13 +25,13 @@ stopped_sink s a c (stop.Left why) k = k.stays.sink
 stopped_sink s a c (stop.BadKeep i) k = absurd k
 stopped_sink s a c stop.TableFull k = k.stays.sink
 
-run_sink : (plan : Plan) (a c : Told) (r : Stop) → StoppedRun plan a c r → a.sink_faults ≤ c.sink_faults
+run_sink : (plan : Plan) (a c : Told) (r : StopCause) → StoppedRun plan a c r → a.sink_faults ≤ c.sink_faults
 run_sink plan a c r k = stopped_sink (setting plan k.0) (with_endpoints plan a) c r k.1.2
 
 opened_sink : (plan : Plan) (n : ℕ) (a c : Told) → OpenedOnly plan n a c → a.sink_faults ≤ c.sink_faults
 opened_sink plan n a c o = omega (arith, o.untouched.sink)
 
-ends_sink : (plan : Plan) (a c : Told) (r : Result (Unit {0}) Stop) → Ends plan a r c → a.sink_faults ≤ c.sink_faults
+ends_sink : (plan : Plan) (a c : Told) (r : Result (Unit {0}) StopCause) → Ends plan a r c → a.sink_faults ≤ c.sink_faults
 ends_sink plan a c (Ok done) k = k.1.2.stays.sink
 ends_sink plan a c (Err stop.OutOfMemory) (inl recalling) = opened_sink plan 0 a c recalling
 ends_sink plan a c (Err stop.OutOfMemory) (inr (inl opening)) = opened_sink plan opening.0 a c opening.1.opened
@@ -45,7 +45,7 @@ ends_sink plan a c (Err (stop.BadKeep i)) k = opened_sink plan 0 a c k.1
 ends_sink plan a c (Err stop.TableFull) k = run_sink plan a c stop.TableFull k
 
 -- the cause at the end of the run stays one
-run_cause : (plan : Plan) (a b : Told) (r : Result (Unit {0}) Stop) (c : Told) → Ends plan a r b → WroteMore (last_line plan.turns r) b c → Cause plan a (status_of r) c
+run_cause : (plan : Plan) (a b : Told) (r : Result (Unit {0}) StopCause) (c : Told) → Ends plan a r b → WroteMore (last_line plan.turns r) b c → Cause plan a (status_of r) c
 run_cause plan a b (Ok done) c k w = tt
 run_cause plan a b (Err stop.OutOfMemory) c k w = tt
 run_cause plan a b (Err stop.WriteFault) c k w =
@@ -62,7 +62,7 @@ run_cause plan a b (Err (stop.Left why)) c k w = tt
 run_cause plan a b (Err (stop.BadKeep i)) c k w = k.0
 run_cause plan a b (Err stop.TableFull) c k w = tt
 
-pub cause_of : (plan : Plan) (a b : Told) (r : Result (Unit {0}) Stop) (ended : Status) (c : Told) → Ends plan a r b → Finishes plan.turns r b ended c → Cause plan a ended c
+pub cause_of : (plan : Plan) (a b : Told) (r : Result (Unit {0}) StopCause) (ended : Status) (c : Told) → Ends plan a r b → Finishes plan.turns r b ended c → Cause plan a ended c
 cause_of plan a b r ended c k f =
     ⊎_elim
     (λ whole. subst (λ (s : Status). Cause plan a s c) (sym whole.0) (run_cause plan a b r c k whole.1))

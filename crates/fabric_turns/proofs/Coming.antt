@@ -4,7 +4,7 @@ use Rattle.std.specs.Prelude.{IfSome, if◌then◌else◌}
 use Rattle.std.proofs.lemmas.Bool.Decides.{nat_tests}
 use Rattle.edge_io.specs.Readings.{Gives, is_fall, readings_after}
 use Rattle.edge_io.specs.Edge.{Grew}
-use Rattle.outside.specs.Told.{Told, ReadsClock}
+use Rattle.edge_io.specs.Told.{Told, ReadsClock}
 use Rattle.turn_members.specs.Members.{seen}
 use Rattle.turn_rules.specs.Effects.{Did, Stays, records_of, sends_of, lines_of}
 use Rattle.fabric_terms.specs.declared.command.Command.{Command}
@@ -14,15 +14,15 @@ use Rattle.turn_rules.specs.Steps.{Step, present}
 use Rattle.turn_rules.specs.Works.{Work, works_of}
 use Rattle.turn_rules.specs.Handed.{Handed, Gave, Answered, Arrival, readings_of, answers_at, failures_of}
 use Rattle.turn_rules.specs.Happenings.{Begins, Turns, Bids, Fires, Happening, History}
-use Rattle.turn_rules.specs.Order.{Place, Starting, Turning, Busy, Firing, IsInOrder, onward}
+use Rattle.turn_rules.specs.Order.{TurnPosition, Starting, Turning, Busy, Firing, IsInOrder, onward}
 use Rattle.turn_rules.specs.Plans.{Plan, Setting, is_node_at, orders_at}
 use Rattle.turn_rules.specs.Process.{Process, End, Back, after, reads, reads_as, joins, unless_ended, clamped}
 use Rattle.edge_io.specs.declared.endpoint.Endpoint.{Endpoint}
 use Rattle.fabric_terms.specs.Ranges.{most}
 use Rattle.fabric_turns.specs.Runs.{AllListen, AreMembers, IsReady, Run, At, Meets, MeetsStart, Stands, IsLast}
 use Rattle.fabric_turns.specs.Steps.{ReadOn, ReadBack, ReadsNow}
-use Rattle.turn_rules.specs.declared.stop.Stop.{Stop}
-use Rattle.turn_rules.specs.declared.stop.Stop.TheVariants as stop
+use Rattle.turn_rules.specs.declared.stop_cause.StopCause.{StopCause}
+use Rattle.turn_rules.specs.declared.stop_cause.StopCause.TheVariants as stop
 use Rattle.fabric_turns.proofs.Acting.{after_next}
 use Rattle.fabric_turns.proofs.Doing.{stays_on}
 use Rattle.turn_effects.proofs.Sending.{sent_along}
@@ -60,7 +60,7 @@ bid_comes s a b run h turn place command rest n t = record {
 }
 
 -- all is done of what has come, and it has come to the place
-pub comes_to : (s : Setting) (a b : Told) (run : Run) (h : History) (p : Place) (r : Result (Unit {0}) Stop) → Reaches s a b run h p r → ComesTo s a b run p r
+pub comes_to : (s : Setting) (a b : Told) (run : Run) (h : History) (p : TurnPosition) (r : Result (Unit {0}) StopCause) → Reaches s a b run h p r → ComesTo s a b run p r
 comes_to s a b run h p (Ok done) k = (h, k)
 comes_to s a b run h p (Err stopped) k = k
 
@@ -160,7 +160,7 @@ fell b c run former latter last k =
     falls_at b c l.0 k.told l.1 less k.clock.falls
 
 -- what ended the run is all that came
-back_at : (s : Setting) (a b c : Told) (run : Run) (h : History) (x : Happening) (p q : Place) (former latter : ℕ) → At s a b run h p → (k : ReadBack former latter run b c) → IsInOrder s.plan (x ∷ h) q → after s (x ∷ h) ≡ record (after s h) { end = Some (Back former latter) } → failures_of (x ∷ h) ≡ failures_of h → readings_of (x ∷ h) ≡ k.told ∷ readings_of h → ((actor : ℕ) → answers_at s.plan actor (x ∷ h) ≡ answers_at s.plan actor h) → Ended s a c (Back former latter) × (a.falls < c.falls)
+back_at : (s : Setting) (a b c : Told) (run : Run) (h : History) (x : Happening) (p q : TurnPosition) (former latter : ℕ) → At s a b run h p → (k : ReadBack former latter run b c) → IsInOrder s.plan (x ∷ h) q → after s (x ∷ h) ≡ record (after s h) { end = Some (Back former latter) } → failures_of (x ∷ h) ≡ failures_of h → readings_of (x ∷ h) ≡ k.told ∷ readings_of h → ((actor : ℕ) → answers_at s.plan actor (x ∷ h) ≡ answers_at s.plan actor h) → Ended s a c (Back former latter) × (a.falls < c.falls)
 back_at s a b c run h x p q former latter t k order e failures readings answers =
     let r = read_on s.plan a b c h k.told (failures_of h) (works_of s.plan.config (after s h).steps) t.did t.handed t.stays k.clock in (
       record {
@@ -178,7 +178,7 @@ back_at s a b c run h x p q former latter t k order e failures readings answers 
       omega (arith, t.stays.clock, fell b c run former latter t.stands.clock k),
     )
 
-pub turn_stopped : (s : Setting) (a b c : Told) (run new : Run) (h : History) (turn place : ℕ) (r : Stop) → At s a b run h (at_place turn place Turning) → ReadsNow run b new c (Err r) → Stopped s a c r
+pub turn_stopped : (s : Setting) (a b c : Told) (run new : Run) (h : History) (turn place : ℕ) (r : StopCause) → At s a b run h (at_place turn place Turning) → ReadsNow run b new c (Err r) → Stopped s a c r
 turn_stopped s a b c run new h turn place (stop.ClockBack former latter) t k =
     let x = turns_at turn place k.told in
     back_at s a b c run h x (at_place turn place Turning) (at_place turn place (Busy (orders_at s.plan turn place) 0)) former latter t k
@@ -243,7 +243,7 @@ node_comes s a b c run new h place told node next t k =
       next = ap (λ (y : Run). length y.members) k.now ∙ next;
     }
 
-pub start_stopped : (s : Setting) (a b c : Told) (run new : Run) (h : History) (place : ℕ) (r : Stop) → is_node_at s.plan place ≡ true → At s a b run h (at_place 0 place Starting) → ReadsNow run b new c (Err r) → Stopped s a c r
+pub start_stopped : (s : Setting) (a b c : Told) (run new : Run) (h : History) (place : ℕ) (r : StopCause) → is_node_at s.plan place ≡ true → At s a b run h (at_place 0 place Starting) → ReadsNow run b new c (Err r) → Stopped s a c r
 start_stopped s a b c run new h place (stop.ClockBack former latter) node t k =
     let x = begins_at place (Some k.told) in
     let q : Process = record (after s h) { end = Some (Back former latter) } in
@@ -262,7 +262,7 @@ start_stopped s a b c run new h place stop.TableFull node t k = absurd k
 
 -- One thing after another.
 
-pub goes_on : (s : Setting) (b c d : Told) (run run' run'' : Run) (p p' p'' : Place) (r : Result (Unit {0}) Stop) → Leads s b run p c run' p' → Goes s c run' p' d run'' p'' r → Goes s b run p d run'' p'' r
+pub goes_on : (s : Setting) (b c d : Told) (run run' run'' : Run) (p p' p'' : TurnPosition) (r : Result (Unit {0}) StopCause) → Leads s b run p c run' p' → Goes s c run' p' d run'' p'' r → Goes s b run p d run'' p'' r
 goes_on s b c d run run' run'' p p' p'' r leads goes a h t = let k = leads a h t in goes a k.0 k.1
 
 -- The clock was read, and the run is as ready as before.

@@ -3,7 +3,7 @@ use Rattle.std.proofs.Common.{arith, ◌≡◌, ◌≤◌, ◌<◌, ◌+◌, ℕ
 use Rattle.std.specs.Prelude.{◌==◌, if◌then◌else◌}
 use Rattle.std.proofs.lemmas.List.{append-nil}
 use Rattle.edge_io.specs.Edge.{HasRisen}
-use Rattle.outside.specs.Told.{Told}
+use Rattle.edge_io.specs.Told.{Told}
 use Rattle.turn_effects.proofs.Growing.{grew_on}
 use Rattle.turn_effects.proofs.Sending.{sent_on}
 use Rattle.turn_rules.specs.Effects.{Sent, Did, Stays, records_of, sends_of, lines_of, own_records, own_sends}

@@ -13,7 +13,7 @@ use Rattle.fabric_turns.proofs.Doing.{stays_on}
 use Rattle.fabric_turns.proofs.Places.{hears_on}
 use Rattle.fabric_turns.specs.Moves.{Reaches, at_place}
 use Rattle.fabric_turns.specs.Runs.{Run, At, Meets, Stands, IsLast}
-use Rattle.outside.specs.Told.{Told, Receives}
+use Rattle.edge_io.specs.Told.{Told, Receives}
 use Rattle.frame_format.proofs.FrameLaws.{message_again, message_found}
 use Rattle.frame_format.specs.Frames.{spelling}
 use Rattle.frame_format.specs.Kinds.{message_of}
@@ -21,22 +21,22 @@ use Rattle.wire_fields.proofs.Numbers.{AreBytes}
 use Rattle.turn_rules.specs.Effects.{Did, Stays, FailedSince, lost, records_of, lines_of}
 use Rattle.turn_rules.specs.Ends.{Stopped}
 use Rattle.turn_rules.specs.Handed.{Handed, Gave, Answered, Arrival, readings_of, answers_at, answer_in, is_at, is_endpoint_of, failures_of}
-use Rattle.turn_rules.specs.Happenings.{Answer, Datagram, Absent, Failed, Hears, Happening, History}
-use Rattle.turn_rules.specs.Order.{Place, Busy, IsInOrder, rests, hearing}
+use Rattle.turn_rules.specs.Happenings.{LinkAnswer, Datagram, Absent, Failed, Hears, Happening, History}
+use Rattle.turn_rules.specs.Order.{TurnPosition, Busy, IsInOrder, rests, hearing}
 use Rattle.turn_rules.specs.Plans.{Plan, Setting}
 use Rattle.turn_rules.specs.Process.{Process, after, hears_frame}
 use Rattle.turn_rules.specs.Steps.{Step}
 use Rattle.turn_rules.specs.Works.{Work, works_of}
-use Rattle.turn_rules.specs.declared.stop.Stop.{Stop}
+use Rattle.turn_rules.specs.declared.stop_cause.StopCause.{StopCause}
 
-abbrev pub hears_at : ℕ → ℕ → Answer → Happening
+abbrev pub hears_at : ℕ → ℕ → LinkAnswer → Happening
 hears_at turn place answer = record { turn = turn; place = place; comes = Hears answer }
 
 -- the actor asked, and others did not
 answers_here : (plan : Plan) (place : ℕ) (e : Endpoint) (actor : ℕ) → slice_get plan.actors place ≡ Some e → is_at plan place actor ≡ (e.actor == actor)
 answers_here plan place e actor here = ap (is_endpoint_of actor) here
 
-more_answered : (plan : Plan) (h : History) (turn place : ℕ) (e : Endpoint) (answer : Answer) (a b c : Told) →
+more_answered : (plan : Plan) (h : History) (turn place : ℕ) (e : Endpoint) (answer : LinkAnswer) (a b c : Told) →
     slice_get plan.actors place ≡ Some e →
     ((all : List Arrival) → Answered all (answers_at plan e.actor h) (b.arrivals e.actor) → Answered all (answer ∷ answers_at plan e.actor h) (c.arrivals e.actor)) →
     ((other : ℕ) → other ≢ e.actor → c.arrivals other ≡ b.arrivals other) →
@@ -55,7 +55,7 @@ more_answered plan h turn place e answer a b c here own others k actor all told 
     (eqb_tells e.actor actor)
 
 -- what is left of arrivals is told
-answered_some : (all : List Arrival) (answers : List Answer) (left : Option (List Arrival)) → Answered all answers left → (before : List Arrival) × (left ≡ Some before)
+answered_some : (all : List Arrival) (answers : List LinkAnswer) (left : Option (List Arrival)) → Answered all answers left → (before : List Arrival) × (left ≡ Some before)
 answered_some all [] left g = (all, g)
 answered_some all (Failed ∷ rest) left g = answered_some all rest left g
 answered_some all (Absent ∷ rest) left g = (drop 1 g.0, g.1.2)
@@ -71,13 +71,13 @@ none_handed : (next : Option (List ℕ)) (into : List ℕ) → Hands next None i
 none_handed None into k = refl
 none_handed (Some bytes) into k = let wrong : None ≡ Some (length bytes) = k.0 in cc
 
-datagram_answered : (all : List Arrival) (answers : List Answer) (n : ℕ) (into : List ℕ) (old new : Option (List Arrival)) → Takes old (Some n) into new → Answered all answers old → Answered all (Datagram (take n into) ∷ answers) new
+datagram_answered : (all : List Arrival) (answers : List LinkAnswer) (n : ℕ) (into : List ℕ) (old new : Option (List Arrival)) → Takes old (Some n) into new → Answered all answers old → Answered all (Datagram (take n into) ∷ answers) new
 datagram_answered all answers n into old new t g =
     let before = answered_some all answers old g in
     let k = t before.0 before.1 in
     (before.0, (subst (λ (o : Option (List Arrival)). Answered all answers o) before.1 g, some_handed n (next_arrival before.0) into k.0, k.1))
 
-absent_answered : (all : List Arrival) (answers : List Answer) (into : List ℕ) (old new : Option (List Arrival)) → Takes old None into new → Answered all answers old → Answered all (Absent ∷ answers) new
+absent_answered : (all : List Arrival) (answers : List LinkAnswer) (into : List ℕ) (old new : Option (List Arrival)) → Takes old None into new → Answered all answers old → Answered all (Absent ∷ answers) new
 absent_answered all answers into old new t g =
     let before = answered_some all answers old g in
     let k = t before.0 before.1 in
@@ -112,7 +112,7 @@ record Asked (a b c : Told) (run : Run) (s : Setting) (h : History) (m : ℕ) : 
   pub stays : Stays a c
   pub clock : IsLast run.last c.last
 
-asked : (s : Setting) (a b c : Told) (run : Run) (h : History) (p : Place) (actor m : ℕ) (into : List ℕ) (r : Result (Option ℕ) HasFailed) → At s a b run h p → Receives actor into b r c → (b.link_faults + m ≤ c.link_faults) ⊎ (2 ^ 64 ≤ c.link_faults + 1) → Asked a b c run s h m
+asked : (s : Setting) (a b c : Told) (run : Run) (h : History) (p : TurnPosition) (actor m : ℕ) (into : List ℕ) (r : Result (Option ℕ) HasFailed) → At s a b run h p → Receives actor into b r c → (b.link_faults + m ≤ c.link_faults) ⊎ (2 ^ 64 ≤ c.link_faults + 1) → Asked a b c run s h m
 asked s a b c run h p actor m into r t k more =
     let readings : c.readings ≡ b.readings = ap (λ (x : Told). x.readings) k.rest in
     record {
@@ -136,7 +136,7 @@ datagram_comes s a b c run h turn place n count e into small here t k =
     let q = asked s a b c run h (hearing s.plan turn place n) e.actor 0 into (Ok (Some count)) t k (inl (omega (arith, k.cause.later))) in
     record {
       came = record {
-        order = (at_place turn place (Busy [] n), (subst (λ (p : Place). IsInOrder s.plan h p) (hears_on s.plan turn place n small) t.order, record { turn = refl; place = refl; goes = refl }));
+        order = (at_place turn place (Busy [] n), (subst (λ (p : TurnPosition). IsInOrder s.plan h p) (hears_on s.plan turn place n small) t.order, record { turn = refl; place = refl; goes = refl }));
         on = t.stands.on;
         did = zero_more s a c h q.did;
         handed = record { read = q.read; heard = more_answered s.plan h turn place e (Datagram (take count into)) a b c here (λ all g. datagram_answered all (answers_at s.plan e.actor h) count into (b.arrivals e.actor) (c.arrivals e.actor) k.ok g) k.others t.handed };
@@ -162,7 +162,7 @@ nothing_comes s a b c run h turn place n e into answer none small here t k =
     let took : Takes (b.arrivals e.actor) None into (c.arrivals e.actor) = subst (λ (o : Option ℕ). Takes (b.arrivals e.actor) o into (c.arrivals e.actor)) none k.ok in (
       x ∷ h,
       record {
-        order = (at_place turn place (Busy [] n), (subst (λ (p : Place). IsInOrder s.plan h p) (hears_on s.plan turn place n small) t.order, record { turn = refl; place = refl; goes = refl }));
+        order = (at_place turn place (Busy [] n), (subst (λ (p : TurnPosition). IsInOrder s.plan h p) (hears_on s.plan turn place n small) t.order, record { turn = refl; place = refl; goes = refl }));
         stands = stands_on s b c run h x same t.stands q.clock;
         did = subst (λ (ss : List Step). Did (works_of s.plan.config ss) (failures_of h) a c) (sym (ap (λ (y : Process). y.steps) same)) (zero_more s a c h q.did);
         handed = record { read = q.read; heard = more_answered s.plan h turn place e Absent a b c here (λ all g. absent_answered all (answers_at s.plan e.actor h) into (b.arrivals e.actor) (c.arrivals e.actor) took g) k.others t.handed };
@@ -179,7 +179,7 @@ failure_comes s a b c run h turn place n e into failed small here t k =
     let q = asked s a b c run h (hearing s.plan turn place n) e.actor 1 into (Err failed) t k more in (
       x ∷ h,
       record {
-        order = (at_place turn place (Busy [] n), (subst (λ (p : Place). IsInOrder s.plan h p) (hears_on s.plan turn place n small) t.order, record { turn = refl; place = refl; goes = refl }));
+        order = (at_place turn place (Busy [] n), (subst (λ (p : TurnPosition). IsInOrder s.plan h p) (hears_on s.plan turn place n small) t.order, record { turn = refl; place = refl; goes = refl }));
         stands = stands_on s b c run h x same t.stands q.clock;
         did = subst (λ (ss : List Step). Did (works_of s.plan.config ss) (1 + failures_of h) a c) (sym (ap (λ (y : Process). y.steps) same)) q.did;
         handed = record { read = q.read; heard = more_answered s.plan h turn place e Failed a b c here (λ all g. subst (λ (o : Option (List Arrival)). Answered all (answers_at s.plan e.actor h) o) (sym k.err) g) k.others t.handed };
@@ -194,11 +194,11 @@ received_as actor actor' into b r c e k = subst (λ (n : ℕ). Receives n into b
 pub some_received : (actor : ℕ) (into : List ℕ) (b : Told) (answer : Option ℕ) (count : ℕ) (c : Told) → answer ≡ Some count → Receives actor into b (Ok answer) c → Receives actor into b (Ok (Some count)) c
 some_received actor into b answer count c e k = subst (λ (o : Option ℕ). Receives actor into b (Ok o) c) e k
 
-pub reached : (s : Setting) (a c : Told) (run : Run) (h : History) (p : Place) (r : Stop) → Reaches s a c run h p (Err r) → Stopped s a c r
+pub reached : (s : Setting) (a c : Told) (run : Run) (h : History) (p : TurnPosition) (r : StopCause) → Reaches s a c run h p (Err r) → Stopped s a c r
 reached s a c run h p r k = k
 
 -- a datagram that is no frame changes nothing
-pub no_frame : (s : Setting) (a c : Told) (run : Run) (h : History) (turn place : ℕ) (bytes : List ℕ) (p : Place) → message_of bytes ≡ None → Meets s a c run h (hears_at turn place (Datagram bytes)) p → At s a c run (hears_at turn place (Datagram bytes) ∷ h) p
+pub no_frame : (s : Setting) (a c : Told) (run : Run) (h : History) (turn place : ℕ) (bytes : List ℕ) (p : TurnPosition) → message_of bytes ≡ None → Meets s a c run h (hears_at turn place (Datagram bytes)) p → At s a c run (hears_at turn place (Datagram bytes) ∷ h) p
 no_frame s a c run h turn place bytes p none m =
     let x = hears_at turn place (Datagram bytes) in
     let same : after s (x ∷ h) ≡ after s h = after_next s h x m.stands.on ∙ ap (hears_frame s turn (after s h) place) none in

@@ -10,7 +10,7 @@ use Rattle.edge_io.specs.declared.endpoint.Endpoint.{Endpoint}
 use Rattle.fabric_terms.specs.declared.record.Record.{Record}
 use Rattle.keep_log.specs.declared.kept.Kept.{Kept}
 use Rattle.turn_members.specs.Members.{seen}
-use Rattle.outside.specs.Told.{Told, Listens}
+use Rattle.edge_io.specs.Told.{Told, Listens}
 use Rattle.fabric_turns.specs.Moves.{ComesTo}
 use Rattle.turn_rules.specs.Ends.{Stopped}
 use Rattle.fabric_turns.specs.Opening.{RecalledAll, OnlyRecalled}
@@ -19,8 +19,8 @@ use Rattle.turn_rules.specs.Plans.{Plan, Setting, IsPlan}
 use Rattle.fabric_turns.specs.Runs.{Run, At, IsReady}
 use Rattle.turn_rules.specs.Whole.{setting, OpenedOnly, StoppedRun, Ends, Finishes, with_endpoints}
 use Rattle.fabric_status.specs.declared.status.Status.{Status}
-use Rattle.turn_rules.specs.declared.stop.Stop.{Stop}
-use Rattle.turn_rules.specs.declared.stop.Stop.TheVariants as stop
+use Rattle.turn_rules.specs.declared.stop_cause.StopCause.{StopCause}
+use Rattle.turn_rules.specs.declared.stop_cause.StopCause.TheVariants as stop
 use Rattle.turn_effects.proofs.Growing.{grew_none}
 
 -- one endpoint more
@@ -119,7 +119,7 @@ at_first plan list run a b c none p o = record {
 }
 
 -- the run stopped
-pub ends_stopped : (plan : Plan) (list : List (List Record)) (kept : List (Option Kept)) (a b c : Told) (r : Stop) → RecalledAll plan a list kept b → Stopped (setting plan list) (with_endpoints plan a) c r → Ends plan a (Err r) c
+pub ends_stopped : (plan : Plan) (list : List (List Record)) (kept : List (Option Kept)) (a b c : Told) (r : StopCause) → RecalledAll plan a list kept b → Stopped (setting plan list) (with_endpoints plan a) c r → Ends plan a (Err r) c
 ends_stopped plan list kept a b c stop.OutOfMemory k s = inr (inr (list, (k.recalled, k.are_kept.all, s)))
 ends_stopped plan list kept a b c stop.WriteFault k s = (list, (k.recalled, k.are_kept.all, s))
 ends_stopped plan list kept a b c stop.KeepFault k s = inr (list, (k.recalled, k.are_kept.all, s))
@@ -130,7 +130,7 @@ ends_stopped plan list kept a b c (stop.BadKeep i) k s = absurd s
 ends_stopped plan list kept a b c stop.TableFull k s = (list, (k.recalled, k.are_kept.all, s))
 
 -- it stopped, or went on to its last turn
-pub ends_turns : (plan : Plan) (list : List (List Record)) (kept : List (Option Kept)) (a b c : Told) (run : Run) (r : Result (Unit {0}) Stop) → RecalledAll plan a list kept b → ComesTo (setting plan list) (with_endpoints plan a) c run (arrive plan (plan.turns + 1) 0) r → Ends plan a r c
+pub ends_turns : (plan : Plan) (list : List (List Record)) (kept : List (Option Kept)) (a b c : Told) (run : Run) (r : Result (Unit {0}) StopCause) → RecalledAll plan a list kept b → ComesTo (setting plan list) (with_endpoints plan a) c run (arrive plan (plan.turns + 1) 0) r → Ends plan a r c
 ends_turns plan list kept a b c run (Ok done) k s = (
   list,
   (
@@ -150,7 +150,7 @@ ends_turns plan list kept a b c run (Err stopped) k s = ends_stopped plan list k
 
 -- the devices stay the borrowed ones
 
-stopped_loans : (s : Setting) (a c : Told) (r : Stop) → Stopped s a c r → c.loans ≡ a.loans
+stopped_loans : (s : Setting) (a c : Told) (r : StopCause) → Stopped s a c r → c.loans ≡ a.loans
 stopped_loans s a c stop.OutOfMemory k = k.1.stays.loans
 stopped_loans s a c stop.WriteFault k = k.1.0.stays.loans
 stopped_loans s a c stop.KeepFault k = k.1.0.stays.loans
@@ -160,10 +160,10 @@ stopped_loans s a c (stop.Left why) k = k.stays.loans
 stopped_loans s a c (stop.BadKeep i) k = absurd k
 stopped_loans s a c stop.TableFull k = k.stays.loans
 
-run_loans : (plan : Plan) (a c : Told) (r : Stop) → StoppedRun plan a c r → c.loans ≡ a.loans
+run_loans : (plan : Plan) (a c : Told) (r : StopCause) → StoppedRun plan a c r → c.loans ≡ a.loans
 run_loans plan a c r k = stopped_loans (setting plan k.0) (with_endpoints plan a) c r k.1.2
 
-ends_loans : (plan : Plan) (a c : Told) (r : Result (Unit {0}) Stop) → Ends plan a r c → c.loans ≡ a.loans
+ends_loans : (plan : Plan) (a c : Told) (r : Result (Unit {0}) StopCause) → Ends plan a r c → c.loans ≡ a.loans
 ends_loans plan a c (Ok done) k = k.1.2.stays.loans
 ends_loans plan a c (Err stop.OutOfMemory) (inl recalling) = recalling.untouched.loans
 ends_loans plan a c (Err stop.OutOfMemory) (inr (inl opening)) = opening.1.opened.untouched.loans
@@ -176,14 +176,14 @@ ends_loans plan a c (Err (stop.Left why)) k = run_loans plan a c (stop.Left why)
 ends_loans plan a c (Err (stop.BadKeep i)) k = k.1.untouched.loans
 ends_loans plan a c (Err stop.TableFull) k = run_loans plan a c stop.TableFull k
 
-finish_loans : (turns : ℕ) (r : Result (Unit {0}) Stop) (b : Told) (ended : Status) (c : Told) → Finishes turns r b ended c → c.loans ≡ b.loans
+finish_loans : (turns : ℕ) (r : Result (Unit {0}) StopCause) (b : Told) (ended : Status) (c : Told) → Finishes turns r b ended c → c.loans ≡ b.loans
 finish_loans turns r b ended c k =
     ⊎_elim (λ whole. ap (λ (t : Told). t.loans) whole.1.rest)
     (λ short. ⊎_elim (λ memory. ap (λ (t : Told). t.loans) memory.1.1.rest) (λ failed. ap (λ (t : Told). t.loans) failed.1.1.0.rest) short)
     k
 
-pub both_loans : (plan : Plan) (a b : Told) (r : Result (Unit {0}) Stop) (ended : Status) (c : Told) → Ends plan a r b → Finishes plan.turns r b ended c → c.loans ≡ a.loans
+pub both_loans : (plan : Plan) (a b : Told) (r : Result (Unit {0}) StopCause) (ended : Status) (c : Told) → Ends plan a r b → Finishes plan.turns r b ended c → c.loans ≡ a.loans
 both_loans plan a b r ended c e f = finish_loans plan.turns r b ended c f ∙ ends_loans plan a b r e
 
-pub finishes_as : (n m : ℕ) (r : Result (Unit {0}) Stop) (b : Told) (ended : Status) (c : Told) → n ≡ m → Finishes n r b ended c → Finishes m r b ended c
+pub finishes_as : (n m : ℕ) (r : Result (Unit {0}) StopCause) (b : Told) (ended : Status) (c : Told) → n ≡ m → Finishes n r b ended c → Finishes m r b ended c
 finishes_as n m r b ended c e f = subst (λ (k : ℕ). Finishes k r b ended c) e f

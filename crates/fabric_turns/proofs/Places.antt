@@ -6,12 +6,12 @@ use Rattle.std.proofs.lemmas.Bool.{eq-eqb}
 use Rattle.std.proofs.Math.Seq.{drop-cons}
 use Rattle.fabric_turns.specs.Moves.{Asks, Goes, Leads, at_place}
 use Rattle.fabric_turns.specs.Runs.{Run}
-use Rattle.outside.specs.Told.{Told}
+use Rattle.edge_io.specs.Told.{Told}
 use Rattle.std.specs.Prelude.{Ok}
-use Rattle.turn_rules.specs.Order.{Place, Starting, Turning, Busy, Firing, arrive, coming, onward, rests, hearing}
+use Rattle.turn_rules.specs.Order.{TurnPosition, Starting, Turning, Busy, Firing, arrive, coming, onward, rests, hearing}
 use Rattle.turn_rules.specs.Plans.{Plan, Setting, is_node_at, is_order_at, commands_in}
 use Rattle.turn_rules.specs.declared.order.Order.{Order}
-use Rattle.turn_rules.specs.declared.stop.Stop.{Stop}
+use Rattle.turn_rules.specs.declared.stop_cause.StopCause.{StopCause}
 
 -- Places.
 
@@ -51,11 +51,11 @@ hears_on plan turn at n h = ap (λ (b : Bool). if b then at_place turn at (Busy 
 
 -- by other names of the places
 
-pub goes_as : (s : Setting) (b c : Told) (run run' : Run) (p q p' q' : Place) (r : Result (Unit {0}) Stop) → p' ≡ p → q ≡ q' → Goes s b run p c run' q r → Goes s b run p' c run' q' r
-goes_as s b c run run' p q p' q' r e f g = subst (λ (x : Place). Goes s b run x c run' q' r) (sym e) (subst (λ (y : Place). Goes s b run p c run' y r) f g)
+pub goes_as : (s : Setting) (b c : Told) (run run' : Run) (p q p' q' : TurnPosition) (r : Result (Unit {0}) StopCause) → p' ≡ p → q ≡ q' → Goes s b run p c run' q r → Goes s b run p' c run' q' r
+goes_as s b c run run' p q p' q' r e f g = subst (λ (x : TurnPosition). Goes s b run x c run' q' r) (sym e) (subst (λ (y : TurnPosition). Goes s b run p c run' y r) f g)
 
-pub leads_to : (s : Setting) (b c : Told) (run run' : Run) (p q q' : Place) → q ≡ q' → Leads s b run p c run' q → Leads s b run p c run' q'
-leads_to s b c run run' p q q' f g = subst (λ (y : Place). Leads s b run p c run' y) f g
+pub leads_to : (s : Setting) (b c : Told) (run run' : Run) (p q q' : TurnPosition) → q ≡ q' → Leads s b run p c run' q → Leads s b run p c run' q'
+leads_to s b c run run' p q q' f g = subst (λ (y : TurnPosition). Leads s b run p c run' y) f g
 
 -- Commands.
 
@@ -81,10 +81,10 @@ all_dropped turn place (o ∷ os) zero h = absurd (omega arith)
 all_dropped turn place (o ∷ os) (suc i) h = all_dropped turn place os i (omega arith)
 
 -- what a question was answered
-pub asks_none : (s : Setting) (b c : Told) (run run' : Run) (p more none : Place) (answer : Bool) → answer ≡ false → Asks s b run p c run' more none (Ok answer) → Leads s b run p c run' none
+pub asks_none : (s : Setting) (b c : Told) (run run' : Run) (p more none : TurnPosition) (answer : Bool) → answer ≡ false → Asks s b run p c run' more none (Ok answer) → Leads s b run p c run' none
 asks_none s b c run run' p more none true e k = cc
 asks_none s b c run run' p more none false e k = k
 
-pub asks_more : (s : Setting) (b c : Told) (run run' : Run) (p more none : Place) (answer : Bool) → answer ≡ true → Asks s b run p c run' more none (Ok answer) → Leads s b run p c run' more
+pub asks_more : (s : Setting) (b c : Told) (run run' : Run) (p more none : TurnPosition) (answer : Bool) → answer ≡ true → Asks s b run p c run' more none (Ok answer) → Leads s b run p c run' more
 asks_more s b c run run' p more none true e k = k
 asks_more s b c run run' p more none false e k = cc

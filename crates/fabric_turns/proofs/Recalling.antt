@@ -16,14 +16,14 @@ use Rattle.keep_log.specs.Outcomes.{AmountsTo}
 use Rattle.keep_log.specs.Places.{Follows, is_once}
 use Rattle.keep_log.specs.Spellings.{spelling}
 use Rattle.keep_log.specs.declared.kept.Kept.{Kept}
-use Rattle.outside.specs.Told.{Told}
+use Rattle.edge_io.specs.Told.{Told}
 use Rattle.ring_rules.specs.Arbiters.{no_table}
 use Rattle.turn_members.specs.Members.{IsKept}
 use Rattle.turn_rules.specs.Plans.{Plan}
 use Rattle.turn_rules.specs.Recalled.{IsBadFor, IsBadKeep, IsGoodFor, Recalled}
 use Rattle.turn_rules.specs.Whole.{Untouched}
-use Rattle.turn_rules.specs.declared.stop.Stop.{Stop}
-use Rattle.turn_rules.specs.declared.stop.Stop.TheVariants as stop
+use Rattle.turn_rules.specs.declared.stop_cause.StopCause.{StopCause}
+use Rattle.turn_rules.specs.declared.stop_cause.StopCause.TheVariants as stop
 use Rattle.world_rules.specs.Events.{is_arbiter_actor}
 
 counted : (lists : List (List ℕ)) (records : List Record) (count : ℕ) → Follows nothing lists records → count ≡ length lists → count ≡ length records
@@ -232,7 +232,7 @@ kept_next plan place list old new y e a = record {
 }
 
 -- the list of the next actor could not be read
-pub recalled_err : (plan : Plan) (a b c : Told) (place actor : ℕ) (e : Endpoint) (kept : List (Option Kept)) (r : Stop) → SoFar plan a place kept b → slice_get plan.actors place ≡ Some e → actor ≡ e.actor
+pub recalled_err : (plan : Plan) (a b c : Told) (place actor : ℕ) (e : Endpoint) (kept : List (Option Kept)) (r : StopCause) → SoFar plan a place kept b → slice_get plan.actors place ≡ Some e → actor ≡ e.actor
     → RecallsOne actor b (Err r) c → RecallsAll plan a (Err r) c
 recalled_err plan a b c place actor e kept stop.OutOfMemory s here name r = only_on a b c s.only r
 recalled_err plan a b c place actor e kept stop.KeepFault s here name r = (

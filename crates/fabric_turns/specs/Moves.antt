@@ -1,36 +1,36 @@
 -- From one place of a run to another.
 use Rattle.std.specs.Prelude.{ℕ, Bool, true, false, Result, Ok, Err}
-use Rattle.outside.specs.Told.{Told}
+use Rattle.edge_io.specs.Told.{Told}
 use Rattle.fabric_turns.specs.Runs.{Run, At}
 use Rattle.turn_rules.specs.Ends.{Stopped}
 use Rattle.turn_rules.specs.Happenings.{History}
-use Rattle.turn_rules.specs.Order.{Place, Doing}
+use Rattle.turn_rules.specs.Order.{TurnPosition, Doing}
 use Rattle.turn_rules.specs.Plans.{Setting}
-use Rattle.turn_rules.specs.declared.stop.Stop.{Stop}
+use Rattle.turn_rules.specs.declared.stop_cause.StopCause.{StopCause}
 
 -- all went well and the run is at this place, or it stopped
-abbrev pub Reaches : Setting → Told → Told → Run → History → Place → Result (Unit {0}) Stop → Type 0
+abbrev pub Reaches : Setting → Told → Told → Run → History → TurnPosition → Result (Unit {0}) StopCause → Type 0
 Reaches s a b run h p (Ok done) = At s a b run h p
 Reaches s a b run h p (Err stopped) = Stopped s a b stopped
 
 -- the same, after what came meanwhile
-abbrev pub ComesTo : Setting → Told → Told → Run → Place → Result (Unit {0}) Stop → Type 0
+abbrev pub ComesTo : Setting → Told → Told → Run → TurnPosition → Result (Unit {0}) StopCause → Type 0
 ComesTo s a b run p (Ok done) = (h : History) × At s a b run h p
 ComesTo s a b run p (Err stopped) = Stopped s a b stopped
 
 -- From one place the run comes to another, or it stops, whatever came before.
-abbrev pub Goes : Setting → Told → Run → Place → Told → Run → Place → Result (Unit {0}) Stop → Type 0
+abbrev pub Goes : Setting → Told → Run → TurnPosition → Told → Run → TurnPosition → Result (Unit {0}) StopCause → Type 0
 Goes s b run p c run' p' result = (a : Told) (h : History) → At s a b run h p → ComesTo s a c run' p' result
 
 -- it has come to the other place
-abbrev pub Leads : Setting → Told → Run → Place → Told → Run → Place → Type 0
+abbrev pub Leads : Setting → Told → Run → TurnPosition → Told → Run → TurnPosition → Type 0
 Leads s b run p c run' p' = (a : Told) (h : History) → At s a b run h p → (now : History) × At s a c run' now p'
 
 -- one question to the links: a datagram, and the next is the place; or none, and the other is
-abbrev pub Asks : Setting → Told → Run → Place → Told → Run → Place → Place → Result Bool Stop → Type 0
+abbrev pub Asks : Setting → Told → Run → TurnPosition → Told → Run → TurnPosition → TurnPosition → Result Bool StopCause → Type 0
 Asks s b run p c run' more none (Ok true) = Leads s b run p c run' more
 Asks s b run p c run' more none (Ok false) = Leads s b run p c run' none
 Asks s b run p c run' more none (Err stopped) = (a : Told) (h : History) → At s a b run h p → Stopped s a c stopped
 
-abbrev pub at_place : ℕ → ℕ → Doing → Place
+abbrev pub at_place : ℕ → ℕ → Doing → TurnPosition
 at_place turn at doing = record { turn = turn; at = at; doing = doing }

@@ -5,14 +5,14 @@ use Rattle.edge_io.specs.declared.endpoint.Endpoint.{Endpoint}
 use Rattle.fabric_terms.specs.Ranges.{most}
 use Rattle.fabric_terms.specs.declared.record.Record.{Record}
 use Rattle.keep_log.specs.declared.kept.Kept.{Kept}
-use Rattle.outside.specs.Told.{Told}
+use Rattle.edge_io.specs.Told.{Told}
 use Rattle.ring_rules.specs.declared.input.Input.{Input}
 use Rattle.turn_members.specs.Members.{IsKept, IsOf, seen}
 use Rattle.turn_members.specs.declared.member.Member.{Member}
 use Rattle.turn_rules.specs.Effects.{Did, Stays}
 use Rattle.turn_rules.specs.Handed.{Handed, failures_of}
 use Rattle.turn_rules.specs.Happenings.{Happening, History}
-use Rattle.turn_rules.specs.Order.{Place, IsInOrder}
+use Rattle.turn_rules.specs.Order.{TurnPosition, IsInOrder}
 use Rattle.turn_rules.specs.Plans.{IsPlan, Plan, Setting}
 use Rattle.turn_rules.specs.Process.{Process, after, takes, acts, joins, clamped}
 use Rattle.turn_rules.specs.Works.{works_of}
@@ -62,7 +62,7 @@ pub record Stands (s : Setting) (b : Told) (run : Run) (h : History) : Type 0 wh
   pub clock : IsLast run.last b.last
 
 -- Since the run began with a: this has come, all of its steps are done, the run has not ended, and this is the place.
-pub record At (s : Setting) (a b : Told) (run : Run) (h : History) (p : Place) : Type 0 where
+pub record At (s : Setting) (a b : Told) (run : Run) (h : History) (p : TurnPosition) : Type 0 where
   pub order : IsInOrder s.plan h p
   pub stands : Stands s b run h
   pub did : Did (works_of s.plan.config (after s h).steps) (failures_of h) a b
@@ -70,19 +70,19 @@ pub record At (s : Setting) (a b : Told) (run : Run) (h : History) (p : Place) :
   pub stays : Stays a b
 
 -- x has come, all steps before it are done, and nothing of what it makes.
-pub record Came (s : Setting) (a b : Told) (h : History) (x : Happening) (p : Place) : Type 0 where
+pub record Came (s : Setting) (a b : Told) (h : History) (x : Happening) (p : TurnPosition) : Type 0 where
   pub order : IsInOrder s.plan (x ∷ h) p
   pub on : (after s h).end ≡ None
   pub did : Did (works_of s.plan.config (after s h).steps) (failures_of (x ∷ h)) a b
   pub handed : Handed s.plan (x ∷ h) a b
   pub stays : Stays a b
 
-pub record Meets (s : Setting) (a b : Told) (run : Run) (h : History) (x : Happening) (p : Place) : Type 0 where
+pub record Meets (s : Setting) (a b : Told) (run : Run) (h : History) (x : Happening) (p : TurnPosition) : Type 0 where
   pub came : Came s a b h x p
   pub stands : Stands s b run h
 
 -- x is the start of the actor at the place, the clock having been read where it is a node
-pub record MeetsStart (s : Setting) (a b : Told) (run : Run) (h : History) (x : Happening) (p : Place) (place : ℕ) : Type 0 where
+pub record MeetsStart (s : Setting) (a b : Told) (run : Run) (h : History) (x : Happening) (p : TurnPosition) (place : ℕ) : Type 0 where
   pub came : Came s a b h x p
   pub before : Process
   pub joins : after s (x ∷ h) ≡ joins s 0 place before

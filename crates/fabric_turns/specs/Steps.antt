@@ -6,7 +6,7 @@ use Rattle.fabric_terms.specs.declared.config.FabricConfig.{FabricConfig}
 use Rattle.fabric_terms.specs.declared.record.Record.{Record}
 use Rattle.fabric_terms.specs.declared.report.Why.{Why}
 use Rattle.fabric_turns.specs.Runs.{Run}
-use Rattle.outside.specs.Told.{Told, ReadsClock}
+use Rattle.edge_io.specs.Told.{Told, ReadsClock}
 use Rattle.ring_rules.specs.declared.input.Input.{Input}
 use Rattle.turn_effects.specs.Carried.{CarriesOut}
 use Rattle.turn_members.specs.Members.{Does, IsDeedOf, IsOf, seen}
@@ -16,8 +16,8 @@ use Rattle.turn_rules.specs.Plans.{Plan}
 use Rattle.turn_rules.specs.Process.{clamped}
 use Rattle.turn_rules.specs.Steps.{begun, exceeds, left_of, stepped}
 use Rattle.turn_rules.specs.Works.{Work, work_with}
-use Rattle.turn_rules.specs.declared.stop.Stop.{Stop}
-use Rattle.turn_rules.specs.declared.stop.Stop.TheVariants as stop
+use Rattle.turn_rules.specs.declared.stop_cause.StopCause.{StopCause}
+use Rattle.turn_rules.specs.declared.stop_cause.StopCause.TheVariants as stop
 
 -- what a deed leaves to do
 abbrev pub work_in : FabricConfig → Deed → Work
@@ -64,7 +64,7 @@ abbrev pub left_at : List Member → ℕ → Option Why
 left_at members place = why_of (slice_get members place)
 
 -- This work is done, and its actor goes on or has left; or it is cut short.
-abbrev pub CarriesThrough : Work → Option Why → Told → Told → Result (Unit {0}) Stop → Type 0
+abbrev pub CarriesThrough : Work → Option Why → Told → Told → Result (Unit {0}) StopCause → Type 0
 CarriesThrough work left b c (Ok done) = CarriesOut work b c (Ok done) × (left ≡ None)
 CarriesThrough work left b c (Err (stop.Left why)) = CarriesOut work b c (Ok tt) × (left ≡ Some why)
 CarriesThrough work left b c (Err stopped) = CarriesOut work b c (Err stopped)
@@ -83,7 +83,7 @@ pub record ReadBack (former latter : ℕ) (old : Run) (b c : Told) : Type 0 wher
   pub now : latter ≡ clamped told
   pub falls : latter < former
 
-abbrev pub ReadsNow : Run → Told → Run → Told → Result ℕ Stop → Type 0
+abbrev pub ReadsNow : Run → Told → Run → Told → Result ℕ StopCause → Type 0
 ReadsNow old b new c (Ok told) = ReadOn told old b new c
 ReadsNow old b new c (Err (stop.ClockBack former latter)) = ReadBack former latter old b c
 ReadsNow old b new c _ = ⊥

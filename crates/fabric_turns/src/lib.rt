@@ -1,21 +1,21 @@
 //! The run of actors in turn over the devices: what `node`, `arbiter` and `cluster` do once their source is read.
 //!
-//! A run reads what is kept of its actors, opens their endpoints, starts them, and then lets each take its turns. In a turn
-//! a node reads the clock, takes its commands, hears what has arrived, and fires; an arbitrator hears what has arrived. Each
-//! thing that comes is one step, and is done whole at the devices before the next. The crate stands on the actors, on what
-//! a step does to the devices, and on the rules of a running program. It promises at every status which steps were taken,
-//! what was kept, sent and written, and why the run ended.
+//! A run reads what is kept of its actors, opens their endpoints, starts them, and then lets each take its turns. In a
+//! turn a node reads the clock, takes its commands, hears what has arrived, and fires; an arbitrator hears what has
+//! arrived. Each thing that comes is one step, and is done whole at the devices before the next. The crate stands on
+//! the actors, on what a step does to the devices, and on the rules of a running program. It promises at every status
+//! which steps were taken, what was kept, sent and written, and why the run ended.
 #![tactic(auto)]
 
-mod act;
-mod bids;
+mod actor_step;
+mod commands;
 mod clock;
-mod ends;
-mod hears;
-mod recall;
+mod ending;
+mod datagrams;
+mod recovery;
 mod run;
-mod starts;
+mod startup;
 mod turns;
-mod whole;
+mod whole_run;
 
-pub use whole::run_on;
+pub use whole_run::run_on;

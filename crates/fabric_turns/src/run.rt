@@ -1,4 +1,5 @@
-ghost use Rattle.std.specs.Prelude.{◌≡◌, ◌<◌, ◌≤◌, ◌++◌, ◌∷◌, [], ℕ, List, length, IfOk, IfSome, OnErr, OnOk, IsErrOf, Some, None};
+ghost use Rattle.std.specs.Prelude.{◌≡◌, ◌<◌, ◌≤◌, ◌++◌, ◌∷◌, [], List, length, IfOk, IfSome, OnErr, OnOk, IsErrOf};
+ghost use Rattle.std.specs.Prelude.{Some, None};
 ghost use Rattle.fabric_terms.specs.Ranges.{most};
 ghost use Rattle.fabric_terms.specs.declared.record.Record.{Record};
 ghost use Rattle.fabric_turns.specs.Runs.{AreMembers, IsKeptAt};
@@ -72,9 +73,11 @@ impl Run {
         requires members { (plan : PlanOf) × AreMembers plan self.old.members }
         requires last { IfSome self.old.last (λ reading. reading ≤ most) }
         requires input { FitsInput input.now }
-        ensures does { IfOk result (λ deed. (plan : PlanOf) → AreMembers plan self.old.members → StepsAt plan turn place input.now self.old deed self.new) }
+        ensures does { IfOk result (λ deed. (plan : PlanOf) → AreMembers plan self.old.members →
+            StepsAt plan turn place input.now self.old deed self.new) }
         ensures refused { OnErr result (self.new ≡ self.old) }
-        ensures full { IsErrOf result ArbiterError.TableFull → (plan : PlanOf) → AreMembers plan self.old.members → RefusedAt plan turn place input.now self.old }
+        ensures full { IsErrOf result ArbiterError.TableFull → (plan : PlanOf) → AreMembers plan self.old.members →
+            RefusedAt plan turn place input.now self.old }
         ensures same { length self.new.members ≡ length self.old.members }
     {
         let now = self.present();
@@ -101,8 +104,10 @@ impl Run {
         requires plan { IsPlan plan.now }
         requires last { IfSome self.old.last (λ reading. reading ≤ most) }
         requires kept { (records : List Record) × IsKeptAt plan.now place records kept }
-        ensures does { IfOk result (λ deed. (records : List Record) → IsKeptAt plan.now place records kept → JoinsAt plan.now records place self.old deed self.new) }
-        ensures full { IsErrOf result ArbiterError.TableFull → (records : List Record) → IsKeptAt plan.now place records kept → NotJoinsAt plan.now records place self.old }
+        ensures does { IfOk result (λ deed. (records : List Record) → IsKeptAt plan.now place records kept →
+            JoinsAt plan.now records place self.old deed self.new) }
+        ensures full { IsErrOf result ArbiterError.TableFull → (records : List Record) →
+            IsKeptAt plan.now place records kept → NotJoinsAt plan.now records place self.old }
     {
         let now = self.present();
         let (member, deed) = Member::begin(alloc, plan.config(), plan.actor_at(place), kept, now)?;

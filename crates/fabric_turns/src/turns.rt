@@ -1,24 +1,20 @@
-// The turns of the actors.
-ghost use Rattle.std.specs.Prelude.{◌≡◌, ◌<◌, ◌+◌, OnOk, ◌∷◌, [], ℕ, List, length, slice_get, Some, None, true, false};
-ghost use Rattle.outside.specs.Told.{Told};
+ghost use Rattle.std.specs.Prelude.{◌≡◌, ◌<◌, ◌+◌, OnOk, List, length, true};
 ghost use Rattle.fabric_terms.specs.declared.record.Record.{Record};
-ghost use Rattle.fabric_turns.specs.Moves.{Reaches, Goes, Asks, at_place};
-ghost use Rattle.fabric_turns.specs.Runs.{AreKept, IsKeptAt, IsReady, IsStep, Meets, MeetsStart};
-ghost use Rattle.turn_rules.specs.Happenings.{Datagram, Hears, Happening, History};
-ghost use Rattle.turn_rules.specs.Order.{Place, Starting, Turning, Busy, Firing, arrive, coming, onward, hearing, rests};
-ghost use Rattle.turn_rules.specs.Plans.{is_node_at, orders_at, commands_in};
+ghost use Rattle.fabric_turns.specs.Moves.{Goes, at_place};
+ghost use Rattle.fabric_turns.specs.Runs.{IsReady};
+ghost use Rattle.turn_rules.specs.Order.{Turning, Firing, arrive, coming, onward};
+ghost use Rattle.turn_rules.specs.Plans.{is_node_at};
 ghost use Rattle.turn_rules.specs.Whole.{setting};
 
-use crate::act::act;
-use crate::bids::bid_all;
+use crate::actor_step::act;
+use crate::commands::bid_all;
 use crate::clock::read_clock;
-use crate::hears::hear;
+use crate::datagrams::hear;
 use crate::run::Run;
-use edge_io::DATAGRAM_BYTES;
-use outside::Outside;
+use edge_io::{DATAGRAM_BYTES, Outside};
 use ring_node::Input;
 use std::alloc::Global;
-use turn_rules::{Plan, Stop};
+use turn_rules::{Plan, StopCause};
 
 /// The firing of the node at a place.
 fn fire<O: Outside>(
@@ -28,10 +24,12 @@ fn fire<O: Outside>(
     run: &mut Run,
     turn: u64,
     place: usize,
-) -> Result<(), Stop>
+) -> Result<(), StopCause>
     requires place { place < length run.old.members }
     requires ready { IsReady plan.now run.old (O.told outside.old) }
-    ensures done { (kept : List (List Record)) → Goes (setting plan.now kept) (O.told outside.old) run.old (at_place turn place Firing) (O.told outside.new) run.new (onward plan.now turn place) result }
+    ensures done { (kept : List (List Record)) →
+        Goes (setting plan.now kept) (O.told outside.old) run.old (at_place turn place Firing) (O.told outside.new)
+        run.new (onward plan.now turn place) result }
     ensures ready { IsReady plan.now run.new (O.told outside.new) }
     ensures same { length run.new.members ≡ length run.old.members }
 {
@@ -47,12 +45,14 @@ fn node_turn<O: Outside>(
     turn: u64,
     place: usize,
     buffer: &mut [u8; DATAGRAM_BYTES],
-) -> Result<(), Stop>
+) -> Result<(), StopCause>
     requires place { place < length run.old.members }
     requires ready { IsReady plan.now run.old (O.told outside.old) }
     requires within { place < length plan.now.actors }
     requires node { is_node_at plan.now place ≡ true }
-    ensures done { (kept : List (List Record)) → Goes (setting plan.now kept) (O.told outside.old) run.old (at_place turn place Turning) (O.told outside.new) run.new (onward plan.now turn place) result }
+    ensures done { (kept : List (List Record)) →
+        Goes (setting plan.now kept) (O.told outside.old) run.old (at_place turn place Turning) (O.told outside.new)
+        run.new (onward plan.now turn place) result }
     ensures ready { OnOk result (IsReady plan.now run.new (O.told outside.new)) }
     ensures same { OnOk result (length run.new.members ≡ length run.old.members) }
 {
@@ -71,12 +71,14 @@ fn take_turn<O: Outside>(
     turn: u64,
     place: usize,
     buffer: &mut [u8; DATAGRAM_BYTES],
-) -> Result<(), Stop>
+) -> Result<(), StopCause>
     requires place { place < length run.old.members }
     requires ready { IsReady plan.now run.old (O.told outside.old) }
     requires within { place < length plan.now.actors }
     requires turn { 0 < turn }
-    ensures done { (kept : List (List Record)) → Goes (setting plan.now kept) (O.told outside.old) run.old (coming plan.now turn place) (O.told outside.new) run.new (coming plan.now turn (place + 1)) result }
+    ensures done { (kept : List (List Record)) →
+        Goes (setting plan.now kept) (O.told outside.old) run.old (coming plan.now turn place) (O.told outside.new)
+        run.new (coming plan.now turn (place + 1)) result }
     ensures ready { OnOk result (IsReady plan.now run.new (O.told outside.new)) }
     ensures same { OnOk result (length run.new.members ≡ length run.old.members) }
 {
@@ -95,11 +97,13 @@ fn turn_all<O: Outside>(
     run: &mut Run,
     turn: u64,
     buffer: &mut [u8; DATAGRAM_BYTES],
-) -> Result<(), Stop>
+) -> Result<(), StopCause>
     requires all { length run.old.members ≡ length plan.now.actors }
     requires ready { IsReady plan.now run.old (O.told outside.old) }
     requires turn { 0 < turn }
-    ensures done { (kept : List (List Record)) → Goes (setting plan.now kept) (O.told outside.old) run.old (arrive plan.now turn 0) (O.told outside.new) run.new (arrive plan.now (turn + 1) 0) result }
+    ensures done { (kept : List (List Record)) →
+        Goes (setting plan.now kept) (O.told outside.old) run.old (arrive plan.now turn 0) (O.told outside.new) run.new
+        (arrive plan.now (turn + 1) 0) result }
     ensures ready { OnOk result (IsReady plan.now run.new (O.told outside.new)) }
     ensures same { OnOk result (length run.new.members ≡ length run.old.members) }
 {
@@ -115,10 +119,12 @@ pub(crate) fn take_turns<O: Outside>(
     alloc: Global,
     plan: &Plan,
     run: &mut Run,
-) -> Result<(), Stop>
+) -> Result<(), StopCause>
     requires all { length run.old.members ≡ length plan.now.actors }
     requires ready { IsReady plan.now run.old (O.told outside.old) }
-    ensures done { (kept : List (List Record)) → Goes (setting plan.now kept) (O.told outside.old) run.old (arrive plan.now 1 0) (O.told outside.new) run.new (arrive plan.now (plan.now.turns + 1) 0) result }
+    ensures done { (kept : List (List Record)) →
+        Goes (setting plan.now kept) (O.told outside.old) run.old (arrive plan.now 1 0) (O.told outside.new) run.new
+        (arrive plan.now (plan.now.turns + 1) 0) result }
 {
     let mut buffer = [0u8; DATAGRAM_BYTES];
     for turn in 0..plan.turns() {

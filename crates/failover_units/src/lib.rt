@@ -15,4 +15,4 @@ mod units;
 
 pub use laws::what_is_known_only_rises;
 pub use refusal::UnitRefusal;
-pub use units::{MOST_UNITS, Units};
+pub use units::{MAX_UNITS, Units};

@@ -1,4 +1,4 @@
-ghost use Rattle.std.specs.Prelude.{◌≡◌, is_some};
+ghost use Rattle.std.specs.Prelude.{◌≡◌};
 ghost use Rattle.failover_units.specs.Units.{nothing, greater, newest, noted, seen_at, has_member};
 
 use ring_points::{Config, Epoch};

@@ -1,7 +1,9 @@
-ghost use Rattle.std.specs.Prelude.{◌≡◌, ◌≢◌, [], None, Some, Err, IsTrue, IsOk, is_some, MatchResult, IfOk, IsOkUnless, length, nat_eq, ◌≤◌};
+ghost use Rattle.std.specs.Prelude.{◌≡◌, ◌≢◌, [], None, Some, Err, IsTrue, IsOk, is_some, MatchResult, IfOk};
+ghost use Rattle.std.specs.Prelude.{IsOkUnless, nat_eq, ◌≤◌};
 ghost use Rattle.indexmap.specs.IndexMap.{IsUnique};
-ghost use Rattle.fabric_lemmas.specs.Maps.{at, put};
-ghost use Rattle.failover_units.specs.Units.{is_full_for, unit_of, changed, created, noted, seen_at, Answers, load_of, known_partitions, partitions_in};
+ghost use Rattle.fabric_lemmas.specs.Maps.{at};
+ghost use Rattle.failover_units.specs.Units.{is_full_for, unit_of, changed, created, noted, seen_at, Answers, load_of};
+ghost use Rattle.failover_units.specs.Units.{known_partitions, partitions_in};
 
 use crate::range::partitions_in;
 use crate::refusal::UnitRefusal;
@@ -12,7 +14,7 @@ use std::alloc::{AllocError, Global};
 use std::marker::Model;
 
 /// How many partitions can stand.
-pub const MOST_UNITS: usize = 4096;
+pub const MAX_UNITS: usize = 4096;
 
 /// The partitions that a node knows of: per partition its configuration of greatest epoch, and the
 /// greatest epoch seen. Contracts see the map from partitions, as the list that rises by partition.
@@ -75,7 +77,7 @@ impl Units {
     pub fn is_full_for(&self, partition: u16) -> bool
         ensures { result ≡ is_full_for partition self.now }
     {
-        !self.table.contains_key(&partition) && self.table.len() >= MOST_UNITS
+        !self.table.contains_key(&partition) && self.table.len() >= MAX_UNITS
     }
 
     /// Keeps what is known of a partition, in its place where it stands already.
@@ -84,7 +86,7 @@ impl Units {
         ensures kept { Answers (changed partition (λ _. unit) self.old) self.old self.new result }
         ensures stands { IsTrue (is_some (at partition self.old)) → IsOk result }
     {
-        if !self.table.contains_key(&partition) && self.table.len() >= MOST_UNITS {
+        if !self.table.contains_key(&partition) && self.table.len() >= MAX_UNITS {
             return Err(UnitRefusal::Full);
         }
         match self.table.insert(partition, unit) {

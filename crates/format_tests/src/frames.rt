@@ -1,4 +1,5 @@
-use ring_wire::{Body, FRAME_LIMIT, decode, encode};
+use ring_points::FRAME_LIMIT;
+use ring_wire::{Body, decode, encode};
 
 /// A frame of each kind, in the order of `Body`, by the grammar alone; Prepared with and without a configuration.
 const FRAMES: [&[u8]; 36] = [

@@ -1,5 +1,5 @@
-//! Tests of the formats: frames, configurations and records as bytes that were written down by hand, frames that are kept
-//! as bytes, and fields, lines of a schedule, of a report and of places as text.
+//! Tests of the formats: frames, configurations and records as bytes that were written down by hand, frames that are
+//! kept as bytes, and fields, lines of a schedule, of a report and of places as text.
 //!
 //! That reading and writing are each other's inverse is proved where they stand; here is that the bytes are the ones
 //! which the documents show, that each public call succeeds on its happy path, each kind of refusal once, and what

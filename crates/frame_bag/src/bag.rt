@@ -3,13 +3,14 @@ ghost use Rattle.frame_bag.specs.Bags.{frame_of};
 ghost use Rattle.fabric_terms.specs.Messages.{is_sound};
 
 use bytes::BytesMut;
+use ring_points::FRAME_LIMIT;
 use fabric_terms::{Message, OutOfMemory};
-use ring_wire::{FRAME_LIMIT, decode, encode};
+use ring_wire::{decode, encode};
 use std::alloc::Global;
 use std::marker::Model;
 
-/// The frames that were sent, by their numbers, from 1. Contracts see them as the record `Bag`: the messages, the newest
-/// first, and for how many more there is room.
+/// The frames that were sent, by their numbers, from 1. Contracts see them as the record `Bag`: the messages, the
+/// newest first, and for how many more there is room.
 #[derive(Drop)]
 pub struct FrameBag {
     /// The bytes of all frames, one after the other, the oldest first.

@@ -6,7 +6,7 @@ use Rattle.fabric_terms.specs.declared.message.Message.{Message}
 use Rattle.fabric_terms.specs.declared.message.Body.{Body}
 use Rattle.fabric_terms.specs.declared.message.Body.TheVariants.{Hello, HelloFor, Offer, OfferFor, Take, Renew, RenewAck, Transfer, Gone, Seek, Found, Accuse, Ruled, Claim, Kept, Prepare, Prepared, NoPrepare, Vote, Voted, NoVote, DoneAsk, DoneKept, NoDone, Promise, Promised, Sync, Fetch, Piece, Adopted, Activate, Activated, Append, Appended, Older}
 use Rattle.ring_points.specs.declared.who.Who.{Who}
-use Rattle.frame_format.specs.declared.head.Head.{Head}
+use Rattle.frame_format.specs.declared.frame_head.FrameHead.{FrameHead}
 use Rattle.fabric_terms.specs.Fields.{is_sender, is_addressee}
 use Rattle.wire_fields.specs.Texts.{one_byte, who_bytes}
 use Rattle.fabric_terms.specs.Messages.{is_sound_body, is_sound}
@@ -96,13 +96,13 @@ head_is =
         let s = and_parts (x.0.0.0.0 == 83) true r.0 in
         ap (λ n. ((((n, x.0.0.0.1), x.0.0.1), x.0.1), x.1)) (sym (eqb-true x.0.0.0.0 83 s.0))
 
-abbrev with_body : Head → Option Body → Option Message
+abbrev with_body : FrameHead → Option Body → Option Message
 with_body h o = o >>= λ body. Some (record { from = h.from; to = h.to; body = body })
 
 pub message_found : (bytes : List ℕ) (m : Message) → AreBytes bytes → message_of bytes ≡ Some m → IsTrue (is_sound m) × (spelling m ≡ bytes)
 unfolding message_of
 message_found bytes m h e =
-    let a = bind_some (head_at bytes) (λ (x : Head × List ℕ). with_body x.0 (body_of x.0.version x.0.kind x.1)) m e in
+    let a = bind_some (head_at bytes) (λ (x : FrameHead × List ℕ). with_body x.0 (body_of x.0.version x.0.kind x.1)) m e in
     let head = a.0.0 in
     let rest = a.0.1 in
     let f = head_is.found bytes a.0 h a.1 in
@@ -120,6 +120,6 @@ pub message_again : (m : Message) → IsTrue (is_sound m) → message_of (spelli
 unfolding message_of
 message_again m h =
     let p = and_parts (is_sender m.from && is_addressee m.to) (is_sound_body m.body) h in
-    let head : Head = record { version = version_of m.body; kind = kind_of m.body; from = m.from; to = m.to } in
-    ap (λ (o : Field Head). o >>= λ x. with_body x.0 (body_of x.0.version x.0.kind x.1)) (head_is.again head (body_bytes m.body) p.0)
+    let head : FrameHead = record { version = version_of m.body; kind = kind_of m.body; from = m.from; to = m.to } in
+    ap (λ (o : Field FrameHead). o >>= λ x. with_body x.0 (body_of x.0.version x.0.kind x.1)) (head_is.again head (body_bytes m.body) p.0)
     ∙ ap (with_body head) (body_again m.body p.1)

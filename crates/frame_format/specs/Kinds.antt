@@ -2,7 +2,7 @@
 use Rattle.std.specs.Prelude.{ℕ, List, Option, Some, None, ◌==◌, if◌then◌else◌}
 use Rattle.fabric_terms.specs.declared.message.Message.{Message}
 use Rattle.fabric_terms.specs.declared.message.Body.{Body}
-use Rattle.frame_format.specs.declared.head.Head.{Head}
+use Rattle.frame_format.specs.declared.frame_head.FrameHead.{FrameHead}
 use Rattle.wire_fields.specs.Readers.{◌>>=◌, Field, such, pair, made, byte_at, sender_at, addressee_at}
 use Rattle.frame_format.specs.Links.{links_of, leases_of}
 
@@ -12,7 +12,7 @@ body_of version kind bytes =
     if version == 1 then links_of kind bytes else (if version == 2 then leases_of kind bytes else None)
 
 -- the version and the kind, from whom and to whom
-unfoldable pub head_at : List ℕ → Field Head
+unfoldable pub head_at : List ℕ → Field FrameHead
 head_at =
     made (λ x. record { version = x.0.0.0.1; kind = x.0.0.1; from = x.0.1; to = x.1 })
     (pair (pair (pair (pair (such (λ n. n == 83) byte_at) byte_at) byte_at) sender_at) addressee_at)

@@ -10,7 +10,7 @@ use Rattle.arbiter_quorum.proofs.Majorities.{are_counted-push, few_counted}
 use Rattle.heir_rounds.specs.declared.verdict.RoundVerdict.{RoundVerdict}
 use Rattle.heir_rounds.specs.declared.verdict.RoundVerdict.TheVariants as verdict
 use Rattle.heir_rounds.specs.Rounds.{RoundTally, no_rounds, kept_count, unanswered, round_counted, round_verdict_of, gone_on}
-use Rattle.heir_rounds.specs.Laws.{Keeping, Answer, IsGiven, is_kept, keepers, told}
+use Rattle.heir_rounds.specs.Laws.{Keeping, RoundAnswer, IsGiven, is_kept, keepers, told}
 use Rattle.heir_rounds.proofs.Counts.{Pass, most_given}
 use Rattle.heir_rounds.proofs.Splits.{next_is, cannot_win}
 
@@ -37,7 +37,7 @@ kept_more kept round a who [] given is = (is, tt)
 kept_more kept round a who (answer ∷ answers) given is = (given.0, kept_more kept round a who answers given.1 is)
 
 -- with an answer more
-counted_more : (kept : Keeping) (n : ℕ) (who : Who) (t : RoundTally) (answer : Answer) → IsTold kept n who t → IsGiven kept n answer
+counted_more : (kept : Keeping) (n : ℕ) (who : Who) (t : RoundTally) (answer : RoundAnswer) → IsTold kept n who t → IsGiven kept n answer
     → IsTold kept n who (round_counted t answer.round answer.arbitrator answer.who)
 counted_more kept n who t answer state given = by (answer.round == t.round) refl
   where
@@ -114,7 +114,7 @@ gone_more kept n who u (verdict.Next r) state e =
         by (inr (inl less)) = state.split round from less
         by (inr (inr more)) = absurd (omega arith)
 
-pub is_told : (kept : Keeping) (n : ℕ) (who : Who) (limit : ℕ) (answers : List Answer) → AllByRecursion (IsGiven kept n) answers
+pub is_told : (kept : Keeping) (n : ℕ) (who : Who) (limit : ℕ) (answers : List RoundAnswer) → AllByRecursion (IsGiven kept n) answers
     → IsTold kept n who (told (no_rounds who n limit) answers)
 is_told kept n who limit [] given = record {
   me = refl;
@@ -130,7 +130,7 @@ is_told kept n who limit (answer ∷ before) given =
     gone_more kept n who u (round_verdict_of u) (counted_more kept n who t answer (is_told kept n who limit before given.1) given.0) refl
 
 -- before its verdict
-pub is_told_last : (kept : Keeping) (n : ℕ) (who : Who) (limit : ℕ) (newest : Answer) (before : List Answer) → AllByRecursion (IsGiven kept n) (newest ∷ before)
+pub is_told_last : (kept : Keeping) (n : ℕ) (who : Who) (limit : ℕ) (newest : RoundAnswer) (before : List RoundAnswer) → AllByRecursion (IsGiven kept n) (newest ∷ before)
     → IsTold kept n who (round_counted (told (no_rounds who n limit) before) newest.round newest.arbitrator newest.who)
 is_told_last kept n who limit newest before given =
     counted_more kept n who (told (no_rounds who n limit) before) newest (is_told kept n who limit before given.1) given.0

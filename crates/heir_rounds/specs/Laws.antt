@@ -31,34 +31,34 @@ pub record IsHeir (kept : Keeping) (n : ℕ) (who : Who) : Type 0 where
   pub most : is_majority n (keepers kept n round who) ≡ true
 
 -- whom an arbitrator keeps of a round, as a tally is told it
-pub record Answer : Type 0 where
+pub record RoundAnswer : Type 0 where
   pub round : ℕ
   pub arbitrator : ℕ
   pub who : Who
 
 -- it is what one of the arbitrators 1 to n keeps
-pub record IsGiven (kept : Keeping) (n : ℕ) (answer : Answer) : Type 0 where
+pub record IsGiven (kept : Keeping) (n : ℕ) (answer : RoundAnswer) : Type 0 where
   pub from : 1 ≤ answer.arbitrator
   pub to : answer.arbitrator ≤ n
   pub is : kept answer.arbitrator answer.round ≡ Some answer.who
 
 -- a tally after these answers, the newest first
-abbrev pub told : RoundTally → List Answer → RoundTally
+abbrev pub told : RoundTally → List RoundAnswer → RoundTally
 told t [] = t
 told t (answer ∷ before) = round_noted (told t before) answer.round answer.arbitrator answer.who
 
 -- by answers that arbitrators gave, the instance's tally came to the round
 pub record CameTo (kept : Keeping) (n : ℕ) (who : Who) (round : ℕ) : Type 0 where
   pub limit : ℕ
-  pub answers : List Answer
+  pub answers : List RoundAnswer
   pub given : AllByRecursion (IsGiven kept n) answers
   pub came : (told (no_rounds who n limit) answers).round ≡ round
 
 -- by answers that arbitrators gave, the instance's tally is won
 pub record Wins (kept : Keeping) (n : ℕ) (who : Who) : Type 0 where
   pub limit : ℕ
-  pub newest : Answer
-  pub before : List Answer
+  pub newest : RoundAnswer
+  pub before : List RoundAnswer
   pub given : AllByRecursion (IsGiven kept n) (newest ∷ before)
   pub won : round_verdict (told (no_rounds who n limit) before) newest.round newest.arbitrator newest.who ≡ Won
 

@@ -1,7 +1,7 @@
 ghost use Rattle.heir_rounds.specs.Laws.{OneHeir, OneWinner, WinnerIsHeir};
 
-/// No two instances are heirs of one victim, whatever the rounds, where each arbitrator keeps one claimer of a round for
-/// good, and a claim of a later round is made only by an instance whose own tally came to that round.
+/// No two instances are heirs of one victim, whatever the rounds, where each arbitrator keeps one claimer of a round
+/// for good, and a claim of a later round is made only by an instance whose own tally came to that round.
 pub fn one_heir_at_most()
     ensures { OneHeir }
 {}

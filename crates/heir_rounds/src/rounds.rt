@@ -1,12 +1,13 @@
 ghost use Rattle.std.specs.Prelude.{◌≡◌, ◌≤◌, length};
 ghost use Rattle.std.specs.List.{list_any};
 ghost use Rattle.arbiter_quorum.specs.Tallies.{has_answered, is_majority};
-ghost use Rattle.heir_rounds.specs.Rounds.{gone_on, has_majority, is_won, kept_count, may_win, no_rounds, one_may_win, round_counted, round_noted, round_verdict, round_verdict_of, unanswered};
+ghost use Rattle.heir_rounds.specs.Rounds.{gone_on, has_majority, is_won, kept_count, may_win, no_rounds, one_may_win};
+ghost use Rattle.heir_rounds.specs.Rounds.{round_counted, round_noted, round_verdict, round_verdict_of, unanswered};
 
 use crate::verdict::RoundVerdict;
 use arbiter_quorum::is_majority;
 use arrayvec::ArrayVec;
-use ring_points::Who;
+use ring_points::{MAX_ARBITRATORS, Who};
 use std::marker::Model;
 
 /// Whom each arbitrator keeps of the present round about one victim: its first answer. Contracts see it as
@@ -17,7 +18,7 @@ pub struct RoundTally {
     arbitrators: u8,
     limit: u8,
     round: u8,
-    answers: ArrayVec<(u8, Who), 9>,
+    answers: ArrayVec<(u8, Who), MAX_ARBITRATORS>,
 }
 
 impl Model for RoundTally {
@@ -26,7 +27,8 @@ impl Model for RoundTally {
 
     ghost Value = { RoundTally };
 
-    ghost view = { λ a. record { me = a.me; arbitrators = a.arbitrators; limit = a.limit; round = a.round; answers = a.answers.items } };
+    ghost view = { λ a. record { me = a.me; arbitrators = a.arbitrators; limit = a.limit; round = a.round;
+        answers = a.answers.items } };
 
     ghost invariant = { λ a. Counted a.arbitrators a.answers.items };
 }
@@ -34,7 +36,7 @@ impl Model for RoundTally {
 impl RoundTally {
     /// The first round, without answers, of at most 9 arbitrators.
     pub fn new(me: Who, arbitrators: u8, limit: u8) -> Self
-        requires { arbitrators ≤ 9 }
+        requires { arbitrators ≤ MAX_ARBITRATORS }
         ensures { result ≡ no_rounds me arbitrators limit }
     {
         RoundTally {
@@ -113,7 +115,7 @@ impl RoundTally {
 
     fn unanswered(&self) -> usize
         ensures count { result ≡ unanswered self.now }
-        ensures few { result ≤ 9 }
+        ensures few { result ≤ MAX_ARBITRATORS }
     {
         usize::from(self.arbitrators).saturating_sub(self.answers.len())
     }

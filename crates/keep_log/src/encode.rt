@@ -1,5 +1,3 @@
-// How records are written.
-
 ghost use Rattle.std.specs.Prelude.{◌≡◌, ◌≤◌, ◌+◌, ◌++◌, length, drop, IsTrue};
 ghost use Rattle.wire_fields.specs.Writers.{Puts};
 ghost use Rattle.keep_log.specs.Spellings.{is_sound, kind_of, fields_of, spelling};
@@ -148,8 +146,8 @@ fn put_fields(into: &mut [u8; RECORD_LIMIT], at: usize, item: &Record) -> usize
     }
 }
 
-/// Writes the record to the front of `into`, and gives its length, which is at most 600. The bytes behind it are left as
-/// they were.
+/// Writes the record to the front of `into`, and gives its length, which is at most 600. The bytes behind it are left
+/// as they were.
 pub fn encode_record(item: &Record, into: &mut [u8; RECORD_LIMIT]) -> usize
     requires { IsTrue (is_sound item.now) }
     ensures written { into.new ≡ spelling item.now ++ drop (length (spelling item.now)) into.old }

@@ -1,19 +1,14 @@
-// Records as their bytes lend them.
-
-ghost use Rattle.std.specs.Prelude.{◌≡◌};
 ghost use Rattle.wire_fields.specs.Readers.{Gives};
 ghost use Rattle.keep_log.specs.Items.{recorded};
-ghost use Rattle.keep_log.specs.Readings.{later_round_at, boot_of, accused_by_of, prepared_by_of, voted_for_of, done_for_of, promised_at_of, wrote_of, incoming_of, adopted_at_of, claimed_by_of, fields_read, record_of};
-ghost use Rattle.keep_log.specs.Spellings.{is_later_round};
+ghost use Rattle.keep_log.specs.Readings.{later_round_at, boot_of, accused_by_of, prepared_by_of, voted_for_of};
+ghost use Rattle.keep_log.specs.Readings.{done_for_of, promised_at_of, wrote_of, incoming_of, adopted_at_of};
+ghost use Rattle.keep_log.specs.Readings.{claimed_by_of, fields_read, record_of};
 
-use ring_points::{Config, Epoch, Who};
+use ring_points::{Config, Epoch, MAX_ROUNDS, Who};
 use wire_fields::NotField;
 use wire_fields::read::{
     config_at, counted_at, end, epoch_at, flag_at, last_at, text_at, u8_at, u32_at, unit_at, who_at,
 };
-
-/// The greatest number of a round of heirs.
-const LAST_ROUND: u8 = 8;
 
 /// A record, the text of which lies in the bytes that it was read from.
 #[derive(Drop)]
@@ -71,7 +66,7 @@ fn later_round_at(bytes: &[u8]) -> Result<(u8, &[u8]), NotField>
     ensures { Gives (λ x. (x.0, x.1.now)) result (later_round_at bytes.now) }
 {
     let (round, rest) = u8_at(bytes)?;
-    if 1 < round && round <= LAST_ROUND {
+    if 1 < round && round <= MAX_ROUNDS {
         Ok((round, rest))
     } else {
         Err(NotField)

@@ -16,8 +16,8 @@ pub fn a_list_amounts_to_one_thing()
     ensures { AllDecided }
 {}
 
-/// A record of a replica in its place is one that the replica's call takes: so what a list of records amounts to is what
-/// the calls made that they were kept for.
+/// A record of a replica in its place is one that the replica's call takes: so what a list of records amounts to is
+/// what the calls made that they were kept for.
 pub fn a_record_in_its_place_is_taken()
     ensures { InPlaceIsTaken }
 {}

@@ -1,5 +1,3 @@
-// How lists of records are read.
-
 ghost use Rattle.std.specs.Prelude.{◌≡◌, [], true, map, IfOk};
 ghost use Rattle.ring_rules.specs.Arbiters.{no_table};
 ghost use Rattle.arbiter_tables.specs.Registers.{are_placed};
@@ -13,8 +11,8 @@ use crate::reading::Reading;
 use std::alloc::Global;
 
 /// What these records amount to. `BadRecord(i)`, from 1, comes exactly where record i is the first that is none, or is
-/// not in its place: the boots of a node count from 1, a victim and a round have one record, what a register or a replica
-/// keeps follows what it kept before, and no list has records of a node and of an arbitrator.
+/// not in its place: the boots of a node count from 1, a victim and a round have one record, what a register or a
+/// replica keeps follows what it kept before, and no list has records of a node and of an arbitrator.
 pub fn read_records(alloc: Global, records: &[Vec<u8>]) -> Result<Kept, KeptError>
     ensures reads { Reads (map (λ v. v.items) records.now) result }
     ensures once { IfOk result (λ kept. is_once no_table kept.arbiter ≡ true) }

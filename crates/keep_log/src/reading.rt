@@ -1,4 +1,4 @@
-ghost use Rattle.std.specs.Prelude.{◌≡◌, ◌&&◌, ◌||◌, ◌≤◌, [], not, IsTrue, IfOk, OnOk, length};
+ghost use Rattle.std.specs.Prelude.{◌≡◌, ◌&&◌, ◌||◌, IsTrue, IfOk, OnOk};
 ghost use Rattle.std.specs.Map.{values_of};
 ghost use Rattle.fabric_terms.specs.declared.record.Record.TheVariants as said;
 ghost use Rattle.unit_rules.specs.Starts.{called, replica_of};
@@ -62,7 +62,8 @@ impl Reading {
     fn booted(&mut self, instance: u32) -> Result<(), NotTaken>
         requires { IsTold self.old }
         ensures told { OnOk result (IsTold self.new) }
-        ensures taken { Takes (is_next (amount_in self.old) (said.Boot instance)) (with_record (amount_in self.old) (said.Boot instance)) (amount_in self.new) result }
+        ensures taken { Takes (is_next (amount_in self.old) (said.Boot instance))
+            (with_record (amount_in self.old) (said.Boot instance)) (amount_in self.new) result }
     {
         if !self.is_node() || u64::from(instance) != u64::from(self.boots) + 1 {
             return Err(NotTaken::OutOfPlace);
@@ -90,7 +91,8 @@ impl Reading {
     fn accused(&mut self, victim: Who, first: Who) -> Result<(), NotTaken>
         requires { IsTold self.old }
         ensures told { OnOk result (IsTold self.new) }
-        ensures taken { Takes (is_next (amount_in self.old) (said.AccusedBy victim first)) (with_record (amount_in self.old) (said.AccusedBy victim first)) (amount_in self.new) result }
+        ensures taken { Takes (is_next (amount_in self.old) (said.AccusedBy victim first))
+            (with_record (amount_in self.old) (said.AccusedBy victim first)) (amount_in self.new) result }
     {
         if !self.is_arbiter() || self.table.first_accuser(victim).is_some() {
             return Err(NotTaken::OutOfPlace);
@@ -103,7 +105,8 @@ impl Reading {
     fn claimed(&mut self, victim: Who, round: u8, claimer: Who) -> Result<(), NotTaken>
         requires { IsTold self.old }
         ensures told { OnOk result (IsTold self.new) }
-        ensures taken { Takes (is_next (amount_in self.old) (said.ClaimedBy victim round claimer)) (with_record (amount_in self.old) (said.ClaimedBy victim round claimer)) (amount_in self.new) result }
+        ensures taken { Takes (is_next (amount_in self.old) (said.ClaimedBy victim round claimer))
+            (with_record (amount_in self.old) (said.ClaimedBy victim round claimer)) (amount_in self.new) result }
     {
         if !self.is_arbiter()
             || self.table.first_accuser(victim).is_none()
@@ -123,7 +126,8 @@ impl Reading {
     fn prepared(&mut self, partition: u16, epoch: Epoch, preparer: Who) -> Result<(), NotTaken>
         requires { IsTold self.old }
         ensures told { OnOk result (IsTold self.new) }
-        ensures taken { Takes (is_next (amount_in self.old) (said.PreparedBy partition epoch preparer)) (with_record (amount_in self.old) (said.PreparedBy partition epoch preparer)) (amount_in self.new) result }
+        ensures taken { Takes (is_next (amount_in self.old) (said.PreparedBy partition epoch preparer))
+            (with_record (amount_in self.old) (said.PreparedBy partition epoch preparer)) (amount_in self.new) result }
     {
         if !self.is_arbiter() || !is_above(self.registers.prepared(partition), epoch) {
             return Err(NotTaken::OutOfPlace);
@@ -140,7 +144,8 @@ impl Reading {
     fn voted(&mut self, config: Config) -> Result<(), NotTaken>
         requires { IsTold self.old }
         ensures told { OnOk result (IsTold self.new) }
-        ensures taken { Takes (is_next (amount_in self.old) (said.VotedFor config)) (with_record (amount_in self.old) (said.VotedFor config)) (amount_in self.new) result }
+        ensures taken { Takes (is_next (amount_in self.old) (said.VotedFor config))
+            (with_record (amount_in self.old) (said.VotedFor config)) (amount_in self.new) result }
     {
         if !self.is_arbiter()
             || self
@@ -158,7 +163,8 @@ impl Reading {
     fn done(&mut self, config: Config) -> Result<(), NotTaken>
         requires { IsTold self.old }
         ensures told { OnOk result (IsTold self.new) }
-        ensures taken { Takes (is_next (amount_in self.old) (said.DoneFor config)) (with_record (amount_in self.old) (said.DoneFor config)) (amount_in self.new) result }
+        ensures taken { Takes (is_next (amount_in self.old) (said.DoneFor config))
+            (with_record (amount_in self.old) (said.DoneFor config)) (amount_in self.new) result }
     {
         if !self.is_arbiter() || !is_newer(config.epoch, self.registers.done(config.partition)) {
             return Err(NotTaken::OutOfPlace);
@@ -172,7 +178,8 @@ impl Reading {
         requires told { IsTold self.old }
         requires sound { IsTrue (is_sound (recorded item)) }
         ensures told { OnOk result (IsTold self.new) }
-        ensures taken { Takes (is_next (amount_in self.old) (recorded item.entry)) (with_record (amount_in self.old) (recorded item.entry)) (amount_in self.new) result }
+        ensures taken { Takes (is_next (amount_in self.old) (recorded item.entry))
+            (with_record (amount_in self.old) (recorded item.entry)) (amount_in self.new) result }
     {
         match item {
             Item::Boot { instance } => self.booted(instance),
@@ -210,7 +217,8 @@ impl Reading {
 
     /// What all the records amount to.
     pub fn finish(self) -> Result<Kept, OutOfMemory>
-        ensures { IfOk result (λ kept. kept ≡ record { boots = self.boots; arbiter = self.arbiter; replicas = values_of self.replicas }) }
+        ensures { IfOk result (λ kept. kept
+            ≡ record { boots = self.boots; arbiter = self.arbiter; replicas = values_of self.replicas }) }
     {
         let replicas = self.replicas.into_vec()?;
         Ok(Kept {

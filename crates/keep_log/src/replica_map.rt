@@ -65,7 +65,8 @@ impl ReplicaMap {
     fn take_standing(&mut self, partition: u16, item: Item<'_>) -> Result<(), NotTaken>
         requires sound { IsTrue (is_sound (recorded item)) }
         requires there { is_some (at partition self.old) ≡ true }
-        ensures { Takes (is_row (recorded item.entry) (replica_of partition self.old)) (called partition (row_call (recorded item.entry)) self.old) self.new result }
+        ensures { Takes (is_row (recorded item.entry) (replica_of partition self.old))
+            (called partition (row_call (recorded item.entry)) self.old) self.new result }
     {
         match self.map.get_mut(&partition) {
             Some(replica) => take_row(replica, item),
@@ -77,7 +78,8 @@ impl ReplicaMap {
     fn take_first(&mut self, partition: u16, item: Item<'_>) -> Result<(), NotTaken>
         requires sound { IsTrue (is_sound (recorded item)) }
         requires none { is_some (at partition self.old) ≡ false }
-        ensures { Takes (is_row (recorded item.entry) (replica_of partition self.old)) (called partition (row_call (recorded item.entry)) self.old) self.new result }
+        ensures { Takes (is_row (recorded item.entry) (replica_of partition self.old))
+            (called partition (row_call (recorded item.entry)) self.old) self.new result }
     {
         let mut replica = Replica::new(self.alloc, partition);
         take_row(&mut replica, item)?;
@@ -88,7 +90,8 @@ impl ReplicaMap {
     /// Takes a record of the partition's replica, if it stands in its place.
     pub fn take(&mut self, partition: u16, item: Item<'_>) -> Result<(), NotTaken>
         requires { IsTrue (is_sound (recorded item)) }
-        ensures { Takes (is_row (recorded item.entry) (replica_of partition self.old)) (called partition (row_call (recorded item.entry)) self.old) self.new result }
+        ensures { Takes (is_row (recorded item.entry) (replica_of partition self.old))
+            (called partition (row_call (recorded item.entry)) self.old) self.new result }
     {
         if self.map.contains_key(&partition) {
             self.take_standing(partition, item)

@@ -1,6 +1,6 @@
 // The rows of a replica's records. Each tests the place of its record, and makes the call that the record was kept for.
 
-ghost use Rattle.std.specs.Prelude.{◌≡◌, ◌≤◌, IsTrue, length};
+ghost use Rattle.std.specs.Prelude.{◌≤◌, IsTrue, length};
 ghost use Rattle.replica_core.specs.Calls.{promise_call, append_call, adopt_call};
 ghost use Rattle.unit_rules.specs.Starts.{adopt_kept, past_all};
 ghost use Rattle.keep_log.specs.Items.{recorded};
@@ -11,11 +11,11 @@ ghost use Rattle.keep_log.specs.Taking.{Settles, Takes};
 use crate::item::Item;
 use crate::not_taken::NotTaken;
 use crate::places::{is_adoption, is_piece, is_promise, is_write};
-use replica_core::{Done, MOST_ENTRIES, Replica, ReplicaRefusal};
-use ring_points::Epoch;
+use ring_points::{Epoch, MAX_LOG_ENTRIES, MAX_WRITE};
+use replica_core::{Done, Replica, ReplicaRefusal};
 
 /// More than the number of any entry, so that an entry is only collected.
-const PAST_ALL: u32 = MOST_ENTRIES + 1;
+const PAST_ALL: u32 = MAX_LOG_ENTRIES + 1;
 
 // What a call that was made comes to: in its place a record's call is refused for want of memory alone.
 fn made(answer: Result<Done, ReplicaRefusal>) -> Result<(), NotTaken>
@@ -38,7 +38,7 @@ fn promised(replica: &mut Replica, epoch: Epoch) -> Result<(), NotTaken>
 }
 
 fn wrote(replica: &mut Replica, epoch: Epoch, lsn: u32, text: &[u8]) -> Result<(), NotTaken>
-    requires { length text.now ≤ 512 }
+    requires { length text.now ≤ MAX_WRITE }
     ensures { Takes (is_write epoch lsn replica.old) (append_call epoch lsn text.now replica.old).1 replica.new result }
 {
     if !is_write(replica, epoch, lsn) {
@@ -55,9 +55,11 @@ fn incoming(
     entry_epoch: Epoch,
     text: &[u8],
 ) -> Result<(), NotTaken>
-    requires entry { lsn ≤ 100000 }
-    requires short { length text.now ≤ 512 }
-    ensures { Takes (is_piece epoch lsn replica.old) (adopt_call epoch (record { epoch = entry_epoch; lsn = lsn; bytes = text.now }) past_all replica.old).1 replica.new result }
+    requires entry { lsn ≤ MAX_LOG_ENTRIES }
+    requires short { length text.now ≤ MAX_WRITE }
+    ensures { Takes (is_piece epoch lsn replica.old)
+        (adopt_call epoch (record { epoch = entry_epoch; lsn = lsn; bytes = text.now })
+        past_all replica.old).1 replica.new result }
 {
     if !is_piece(replica, epoch, lsn) {
         return Err(NotTaken::OutOfPlace);
@@ -67,7 +69,8 @@ fn incoming(
 }
 
 fn adopted(replica: &mut Replica, epoch: Epoch, last: u32, own: bool) -> Result<(), NotTaken>
-    ensures { Takes (is_adoption epoch last own replica.old) (adopt_kept epoch last own replica.old).1 replica.new result }
+    ensures { Takes (is_adoption epoch last own replica.old)
+        (adopt_kept epoch last own replica.old).1 replica.new result }
 {
     if !is_adoption(replica, epoch, last, own) {
         return Err(NotTaken::OutOfPlace);
@@ -83,7 +86,8 @@ fn adopted(replica: &mut Replica, epoch: Epoch, last: u32, own: bool) -> Result<
 /// Takes a record of the replica, if it stands in its place.
 pub fn take_row(replica: &mut Replica, item: Item<'_>) -> Result<(), NotTaken>
     requires sound { IsTrue (is_sound (recorded item)) }
-    ensures { Takes (is_row (recorded item.entry) replica.old) (row_call (recorded item.entry) replica.old).1 replica.new result }
+    ensures { Takes (is_row (recorded item.entry) replica.old)
+        (row_call (recorded item.entry) replica.old).1 replica.new result }
 {
     match item {
         Item::PromisedAt { epoch, .. } => promised(replica, epoch),

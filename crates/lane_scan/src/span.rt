@@ -3,10 +3,8 @@ ghost use Rattle.std.specs.Simd.Lanes.{chunk};
 ghost use Rattle.ring_points.specs.Distances.{ahead_of};
 ghost use Rattle.lane_scan.specs.Spans.{above, greatest_of, least_of, turned};
 
+use ring_points::HALF_RING;
 use std::simd::prelude::*;
-
-/// Half the ring, in points.
-const HALF: u64 = 1 << 63;
 
 /// How far the points of a slice stand above a key, going upwards round the ring: the least and the
 /// greatest.
@@ -31,7 +29,7 @@ fn ahead(point: u64, key: u64) -> u64
 fn turn(lanes: u64x8) -> u64x8
     ensures { result ≡ turned lanes }
 {
-    lanes + u64x8::splat(HALF)
+    lanes + u64x8::splat(HALF_RING)
 }
 
 /// The lanes of the eight points from this place on.
@@ -39,7 +37,7 @@ fn lanes_above(points: &[u64], at: usize, key: u64) -> u64x8
     requires { at + 8 ≤ length points.now }
     ensures { turned result ≡ above key (chunk at 8 points.now) }
 {
-    u64x8::from_slice(&points[at..]) - u64x8::splat(key.wrapping_add(HALF))
+    u64x8::from_slice(&points[at..]) - u64x8::splat(key.wrapping_add(HALF_RING))
 }
 
 /// In each lane the one that stands less above the key.

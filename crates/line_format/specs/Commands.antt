@@ -1,6 +1,7 @@
 -- The commands of a schedule: what is read as a command, and how a command is spelled.
 use Rattle.std.specs.Prelude.{◌≡◌, ℕ, ◌&&◌, Bool, List, [], ◌∷◌, Option, Some, codes, decimal, nat_le}
 use Rattle.std.specs.List.{list_all}
+use Rattle.ring_points.specs.Limits.{least_lease, most_lease, most_members, most_write}
 use Rattle.ring_points.specs.declared.point.Point.{Point}
 use Rattle.fabric_terms.specs.declared.command.Command.{Command}
 use Rattle.fabric_terms.specs.declared.command.Command.TheVariants.{Link, LinkFor, Part, GiveNear, GiveAll, Join, Find, Create, Swap, Heal, Lose, Write, Units, Resolve, Names}
@@ -19,11 +20,11 @@ partition_at = number_in 0 65535
 
 -- how many replicas
 abbrev pub members_of : List ℕ → Option ℕ
-members_of = last (number_in 1 7)
+members_of = last (number_in 1 most_members)
 
 -- the length of a lease, in ticks
 abbrev pub lease_of : List ℕ → Option ℕ
-lease_of = last (number_in 10 1000000000)
+lease_of = last (number_in least_lease most_lease)
 
 -- behind `link N`: nothing, or ` for LEN`
 abbrev pub linked_of : ℕ → List ℕ → Option Command
@@ -63,7 +64,7 @@ partition_command_of =
     behind (codes "swap ") (in_partition (last node_at) Swap) (
     behind (codes "heal ") (in_partition members_of Heal) (
     behind (codes "lose ") (in_partition (last node_at) Lose) (
-    behind (codes "write ") (in_partition (text_of 1 512) Write) (
+    behind (codes "write ") (in_partition (text_of 1 most_write) Write) (
     behind (codes "units ") (made Units span_of) (
     behind (codes "resolve ") (in_partition (last name_at) Resolve) (
     behind (codes "names ") (in_partition span_of Names) nothing

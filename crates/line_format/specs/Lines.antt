@@ -1,6 +1,7 @@
 -- The lines of a schedule: what is read as an event, and how an event is spelled.
 use Rattle.std.specs.Prelude.{◌≡◌, ℕ, zero, suc, ◌+◌, ◌*◌, List, [], ◌∷◌, ◌++◌, map, Option, Some, None, Result, Ok, Err, IsSome, codes, decimal, ◌==◌, if◌then◌else◌}
 use Rattle.std.specs.List.{flat_map}
+use Rattle.ring_points.specs.Limits.{most_nodes}
 use Rattle.fabric_terms.specs.declared.event.Event.{Event}
 use Rattle.fabric_terms.specs.declared.event.Event.TheVariants.{Start, Stop, Tick, Fire, Give, Do, Junk}
 use Rattle.fabric_terms.specs.Ranges.{Fits, most}
@@ -47,7 +48,7 @@ readings_of (suc k) (b ∷ bs) = reading_at (b ∷ bs) >>= λ first. readings_of
 
 -- behind `tick`: `ADVANCE N:READING ..`, with at most 64 readings
 unfoldable pub tick_of : List ℕ → Option Event
-tick_of bytes = count_at bytes >>= λ advance. made (Tick advance.0) (readings_of 64) advance.1
+tick_of bytes = count_at bytes >>= λ advance. made (Tick advance.0) (readings_of most_nodes) advance.1
 
 -- bytes, two digits each
 abbrev pub bytes_of : List ℕ → Option (List ℕ)

@@ -1,5 +1,6 @@
 -- Names of the name service, what they stand for, and their lists.
 use Rattle.std.specs.Prelude.{◌≡◌, ℕ, suc, Bool, false, not, ◌&&◌, List, [], ◌∷◌, take, drop, Some, None, nat_le, ◌==◌, if◌then◌else◌}
+use Rattle.ring_points.specs.Limits.{most_name}
 use Rattle.text_fields.specs.Fields.{Field}
 
 -- a visible sign, but for the comma
@@ -14,7 +15,7 @@ name_length (b ∷ bs) = if is_name_byte b then suc (name_length bs) else 0
 -- a name: 1 to 64 such bytes, as many as stand there
 unfoldable pub name_at : List ℕ → Field (List ℕ)
 name_at bytes =
-    if nat_le 1 (name_length bytes) && nat_le (name_length bytes) 64
+    if nat_le 1 (name_length bytes) && nat_le (name_length bytes) most_name
     then Some (take (name_length bytes) bytes, drop (name_length bytes) bytes)
     else None
 

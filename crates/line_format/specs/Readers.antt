@@ -1,5 +1,6 @@
 -- How a report's line is read.
 use Rattle.std.specs.Prelude.{◌≡◌, ℕ, List, Option, Some, None, Result, Ok, Err, codes}
+use Rattle.ring_points.specs.Limits.{most_counter, most_name_value}
 use Rattle.fabric_terms.specs.declared.report.Head.{Head}
 use Rattle.fabric_terms.specs.declared.report.Report.{Report}
 use Rattle.fabric_terms.specs.declared.report.Report.TheVariants.{Own, Accused, Discharged, Heir, TookOver, Gave, Took, Returned, LeftRing, Stopped, Found, Nowhere, Promised, Adopted, Accepted, IsPrimary, Committed, Configured, Superseded, UnitList, Resolved, Unresolved, NameList, Refused}
@@ -24,7 +25,7 @@ use Rattle.line_format.specs.declared.refusal.LineRefusal.TheVariants as refusal
 
 -- a number of 4 bytes
 abbrev pub short_at : List ℕ → Field ℕ
-short_at = number_in 0 4294967295
+short_at = number_in 0 most_counter
 
 -- behind `gave`, `took` and `returned`: `WHO FLIGHT RANGES`
 unfoldable pub flight_of : List ℕ → Option (Who × (ℕ × List Interval))
@@ -150,7 +151,7 @@ unit_report_of = behind (codes "promised ") (made promised_made in_epoch) (behin
 
 -- a value, to the end of the line
 abbrev pub value_of : List ℕ → Option (List ℕ)
-value_of = text_of 1 400
+value_of = text_of 1 most_name_value
 
 -- behind `resolved`: `P NAME VALUE`
 unfoldable pub named_of : List ℕ → Option (ℕ × (List ℕ × List ℕ))

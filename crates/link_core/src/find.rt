@@ -1,6 +1,7 @@
 ghost use Rattle.std.specs.Prelude.{◌≡◌, ◌<◌, IfSome, length};
 ghost use Rattle.ring_points.specs.Whos.{same_who};
-ghost use Rattle.ring_rules.specs.Slots.{slot_where, bars_link, greets_by, greets_node_by, is_free, is_hello, may_part, of_instance, of_node, of_session};
+ghost use Rattle.ring_rules.specs.Slots.{slot_where, bars_link, greets_by, greets_node_by, is_free, is_hello, may_part};
+ghost use Rattle.ring_rules.specs.Slots.{of_instance, of_node, of_session};
 
 use ring_points::Who;
 use ring_rules::{Link, LinkState};

@@ -1,16 +1,16 @@
-ghost use Rattle.std.specs.Prelude.{◌≡◌, ℕ, ◌+◌, ◌^◌, ◌<◌, ◌≤◌, [], ◌∷◌, ◌++◌, Some, IfSome, length, nat_le, option_map};
+ghost use Rattle.std.specs.Prelude.{◌≡◌, ◌+◌, ◌<◌, ◌≤◌, ◌++◌, Some, IfSome, length, option_map};
 ghost use Rattle.arbiter_quorum.specs.Tallies.{has_answered};
 ghost use Rattle.link_core.specs.Links.{turn, turn_after};
-ghost use Rattle.link_core.specs.Firing.{accused_by, asked, asked_if, discharged_end, is_over, leases, spoken, transfer_again};
+ghost use Rattle.link_core.specs.Firing.{accused_by, asked, asked_if, discharged_end, is_over, spoken, transfer_again};
 
 use crate::announce::Announced;
 use crate::notes::{LinkNote, LinkNotes};
 use crate::rounds::claim_round;
-use crate::say::{self, say_gone};
+use crate::bodies::{self, say_gone};
 use arbiter_quorum::Tally;
-use fabric_terms::{Body, OUTBOX_LIMIT, Outbox};
+use ring_points::{ARBITRATORS, MAX_ARBITRATORS, MAX_LEASE, MAX_ROUNDS, OUTBOX_LIMIT, Who};
+use fabric_terms::{Body, Outbox};
 use heir_rounds::RoundTally;
-use ring_points::{ARBITRATORS, Who};
 use ring_rules::{Link, LinkState};
 
 /// What a firing at one slot goes by: the reading, the time for an answer, and how many arbitrators and rounds there
@@ -35,9 +35,10 @@ pub(crate) fn is_over(link: &Link, now: u64) -> bool
 
 /// An arbitrator that has not answered is asked about the peer.
 fn ask(link: &Link, arbitrator: u8, out: &mut Outbox)
-    requires few { arbitrator ≤ 9 }
+    requires few { arbitrator ≤ MAX_ARBITRATORS }
     requires room { length out.old < OUTBOX_LIMIT }
-    ensures asked { out.new ≡ out.old ++ asked_if arbitrator link.now.peer (has_answered arbitrator link.now.tally.answers) }
+    ensures asked { out.new ≡ out.old ++ asked_if arbitrator link.now.peer
+        (has_answered arbitrator link.now.tally.answers) }
     ensures room { length out.new ≤ length out.old + 1 }
 {
     if !link.tally.answered(arbitrator) {
@@ -51,7 +52,7 @@ fn ask(link: &Link, arbitrator: u8, out: &mut Outbox)
 
 /// Each arbitrator that has not answered is asked about the peer.
 pub(crate) fn ask_arbiters(link: &Link, arbitrators: u8, out: &mut Outbox)
-    requires few { arbitrators ≤ 9 }
+    requires few { arbitrators ≤ MAX_ARBITRATORS }
     requires room { length out.old + 9 ≤ OUTBOX_LIMIT }
     ensures { out.new ≡ out.old ++ asked arbitrators link.now }
 {
@@ -68,7 +69,7 @@ pub(crate) fn accuse(
     rounds: u8,
     out: &mut Outbox,
 ) -> Option<Who>
-    requires few { arbitrators ≤ 9 }
+    requires few { arbitrators ≤ MAX_ARBITRATORS }
     requires room { length out.old + 9 ≤ OUTBOX_LIMIT }
     ensures slot { slot.new ≡ option_map (accused_by me arbitrators rounds) slot.old }
     ensures peer { result ≡ option_map (λ l. l.peer) slot.old }
@@ -85,10 +86,10 @@ pub(crate) fn accuse(
 
 /// When a discharged slot ends: each round had its time after the peer's fence.
 fn discharged_end(link: &Link, firing: &Firing) -> u64
-    requires rounds { firing.now.rounds ≤ 8 }
-    requires answer { firing.now.answer ≤ 1_000_000_000 }
+    requires rounds { firing.now.rounds ≤ MAX_ROUNDS }
+    requires answer { firing.now.answer ≤ MAX_LEASE }
     requires times { link.now.until ≤ 1_000_001_000_000_000 }
-    requires length { link.now.len ≤ 1_000_000_000 }
+    requires length { link.now.len ≤ MAX_LEASE }
     ensures { result ≡ discharged_end firing.now.answer firing.now.rounds link.now }
 {
     let more = u64::from(firing.rounds.saturating_sub(1));
@@ -100,7 +101,7 @@ fn transfer_again(link: &Link, out: &mut Outbox)
     ensures { out.new ≡ out.old ++ transfer_again link.now link.now.flight }
 {
     if let Some(flight) = &link.flight {
-        out.send(link.peer, say::transfer(link, flight));
+        out.send(link.peer, bodies::transfer(link, flight));
     }
 }
 
@@ -112,23 +113,25 @@ pub(crate) fn spoken(
     announce: &Announced,
     out: &mut Outbox,
 ) -> LinkNotes
-    requires few { firing.now.arbitrators ≤ 9 }
+    requires few { firing.now.arbitrators ≤ MAX_ARBITRATORS }
     requires room { length out.old + 9 ≤ OUTBOX_LIMIT }
-    requires rounds { firing.now.rounds ≤ 8 }
-    requires answer { firing.now.answer ≤ 1_000_000_000 }
+    requires rounds { firing.now.rounds ≤ MAX_ROUNDS }
+    requires answer { firing.now.answer ≤ MAX_LEASE }
     requires times { IfSome slot.old (λ l. l.until ≤ 1_000_001_000_000_000) }
-    requires length { IfSome slot.old (λ l. l.len ≤ 1_000_000_000) }
-    ensures { IfSome slot.old (λ l. turn slot.new out.new result ≡ turn_after out.old (spoken firing.now.reading announce.now firing.now.answer firing.now.rounds firing.now.arbitrators i l l.state)) }
+    requires length { IfSome slot.old (λ l. l.len ≤ MAX_LEASE) }
+    ensures { IfSome slot.old (λ l. turn slot.new out.new result ≡ turn_after out.old
+        (spoken firing.now.reading announce.now firing.now.answer firing.now.rounds firing.now.arbitrators i l l.state))
+        }
 {
     let Some(link) = slot else {
         return LinkNotes::none();
     };
     match link.state {
         LinkState::Hello if link.until <= firing.reading => *slot = None,
-        LinkState::Hello => out.send(link.peer, say::hello(link)),
-        LinkState::Offered => out.send(link.peer, say::offer(link)),
+        LinkState::Hello => out.send(link.peer, bodies::hello(link)),
+        LinkState::Offered => out.send(link.peer, bodies::offer(link)),
         LinkState::Bound => {
-            out.send(link.peer, say::renew(link, firing.reading, announce));
+            out.send(link.peer, bodies::renew(link, firing.reading, announce));
             // A flight stands until the peer confirms it or gives it back, so it is sent until then.
             transfer_again(link, out);
         }

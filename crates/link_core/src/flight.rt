@@ -4,9 +4,9 @@ ghost use Rattle.link_core.specs.Flights.{gone_seen, is_lost, last_words, stands
 ghost use Rattle.link_core.specs.Links.{turn, turn_after};
 
 use crate::notes::{LinkNote, LinkNotes};
-use crate::say::{self, say_gone};
-use fabric_terms::{Body, OUTBOX_LIMIT, Outbox};
-use ring_points::Flight;
+use crate::bodies::{self, say_gone};
+use ring_points::{Flight, OUTBOX_LIMIT};
+use fabric_terms::{Body, Outbox};
 use ring_rules::{Link, LinkState};
 
 /// A Transfer in this session.
@@ -43,7 +43,7 @@ fn last_words(link: &Link, bound: bool, out: &mut Outbox)
         got: link.got,
         bound: false,
     };
-    say::answer(bound, link.peer, gone, out);
+    bodies::answer(bound, link.peer, gone, out);
 }
 
 /// A flight to the peer stands that it did not get.
@@ -106,7 +106,7 @@ pub(crate) fn put_flight(slot: &mut Option<Link>, flight: &Flight, out: &mut Out
     ensures { turn slot.new out.new [] ≡ turn_after out.old (flight_sent flight.now slot.old) }
 {
     if let Some(link) = slot {
-        out.send(link.peer, say::transfer(link, flight));
+        out.send(link.peer, bodies::transfer(link, flight));
         link.flight = Some(flight.copy());
     }
 }

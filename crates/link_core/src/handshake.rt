@@ -1,13 +1,12 @@
-ghost use Rattle.std.specs.Prelude.{◌≡◌, ℕ, ◌+◌, ◌^◌, ◌<◌, ◌≤◌, [], ◌∷◌, Some, IfSome, length, min};
-ghost use Rattle.ring_rules.specs.Links.{bound_link};
+ghost use Rattle.std.specs.Prelude.{◌≡◌, ◌+◌, ◌^◌, ◌<◌, [], Some, IfSome, length, min};
 ghost use Rattle.link_core.specs.Links.{turn, turn_after};
 ghost use Rattle.link_core.specs.Handshakes.{offer_repeated, offer_taken, hello_repeated, take_seen};
 
 use crate::announce::Announced;
 use crate::notes::{LinkNote, LinkNotes};
-use crate::say::{self, say_gone};
-use fabric_terms::{Body, OUTBOX_LIMIT, Outbox};
-use ring_points::Who;
+use crate::bodies::{self, say_gone};
+use ring_points::{OUTBOX_LIMIT, Who};
+use fabric_terms::{Body, Outbox};
 use ring_rules::{Link, LinkState};
 
 /// A Hello of an instance that has a link: one that was accepted before gets its Offer again.
@@ -20,7 +19,7 @@ pub(crate) fn hello_repeated(slot: &mut Option<Link>, theirs: u32, out: &mut Out
         && link.yours == theirs
     {
         // The first Offer may be lost: whoever greets says Hello until one arrives.
-        out.send(link.peer, say::offer(link));
+        out.send(link.peer, bodies::offer(link));
     }
 }
 
@@ -94,7 +93,7 @@ pub(crate) fn take_seen(
         LinkState::Offered => {
             // The lease runs since the Offer: whoever accepts is bound before whoever greets relies on it.
             link.state = LinkState::Bound;
-            out.send(link.peer, say::renew(link, now, announce));
+            out.send(link.peer, bodies::renew(link, now, announce));
             LinkNotes::one(LinkNote::BoundNow)
         }
         LinkState::Parting => {

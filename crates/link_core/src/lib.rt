@@ -22,13 +22,13 @@ mod refusal;
 mod renewal;
 mod rounds;
 mod ruling;
-mod say;
+mod bodies;
 
 pub use announce::{Announce, Announced};
 pub use laws::{
     a_firing_is_its_row, a_frame_is_its_row, a_greeting_is_its_row, parting_is_its_row,
 };
-pub use links::{LONGEST_TIME, Links16, MAX_ACCUSED, SLOTS};
+pub use links::{Links16, MAX_ACCUSED, SLOTS};
 pub use notes::{LinkNote, LinkNotes};
 pub use refusal::LinkRefusal;
 pub use ring_rules::{Link, LinkState};

@@ -4,18 +4,18 @@ ghost use Rattle.ring_rules.specs.Slots.{fence_of};
 ghost use Rattle.link_core.specs.Calls.{call_in, flight_sent, flight_taken, no_links, slot_closed};
 ghost use Rattle.link_core.specs.Links.{did, did_after, with_slot};
 
-mod fires;
-mod greets;
-mod hears;
-mod judged;
-mod takes;
+mod slot_firing;
+mod opening;
+mod session_frames;
+mod ruling_frames;
+mod dispatch;
 
 use crate::deadlines::{Deadlines, change};
 use crate::flight;
 use arrayvec::ArrayVec;
 use drift_clock::Bound;
-use fabric_terms::{OUTBOX_LIMIT, Outbox};
-use ring_points::{Flight, Who};
+use ring_points::{Flight, MAX_ARBITRATORS, MAX_DRIFT, MAX_GRAIN, MAX_LEASE, MAX_ROUNDS, OUTBOX_LIMIT, Who};
+use fabric_terms::Outbox;
 use ring_rules::Link;
 use std::marker::Model;
 
@@ -24,9 +24,6 @@ pub const SLOTS: usize = 16;
 
 /// How many instances a node can accuse.
 pub const MAX_ACCUSED: usize = 1024;
-
-/// The longest lease, length of a link, or time for an answer, in ticks.
-pub const LONGEST_TIME: u64 = 1_000_000_000;
 
 /// The links of a node: 16 slots, the number of its next session, and whom it has accused. Contracts see it as the
 /// record `Links`.
@@ -46,15 +43,19 @@ pub struct Links16 {
 }
 
 impl Model for Links16 {
-    ghost use Rattle.std.specs.Prelude.{ℕ, ◌+◌};
+    ghost use Rattle.std.specs.Prelude.{◌+◌};
     ghost use Rattle.link_core.specs.Links.{Links};
     ghost use Rattle.link_core.specs.Sound.{AreKept};
 
     ghost Value = { Links };
 
-    ghost view = { λ k. record { me = k.me; lease = k.lease; longest = k.longest; answer = k.answer; bound = k.bound; arbitrators = k.arbitrators; rounds = k.rounds; slots = k.slots; next_session = k.last_session + 1; accused = k.accused.items } };
+    ghost view = { λ k. record { me = k.me; lease = k.lease; longest = k.longest; answer = k.answer; bound = k.bound;
+        arbitrators = k.arbitrators; rounds = k.rounds; slots = k.slots; next_session = k.last_session + 1;
+        accused = k.accused.items } };
 
-    ghost invariant = { λ k. AreKept (record { me = k.me; lease = k.lease; longest = k.longest; answer = k.answer; bound = k.bound; arbitrators = k.arbitrators; rounds = k.rounds; slots = k.slots; next_session = k.last_session + 1; accused = k.accused.items }) k.deadlines };
+    ghost invariant = { λ k. AreKept (record { me = k.me; lease = k.lease; longest = k.longest; answer = k.answer;
+        bound = k.bound; arbitrators = k.arbitrators; rounds = k.rounds; slots = k.slots;
+        next_session = k.last_session + 1; accused = k.accused.items }) k.deadlines };
 }
 
 fn free_slots() -> [Option<Link>; SLOTS]
@@ -67,9 +68,9 @@ fn free_slots() -> [Option<Link>; SLOTS]
 }
 
 impl Links16 {
-    /// No links. The lease is that of a link that names no length, the longest the longest that is granted; each of them
-    /// and the time for an answer is at most 1,000,000,000 ticks. There are at most nine arbitrators, and at most eight
-    /// rounds of heirs.
+    /// No links. The lease is that of a link that names no length, the longest the longest that is granted; each of
+    /// them and the time for an answer is at most 1,000,000,000 ticks. There are at most nine arbitrators, and at most
+    /// eight rounds of heirs.
     pub fn new(
         me: Who,
         lease: u64,
@@ -79,13 +80,13 @@ impl Links16 {
         arbitrators: u8,
         rounds: u8,
     ) -> Links16
-        requires lease { lease ≤ LONGEST_TIME }
-        requires longest { longest ≤ LONGEST_TIME }
-        requires answer { answer ≤ LONGEST_TIME }
-        requires drift { bound.d ≤ 100 }
-        requires grain { bound.grain ≤ 1_000_000 }
-        requires arbitrators { arbitrators ≤ 9 }
-        requires rounds { rounds ≤ 8 }
+        requires lease { lease ≤ MAX_LEASE }
+        requires longest { longest ≤ MAX_LEASE }
+        requires answer { answer ≤ MAX_LEASE }
+        requires drift { bound.d ≤ MAX_DRIFT }
+        requires grain { bound.grain ≤ MAX_GRAIN }
+        requires arbitrators { arbitrators ≤ MAX_ARBITRATORS }
+        requires rounds { rounds ≤ MAX_ROUNDS }
         ensures { result ≡ no_links me lease longest answer bound arbitrators rounds }
     {
         Links16 {
@@ -113,7 +114,7 @@ impl Links16 {
     /// The lease of a link that names no length, at most 1,000,000,000 ticks.
     pub fn lease(&self) -> u64
         ensures value { result ≡ self.now.lease }
-        ensures short { result ≤ LONGEST_TIME }
+        ensures short { result ≤ MAX_LEASE }
     {
         self.lease
     }
@@ -121,7 +122,7 @@ impl Links16 {
     /// How many arbitrators there are, at most nine.
     pub fn arbitrators(&self) -> u8
         ensures value { result ≡ self.now.arbitrators }
-        ensures few { result ≤ 9 }
+        ensures few { result ≤ MAX_ARBITRATORS }
     {
         self.arbitrators
     }
@@ -187,7 +188,8 @@ impl Links16 {
     /// numbers count.
     pub fn leave(&mut self, last_session: u32, accused: usize)
         requires { last_session < self.old.next_session }
-        ensures { self.new ≡ record self.old { slots = no_slots; next_session = last_session + 1; accused = take accused self.old.accused } }
+        ensures { self.new ≡ record self.old { slots = no_slots; next_session = last_session + 1;
+            accused = take accused self.old.accused } }
     {
         self.slots = free_slots();
         self.deadlines = Deadlines::none();

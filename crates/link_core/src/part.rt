@@ -2,9 +2,9 @@ ghost use Rattle.std.specs.Prelude.{◌≡◌, ◌<◌, OnErr, length};
 ghost use Rattle.link_core.specs.Calls.{slot_parted, turn_call_after, turn_outcome};
 
 use crate::refusal::LinkRefusal;
-use crate::say::say_gone;
-use fabric_terms::{OUTBOX_LIMIT, Outbox};
-use ring_points::RangeSet;
+use crate::bodies::say_gone;
+use ring_points::{OUTBOX_LIMIT, RangeSet};
+use fabric_terms::Outbox;
 use ring_rules::{Link, LinkState};
 
 /// The slot gives up its record and says so to the peer, unless a flight of it stands.

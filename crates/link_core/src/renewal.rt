@@ -1,13 +1,13 @@
-ghost use Rattle.std.specs.Prelude.{◌≡◌, ℕ, ◌+◌, ◌^◌, ◌<◌, ◌∷◌, ◌++◌, [], IfSome, length};
+ghost use Rattle.std.specs.Prelude.{◌≡◌, ◌+◌, ◌^◌, ◌<◌, ◌∷◌, ◌++◌, [], IfSome, length};
 ghost use Rattle.fabric_terms.specs.declared.message.Body.TheVariants as body;
-ghost use Rattle.ring_rules.specs.Links.{acknowledged, renewed};
+ghost use Rattle.ring_rules.specs.Links.{renewed};
 ghost use Rattle.link_core.specs.Links.{turn, turn_after};
 ghost use Rattle.link_core.specs.Renewals.{ack_seen, renew_seen, wanted_if};
 
 use crate::notes::{LinkNote, LinkNotes};
-use crate::say::say_gone;
-use fabric_terms::{Body, OUTBOX_LIMIT, Outbox};
-use ring_points::RangeSet;
+use crate::bodies::say_gone;
+use ring_points::{OUTBOX_LIMIT, RangeSet};
+use fabric_terms::{Body, Outbox};
 use ring_rules::{Link, LinkState};
 
 /// What a Renew says beside the numbers of its session.
@@ -38,7 +38,8 @@ fn renew(link: &mut Link, version: u32, got: u32, ranges: &RangeSet)
 
 fn acknowledge(link: &Link, renewal: &Renewal, out: &mut Outbox)
     requires { length out.old < OUTBOX_LIMIT }
-    ensures { out.new ≡ out.old ++ (link.now.peer, body.RenewAck link.now.mine link.now.yours renewal.now.stamp renewal.now.version) ∷ [] }
+    ensures { out.new ≡ out.old ++ (link.now.peer, body.RenewAck link.now.mine link.now.yours renewal.now.stamp
+        renewal.now.version) ∷ [] }
 {
     out.send(
         link.peer,
@@ -79,7 +80,9 @@ pub(crate) fn renew_seen(
     out: &mut Outbox,
 ) -> LinkNotes
     requires { length out.old < OUTBOX_LIMIT }
-    ensures { turn slot.new out.new result ≡ turn_after out.old (renew_seen renewal.now.stamp renewal.now.version renewal.now.got renewal.now.want renewal.now.ranges.now i slot.old) }
+    ensures { turn slot.new out.new result ≡ turn_after out.old
+        (renew_seen renewal.now.stamp renewal.now.version renewal.now.got renewal.now.want renewal.now.ranges.now i
+        slot.old) }
 {
     let Some(link) = slot else {
         return LinkNotes::none();
@@ -112,8 +115,8 @@ pub(crate) fn ack_seen(slot: &mut Option<Link>, stamp: u64, version: u32)
         return;
     };
     if matches!(link.state, LinkState::Bound | LinkState::Parting) {
-        // Counted from the stamp, this node's reading when it asked: a late answer gives no more time than an early one,
-        // and takes none away.
+        // Counted from the stamp, this node's reading when it asked: a late answer gives no more time than an early
+        // one, and takes none away.
         link.until = link.until.max(stamp + link.len);
         link.acked = link.acked.max(version);
     }

@@ -1,15 +1,14 @@
-ghost use Rattle.std.specs.Prelude.{◌≡◌, ℕ, ◌+◌, ◌<◌, ◌≤◌, [], ◌++◌, Some, IfSome, true, length};
+ghost use Rattle.std.specs.Prelude.{◌≡◌, ◌+◌, ◌<◌, ◌≤◌, ◌++◌, Some, IfSome, true, length};
 ghost use Rattle.heir_rounds.specs.Rounds.{round_noted, round_verdict};
 ghost use Rattle.ring_rules.specs.Claims.{owes_round};
 ghost use Rattle.link_core.specs.Links.{turn, turn_after};
-ghost use Rattle.link_core.specs.Rounds.{claimed_first, claimed_if, claims, is_discharged, kept_seen, round_judged};
+ghost use Rattle.link_core.specs.Rounds.{claimed_first, claimed_if, claims, kept_seen, round_judged};
 
 use crate::notes::LinkNotes;
 use crate::ruling::{Terms, becomes_heir, ripe_at};
-use drift_clock::MAX_READING;
-use fabric_terms::{Body, OUTBOX_LIMIT, Outbox};
+use ring_points::{ARBITRATORS, MAX_ARBITRATORS, MAX_DRIFT, MAX_GRAIN, MAX_READING, OUTBOX_LIMIT, Who};
+use fabric_terms::{Body, Outbox};
 use heir_rounds::RoundVerdict;
-use ring_points::{ARBITRATORS, Who};
 use ring_rules::{Link, LinkState};
 
 /// Whether the arbitrator has ruled, and has not answered in this round.
@@ -21,7 +20,7 @@ fn owes_round(link: &Link, arbitrator: u8) -> bool
 
 /// The present round is claimed at this arbitrator.
 fn claim(link: &Link, arbitrator: u8, out: &mut Outbox)
-    requires few { arbitrator ≤ 9 }
+    requires few { arbitrator ≤ MAX_ARBITRATORS }
     requires room { length out.old < OUTBOX_LIMIT }
     ensures { out.new ≡ out.old ++ claimed_if arbitrator link.now true }
 {
@@ -41,8 +40,9 @@ fn claim(link: &Link, arbitrator: u8, out: &mut Outbox)
 
 /// The present round is claimed at this arbitrator, if it owes an answer.
 fn claim_owed(link: &Link, arbitrator: u8, out: &mut Outbox)
-    requires few { arbitrator ≤ 9 }
-    requires room { length out.old + length (claimed_if arbitrator link.now (owes_round arbitrator link.now)) ≤ OUTBOX_LIMIT }
+    requires few { arbitrator ≤ MAX_ARBITRATORS }
+    requires room { length out.old + length (claimed_if arbitrator link.now (owes_round arbitrator link.now))
+        ≤ OUTBOX_LIMIT }
     ensures { out.new ≡ out.old ++ claimed_if arbitrator link.now (owes_round arbitrator link.now) }
 {
     if owes_round(link, arbitrator) {
@@ -52,7 +52,7 @@ fn claim_owed(link: &Link, arbitrator: u8, out: &mut Outbox)
 
 /// The present round is claimed at each of these arbitrators that owes an answer.
 fn claim_at_all(link: &Link, arbitrators: u8, out: &mut Outbox)
-    requires few { arbitrators ≤ 9 }
+    requires few { arbitrators ≤ MAX_ARBITRATORS }
     requires room { length out.old + length (claimed_first arbitrators link.now) ≤ OUTBOX_LIMIT }
     ensures { out.new ≡ out.old ++ claimed_first arbitrators link.now }
 {
@@ -63,7 +63,7 @@ fn claim_at_all(link: &Link, arbitrators: u8, out: &mut Outbox)
 
 /// The present round is claimed, where there are rounds after the first.
 pub(crate) fn claim_round(link: &Link, arbitrators: u8, rounds: u8, out: &mut Outbox)
-    requires few { arbitrators ≤ 9 }
+    requires few { arbitrators ≤ MAX_ARBITRATORS }
     requires room { length out.old + length (claimed_first arbitrators link.now) ≤ OUTBOX_LIMIT }
     ensures { out.new ≡ out.old ++ claims rounds arbitrators link.now }
 {
@@ -90,9 +90,10 @@ fn round_judged(
     verdict: RoundVerdict,
     out: &mut Outbox,
 ) -> LinkNotes
-    requires few { arbitrators ≤ 9 }
+    requires few { arbitrators ≤ MAX_ARBITRATORS }
     requires room { length out.old + 9 ≤ OUTBOX_LIMIT }
-    ensures { IfSome slot.old (λ l. turn slot.new out.new result ≡ turn_after out.old (round_judged rounds arbitrators l ripe verdict)) }
+    ensures { IfSome slot.old (λ l. turn slot.new out.new result ≡ turn_after out.old
+        (round_judged rounds arbitrators l ripe verdict)) }
 {
     let Some(link) = slot else {
         return LinkNotes::none();
@@ -125,14 +126,16 @@ pub(crate) fn kept_seen(
     out: &mut Outbox,
 ) -> LinkNotes
     requires now { now ≤ MAX_READING }
-    requires drift { terms.bound.d ≤ 100 }
-    requires grain { terms.bound.grain ≤ 1_000_000 }
+    requires drift { terms.bound.d ≤ MAX_DRIFT }
+    requires grain { terms.bound.grain ≤ MAX_GRAIN }
     requires length { IfSome slot.old (λ l. l.len + terms.answer ≤ 2_000_000_000) }
-    requires few { arbitrators ≤ 9 }
+    requires few { arbitrators ≤ MAX_ARBITRATORS }
     requires room { length out.old + 9 ≤ OUTBOX_LIMIT }
     requires first { 1 ≤ keeping.arbitrator }
     requires last { IfSome slot.old (λ l. keeping.arbitrator ≤ l.rounds.arbitrators) }
-    ensures { turn slot.new out.new result ≡ turn_after out.old (kept_seen now terms.bound terms.answer terms.rounds arbitrators keeping.arbitrator keeping.round keeping.claimer slot.old) }
+    ensures { turn slot.new out.new result ≡ turn_after out.old
+        (kept_seen now terms.bound terms.answer terms.rounds arbitrators keeping.arbitrator keeping.round
+        keeping.claimer slot.old) }
 {
     let Some(link) = slot else {
         return LinkNotes::none();

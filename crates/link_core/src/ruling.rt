@@ -1,14 +1,15 @@
-ghost use Rattle.std.specs.Prelude.{◌≡◌, ℕ, ◌+◌, ◌<◌, ◌≤◌, [], ◌∷◌, Some, IfSome, length, not, ◌||◌};
+ghost use Rattle.std.specs.Prelude.{◌≡◌, ◌+◌, ◌<◌, ◌≤◌, [], Some, IfSome, length, not, ◌||◌};
 ghost use Rattle.arbiter_quorum.specs.Tallies.{noted, verdict_of};
 ghost use Rattle.ring_rules.specs.Links.{is_bare};
 ghost use Rattle.link_core.specs.Links.{turn};
-ghost use Rattle.link_core.specs.Rulings.{awaits, becomes_heir, discharge_told, judged, made_heir, may_succeed, kept_discharged, ruling_seen, ripe_at};
+ghost use Rattle.link_core.specs.Rulings.{awaits, becomes_heir, discharge_told, judged, made_heir, may_succeed};
+ghost use Rattle.link_core.specs.Rulings.{kept_discharged, ruling_seen, ripe_at};
 
 use crate::notes::{LinkNote, LinkNotes};
 use arbiter_quorum::Verdict;
-use drift_clock::{Bound, MAX_READING, wait_of};
+use drift_clock::{Bound, wait_of};
+use ring_points::{MAX_DRIFT, MAX_GRAIN, MAX_READING, Ruling};
 use fabric_terms::Why;
-use ring_points::Ruling;
 use ring_rules::{Link, LinkState};
 
 /// There is nothing to take over.
@@ -65,7 +66,8 @@ fn may_succeed(link: &Link, rounds: u8) -> bool
 
 /// A majority has not refused.
 fn kept_discharged(slot: &mut Option<Link>, rounds: u8) -> LinkNotes
-    ensures { IfSome slot.old (λ l. turn slot.new [] result ≡ kept_discharged l (discharge_told l.state l) (is_bare l || not (may_succeed rounds l))) }
+    ensures { IfSome slot.old (λ l. turn slot.new [] result ≡ kept_discharged l (discharge_told l.state l)
+        (is_bare l || not (may_succeed rounds l))) }
 {
     let Some(link) = slot else {
         return LinkNotes::none();
@@ -95,8 +97,8 @@ fn judged(slot: &mut Option<Link>, ripe: u64, rounds: u8, verdict: Verdict) -> L
 /// When an heir may take over: the peer's lease and its answers must be over by every clock.
 pub(crate) fn ripe_at(now: u64, bound: Bound, answer: u64, link: &Link) -> u64
     requires now { now ≤ MAX_READING }
-    requires drift { bound.d ≤ 100 }
-    requires grain { bound.grain ≤ 1_000_000 }
+    requires drift { bound.d ≤ MAX_DRIFT }
+    requires grain { bound.grain ≤ MAX_GRAIN }
     requires length { link.now.len + answer ≤ 2_000_000_000 }
     ensures { result ≡ ripe_at now bound answer link.now }
 {
@@ -137,12 +139,13 @@ pub(crate) fn ruling_seen(
     ruling: Ruling,
 ) -> LinkNotes
     requires now { now ≤ MAX_READING }
-    requires drift { terms.bound.d ≤ 100 }
-    requires grain { terms.bound.grain ≤ 1_000_000 }
+    requires drift { terms.bound.d ≤ MAX_DRIFT }
+    requires grain { terms.bound.grain ≤ MAX_GRAIN }
     requires length { IfSome slot.old (λ l. l.len + terms.answer ≤ 2_000_000_000) }
     requires first { 1 ≤ arbitrator }
     requires last { IfSome slot.old (λ l. arbitrator ≤ l.tally.arbitrators) }
-    ensures { turn slot.new [] result ≡ ruling_seen now terms.bound terms.answer terms.rounds arbitrator ruling slot.old }
+    ensures { turn slot.new [] result ≡ ruling_seen now terms.bound terms.answer terms.rounds arbitrator ruling slot.old
+        }
 {
     let Some(link) = slot else {
         return LinkNotes::none();

@@ -1,5 +1,6 @@
 -- What an entry of a log says about names.
 use Rattle.std.specs.Prelude.{ℕ, ◌+◌, Bool, true, not, ◌&&◌, List, [], ◌∷◌, ◌++◌, length, take, drop, position, Option, Some, None, codes, ◌==◌, nat_le, if◌then◌else◌}
+use Rattle.ring_points.specs.Limits.{most_name, most_name_value}
 use Rattle.text_fields.specs.Fields.{behind, nothing}
 
 -- every byte passes the test
@@ -11,9 +12,9 @@ every test (b ∷ bs) = test b && every test bs
 abbrev pub is_name_byte : ℕ → Bool
 is_name_byte b = nat_le 33 b && nat_le b 126 && not (b == 44)
 
--- 1 to 64 of these
+-- one or more of these
 abbrev pub is_name : List ℕ → Bool
-is_name bytes = nat_le 1 (length bytes) && nat_le (length bytes) 64 && every is_name_byte bytes
+is_name bytes = nat_le 1 (length bytes) && nat_le (length bytes) most_name && every is_name_byte bytes
 
 -- a visible sign or a blank
 abbrev pub is_value_byte : ℕ → Bool
@@ -21,7 +22,7 @@ is_value_byte b = nat_le 32 b && nat_le b 126
 
 -- 1 to 400 of these
 abbrev pub is_value : List ℕ → Bool
-is_value bytes = nat_le 1 (length bytes) && nat_le (length bytes) 400 && every is_value_byte bytes
+is_value bytes = nat_le 1 (length bytes) && nat_le (length bytes) most_name_value && every is_value_byte bytes
 
 -- a name gets a value, or it has none any more
 pub data Change : Type 0 where

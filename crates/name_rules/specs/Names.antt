@@ -4,6 +4,7 @@ use Rattle.std.specs.Cmp.Lexicographic.{slice_cmp}
 use Rattle.std.specs.FinMap.{FinMap, empty, insert, remove, keys}
 use Rattle.std.specs.Ordering.{nat_cmp, ordering_then}
 use Rattle.std.specs.declared.cmp.Ordering.{Ordering}
+use Rattle.ring_points.specs.Limits.{most_listed_names}
 use Rattle.lane_scan.specs.Masks.{is_between}
 use Rattle.replica_core.specs.declared.entry.Entry.{Entry}
 use Rattle.ring_points.specs.declared.interval.Interval.{Interval}
@@ -48,6 +49,6 @@ names_of entries = names_from empty entries
 abbrev pub is_within : Interval → List ℕ → Bool
 is_within range name = is_between range.lo range.hi (point_of name)
 
--- the first 64 names with points in the range
+-- the first names with points in the range, as many as an answer lists
 abbrev pub name_list : NameMap → Interval → List (List ℕ)
-name_list names range = take 64 (filter (is_within range) (keys names))
+name_list names range = take most_listed_names (filter (is_within range) (keys names))

@@ -1,4 +1,5 @@
-ghost use Rattle.name_rules.specs.Worked.{PointOfA, PointOfNothing, FiveChanges, NoChanges, ADeletedName, ListedInTheirOrder};
+ghost use Rattle.name_rules.specs.Worked.{PointOfA, PointOfNothing, FiveChanges, NoChanges, ADeletedName};
+ghost use Rattle.name_rules.specs.Worked.{ListedInTheirOrder};
 
 /// Points, changes and lists that are computed.
 pub fn worked_names()

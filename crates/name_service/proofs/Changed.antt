@@ -10,7 +10,7 @@ use Rattle.name_rules.specs.Grammar.{is_name}
 use Rattle.name_rules.specs.Names.{NameMap, name_cmp, point_of}
 use Rattle.name_rules.specs.Rows.{map_of}
 use Rattle.name_service.specs.Stores.{AllPlaced, IsPlaceOf, IsPlaced, IsStore, Stored, rows_of}
-use Rattle.name_service.specs.declared.place.Place.{Place}
+use Rattle.name_service.specs.declared.name_key.NameKey.{NameKey}
 use Rattle.name_service.proofs.Keys.{left_in, place_cmp, placed_with, placed_without, put_in, taken_out}
 use Rattle.name_rules.proofs.Ordered.{entries-put, rises, rises-without, same_map, without_is}
 
@@ -19,10 +19,10 @@ pub record Becomes (stored : Stored) (m : NameMap) : Type 0 where
   pub store : IsStore stored
   pub map : map_of (rows_of stored) ≡ m
 
-placed : (k : List ℕ) (place : Place) → IsPlaceOf k place → is_name k ≡ true → IsPlaced place
+placed : (k : List ℕ) (place : NameKey) → IsPlaceOf k place → is_name k ≡ true → IsPlaced place
 placed k place of is = record { point = of.point ∙ ap point_of (sym of.bytes); name = ap is_name of.bytes ∙ is }
 
-pub is_set : (k : List ℕ) (place : Place) (value : Vec ℕ Global) (old new : Stored) → IsStore old → IsPlaceOf k place → is_name k ≡ true
+pub is_set : (k : List ℕ) (place : NameKey) (value : Vec ℕ Global) (old new : Stored) → IsStore old → IsPlaceOf k place → is_name k ≡ true
     → new ≡ insert_entry place_cmp old place value → Becomes new (finite.insert (map_of (rows_of old)) k value.items)
 is_set k place value old new s of is e =
     let same = ap rows_of e ∙ put_in k place value old of s.placed ∙ entries-put k value.items (rows_of old) s.rises in
@@ -31,7 +31,7 @@ is_set k place value old new s of is e =
       map = same_map (rows_of new) _ same;
     }
 
-pub is_deleted : (k : List ℕ) (place : Place) (old new : Stored) → IsStore old → IsPlaceOf k place
+pub is_deleted : (k : List ℕ) (place : NameKey) (old new : Stored) → IsStore old → IsPlaceOf k place
     → new ≡ remove_entry (is_at (place_cmp place)) old → Becomes new (finite.remove (map_of (rows_of old)) k)
 is_deleted k place old new s of e =
     let same = ap rows_of e ∙ taken_out k place old of s.placed s.rises in

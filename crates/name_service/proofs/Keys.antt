@@ -13,16 +13,16 @@ use Rattle.std.specs.declared.cmp.Ordering.TheVariants.{Less, Equal, Greater}
 use Rattle.name_rules.specs.Grammar.{is_name}
 use Rattle.name_rules.specs.Names.{name_cmp, point_of}
 use Rattle.name_service.specs.Stores.{AllPlaced, IsPlaceOf, IsPlaced, Stored, rows_of}
-use Rattle.name_service.specs.declared.place.Place.{Place}
+use Rattle.name_service.specs.declared.name_key.NameKey.{NameKey}
 use Rattle.name_rules.proofs.Order.{apart, one_name}
 use Rattle.name_rules.proofs.Places.{all_others, first, others, second}
 
 -- the order of places, as it is derived
-abbrev pub place_cmp : Place → Place → Ordering
+abbrev pub place_cmp : NameKey → NameKey → Ordering
 place_cmp a b = ordering_then (nat_cmp a.point b.point) (slice_cmp nat_cmp a.name.items b.name.items)
 
 -- it is that of names
-as_names : (k : List ℕ) (place other : Place) → IsPlaceOf k place → IsPlaced other → place_cmp place other ≡ name_cmp k other.name.items
+as_names : (k : List ℕ) (place other : NameKey) → IsPlaceOf k place → IsPlaced other → place_cmp place other ≡ name_cmp k other.name.items
 as_names k place other of is =
     ap (λ p. ordering_then (nat_cmp p other.point) (slice_cmp nat_cmp place.name.items other.name.items)) of.point
     ∙ ap (λ p. ordering_then (nat_cmp (point_of k) p) (slice_cmp nat_cmp place.name.items other.name.items)) is.point
@@ -34,7 +34,7 @@ choose : (b : Bool) (v : Vec ℕ Global) (rest : Option (Vec ℕ Global)) → op
 choose true v rest = refl
 choose false v rest = refl
 
-pub found : (k : List ℕ) (place : Place) (stored : Stored) → IsPlaceOf k place → AllPlaced stored → option_map (λ x. x.items) (lookup (is_at (place_cmp place)) stored) ≡ find name_cmp k (rows_of stored)
+pub found : (k : List ℕ) (place : NameKey) (stored : Stored) → IsPlaceOf k place → AllPlaced stored → option_map (λ x. x.items) (lookup (is_at (place_cmp place)) stored) ≡ find name_cmp k (rows_of stored)
 found k place [] of all = refl
 found k place (e ∷ es) of all =
     choose (is_eq (place_cmp place e.0)) e.1 (lookup (is_at (place_cmp place)) es)
@@ -47,7 +47,7 @@ not_found k (e ∷ es) none all = ap (λ b. cond b (Some e.1.items) (find name_c
 
 -- a value that is put in
 
-pub put_in : (k : List ℕ) (place : Place) (value : Vec ℕ Global) (stored : Stored) → IsPlaceOf k place → AllPlaced stored → rows_of (insert_entry place_cmp stored place value) ≡ put name_cmp k value.items (rows_of stored)
+pub put_in : (k : List ℕ) (place : NameKey) (value : Vec ℕ Global) (stored : Stored) → IsPlaceOf k place → AllPlaced stored → rows_of (insert_entry place_cmp stored place value) ≡ put name_cmp k value.items (rows_of stored)
 put_in k place value [] of all = ap (λ (n : List ℕ). (n, value.items) ∷ []) of.bytes
 put_in k place value (e ∷ es) of all =
     elim (place_cmp place e.0) as (λ o. rows_of (match_ordering o ((place, value) ∷ e ∷ es) ((e.0, value) ∷ es) (e ∷ insert_entry place_cmp es place value))
@@ -58,7 +58,7 @@ put_in k place value (e ∷ es) of all =
     ]
     ∙ ap (λ o. by_order o ((k, value.items) ∷ rows_of (e ∷ es)) ((e.0.name.items, value.items) ∷ rows_of es) ((e.0.name.items, e.1.items) ∷ put name_cmp k value.items (rows_of es))) (as_names k place e.0 of all.0)
 
-pub placed_with : (place : Place) (value : Vec ℕ Global) (stored : Stored) → IsPlaced place → AllPlaced stored → AllPlaced (insert_entry place_cmp stored place value)
+pub placed_with : (place : NameKey) (value : Vec ℕ Global) (stored : Stored) → IsPlaced place → AllPlaced stored → AllPlaced (insert_entry place_cmp stored place value)
 placed_with place value [] is all = (is, tt)
 placed_with place value (e ∷ es) is all =
     elim (place_cmp place e.0) as (λ o. AllPlaced (match_ordering o ((place, value) ∷ e ∷ es) ((e.0, value) ∷ es) (e ∷ insert_entry place_cmp es place value))) [
@@ -72,7 +72,7 @@ placed_with place value (e ∷ es) is all =
 behind_it : (k n : List ℕ) (es : Stored) → name_cmp k n ≡ Equal → below_all name_cmp n (rows_of es) ≡ true → where_key name_cmp (others k) (rows_of es) ≡ rows_of es
 behind_it k n es tied below = all_others k (rows_of es) (subst (λ x. below_all name_cmp x (rows_of es) ≡ true) (sym (one_name k n tied)) below)
 
-pub taken_out : (k : List ℕ) (place : Place) (stored : Stored) → IsPlaceOf k place → AllPlaced stored → is_sorted name_cmp (rows_of stored) ≡ true
+pub taken_out : (k : List ℕ) (place : NameKey) (stored : Stored) → IsPlaceOf k place → AllPlaced stored → is_sorted name_cmp (rows_of stored) ≡ true
     → rows_of (remove_entry (is_at (place_cmp place)) stored) ≡ where_key name_cmp (others k) (rows_of stored)
 taken_out k place [] of all s = refl
 taken_out k place (e ∷ es) of all s =
@@ -86,7 +86,7 @@ taken_out k place (e ∷ es) of all s =
       | Greater ↦ λ o. ap (λ rows. row ∷ rows) rest
     ] refl
 
-pub placed_without : (place : Place) (stored : Stored) → AllPlaced stored → AllPlaced (remove_entry (is_at (place_cmp place)) stored)
+pub placed_without : (place : NameKey) (stored : Stored) → AllPlaced stored → AllPlaced (remove_entry (is_at (place_cmp place)) stored)
 placed_without place [] all = tt
 placed_without place (e ∷ es) all =
     elim (is_eq (place_cmp place e.0)) as (λ b. AllPlaced (cond b es (e ∷ remove_entry (is_at (place_cmp place)) es))) [ true ↦ all.1 | false ↦ (all.0, placed_without place es all.1) ]

@@ -16,7 +16,7 @@ use Rattle.ring_points.specs.declared.interval.Interval.{Interval}
 use Rattle.name_rules.specs.Names.{is_within, name_cmp, name_list, point_of}
 use Rattle.name_rules.specs.Rows.{Rows, map_of}
 use Rattle.name_service.specs.Stores.{AllPlaced, IsPlaced, IsStore, Marks, Stored, marked, names_in, points_in, rows_of}
-use Rattle.name_service.specs.declared.place.Place.{Place}
+use Rattle.name_service.specs.declared.name_key.NameKey.{NameKey}
 use Rattle.name_service.proofs.Keys.{place_cmp}
 use Rattle.name_service.proofs.Listed.{marked_in, take-none}
 use Rattle.name_rules.proofs.Places.{first, second}
@@ -44,20 +44,20 @@ from lo name = nat_le lo (point_of name)
 
 -- the rows from the first place of a point on
 
-tested : (first : Place) (place : Place) → first.name.items ≡ [] → IsPlaced place → (is_le (place_cmp first place) && true) ≡ from first.point place.name.items
+tested : (first : NameKey) (place : NameKey) → first.name.items ≡ [] → IsPlaced place → (is_le (place_cmp first place) && true) ≡ from first.point place.name.items
 tested first place none is =
     ap (λ (bytes : List ℕ). is_le (ordering_then (nat_cmp first.point place.point) (slice_cmp nat_cmp bytes place.name.items)) && true) none
     ∙ at_or_above first.point place.point _ (nothing_first place.name.items)
     ∙ ap (nat_le first.point) is.point
 
-kept : (b : Bool) (e : Place × Vec ℕ Global) (es : Stored) → rows_of (cond b (e ∷ es) es) ≡ cond b ((e.0.name.items, e.1.items) ∷ rows_of es) (rows_of es)
+kept : (b : Bool) (e : NameKey × Vec ℕ Global) (es : Stored) → rows_of (cond b (e ∷ es) es) ≡ cond b ((e.0.name.items, e.1.items) ∷ rows_of es) (rows_of es)
 kept true e es = refl
 kept false e es = refl
 
-abbrev between : Place → Stored → Stored
+abbrev between : NameKey → Stored → Stored
 between first stored = entries_between place_cmp (Included first) Unbounded stored
 
-rows_from : (first : Place) (stored : Stored) → first.name.items ≡ [] → AllPlaced stored → rows_of (between first stored) ≡ where_key name_cmp (from first.point) (rows_of stored)
+rows_from : (first : NameKey) (stored : Stored) → first.name.items ≡ [] → AllPlaced stored → rows_of (between first stored) ≡ where_key name_cmp (from first.point) (rows_of stored)
 rows_from first [] none all = refl
 rows_from first (e ∷ es) none all =
     let row : List ℕ × List ℕ = (e.0.name.items, e.1.items) in
@@ -65,7 +65,7 @@ rows_from first (e ∷ es) none all =
     ∙ kept (from first.point row.0) e (between first es)
     ∙ ap (λ rows. cond (from first.point row.0) (row ∷ rows) rows) (rows_from first es none all.1)
 
-pub placed_from : (first : Place) (stored : Stored) → AllPlaced stored → AllPlaced (between first stored)
+pub placed_from : (first : NameKey) (stored : Stored) → AllPlaced stored → AllPlaced (between first stored)
 placed_from first [] all = tt
 placed_from first (e ∷ es) all =
     elim (is_le (place_cmp first e.0) && true) as (λ b. AllPlaced (cond b (e ∷ between first es) (between first es))) [ true ↦ (all.0, placed_from first es all.1) | false ↦ placed_from first es all.1 ]
@@ -158,7 +158,7 @@ in_window : (range : Interval) (rows : Rows) → is_sorted name_cmp rows ≡ tru
 in_window range rows s =
     sym (take-within range (where_key name_cmp (from range.lo) rows) 64 (rises-kept (from range.lo) rows s) (starts_from range.lo rows)) ∙ ap (take 64) (none_before range rows)
 
-pub listed : (range : Interval) (first : Place) (stored window : Stored) (points mask : List ℕ) → IsStore stored → first.point ≡ range.lo → first.name.items ≡ []
+pub listed : (range : Interval) (first : NameKey) (stored window : Stored) (points mask : List ℕ) → IsStore stored → first.point ≡ range.lo → first.name.items ≡ []
     → window ≡ between first stored → points ≡ take 64 (points_in window) → Marks range points mask → marked mask 0 (take 64 (names_in (rows_of window))) ≡ name_list (map_of (rows_of stored)) range
 listed range first stored window points mask s at none is asked m =
     let placed = subst AllPlaced (sym is) (placed_from first stored s.placed) in

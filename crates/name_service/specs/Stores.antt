@@ -8,25 +8,25 @@ use Rattle.ring_points.specs.declared.interval.Interval.{Interval}
 use Rattle.name_rules.specs.Grammar.{is_name}
 use Rattle.name_rules.specs.Names.{name_cmp, point_of}
 use Rattle.name_rules.specs.Rows.{Rows}
-use Rattle.name_service.specs.declared.place.Place.{Place}
+use Rattle.name_service.specs.declared.name_key.NameKey.{NameKey}
 
 -- the names of rows
 abbrev pub names_in : Rows → List (List ℕ)
 names_in rows = map (λ r. r.0) rows
 
 -- the place of these bytes
-pub record IsPlaceOf (name : List ℕ) (place : Place) : Type 0 where
+pub record IsPlaceOf (name : List ℕ) (place : NameKey) : Type 0 where
   pub point : place.point ≡ point_of name
   pub bytes : place.name.items ≡ name
 
 -- the place of a name
-pub record IsPlaced (place : Place) : Type 0 where
+pub record IsPlaced (place : NameKey) : Type 0 where
   pub point : place.point ≡ point_of place.name.items
   pub name : is_name place.name.items ≡ true
 
 -- values by places, as they are stored
 abbrev pub Stored : Type 0
-Stored = List (Place × Vec ℕ Global)
+Stored = List (NameKey × Vec ℕ Global)
 
 abbrev pub rows_of : Stored → Rows
 rows_of stored = map (λ e. (e.0.name.items, e.1.items)) stored

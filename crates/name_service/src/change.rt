@@ -1,13 +1,10 @@
-// What an entry changes.
 ghost use Rattle.std.specs.Prelude.{◌≡◌, ◌==◌, ◌+◌, position, option_map};
 ghost use Rattle.name_rules.specs.Grammar.{every, is_value, is_value_byte, change_of, set_of, delete_of};
 ghost use Rattle.name_service.specs.Changes.{seen};
 
 use crate::name::is_name;
+use ring_points::MAX_NAME_VALUE;
 use text_fields::after_word;
-
-/// How many bytes a value may have.
-const MOST_VALUE: usize = 400;
 
 /// A name gets a value, or it has none any more.
 pub(crate) enum Change<'a> {
@@ -35,7 +32,7 @@ fn has_value_bytes(bytes: &[u8]) -> bool
 fn is_value(bytes: &[u8]) -> bool
     ensures { result ≡ is_value bytes.now }
 {
-    1 <= bytes.len() && bytes.len() <= MOST_VALUE && has_value_bytes(bytes)
+    1 <= bytes.len() && bytes.len() <= MAX_NAME_VALUE && has_value_bytes(bytes)
 }
 
 fn first_blank(bytes: &[u8]) -> Option<usize>

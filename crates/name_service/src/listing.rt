@@ -1,21 +1,20 @@
 // The first names of a range: the points of a window of rows are asked at once.
-ghost use Rattle.std.specs.Prelude.{◌≡◌, ◌==◌, ◌≤◌, ◌<◌, ◌*◌, ◌++◌, IfOk, OnOk, length, map, take, true};
+ghost use Rattle.std.specs.Prelude.{◌≡◌, ◌==◌, ◌≤◌, ◌<◌, ◌*◌, ◌++◌, IfOk, OnOk, length, take, true};
 ghost use Rattle.name_rules.specs.Grammar.{is_name};
 ghost use Rattle.lane_scan.specs.Masks.{bit_of};
 ghost use Rattle.name_service.specs.Stores.{AllPlaced, Marks, marked, name_if, names_in, points_in, rows_of};
 
 use crate::name::Name;
-use crate::names::MOST_LISTED;
-use crate::place::Place;
+use crate::name_key::NameKey;
 use arrayvec::ArrayVec;
+use ring_points::{Interval, MAX_LISTED_NAMES};
 use fabric_terms::OutOfMemory;
 use lane_scan::{is_marked, mask_in};
-use ring_points::Interval;
 use std::alloc::Global;
 use std::collections::btree_map::Range;
 
 /// The points of the first 64 rows.
-pub(crate) fn points_of(rows: Range<'_, Place, Vec<u8>>) -> ArrayVec<u64, MOST_LISTED>
+pub(crate) fn points_of(rows: Range<'_, NameKey, Vec<u8>>) -> ArrayVec<u64, MAX_LISTED_NAMES>
     ensures { result.items ≡ take 64 (points_in rows.entry) }
 {
     let mut points = ArrayVec::new();
@@ -60,7 +59,7 @@ fn push_marked(
 pub(crate) fn names_marked(
     alloc: Global,
     mask: &[u64],
-    rows: Range<'_, Place, Vec<u8>>,
+    rows: Range<'_, NameKey, Vec<u8>>,
 ) -> Result<Vec<Name>, OutOfMemory>
     requires room { 64 ≤ 64 * length mask.now }
     requires placed { AllPlaced rows }
@@ -69,7 +68,7 @@ pub(crate) fn names_marked(
     let mut names = Vec::new(alloc);
     let mut i = 0;
     for (place, _) in rows {
-        if i == MOST_LISTED {
+        if i == MAX_LISTED_NAMES {
             break;
         }
         push_marked(alloc, mask, i, place.name(), &mut names)?;

@@ -1,12 +1,10 @@
-ghost use Rattle.std.specs.Prelude.{◌≡◌, ◌≤◌, length, if◌then◌else◌, IfOk, OnErr, Some, None, true};
+ghost use Rattle.std.specs.Prelude.{◌≡◌, if◌then◌else◌, IfOk, OnErr, Some, None, true};
 ghost use Rattle.name_rules.specs.Grammar.{every, is_name, is_name_byte};
 
+use ring_points::MAX_NAME;
 use fabric_terms::OutOfMemory;
 use std::alloc::Global;
 use std::marker::Model;
-
-/// How many bytes a name may have.
-pub(crate) const MOST_NAME: usize = 64;
 
 /// A name: 1 to 64 visible signs of ASCII without the comma. Contracts see it as its bytes.
 #[derive(Drop)]
@@ -46,7 +44,7 @@ fn has_name_bytes(bytes: &[u8]) -> bool
 pub(crate) fn is_name(bytes: &[u8]) -> bool
     ensures { result ≡ is_name bytes.now }
 {
-    1 <= bytes.len() && bytes.len() <= MOST_NAME && has_name_bytes(bytes)
+    1 <= bytes.len() && bytes.len() <= MAX_NAME && has_name_bytes(bytes)
 }
 
 impl Name {

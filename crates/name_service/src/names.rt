@@ -10,7 +10,7 @@ ghost use Rattle.name_service.specs.Stores.{IsStore, rows_of};
 use crate::change::{Change, change_of};
 use crate::listing::{mask_of, names_marked, points_of};
 use crate::name::Name;
-use crate::place::Place;
+use crate::name_key::NameKey;
 use fabric_terms::OutOfMemory;
 use replica_core::Entry;
 use ring_points::Interval;
@@ -18,15 +18,12 @@ use std::alloc::Global;
 use std::collections::BTreeMap;
 use std::marker::Model;
 
-/// How many names an answer lists.
-pub const MOST_LISTED: usize = 64;
-
-/// The names that a log's entries leave, each with its value. They stand in the order of their points, then of their bytes;
-/// contracts see the map.
+/// The names that a log's entries leave, each with its value. They stand in the order of their points, then of their
+/// bytes; contracts see the map.
 #[derive(Drop)]
 pub struct Names {
     alloc: Global,
-    rows: BTreeMap<Place, Vec<u8>>,
+    rows: BTreeMap<NameKey, Vec<u8>>,
 }
 
 impl Model for Names {
@@ -62,7 +59,7 @@ impl Names {
         ensures { option_map (λ v. v.now) result ≡ finite.get self.now name.now }
     {
         let rows = &self.rows;
-        let place = Place::read(name)?;
+        let place = NameKey::read(name)?;
         let value = rows.get(&place)?;
         Some(value.as_slice())
     }
@@ -74,7 +71,7 @@ impl Names {
         ensures err { OnErr result (self.new ≡ self.old) }
     {
         let value = copy_of(self.alloc, value)?;
-        self.rows.insert(Place::of(name), value)?;
+        self.rows.insert(NameKey::of(name), value)?;
         Ok(())
     }
 
@@ -82,7 +79,7 @@ impl Names {
     fn delete(&mut self, name: &[u8])
         ensures { self.new ≡ finite.remove self.old name.now }
     {
-        if let Some(place) = Place::read(name) {
+        if let Some(place) = NameKey::read(name) {
             self.rows.remove(&place);
         }
     }
@@ -103,12 +100,13 @@ impl Names {
         }
     }
 
-    /// The first 64 names with a point in the range, in their order. It goes to the range's first point, and asks the 64
-    /// points from there on, in lanes: the points rise, so where not all of these are in the range, no row behind them is.
+    /// The first 64 names with a point in the range, in their order. It goes to the range's first point, and asks the
+    /// 64 points from there on, in lanes: the points rise, so where not all of these are in the range, no row behind
+    /// them is.
     pub fn select(&self, range: &Interval) -> Result<Vec<Name>, OutOfMemory>
         ensures { IfOk result (λ names. names.items ≡ name_list self.now range.now) }
     {
-        let first = Place::first_at(range.lo);
+        let first = NameKey::first_at(range.lo);
         let points = points_of(self.rows.range(&first..));
         let mask = mask_of(points.as_slice(), range);
         names_marked(self.alloc, &mask, self.rows.range(&first..))

@@ -23,7 +23,7 @@ use Rattle.reconfig_phases.specs.Answers.{answered_unit}
 use Rattle.unit_rules.specs.Deeds.{Acted, still}
 use Rattle.unit_rules.specs.Loads.{Site}
 use Rattle.unit_rules.specs.Steps.{Failover, command_row, failover_step, frame_row}
-use Rattle.unit_node.specs.Parts.{is_later}
+use Rattle.node_core.specs.UnitParts.{is_later}
 use Rattle.node_core.specs.Rows.{comes_first, row_if}
 
 -- which inputs are above the ring at all

@@ -1,4 +1,4 @@
--- What is left on the desk is what the step leaves.
+-- What stands in the effects is what the step leaves.
 use Rattle.std.proofs.Common.{◌≡◌, ℕ, List, [], ◌++◌, sym, ap, ◌∙◌}
 use Rattle.std.proofs.lemmas.List.{append-nil}
 use Rattle.fabric_terms.specs.declared.config.FabricConfig.{FabricConfig}
@@ -7,29 +7,29 @@ use Rattle.fabric_terms.specs.declared.message.Message.{Message}
 use Rattle.fabric_terms.specs.declared.record.Record.{Record}
 use Rattle.fabric_terms.specs.declared.report.Report.{Report}
 use Rattle.fabric_terms.specs.Sent.{from_all}
-use Rattle.ring_node.specs.declared.owns.Owned.{Owned}
+use Rattle.ring_node.specs.declared.ownership.Owned.{Owned}
 use Rattle.ring_node.specs.Nodes.{Node, step}
 use Rattle.ring_node.specs.Owned.{own_since, owned_of}
 use Rattle.ring_node.specs.Steps.{taken}
 use Rattle.ring_points.specs.declared.who.Who.{Who}
 use Rattle.ring_rules.specs.declared.input.Input.{Input}
-use Rattle.unit_desk.specs.declared.desk.Desk as above
-use Rattle.unit_desk.specs.Desks.{Does as DoesAbove}
-use Rattle.unit_node.specs.Parts.{Part}
+use Rattle.unit_desk.specs.declared.unit_effects.UnitEffects as above
+use Rattle.unit_desk.specs.UnitEffects.{Does as DoesAbove}
+use Rattle.node_core.specs.UnitParts.{Part}
 use Rattle.unit_rules.specs.Deeds.{Acted, did, frames_of, records_of, reports_of}
 use Rattle.unit_rules.specs.Steps.{Failover}
 use Rattle.world_rules.specs.Nodes.{above_acts, node_step}
-use Rattle.fabric_above.specs.Fabric.{fabric}
-use Rattle.node_core.specs.declared.desk.Desk.{Desk}
+use Rattle.unit_rules.specs.Fabric.{fabric}
+use Rattle.node_core.specs.declared.node_effects.NodeEffects.{NodeEffects}
 use Rattle.node_core.specs.declared.outcome.Outcome.{Outcome}
-use Rattle.node_core.specs.Desks.{IsClear}
+use Rattle.node_core.specs.NodeEffects.{IsClear}
 use Rattle.node_core.specs.Nodes.{Does, GoesBy, core_of}
 use Rattle.node_core.proofs.Sending.{OnlySends}
 use Rattle.node_core.proofs.Steps.{does_step}
 
--- a row above the ring is on its desk
+-- what a row above the ring leaves is in its effects
 pub does_left : (c : FabricConfig) (now : ℕ) (i : Input) (n : Node) (p : Part) (new : Node) (q : Part) (sent : List (Who × Body)) (told : List Report) (o : Outcome) (a : Acted Failover)
-    (before : Desk) (after : above.Desk) (owned : Owned)
+    (before : NodeEffects) (after : above.UnitEffects) (owned : Owned)
     → GoesBy c (core_of n p) → step new sent told ≡ taken now i n → above_acts fabric c now i (core_of n p).state new.ring ≡ did a
     → IsClear before → DoesAbove a q.state before.units after → owned ≡ owned_of n
     → o.records ≡ before.records.items ++ after.records
@@ -49,7 +49,7 @@ does_left c now i n p new q sent told o a before after owned g e acts clear d ow
 
 -- a firing has handed over what it sends
 pub does_fired : (c : FabricConfig) (now : ℕ) (i : Input) (n : Node) (p : Part) (new : Node) (sent : List (Who × Body)) (told : List Report) (o : Outcome) (a : Acted Failover)
-    (before : Desk) (owned : Owned) (handed fired : List Message)
+    (before : NodeEffects) (owned : Owned) (handed fired : List Message)
     → GoesBy c (core_of n p) → step new sent told ≡ taken now i n → above_acts fabric c now i (core_of n p).state new.ring ≡ did a
     → IsClear before → a.state ≡ p.state → OnlySends a.deeds → owned ≡ owned_of n
     → handed ≡ before.frames.items ++ from_all new.ring.me sent → fired ≡ handed ++ from_all new.ring.me (frames_of a.deeds)

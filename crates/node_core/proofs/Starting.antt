@@ -11,10 +11,10 @@ use Rattle.ring_points.specs.Whos.{node_instance}
 use Rattle.ring_rules.specs.Rings.{settings_of}
 use Rattle.ring_rules.specs.Starts.{node_started, start_first, start_if}
 use Rattle.token_core.specs.Tokens.{last_number}
-use Rattle.unit_rules.specs.Seats.{Seat}
-use Rattle.unit_node.specs.Parts.{Part, domains_of}
+use Rattle.unit_rules.specs.ReplicaStates.{ReplicaState}
+use Rattle.node_core.specs.UnitParts.{Part, domains_of}
 use Rattle.world_rules.specs.Nodes.{boots_of, instance_begun, is_spent, node_begun}
-use Rattle.fabric_above.specs.Fabric.{fabric}
+use Rattle.unit_rules.specs.Fabric.{fabric}
 use Rattle.node_core.specs.declared.kept.NodeKept.{NodeKept}
 use Rattle.node_core.specs.declared.outcome.Outcome.{Outcome}
 use Rattle.node_core.specs.Nodes.{Amounts, Does, GoesBy, core_of}
@@ -32,11 +32,11 @@ unfolding node_started
 named c me spent = if_named c me spent
 
 -- what runs above the ring of an instance that begins with these replicas
-abbrev pub part_begun : FabricConfig → List (ℕ × Seat) → Part
-part_begun c seats = record { domains = domains_of c; state = record { managed = record { units = []; reconfigs = [] }; seats = seats } }
+abbrev pub part_begun : FabricConfig → List (ℕ × ReplicaState) → Part
+part_begun c states = record { domains = domains_of c; state = record { managed = record { units = []; reconfigs = [] }; states = states } }
 
-pub starts_by : (c : FabricConfig) (me : Who) (spent : Bool) (new : Node) (told : List Report) (seats : List (ℕ × Seat)) → step new [] told ≡ started c me spent → GoesBy c (core_of new (part_begun c seats))
-starts_by c me spent new told seats e = record {
+pub starts_by : (c : FabricConfig) (me : Who) (spent : Bool) (new : Node) (told : List Report) (states : List (ℕ × ReplicaState)) → step new [] told ≡ started c me spent → GoesBy c (core_of new (part_begun c states))
+starts_by c me spent new told states e = record {
   settings =
       ap (λ (s : Step). s.settings) e
       ∙ ap (λ (w : Who). settings_of c w.actor) (sym (ap (λ (s : Step). s.work.ring.me) e ∙ named c me spent));
@@ -47,7 +47,7 @@ starts_by c me spent new told seats e = record {
 pub does_start : (c : FabricConfig) (node : ℕ) (records : List Record) (k : NodeKept) (instance : ℕ) (spent : Bool) (new : Node) (told : List Report) (o : Outcome) → Amounts records k
     → spent ≡ nat_le last_number k.boots → instance ≡ (if nat_le last_number k.boots then k.boots else k.boots + 1)
     → step new [] told ≡ started c (node_instance node instance) spent → o.records ≡ (if spent then [] else Boot instance ∷ []) → o.frames ≡ [] → o.reports ≡ told
-    → Does (node_begun fabric c node records) (core_of new (part_begun c k.seats)) o
+    → Does (node_begun fabric c node records) (core_of new (part_begun c k.states)) o
 unfolding node_begun
 does_start c node records k instance spent new told o a s n e r f t =
     let p : spent ≡ nat_le last_number (boots_of records) = s ∙ ap (nat_le last_number) (sym a.boots) in
@@ -55,8 +55,8 @@ does_start c node records k instance spent new told o a s n e r f t =
     let d : step new [] told ≡ started c (node_instance node (instance_begun records)) (is_spent records) = e ∙ ap (λ (i : ℕ). started c (node_instance node i) spent) q ∙ ap (started c (node_instance node (instance_begun records))) p in
     record {
       state =
-          ap (λ (x : Step). record { ring = x.work.ring; above = record { managed = record { units = []; reconfigs = [] }; seats = k.seats } }) d
-          ∙ ap (λ (seats : List (ℕ × Seat)). record { ring = (node_started c (node_instance node (instance_begun records)) (is_spent records)).ring; above = record { managed = record { units = []; reconfigs = [] }; seats = seats } }) (sym a.seats);
+          ap (λ (x : Step). record { ring = x.work.ring; above = record { managed = record { units = []; reconfigs = [] }; states = k.states } }) d
+          ∙ ap (λ (states : List (ℕ × ReplicaState)). record { ring = (node_started c (node_instance node (instance_begun records)) (is_spent records)).ring; above = record { managed = record { units = []; reconfigs = [] }; states = states } }) (sym a.states);
       records = r ∙ ap (λ (i : ℕ). if spent then [] else Boot i ∷ []) q ∙ ap (λ (x : Bool). if x then [] else Boot (instance_begun records) ∷ []) p;
       frames = f;
       reports = t ∙ ap (λ (x : Step). x.work.told) d;

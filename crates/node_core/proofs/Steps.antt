@@ -22,9 +22,9 @@ use Rattle.run_facts.proofs.Steps.{ring_stepped}
 use Rattle.unit_rules.specs.Deeds.{Acted, did, frames_of, records_of, reports_of}
 use Rattle.unit_rules.specs.Loads.{Site, site_of}
 use Rattle.unit_rules.specs.Steps.{Failover, failover_step}
-use Rattle.unit_node.specs.Parts.{Part, domains_of, is_later, site_at}
+use Rattle.node_core.specs.UnitParts.{Part, domains_of, is_later, site_at}
 use Rattle.world_rules.specs.Nodes.{NodeState, above_acts, above_if, both_did, comes_above, node_step}
-use Rattle.fabric_above.specs.Fabric.{fabric}
+use Rattle.unit_rules.specs.Fabric.{fabric}
 use Rattle.world_rules.specs.Uppers.{Did}
 use Rattle.node_core.specs.declared.outcome.Outcome.{Outcome}
 use Rattle.node_core.specs.Nodes.{Does, GoesBy, core_of}

@@ -10,12 +10,12 @@ use Rattle.fabric_terms.specs.Messages.{is_sound}
 use Rattle.fabric_terms.specs.Sent.{from_all}
 use Rattle.fabric_terms.specs.Ranges.{FitsCommand}
 use Rattle.world_rules.specs.Nodes.{NodeState, boots_of}
-use Rattle.fabric_above.specs.Fabric.{fabric}
+use Rattle.unit_rules.specs.Fabric.{fabric}
 use Rattle.world_rules.specs.Uppers.{Did}
-use Rattle.unit_rules.specs.Seats.{Seat}
-use Rattle.unit_rules.specs.Starts.{seats_begun}
-use Rattle.unit_replica.specs.Starts.{seats_again}
-use Rattle.unit_node.specs.Parts.{Part, domains_of, most_fired}
+use Rattle.unit_rules.specs.ReplicaStates.{ReplicaState}
+use Rattle.unit_rules.specs.Starts.{states_begun}
+use Rattle.unit_replica.specs.Starts.{states_again}
+use Rattle.node_core.specs.UnitParts.{Part, domains_of, most_fired}
 use Rattle.node_core.specs.declared.kept.NodeKept.{NodeKept}
 use Rattle.node_core.specs.declared.outcome.Outcome.{Outcome}
 
@@ -34,8 +34,8 @@ abbrev pub core_of : Node → Part → Core
 core_of n p = record { settings = n.settings; domains = p.domains; state = record { ring = n.ring; above = p.state } }
 
 -- the node with these replicas
-abbrev pub with_seats : List (ℕ × Seat) → Core → Core
-with_seats seats n = record n { state = record n.state { above = record n.state.above { seats = seats } } }
+abbrev pub with_states : List (ℕ × ReplicaState) → Core → Core
+with_states states n = record n { state = record n.state { above = record n.state.above { states = states } } }
 
 -- the node goes by the configuration
 pub record GoesBy (c : FabricConfig) (n : Core) : Type 0 where
@@ -52,14 +52,14 @@ pub record Does (d : Did (NodeState fabric)) (new : Core) (o : Outcome) : Type 0
 -- what the records of a node amount to: how many instances have begun, and the replicas with which the next one begins
 pub record Amounts (records : List Record) (kept : NodeKept) : Type 0 where
   pub boots : boots_of records ≡ kept.boots
-  pub seats : seats_begun records ≡ kept.seats
+  pub states : states_begun records ≡ kept.states
 
 -- what the records of a running node amount to
 abbrev pub kept_in : NodeState fabric → NodeKept
-kept_in s = record { boots = s.ring.me.instance; seats = seats_again s.above.seats }
+kept_in s = record { boots = s.ring.me.instance; states = states_again s.above.states }
 
 abbrev pub nothing_kept : NodeKept
-nothing_kept = record { boots = 0; seats = [] }
+nothing_kept = record { boots = 0; states = [] }
 
 -- the most that a step leaves
 

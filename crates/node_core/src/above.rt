@@ -1,4 +1,5 @@
-ghost use Rattle.std.specs.Prelude.{◌≡◌, ◌≤◌, ◌+◌, ◌++◌, [], IfOk, IsTrue, OnErr, false, is_some, length, not, true, vec_capacity, vec_len};
+ghost use Rattle.std.specs.Prelude.{◌≡◌, ◌≤◌, ◌+◌, ◌++◌, [], IfOk, IsTrue, OnErr, false, is_some, length, not, true};
+ghost use Rattle.std.specs.Prelude.{vec_capacity, vec_len};
 ghost use Rattle.fabric_terms.specs.Messages.{is_sound};
 ghost use Rattle.fabric_terms.specs.Sent.{from_all};
 ghost use Rattle.join_phases.specs.Phases.{is_left};
@@ -6,18 +7,18 @@ ghost use Rattle.reconfig_phases.specs.Answers.{answered_unit};
 ghost use Rattle.ring_rules.specs.Deeds.{has_numbers};
 ghost use Rattle.ring_rules.specs.declared.input.Input.TheVariants as input;
 ghost use Rattle.world_rules.specs.Nodes.{comes_above};
-ghost use Rattle.unit_desk.specs.Desks.{Does, HasRoom};
+ghost use Rattle.unit_desk.specs.UnitEffects.{Does, HasRoom};
 ghost use Rattle.unit_rules.specs.Deeds.{frames_of};
 ghost use Rattle.unit_rules.specs.Steps.{failover_step};
-ghost use Rattle.unit_node.specs.Parts.{is_later, most_fired, site_at};
+ghost use Rattle.node_core.specs.UnitParts.{is_later, most_fired, site_at};
 ghost use Rattle.node_core.specs.Nodes.{FitsInput};
 ghost use Rattle.node_core.specs.Rows.{comes_first, comes_later, row_if};
 
 use fabric_terms::{Message, OutOfMemory, Outbox};
 use join_phases::Phase;
 use ring_node::{Input, RingNode};
-use unit_desk::Desk;
-use unit_node::UnitNode;
+use unit_desk::UnitEffects;
+use crate::unit_part::UnitNode;
 
 /// Whether the ring lets the input come to what runs above it: any but a frame that does not pass.
 fn comes_above(ring: &RingNode, input: &Input) -> bool
@@ -42,43 +43,47 @@ fn take(
     ring: &RingNode,
     units: &mut UnitNode,
     input: &Input,
-    desk: &mut Desk,
+    effects: &mut UnitEffects,
 ) -> Result<(), OutOfMemory>
     requires fits { FitsInput input.now }
     requires first { is_later input.now ≡ false }
-    requires room { HasRoom desk.old }
-    ensures does { IfOk result (λ _. Does (failover_step (site_at ring.now.settings units.old) now ring.now.ring units.old.state input.now) units.new.state desk.old desk.new) }
+    requires room { HasRoom effects.old }
+    ensures does { IfOk result (λ _. Does
+        (failover_step (site_at ring.now.settings units.old) now ring.now.ring units.old.state input.now)
+        units.new.state effects.old effects.new) }
     ensures domains { units.new.domains ≡ units.old.domains }
-    ensures few { length desk.new.out ≤ length desk.old.out + 9 }
-    ensures refused { OnErr result ((units.new ≡ units.old) × (desk.new ≡ desk.old)) }
+    ensures few { length effects.new.out ≤ length effects.old.out + 9 }
+    ensures refused { OnErr result ((units.new ≡ units.old) × (effects.new ≡ effects.old)) }
 {
     match input {
         Input::Fire => Ok(()),
-        Input::Frame(message) => units.frame_received(ring.me().actor, message, desk),
-        Input::Do(command) => units.commanded(now, ring, command, desk),
+        Input::Frame(message) => units.frame_received(ring.me().actor, message, effects),
+        Input::Do(command) => units.commanded(now, ring, command, effects),
     }
 }
 
-/// A command or a frame to a replica has its row before the ring's own, where it comes above: want of memory leaves both
-/// as they were.
+/// A command or a frame to a replica has its row before the ring's own, where it comes above: want of memory leaves
+/// both as they were.
 pub(crate) fn take_first(
     now: u64,
     ring: &RingNode,
     units: &mut UnitNode,
     input: &Input,
-    desk: &mut Desk,
+    effects: &mut UnitEffects,
 ) -> Result<(), OutOfMemory>
     requires fits { FitsInput input.now }
     requires first { is_later input.now ≡ false }
-    requires room { HasRoom desk.old }
-    ensures does { IfOk result (λ _. Does (row_if (comes_first ring.now.settings now ring.now.ring input.now) (site_at ring.now.settings units.old) now ring.now.ring units.old.state input.now) units.new.state desk.old desk.new) }
+    requires room { HasRoom effects.old }
+    ensures does { IfOk result (λ _. Does
+        (row_if (comes_first ring.now.settings now ring.now.ring input.now) (site_at ring.now.settings units.old)
+        now ring.now.ring units.old.state input.now) units.new.state effects.old effects.new) }
     ensures numbers { IsTrue (has_numbers ring.now.ring) }
     ensures domains { units.new.domains ≡ units.old.domains }
-    ensures few { length desk.new.out ≤ length desk.old.out + 9 }
-    ensures refused { OnErr result ((units.new ≡ units.old) × (desk.new ≡ desk.old)) }
+    ensures few { length effects.new.out ≤ length effects.old.out + 9 }
+    ensures refused { OnErr result ((units.new ≡ units.old) × (effects.new ≡ effects.old)) }
 {
     if ring.acts(now) && comes_above(ring, input) {
-        take(now, ring, units, input, desk)
+        take(now, ring, units, input, effects)
     } else {
         Ok(())
     }
@@ -92,17 +97,18 @@ pub(crate) fn answer_later(
     comes: bool,
     units: &mut UnitNode,
     message: &Message,
-    desk: &mut Desk,
+    effects: &mut UnitEffects,
 )
     requires sound { IsTrue (is_sound message.now) }
     requires answer { is_some (answered_unit message.now.body) ≡ true }
-    requires room { HasRoom desk.old }
-    ensures does { Does (row_if (comes_later comes ring.now.ring) (site_at ring.now.settings units.old) now ring.now.ring units.old.state (input.Frame message.now)) units.new.state desk.old desk.new }
+    requires room { HasRoom effects.old }
+    ensures does { Does (row_if (comes_later comes ring.now.ring) (site_at ring.now.settings units.old)
+        now ring.now.ring units.old.state (input.Frame message.now)) units.new.state effects.old effects.new }
     ensures domains { units.new.domains ≡ units.old.domains }
-    ensures few { length desk.new.out ≤ length desk.old.out + 9 }
+    ensures few { length effects.new.out ≤ length effects.old.out + 9 }
 {
     if !has_left(ring) && comes {
-        units.answered(now, ring, message, desk);
+        units.answered(now, ring, message, effects);
     }
 }
 
@@ -117,7 +123,9 @@ pub(crate) fn fire_later(
 )
     requires clear { out.old ≡ [] }
     requires room { vec_len frames.old + most_fired units.now.state ≤ vec_capacity frames.old }
-    ensures sent { frames.new.items ≡ frames.old.items ++ from_all ring.now.ring.me (frames_of (row_if (not (is_left ring.now.ring.phase)) (site_at ring.now.settings units.now) 0 ring.now.ring units.now.state input.Fire).deeds) }
+    ensures sent { frames.new.items ≡ frames.old.items ++ from_all ring.now.ring.me
+        (frames_of (row_if (not (is_left ring.now.ring.phase)) (site_at ring.now.settings units.now)
+        0 ring.now.ring units.now.state input.Fire).deeds) }
     ensures few { vec_len frames.new ≤ vec_len frames.old + most_fired units.now.state }
     ensures clear { out.new ≡ [] }
 {

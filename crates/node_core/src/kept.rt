@@ -2,7 +2,7 @@ ghost use Rattle.std.specs.Prelude.{◌≡◌};
 ghost use Rattle.node_core.specs.Nodes.{nothing_kept};
 
 use std::alloc::Global;
-use unit_replica::Seats;
+use unit_replica::ReplicaStates;
 
 /// What the records of a node amount to while it does not run. A start takes it from here, and a stop gives it back.
 #[derive(Drop)]
@@ -10,7 +10,7 @@ pub struct NodeKept {
     /// How many instances of the node have begun.
     pub boots: u32,
     /// The replicas that its records name, as the next instance begins with them.
-    pub seats: Seats,
+    pub states: ReplicaStates,
 }
 
 impl NodeKept {
@@ -20,7 +20,7 @@ impl NodeKept {
     {
         NodeKept {
             boots: 0,
-            seats: Seats::new(alloc),
+            states: ReplicaStates::new(alloc),
         }
     }
 }

@@ -11,12 +11,17 @@
 mod above;
 mod batch;
 mod boots;
-mod desk;
+mod node_effects;
 mod kept;
 mod node;
 mod outcome;
-mod room;
-mod take;
+mod capacity;
+mod whole_step;
+mod unit_commands;
+mod unit_firing;
+mod unit_frames;
+mod unit_loads;
+mod unit_part;
 
 pub use batch::Batch;
 pub use kept::NodeKept;

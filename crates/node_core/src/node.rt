@@ -7,32 +7,32 @@ ghost use Rattle.fabric_terms.specs.declared.record.Record.{Record};
 ghost use Rattle.keep_log.specs.Amounts.{Holds};
 ghost use Rattle.ring_rules.specs.Slots.{fence_of};
 ghost use Rattle.world_rules.specs.Nodes.{node_begun, node_step};
-ghost use Rattle.fabric_above.specs.Fabric.{fabric};
+ghost use Rattle.unit_rules.specs.Fabric.{fabric};
 ghost use Rattle.world_rules.specs.Schedules.{is_configured_node};
 ghost use Rattle.ring_node.specs.Owned.{owned_of};
-ghost use Rattle.unit_replica.specs.Starts.{seats_of};
+ghost use Rattle.unit_replica.specs.Starts.{states_of};
 ghost use Rattle.unit_replica.specs.Tables.{replica_at};
-ghost use Rattle.node_core.specs.Desks.{IsClear, IsReady};
-ghost use Rattle.node_core.specs.Nodes.{Amounts, Does, FitsInput, GoesBy, IsSmall, core_of, frames_limit, kept_in, most_frames, nothing_kept, ring_of, with_seats};
-ghost use Rattle.unit_node.specs.Parts.{most_fired};
+ghost use Rattle.node_core.specs.NodeEffects.{IsClear};
+ghost use Rattle.node_core.specs.Nodes.{Amounts, Does, FitsInput, GoesBy, IsSmall, core_of, frames_limit, kept_in};
+ghost use Rattle.node_core.specs.Nodes.{most_frames, nothing_kept, ring_of, with_states};
+ghost use Rattle.node_core.specs.UnitParts.{most_fired};
 
 use crate::batch::Batch;
 use crate::boots::{boot, instance_after, is_spent};
-use crate::desk::Desk;
+use crate::node_effects::NodeEffects;
 use crate::kept::NodeKept;
 use crate::outcome::Outcome;
-use crate::take::step_at;
-use drift_clock::MAX_READING;
+use crate::whole_step::step_at;
+use ring_points::{MAX_READING, RangeSet, Who};
 use fabric_terms::{FabricConfig, OutOfMemory};
 use keep_log::Kept;
 use replica_core::Replica;
 use ring_node::{Input, Owned, RingNode};
-use ring_points::{RangeSet, Who};
 use std::alloc::Global;
 use std::marker::Model;
 use std::mem;
-use unit_node::UnitNode;
-use unit_replica::Seats;
+use crate::unit_part::UnitNode;
+use unit_replica::ReplicaStates;
 
 /// A whole node. Contracts see it as the record `Core`: what it goes by, its ring and what runs above it.
 #[derive(Drop)]
@@ -44,20 +44,20 @@ pub struct NodeCore {
     /// What runs above the ring.
     units: UnitNode,
     /// From the first step on, where its steps put what they leave.
-    desk: Option<Box<Desk>>,
+    effects: Option<Box<NodeEffects>>,
 }
 
 impl Model for NodeCore {
     ghost use Rattle.std.specs.Prelude.{◌≡◌, IfSome};
     ghost use Rattle.ring_node.specs.Owned.{owned_of};
-    ghost use Rattle.node_core.specs.Desks.{IsClear};
+    ghost use Rattle.node_core.specs.NodeEffects.{IsClear};
     ghost use Rattle.node_core.specs.Nodes.{Core, core_of};
 
     ghost Value = { Core };
 
     ghost view = { λ n. core_of n.ring n.units };
 
-    ghost invariant = { λ n. (n.owned ≡ owned_of n.ring) × IfSome n.desk (λ d. IsClear d.value) };
+    ghost invariant = { λ n. (n.owned ≡ owned_of n.ring) × IfSome n.effects (λ d. IsClear d.value) };
 }
 
 /// The most frames of a step with this above the ring: what the ring sends, and nine of a reconfiguration and six of a
@@ -85,7 +85,8 @@ impl NodeCore {
         requires sound { IsSound config.now }
         requires node { is_configured_node config.now node ≡ true }
         requires now { now ≤ MAX_READING }
-        ensures begins { IfOk result (λ r. (records : List Record) → Amounts records kept.old → Does (node_begun fabric config.now node records) r.0.value r.1) }
+        ensures begins { IfOk result (λ r. (records : List Record) → Amounts records kept.old →
+            Does (node_begun fabric config.now node records) r.0.value r.1) }
         ensures goes_by { IfOk result (λ r. GoesBy config.now r.0.value) }
         ensures small { IfOk result (λ r. IsSmall r.0.value.state r.1) }
         ensures taken { OnOk result (kept.new ≡ nothing_kept) }
@@ -107,10 +108,10 @@ impl NodeCore {
             ring,
             owned,
             units: UnitNode::new(alloc, config),
-            desk: None,
+            effects: None,
         };
         let mut core = Box::new(alloc, core)?;
-        core.seat(mem::replace(kept, NodeKept::new(alloc)).seats);
+        core.put_states(mem::replace(kept, NodeKept::new(alloc)).states);
         let outcome = Outcome {
             records: Batch::new(records),
             frames: Batch::new(Vec::new(alloc)),
@@ -120,14 +121,14 @@ impl NodeCore {
     }
 
     /// The node begins with these replicas.
-    fn seat(&mut self, seats: Seats)
-        ensures { self.new ≡ with_seats seats self.old }
+    fn put_states(&mut self, states: ReplicaStates)
+        ensures { self.new ≡ with_states states self.old }
     {
-        self.units.seat(seats);
+        self.units.put_states(states);
     }
 
-    /// Starts a node as `begin` does, from what its records amount to. It is an error where memory is short, and then `kept`
-    /// is dropped.
+    /// Starts a node as `begin` does, from what its records amount to. It is an error where memory is short, and then
+    /// `kept` is dropped.
     pub fn start(
         alloc: Global,
         config: &FabricConfig,
@@ -137,40 +138,41 @@ impl NodeCore {
     ) -> Result<(NodeCore, Outcome), OutOfMemory>
         requires sound { IsSound config.now }
         requires node { is_configured_node config.now node ≡ true }
-        requires replicas { IsTrue (rises (seats_of kept.replicas)) }
+        requires replicas { IsTrue (rises (states_of kept.replicas)) }
         requires now { now ≤ MAX_READING }
-        ensures begins { IfOk result (λ r. (records : List Record) → Holds records kept → Does (node_begun fabric config.now node records) r.0 r.1) }
+        ensures begins { IfOk result (λ r. (records : List Record) → Holds records kept →
+            Does (node_begun fabric config.now node records) r.0 r.1) }
         ensures goes_by { IfOk result (λ r. GoesBy config.now r.0) }
         ensures small { IfOk result (λ r. IsSmall r.0.state r.1) }
     {
         let mut replicas = kept.replicas.into_vec();
         let mut kept = NodeKept {
             boots: kept.boots,
-            seats: Seats::begun(alloc, &mut replicas)?,
+            states: ReplicaStates::begun(alloc, &mut replicas)?,
         };
         let (core, outcome) = NodeCore::begin(alloc, config, node, &mut kept, now)?;
         Ok((Box::into_inner(core), outcome))
     }
 
-    /// Gives back what is kept of the node, for its next start: nothing else of a node is needed once it has stopped. The
-    /// node has no replica then.
+    /// Gives back what is kept of the node, for its next start: nothing else of a node is needed once it has stopped.
+    /// The node has no replica then.
     pub fn take_kept(&mut self) -> NodeKept
         ensures given { result ≡ kept_in self.old.state }
-        ensures left { self.new ≡ with_seats [] self.old }
+        ensures left { self.new ≡ with_states [] self.old }
     {
         NodeKept {
             boots: self.ring.me().instance,
-            seats: self.units.take_seats(self.alloc),
+            states: self.units.take_states(self.alloc),
         }
     }
 
-    /// Makes the desk at which the node's steps are done. It is never inlined into a step, which would then pay for the
-    /// room in which a desk is dropped.
+    /// Makes the effects that the node's steps fill. It is never inlined into a step, which would then pay for the
+    /// room in which effects are dropped.
     #[inline(never)]
-    fn make_desk(&mut self) -> Result<(), OutOfMemory>
+    fn make_effects(&mut self) -> Result<(), OutOfMemory>
         ensures { self.new ≡ self.old }
     {
-        self.desk = Some(Desk::boxed(self.alloc)?);
+        self.effects = Some(NodeEffects::boxed(self.alloc)?);
         Ok(())
     }
 
@@ -180,20 +182,21 @@ impl NodeCore {
     pub fn step(&mut self, now: u64, input: &Input) -> Result<Outcome, OutOfMemory>
         requires now { now ≤ MAX_READING }
         requires input { FitsInput input.now }
-        ensures does { IfOk result (λ o. (c : Configuration) → GoesBy c self.old → Does (node_step fabric c now input.now self.old.state) self.new o) }
+        ensures does { IfOk result (λ o. (c : Configuration) → GoesBy c self.old →
+            Does (node_step fabric c now input.now self.old.state) self.new o) }
         ensures small { IfOk result (IsSmall self.old.state) }
         ensures settings { self.new.settings ≡ self.old.settings }
         ensures domains { self.new.domains ≡ self.old.domains }
         ensures me { self.new.state.ring.me ≡ self.old.state.ring.me }
         ensures refused { OnErr result (self.new ≡ self.old) }
     {
-        if self.desk.is_none() {
-            self.make_desk()?;
+        if self.effects.is_none() {
+            self.make_effects()?;
         }
-        let Some(desk) = &mut self.desk else {
+        let Some(effects) = &mut self.effects else {
             return Err(OutOfMemory);
         };
-        desk.make_room(most_frames_of(&self.units))?;
+        effects.make_room(most_frames_of(&self.units))?;
         step_at(
             self.alloc,
             &mut self.ring,
@@ -201,7 +204,7 @@ impl NodeCore {
             &mut self.units,
             now,
             input,
-            desk,
+            effects,
         )
     }
 
@@ -216,7 +219,7 @@ impl NodeCore {
 
     /// The node's replica of a partition, None exactly where it has none.
     pub fn replica(&self, partition: u16) -> Option<&Replica>
-        ensures { option_copied result ≡ replica_at partition self.now.state.above.seats }
+        ensures { option_copied result ≡ replica_at partition self.now.state.above.states }
     {
         self.units.replica(partition)
     }

@@ -1,7 +1,6 @@
 use crate::rows::agree;
-use drift_clock::{
-    Bound, Drift, DriftBroken, MAX_DRIFT, MAX_GRAIN, MAX_READING, MAX_TRUE_TIME, wait_of,
-};
+use drift_clock::{Bound, Drift, DriftBroken, MAX_TRUE_TIME, wait_of};
+use ring_points::{MAX_DRIFT, MAX_GRAIN, MAX_READING};
 use std::process::Abort;
 
 /// What the drift answers at the last of these true times and readings.

@@ -1,10 +1,10 @@
-//! Tests of the parts of a node, from range sets to replicas, and of the devices, those in memory and the real ones over
-//! files, sockets, a clock and fake machines: worked examples from outside, and that each public call answers where memory
-//! is ample.
+//! Tests of the parts of a node, from range sets to replicas, and of the devices, those in memory and the real ones
+//! over files, sockets, a clock and fake machines: worked examples from outside, and that each public call answers
+//! where memory is ample.
 //!
-//! What each call of a part does is proved where it stands; here is what no clause says. What a real device does is no matter
-//! of a proof; here it is seen once, each with a failure in mid-stream. The crate has no code of its own, so that the parts
-//! are proved once.
+//! What each call of a part does is proved where it stands; here is what no clause says. What a real device does is no
+//! matter of a proof; here it is seen once, each with a failure in mid-stream. The crate has no code of its own, so
+//! that the parts are proved once.
 #![tactic(auto)]
 
 #[cfg(test)]

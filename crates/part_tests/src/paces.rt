@@ -47,8 +47,8 @@ fn all_listening<'a, R: Net + Clock + Eprint + Abort>(
 /// What the first two receives of an actor answer.
 type Two = [Result<Option<usize>, Failed>; 2];
 
-/// A turn of the process: the last actor sends the first a datagram, and each receives twice. What was sent, what the first
-/// actor received, and whether another received anything.
+/// A turn of the process: the last actor sends the first a datagram, and each receives twice. What was sent, what the
+/// first actor received, and whether another received anything.
 fn turn<R: Net + Clock + Eprint>(
     links: &mut UdpLinks<'_, R>,
     here: &str,

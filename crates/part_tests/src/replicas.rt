@@ -1,7 +1,7 @@
 ghost use Rattle.std.specs.Prelude.{◌≡◌, ◌≤◌, length};
 
-use replica_core::{Done, Entry, EntryBytes, MOST_ENTRIES, Replica, ReplicaRefusal, Role};
-use ring_points::{Config, Epoch, Members};
+use ring_points::{Config, Epoch, MAX_LOG_ENTRIES, Members};
+use replica_core::{Done, Entry, EntryBytes, Replica, ReplicaRefusal, Role};
 use std::alloc::Global;
 use std::process::Abort;
 
@@ -62,7 +62,7 @@ fn answer(
         Call::Idle(epoch) => replica.idle(epoch),
         Call::Append(epoch, lsn, byte) => replica.append(epoch, lsn, &[byte]),
         Call::Adopt(epoch, lsn, last) => {
-            assert!(rt; lsn <= MOST_ENTRIES);
+            assert!(rt; lsn <= MAX_LOG_ENTRIES);
             replica.adopt(epoch, &entry(rt, alloc, lsn, b"x"), last)
         }
         Call::AdoptOwn(epoch, last) => replica.adopt_own(epoch, last),
@@ -165,7 +165,7 @@ fn what_is_collected_is_dropped_or_adopted(rt: HostRuntime) {
 // A replica whose log is full.
 fn full(rt: &impl Abort, alloc: Global) -> Replica {
     let mut replica = Replica::new(alloc, 5);
-    for lsn in 1..=MOST_ENTRIES {
+    for lsn in 1..=MAX_LOG_ENTRIES {
         assert_eq!(rt; replica.append(epoch(0, 0), lsn, b""), Ok(Done::New));
     }
     replica
@@ -176,13 +176,13 @@ fn refuses_what_does_not_fit(rt: HostRuntime) {
     let mut replica = full(&rt, rt.alloc());
     let (first, old, now, new) = (epoch(0, 0), epoch(0, 9), epoch(1, 0), epoch(1, 1));
     let older = Err(ReplicaRefusal::Older(now));
-    let gap = Err(ReplicaRefusal::Gap(MOST_ENTRIES));
+    let gap = Err(ReplicaRefusal::Gap(MAX_LOG_ENTRIES));
     let course = [
         (
-            Call::Append(first, MOST_ENTRIES + 1, b'x'),
+            Call::Append(first, MAX_LOG_ENTRIES + 1, b'x'),
             Err(ReplicaRefusal::LogFull),
         ),
-        (Call::Append(first, MOST_ENTRIES + 2, b'x'), gap),
+        (Call::Append(first, MAX_LOG_ENTRIES + 2, b'x'), gap),
         (Call::Promise(now), Ok(Done::New)),
         (Call::Promise(old), older),
         (Call::Idle(old), older),

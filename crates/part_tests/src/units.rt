@@ -1,5 +1,5 @@
 use crate::rows::agree;
-use failover_units::{MOST_UNITS, UnitRefusal, Units};
+use failover_units::{MAX_UNITS, UnitRefusal, Units};
 use ring_points::{Config, Epoch, Interval, Members};
 use std::alloc::Global;
 use std::process::Abort;
@@ -111,7 +111,7 @@ fn lists_the_partitions_of_a_range(rt: HostRuntime) {
 /// As many units as there is room for.
 fn full(rt: &impl Abort, alloc: Global) -> Units {
     let mut units = Units::new(alloc);
-    for partition in 0..MOST_UNITS {
+    for partition in 0..MAX_UNITS {
         assert_eq!(rt; units.create(partition as u16), Ok(()));
     }
     units

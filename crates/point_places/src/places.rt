@@ -30,7 +30,8 @@ impl Model for Places {
 
     ghost Value = { Spots };
 
-    ghost view = { λ a. record { segments = a.segments.items; moves = reverse a.moves.items; room = vec_capacity a.moves - vec_len a.moves } };
+    ghost view = { λ a. record { segments = a.segments.items; moves = reverse a.moves.items;
+        room = vec_capacity a.moves - vec_len a.moves } };
 
     ghost invariant = { λ a. IsTrue (is_cut a.segments.items) };
 }
@@ -84,7 +85,8 @@ impl Places {
     /// room for it.
     pub fn moved(&mut self, who: Who, report: &Report)
         requires { 0 < self.old.room }
-        ensures places { (p : ℕ) → p < 2 ^ 64 → place_at self.new p ≡ place_after who report.now p (place_at self.old p) }
+        ensures places { (p : ℕ) → p < 2 ^ 64 →
+            place_at self.new p ≡ place_after who report.now p (place_at self.old p) }
         ensures room { self.old.room ≤ self.new.room + 1 }
     {
         if let Some(report) = moving(report) {

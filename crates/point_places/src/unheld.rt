@@ -2,7 +2,7 @@ ghost use Rattle.std.specs.Prelude.{◌≡◌, ◌+◌, ◌-◌, ◌++◌, [], �
 ghost use Rattle.std.specs.Option.{option_to_list};
 ghost use Rattle.std.specs.List.{list_all};
 ghost use Rattle.ring_points.specs.Ranges.{is_proper};
-ghost use Rattle.ring_points.specs.Sets.{span, cut_at, cut_all, minus_of};
+ghost use Rattle.ring_points.specs.Sets.{span, cut_all, minus_of};
 ghost use Rattle.point_places.specs.Order.{seen};
 ghost use Rattle.point_places.specs.Steps.{last_before, spans_of, less_held};
 
@@ -140,7 +140,8 @@ pub fn unheld(
     holders: &[Holder],
     place: Place,
 ) -> Result<Vec<Interval>, OutOfMemory>
-    ensures left { IfOk result (λ r. r.items ≡ less_held (seen place) holders.now (spans_of (seen place) segments.now)) }
+    ensures left { IfOk result (λ r. r.items ≡ less_held (seen place) holders.now (spans_of (seen place) segments.now))
+        }
     ensures proper { OnOk result (IsTrue (list_all (λ h. is_proper h.ranges) holders.now)) }
 {
     let mut left = spans(alloc, segments, place)?;

@@ -1,11 +1,11 @@
 //! Tests of the whole program over devices in memory: schedules with what is written of them and the status; and what
-//! `node`, `arbiter` and `cluster` write, keep and send, which sources they refuse, and what is left where one call of a
-//! device fails, at each call in turn. The book of committed writes is tested by its own calls.
+//! `node`, `arbiter` and `cluster` write, keep and send, which sources they refuse, and what is left where one call of
+//! a device fails, at each call in turn. The book of committed writes is tested by its own calls.
 //!
 //! What is written is proved to be the run that the rules define; here that run is compared with lines, records and
-//! datagrams that were written down by hand, each refusal is met once, and runs that a device ended are followed by another
-//! on the same records. The schedules of `worlds` are longer: another program of the same rules computed their texts. The
-//! crate has no code of its own.
+//! datagrams that were written down by hand, each refusal is met once, and runs that a device ended are followed by
+//! another on the same records. The schedules of `worlds` are longer: another program of the same rules computed their
+//! texts. The crate has no code of its own.
 #![tactic(auto)]
 
 #[cfg(test)]

@@ -18,7 +18,8 @@ pub(crate) const LOST: [&str; 2] = [
     "give 18\ngive 19\ngive 20\ngive 21\ngive 22\ndo 1 write 1 again",
 ];
 
-/// What is written of the first: the frames of one reconfiguration, and the write that a majority of one has confirmed at once.
+/// What is written of the first: the frames of one reconfiguration, and the write that a majority of one has confirmed
+/// at once.
 pub(crate) const OF_CREATED: [&str; 16] = [
     "2 0 1.1 0 own 0000000000000000-ffffffffffffffff -",
     "4 0 1.1 0 sent 1-1",

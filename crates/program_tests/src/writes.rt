@@ -9,8 +9,8 @@ use std::test::Fail;
 /// What is kept of the first write.
 const HELLO: &str = "kept 1 0 1 0.1 68656c6c6f";
 
-/// Asks for the committed writes of the lines, where these reads and these writes fail, and expects the status and what is
-/// written.
+/// Asks for the committed writes of the lines, where these reads and these writes fail, and expects the status and what
+/// is written.
 fn expect_writes(
     rt: &impl Abort,
     alloc: Global,

@@ -1,4 +1,4 @@
-ghost use Rattle.std.specs.Prelude.{◌≡◌, ◌≤◌, IfSome};
+ghost use Rattle.std.specs.Prelude.{◌≡◌, IfSome};
 ghost use Rattle.reconfig_phases.specs.Tasks.{IsTask};
 ghost use Rattle.reconfig_phases.specs.Views.{Ends};
 ghost use Rattle.unit_rules.specs.Phases.{activate_ends, activate_on};
@@ -6,8 +6,8 @@ ghost use Rattle.unit_rules.specs.Polls.{poll_of, waiting};
 
 use crate::poll::Poll;
 use arrayvec::ArrayVec;
+use ring_points::{Config, MAX_ARBITRATORS};
 use fabric_terms::{Body, Message};
-use ring_points::Config;
 use std::marker::Model;
 use unit_rules::{Next, Task};
 
@@ -41,8 +41,8 @@ impl ActivatePhase {
         ActivatePhase { task, config, poll }
     }
 
-    /// Counts an answer. It ends once the primary and a majority of the members have their roles, and is then left as it
-    /// was.
+    /// Counts an answer. It ends once the primary and a majority of the members have their roles, and is then left as
+    /// it was.
     #[tactic(auto, unfolding(unit_rules::specs::Phases::activate_ends))]
     pub(crate) fn count(&mut self, answer: &Message) -> Option<()>
         ensures ends { Ends (activate_ends answer.now.from.actor answer.now.body self.old) result self.new }
@@ -61,7 +61,7 @@ impl ActivatePhase {
     }
 
     /// The members that have not answered.
-    pub(crate) fn awaited(&self) -> ArrayVec<u16, 9>
+    pub(crate) fn awaited(&self) -> ArrayVec<u16, MAX_ARBITRATORS>
         ensures { result.items ≡ waiting self.now.poll }
     {
         self.poll.waiting()

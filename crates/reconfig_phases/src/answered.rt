@@ -8,14 +8,16 @@ use crate::answers::{answered_unit, carried};
 use crate::reconfig::Reconfig;
 use crate::step::{Progress, Step};
 use crate::transitions::source_by;
+use ring_points::OUTBOX_LIMIT;
 use fabric_terms::{Message, Outbox};
 use replica_place::NodeLoad;
 
 impl Reconfig {
     /// Counts an answer in the phase in which it is, and enters the next one where that ends.
     fn go_on(&mut self, answer: &Message, nodes: &[NodeLoad], out: &mut Outbox) -> Progress
-        requires { length out.old + 9 ≤ 192 }
-        ensures does { Does (goes_on nodes.now answer.now.from.actor answer.now.body (reconfig_of self.old)) (step_with self.new result) out.old out.new }
+        requires { length out.old + 9 ≤ OUTBOX_LIMIT }
+        ensures does { Does (goes_on nodes.now answer.now.from.actor answer.now.body (reconfig_of self.old))
+            (step_with self.new result) out.old out.new }
         ensures task { task_of (reconfig_of self.new) ≡ task_of (reconfig_of self.old) }
         ensures finished { IfFinished result ((self.new ≡ self.old) × (out.new ≡ out.old)) }
     {
@@ -67,13 +69,14 @@ impl Reconfig {
         Progress::Stays
     }
 
-    /// Takes an answer for its partition, in place. An answer to another epoch changes nothing, and neither does a message
-    /// that is no answer. A carried epoch is tested first: one that is not below its own supersedes it. After any progress
-    /// but `Stays` it is over; where it is finished it is left as it was. At most nine messages are sent.
+    /// Takes an answer for its partition, in place. An answer to another epoch changes nothing, and neither does a
+    /// message that is no answer. A carried epoch is tested first: one that is not below its own supersedes it. After
+    /// any progress but `Stays` it is over; where it is finished it is left as it was. At most nine messages are sent.
     #[tactic(auto, unfolding(unit_rules::specs::Transitions::answer_received))]
     pub fn answer(&mut self, answer: &Message, nodes: &[NodeLoad], out: &mut Outbox) -> Progress
-        requires { length out.old + 9 ≤ 192 }
-        ensures does { Does (received nodes.now answer.now (reconfig_of self.old)) (step_with self.new result) out.old out.new }
+        requires { length out.old + 9 ≤ OUTBOX_LIMIT }
+        ensures does { Does (received nodes.now answer.now (reconfig_of self.old)) (step_with self.new result)
+            out.old out.new }
         ensures task { task_of (reconfig_of self.new) ≡ task_of (reconfig_of self.old) }
         ensures finished { IfFinished result ((self.new ≡ self.old) × (out.new ≡ out.old)) }
     {
@@ -93,7 +96,7 @@ impl Reconfig {
 
     /// Takes an answer for its partition, by value: see `answer`.
     pub fn on(self, answer: &Message, nodes: &[NodeLoad], out: &mut Outbox) -> Step
-        requires { length out.old + 9 ≤ 192 }
+        requires { length out.old + 9 ≤ OUTBOX_LIMIT }
         ensures { Does (received nodes.now answer.now (reconfig_of self)) (step_of result) out.old out.new }
     {
         let mut reconfig = self;

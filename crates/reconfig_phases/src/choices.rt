@@ -1,6 +1,5 @@
-ghost use Rattle.std.specs.Prelude.{◌≡◌, filter, length, IfSome};
-ghost use Rattle.ring_points.specs.Epochs.{same_epoch};
-ghost use Rattle.unit_rules.specs.Choices.{ahead_of, furthest, highest_done, higher, higher_if, is_ahead_of, is_among};
+ghost use Rattle.std.specs.Prelude.{◌≡◌, filter};
+ghost use Rattle.unit_rules.specs.Choices.{ahead_of, furthest, highest_done, higher_if, is_ahead_of, is_among};
 ghost use Rattle.unit_rules.specs.Epochs.{is_behind};
 ghost use Rattle.unit_rules.specs.Polls.{answers_in};
 

@@ -1,14 +1,14 @@
-ghost use Rattle.std.specs.Prelude.{◌≡◌, ◌≤◌};
+ghost use Rattle.std.specs.Prelude.{◌≡◌};
 ghost use Rattle.reconfig_phases.specs.Tasks.{IsTask};
 ghost use Rattle.reconfig_phases.specs.Views.{Ends};
 ghost use Rattle.unit_rules.specs.Phases.{copy_ends, copy_on};
 ghost use Rattle.unit_rules.specs.Polls.{poll_of, waiting};
 
 use crate::poll::Poll;
-use crate::step::Source;
+use crate::step::OriginLog;
 use arrayvec::ArrayVec;
+use ring_points::{Config, MAX_ARBITRATORS};
 use fabric_terms::{Body, Message};
-use ring_points::Config;
 use std::marker::Model;
 use unit_rules::{Next, Task};
 
@@ -17,7 +17,7 @@ use unit_rules::{Next, Task};
 pub struct CopyPhase {
     pub(crate) task: Task,
     pub(crate) config: Config,
-    pub(crate) source: Source,
+    pub(crate) source: OriginLog,
     poll: Poll<()>,
 }
 
@@ -35,7 +35,7 @@ impl Model for CopyPhase {
 
 impl CopyPhase {
     /// No member has the log yet.
-    pub(crate) fn new(task: Task, config: Config, source: Source) -> Self
+    pub(crate) fn new(task: Task, config: Config, source: OriginLog) -> Self
         requires { IsTask task }
         ensures { result ≡ record { task = task; config = config; source = source; poll = poll_of config.members } }
     {
@@ -64,7 +64,7 @@ impl CopyPhase {
     }
 
     /// The members that have not answered.
-    pub(crate) fn awaited(&self) -> ArrayVec<u16, 9>
+    pub(crate) fn awaited(&self) -> ArrayVec<u16, MAX_ARBITRATORS>
         ensures { result.items ≡ waiting self.now.poll }
     {
         self.poll.waiting()

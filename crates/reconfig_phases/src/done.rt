@@ -1,4 +1,4 @@
-ghost use Rattle.std.specs.Prelude.{◌≡◌, ◌≤◌};
+ghost use Rattle.std.specs.Prelude.{◌≡◌};
 ghost use Rattle.reconfig_phases.specs.Tasks.{IsTask};
 ghost use Rattle.reconfig_phases.specs.Views.{Ends};
 ghost use Rattle.unit_rules.specs.Phases.{done_ends, done_on};
@@ -7,8 +7,8 @@ ghost use Rattle.unit_rules.specs.Polls.{arbiters_to, poll_of, waiting};
 use crate::arbiters::arbiters;
 use crate::poll::Poll;
 use arrayvec::ArrayVec;
+use ring_points::{Config, MAX_ARBITRATORS};
 use fabric_terms::{Body, Message};
-use ring_points::Config;
 use std::marker::Model;
 use unit_rules::{Next, Task};
 
@@ -61,7 +61,7 @@ impl DonePhase {
     }
 
     /// The arbitrators that have not answered.
-    pub(crate) fn awaited(&self) -> ArrayVec<u16, 9>
+    pub(crate) fn awaited(&self) -> ArrayVec<u16, MAX_ARBITRATORS>
         ensures { result.items ≡ waiting self.now.poll }
     {
         self.poll.waiting()

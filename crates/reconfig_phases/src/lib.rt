@@ -1,11 +1,11 @@
 //! Reconfigurations of a partition, from phase to phase.
 //!
-//! A manager gives a partition a new configuration in up to seven phases: the arbitrators prepare an epoch; of a swap the
-//! old primary promises first; the replicas of the old configuration promise, the arbitrators decide on a configuration,
-//! its members take the log, the arbitrators keep it as done, and its members take their roles. Each phase asks one
-//! question, counts who answered, and ends with a majority, or, where the old primary alone is asked, with its answer.
-//! The crate stands on the definitions of `unit_rules` and on the votes and placements that they name. It promises that
-//! each call does exactly what the definition of its row says, and takes no memory.
+//! A manager gives a partition a new configuration in up to seven phases: the arbitrators prepare an epoch; of a swap
+//! the old primary promises first; the replicas of the old configuration promise, the arbitrators decide on a
+//! configuration, its members take the log, the arbitrators keep it as done, and its members take their roles. Each
+//! phase asks one question, counts who answered, and ends with a majority, or, where the old primary alone is asked,
+//! with its answer. The crate stands on the definitions of `unit_rules` and on the votes and placements that they name.
+//! It promises that each call does exactly what the definition of its row says, and takes no memory.
 #![tactic(auto)]
 
 mod activate;

@@ -3,23 +3,25 @@ ghost use Rattle.std.specs.List.{position_from, position_or_len};
 ghost use Rattle.unit_rules.specs.Polls.{answered, poll_of, is_carried, has_answered, waiting};
 
 use arrayvec::ArrayVec;
+use ring_points::MAX_ARBITRATORS;
 use std::marker::Model;
 
 /// Those that are asked, at most 9, each with its answer once it came. Contracts see them as a list, in the order in
 /// which they are asked.
 #[derive(Drop)]
 pub struct Poll<A> {
-    entries: ArrayVec<(u16, Option<A>), 9>,
+    entries: ArrayVec<(u16, Option<A>), MAX_ARBITRATORS>,
 }
 
 impl<A> Model for Poll<A> {
     ghost use Rattle.std.specs.Prelude.{◌≤◌, List, Option, ℕ, length};
+    ghost use Rattle.ring_points.specs.Limits.{most_arbiters};
 
     ghost Value = { List (ℕ × Option A) };
 
     ghost view = { λ p. p.entries.items };
 
-    ghost invariant = { λ p. length p.entries.items ≤ 9 };
+    ghost invariant = { λ p. length p.entries.items ≤ most_arbiters };
 }
 
 fn find<A>(entries: &[(u16, Option<A>)], actor: u16) -> Option<usize>
@@ -76,8 +78,8 @@ fn are_carried<A>(entries: &[(u16, Option<A>)]) -> bool
 
 /// Those that have not answered.
 #[tactic(auto, using(crate::proofs::Polled::waits, crate::proofs::Polled::waits_not))]
-fn waiting_in<A>(entries: &[(u16, Option<A>)]) -> ArrayVec<u16, 9>
-    requires { length entries.now ≤ 9 }
+fn waiting_in<A>(entries: &[(u16, Option<A>)]) -> ArrayVec<u16, MAX_ARBITRATORS>
+    requires { length entries.now ≤ MAX_ARBITRATORS }
     ensures { result.items ≡ waiting entries.now }
 {
     let mut actors = ArrayVec::new();
@@ -90,8 +92,8 @@ fn waiting_in<A>(entries: &[(u16, Option<A>)]) -> ArrayVec<u16, 9>
 }
 
 /// The same again.
-fn copied(entries: &[(u16, Option<()>)]) -> ArrayVec<(u16, Option<()>), 9>
-    requires { length entries.now ≤ 9 }
+fn copied(entries: &[(u16, Option<()>)]) -> ArrayVec<(u16, Option<()>), MAX_ARBITRATORS>
+    requires { length entries.now ≤ MAX_ARBITRATORS }
     ensures { result.items ≡ entries.now }
 {
     let mut copy = ArrayVec::new();
@@ -115,7 +117,7 @@ impl Poll<()> {
 impl<A: Drop> Poll<A> {
     /// Nobody has answered yet.
     pub fn new(actors: &[u16]) -> Self
-        requires { length actors.now ≤ 9 }
+        requires { length actors.now ≤ MAX_ARBITRATORS }
         ensures { result ≡ poll_of actors.now }
     {
         let mut entries = ArrayVec::new();
@@ -135,7 +137,7 @@ impl<A: Drop> Poll<A> {
     /// Those that are asked, each with its answer.
     pub fn entries(&self) -> &[(u16, Option<A>)]
         ensures entries { result.now ≡ self.now }
-        ensures few { length result.now ≤ 9 }
+        ensures few { length result.now ≤ MAX_ARBITRATORS }
     {
         self.entries.as_slice()
     }
@@ -158,7 +160,7 @@ impl<A: Drop> Poll<A> {
     }
 
     /// Those that have not answered.
-    pub fn waiting(&self) -> ArrayVec<u16, 9>
+    pub fn waiting(&self) -> ArrayVec<u16, MAX_ARBITRATORS>
         ensures { result.items ≡ waiting self.now }
     {
         waiting_in(self.entries())

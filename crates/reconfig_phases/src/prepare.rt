@@ -1,4 +1,4 @@
-ghost use Rattle.std.specs.Prelude.{◌≡◌, ◌≤◌};
+ghost use Rattle.std.specs.Prelude.{◌≡◌};
 ghost use Rattle.reconfig_phases.specs.Tasks.{IsTask};
 ghost use Rattle.reconfig_phases.specs.Views.{Ends};
 ghost use Rattle.unit_rules.specs.Phases.{prepare_ends, prepare_on};
@@ -8,8 +8,8 @@ use crate::arbiters::arbiters;
 use crate::choices::{copy_of, highest_done};
 use crate::poll::Poll;
 use arrayvec::ArrayVec;
+use ring_points::{Config, MAX_ARBITRATORS};
 use fabric_terms::{Body, Message};
-use ring_points::Config;
 use std::marker::Model;
 use unit_rules::{Next, Task};
 
@@ -44,8 +44,8 @@ impl PreparePhase {
         }
     }
 
-    /// Counts an answer. Once a majority of the arbitrators has prepared the epoch, it gives the configuration of highest
-    /// epoch that they carried.
+    /// Counts an answer. Once a majority of the arbitrators has prepared the epoch, it gives the configuration of
+    /// highest epoch that they carried.
     #[tactic(auto, unfolding(unit_rules::specs::Phases::prepare_ends))]
     pub(crate) fn count(&mut self, answer: &Message) -> Option<Option<Config>>
         ensures ends { Ends (prepare_ends answer.now.from.actor answer.now.body self.old) result self.new }
@@ -61,7 +61,7 @@ impl PreparePhase {
     }
 
     /// Those that have not answered.
-    pub(crate) fn awaited(&self) -> ArrayVec<u16, 9>
+    pub(crate) fn awaited(&self) -> ArrayVec<u16, MAX_ARBITRATORS>
         ensures { result.items ≡ waiting self.now.poll }
     {
         self.poll.waiting()

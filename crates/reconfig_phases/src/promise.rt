@@ -1,16 +1,16 @@
-ghost use Rattle.std.specs.Prelude.{◌≡◌, ◌≤◌, List, length};
+ghost use Rattle.std.specs.Prelude.{◌≡◌, ◌≤◌, length};
 ghost use Rattle.reconfig_phases.specs.Tasks.{IsTask};
 ghost use Rattle.reconfig_phases.specs.Views.{Ends};
 ghost use Rattle.unit_rules.specs.Phases.{chosen_of, furthest_or, primary_by, promise_ends, promise_on, promised_with};
-ghost use Rattle.unit_rules.specs.Polls.{poll_of, waiting};
+ghost use Rattle.unit_rules.specs.Polls.{waiting};
 ghost use Rattle.unit_rules.specs.Transitions.{asks_promises};
 
 use crate::choices::{furthest, furthest_among};
 use crate::poll::Poll;
-use crate::step::Source;
+use crate::step::OriginLog;
 use arrayvec::ArrayVec;
+use ring_points::{Config, MAX_ARBITRATORS, Members};
 use fabric_terms::{Body, Message};
-use ring_points::{Config, Members};
 use std::marker::Model;
 use unit_rules::{Kind, Next, Standing, Task};
 
@@ -18,7 +18,7 @@ use unit_rules::{Kind, Next, Standing, Task};
 #[derive(Drop)]
 pub(crate) struct Choice {
     pub(crate) config: Config,
-    pub(crate) source: Source,
+    pub(crate) source: OriginLog,
 }
 
 impl Model for Choice {
@@ -65,7 +65,7 @@ impl PromisePhase {
     /// Nobody has promised yet.
     pub(crate) fn new(task: Task, asked: &[u16], members: Members, first: u16) -> Self
         requires task { IsTask task }
-        requires asked { length asked.now ≤ 9 }
+        requires asked { length asked.now ≤ MAX_ARBITRATORS }
         ensures { result ≡ asks_promises task asked.now members first }
     {
         PromisePhase {
@@ -76,8 +76,8 @@ impl PromisePhase {
         }
     }
 
-    /// Of a heal the furthest of the new members that answered, or else the first that was placed; else the node that is
-    /// named.
+    /// Of a heal the furthest of the new members that answered, or else the first that was placed; else the node that
+    /// is named.
     fn primary(&self) -> u16
         ensures { result ≡ primary_by self.now.task.kind self.now }
     {
@@ -105,7 +105,7 @@ impl PromisePhase {
                 primary: self.primary(),
                 members: self.members.copy(),
             },
-            source: Source {
+            source: OriginLog {
                 origin,
                 last: standing.last,
             },
@@ -140,14 +140,14 @@ impl PromisePhase {
     }
 
     /// Those that have not promised.
-    pub(crate) fn awaited(&self) -> ArrayVec<u16, 9>
+    pub(crate) fn awaited(&self) -> ArrayVec<u16, MAX_ARBITRATORS>
         ensures { result.items ≡ waiting self.now.poll }
     {
         self.poll.waiting()
     }
 
-    /// Hands itself back until a majority of the asked has promised. Then it gives the configuration to propose, and the
-    /// replica that is furthest with its last entry.
+    /// Hands itself back until a majority of the asked has promised. Then it gives the configuration to propose, and
+    /// the replica that is furthest with its last entry.
     pub fn on(self, answer: &Message) -> Result<Next, Self>
         ensures { result ≡ promise_on answer.now.from.actor answer.now.body self }
     {

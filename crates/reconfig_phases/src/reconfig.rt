@@ -18,8 +18,8 @@ use crate::promise::PromisePhase;
 use crate::swap::SwapPhase;
 use crate::vote::VotePhase;
 use arrayvec::ArrayVec;
+use ring_points::{Epoch, MAX_ARBITRATORS, OUTBOX_LIMIT, Who};
 use fabric_terms::{Body, Outbox};
-use ring_points::{Epoch, Who};
 use unit_rules::{Kind, Task};
 
 /// A reconfiguration on its way: the phase in which it is. Contracts see it by `reconfig_of`.
@@ -90,7 +90,7 @@ impl Reconfig {
     /// Asks these actors, whichever instance runs.
     #[tactic(auto, using(crate::proofs::Asked::asked_more, crate::proofs::Asked::asked_all, crate::proofs::Asked::asked_many))]
     pub(crate) fn ask(&self, actors: &[u16], out: &mut Outbox)
-        requires { length out.old + length actors.now ≤ 192 }
+        requires { length out.old + length actors.now ≤ OUTBOX_LIMIT }
         ensures sent { out.new ≡ out.old ++ frames_of (asks (reconfig_of self.now) actors.now) }
         ensures many { length out.new ≡ length out.old + length actors.now }
     {
@@ -104,7 +104,7 @@ impl Reconfig {
     }
 
     /// Those that the phase asks and that have not answered, rising.
-    fn awaited(&self) -> ArrayVec<u16, 9>
+    fn awaited(&self) -> ArrayVec<u16, MAX_ARBITRATORS>
         ensures { result.items ≡ awaited (reconfig_of self.now) }
     {
         match self {
@@ -118,8 +118,8 @@ impl Reconfig {
         }
     }
 
-    /// Begins what is commanded of a partition: all arbitrators are asked to prepare the epoch, at most nine messages. They
-    /// go out in the name of `me`, who is to send what the outbox gets.
+    /// Begins what is commanded of a partition: all arbitrators are asked to prepare the epoch, at most nine messages.
+    /// They go out in the name of `me`, who is to send what the outbox gets.
     pub fn begin(
         partition: u16,
         epoch: Epoch,
@@ -129,9 +129,10 @@ impl Reconfig {
         out: &mut Outbox,
     ) -> Reconfig
         requires task { IsTask (task arbitrators partition epoch kind) }
-        requires room { length out.old + 9 ≤ 192 }
+        requires room { length out.old + 9 ≤ OUTBOX_LIMIT }
         ensures begun { reconfig_of result ≡ begun (task arbitrators partition epoch kind) }
-        ensures sent { out.new ≡ out.old ++ frames_of (asks (begun (task arbitrators partition epoch kind)) (arbiters_to arbitrators)) }
+        ensures sent { out.new ≡ out.old ++ frames_of
+            (asks (begun (task arbitrators partition epoch kind)) (arbiters_to arbitrators)) }
         ensures few { length out.new ≤ length out.old + 9 }
     {
         let begun = Reconfig::Prepare(PreparePhase::new(Task {
@@ -147,7 +148,7 @@ impl Reconfig {
     /// A firing: asks those again that have not answered, at most nine messages.
     #[tactic(auto, unfolding(unit_rules::specs::Questions::reconfig_fired))]
     pub fn fire(&self, out: &mut Outbox)
-        requires { length out.old + 9 ≤ 192 }
+        requires { length out.old + 9 ≤ OUTBOX_LIMIT }
         ensures sent { out.new ≡ out.old ++ frames_of (reconfig_fired (reconfig_of self.now)) }
         ensures few { length out.new ≤ length out.old + 9 }
     {

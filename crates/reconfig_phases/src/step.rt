@@ -5,15 +5,15 @@ use std::marker::Model;
 
 /// The log that the members are to have: that of the origin, up to its last entry.
 #[derive(Clone, Copy)]
-pub(crate) struct Source {
+pub(crate) struct OriginLog {
     pub(crate) origin: u16,
     pub(crate) last: u32,
 }
 
-impl Model for Source {
-    ghost use Rattle.unit_rules.specs.Reconfigs.{Source};
+impl Model for OriginLog {
+    ghost use Rattle.unit_rules.specs.Reconfigs.{OriginLog};
 
-    ghost Value = { Source };
+    ghost Value = { OriginLog };
 
     ghost view = { λ s. record { origin = s.origin; last = s.last } };
 

@@ -1,11 +1,11 @@
-ghost use Rattle.std.specs.Prelude.{◌≡◌, ◌≤◌, ◌∷◌, []};
+ghost use Rattle.std.specs.Prelude.{◌≡◌, ◌∷◌, []};
 ghost use Rattle.reconfig_phases.specs.Tasks.{IsTask};
 ghost use Rattle.reconfig_phases.specs.Views.{Ends};
 ghost use Rattle.unit_rules.specs.Phases.{swap_ends, swap_on};
 
 use arrayvec::ArrayVec;
+use ring_points::{Config, MAX_ARBITRATORS};
 use fabric_terms::{Body, Message};
-use ring_points::Config;
 use std::marker::Model;
 use unit_rules::{Next, Standing, Task};
 
@@ -48,7 +48,7 @@ impl SwapPhase {
     }
 
     /// The old primary, which has not answered.
-    pub(crate) fn awaited(&self) -> ArrayVec<u16, 9>
+    pub(crate) fn awaited(&self) -> ArrayVec<u16, MAX_ARBITRATORS>
         ensures { result.items ≡ self.now.old.primary ∷ [] }
     {
         let mut actors = ArrayVec::new();

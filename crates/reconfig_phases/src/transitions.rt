@@ -1,8 +1,10 @@
-ghost use Rattle.std.specs.Prelude.{◌≡◌, ◌≤◌, ◌+◌, ◌∷◌, [], length};
+ghost use Rattle.std.specs.Prelude.{◌≡◌, ◌≤◌, ◌+◌, length};
 ghost use Rattle.reconfig_phases.specs.Tasks.{IsTask};
 ghost use Rattle.reconfig_phases.specs.Views.{Does, IfFinished, reconfig_of, step_with};
 ghost use Rattle.unit_rules.specs.Reconfigs.{Stay, task_of};
-ghost use Rattle.unit_rules.specs.Transitions.{activates, after_promise, asks_promises, copies, create_placed, enters, first_of, heal_placed, lose_begun, prepared_as, proposes, source_by, stores, swap_begun};
+ghost use Rattle.unit_rules.specs.Transitions.{activates, after_promise, asks_promises, copies, create_placed, enters};
+ghost use Rattle.unit_rules.specs.Transitions.{first_of, heal_placed, lose_begun, prepared_as, proposes, source_by};
+ghost use Rattle.unit_rules.specs.Transitions.{stores, swap_begun};
 ghost use Rattle.unit_rules.specs.Phases.{promised_with};
 ghost use Rattle.replica_place.specs.Placement.{placement};
 
@@ -13,13 +15,13 @@ use crate::done::DonePhase;
 use crate::members::{members_of, rising_members};
 use crate::promise::PromisePhase;
 use crate::reconfig::Reconfig;
-use crate::step::{Progress, Source};
+use crate::step::{Progress, OriginLog};
 use crate::swap::SwapPhase;
 use crate::vote::VotePhase;
+use ring_points::{Config, MAX_MEMBERS, OUTBOX_LIMIT};
 use fabric_terms::Outbox;
 use failover_units::UnitRefusal;
 use replica_place::{NodeLoad, place};
-use ring_points::Config;
 use unit_rules::{Kind, Standing, Task};
 
 /// The first of these nodes, 0 where there is none.
@@ -33,11 +35,11 @@ fn first_of(nodes: &[u16]) -> u16
 }
 
 /// The log that the members of a decided configuration take: of a new partition none, from the primary.
-pub(crate) fn source_by(kind: Kind, config: &Config, source: Source) -> Source
+pub(crate) fn source_by(kind: Kind, config: &Config, source: OriginLog) -> OriginLog
     ensures { result ≡ source_by kind config.now source }
 {
     match kind {
-        Kind::Create(_) => Source {
+        Kind::Create(_) => OriginLog {
             origin: config.primary,
             last: 0,
         },
@@ -47,9 +49,9 @@ pub(crate) fn source_by(kind: Kind, config: &Config, source: Source) -> Source
 
 impl Reconfig {
     /// The arbitrators are asked to vote for this configuration, with the log of this source.
-    pub(crate) fn propose(&mut self, task: Task, config: Config, source: Source, out: &mut Outbox)
+    pub(crate) fn propose(&mut self, task: Task, config: Config, source: OriginLog, out: &mut Outbox)
         requires task { IsTask task }
-        requires room { length out.old + 9 ≤ 192 }
+        requires room { length out.old + 9 ≤ OUTBOX_LIMIT }
         ensures does { Does (proposes task config source) (Stay (reconfig_of self.new)) out.old out.new }
         ensures task { task_of (reconfig_of self.new) ≡ task }
     {
@@ -58,9 +60,9 @@ impl Reconfig {
     }
 
     /// The members of the decided configuration are asked to take the log.
-    pub(crate) fn copy_log(&mut self, task: Task, config: Config, source: Source, out: &mut Outbox)
+    pub(crate) fn copy_log(&mut self, task: Task, config: Config, source: OriginLog, out: &mut Outbox)
         requires task { IsTask task }
-        requires room { length out.old + 9 ≤ 192 }
+        requires room { length out.old + 9 ≤ OUTBOX_LIMIT }
         ensures does { Does (copies task config source) (Stay (reconfig_of self.new)) out.old out.new }
         ensures task { task_of (reconfig_of self.new) ≡ task }
     {
@@ -72,7 +74,7 @@ impl Reconfig {
     /// The arbitrators are asked to keep the configuration as done.
     pub(crate) fn store(&mut self, task: Task, config: Config, out: &mut Outbox)
         requires task { IsTask task }
-        requires room { length out.old + 9 ≤ 192 }
+        requires room { length out.old + 9 ≤ OUTBOX_LIMIT }
         ensures does { Does (stores task config) (Stay (reconfig_of self.new)) out.old out.new }
         ensures task { task_of (reconfig_of self.new) ≡ task }
     {
@@ -83,7 +85,7 @@ impl Reconfig {
     /// The members are asked to take their roles.
     pub(crate) fn activate(&mut self, task: Task, config: Config, out: &mut Outbox)
         requires task { IsTask task }
-        requires room { length out.old + 9 ≤ 192 }
+        requires room { length out.old + 9 ≤ OUTBOX_LIMIT }
         ensures does { Does (activates task config) (Stay (reconfig_of self.new)) out.old out.new }
         ensures task { task_of (reconfig_of self.new) ≡ task }
     {
@@ -96,9 +98,10 @@ impl Reconfig {
     fn create(&mut self, task: Task, count: u8, nodes: &[NodeLoad], out: &mut Outbox) -> Progress
         requires own { task_of (reconfig_of self.old) ≡ task }
         requires task { IsTask task }
-        requires count { count ≤ 7 }
-        requires room { length out.old + 9 ≤ 192 }
-        ensures does { Does (create_placed task (placement nodes.now count)) (step_with self.new result) out.old out.new }
+        requires count { count ≤ MAX_MEMBERS }
+        requires room { length out.old + 9 ≤ OUTBOX_LIMIT }
+        ensures does { Does (create_placed task (placement nodes.now count)) (step_with self.new result)
+            out.old out.new }
         ensures task { task_of (reconfig_of self.new) ≡ task }
         ensures over { IfFinished result ⊥ }
     {
@@ -111,7 +114,7 @@ impl Reconfig {
                     primary,
                     members: rising_members(placed.as_slice()),
                 };
-                let source = Source {
+                let source = OriginLog {
                     origin: primary,
                     last: 0,
                 };
@@ -126,7 +129,7 @@ impl Reconfig {
     fn swap(&mut self, task: Task, old: Config, node: u16, out: &mut Outbox) -> Progress
         requires own { task_of (reconfig_of self.old) ≡ task }
         requires task { IsTask task }
-        requires room { length out.old + 9 ≤ 192 }
+        requires room { length out.old + 9 ≤ OUTBOX_LIMIT }
         ensures does { Does (swap_begun task old node) (step_with self.new result) out.old out.new }
         ensures task { task_of (reconfig_of self.new) ≡ task }
         ensures over { IfFinished result ⊥ }
@@ -155,9 +158,10 @@ impl Reconfig {
     ) -> Progress
         requires own { task_of (reconfig_of self.old) ≡ task }
         requires task { IsTask task }
-        requires count { count ≤ 7 }
-        requires room { length out.old + 9 ≤ 192 }
-        ensures does { Does (heal_placed task old (placement nodes.now count)) (step_with self.new result) out.old out.new }
+        requires count { count ≤ MAX_MEMBERS }
+        requires room { length out.old + 9 ≤ OUTBOX_LIMIT }
+        ensures does { Does (heal_placed task old (placement nodes.now count)) (step_with self.new result)
+            out.old out.new }
         ensures task { task_of (reconfig_of self.new) ≡ task }
         ensures over { IfFinished result ⊥ }
     {
@@ -178,7 +182,7 @@ impl Reconfig {
     fn lose(&mut self, task: Task, node: u16, out: &mut Outbox) -> Progress
         requires own { task_of (reconfig_of self.old) ≡ task }
         requires task { IsTask task }
-        requires room { length out.old + 9 ≤ 192 }
+        requires room { length out.old + 9 ≤ OUTBOX_LIMIT }
         ensures does { Does (lose_begun task node) (step_with self.new result) out.old out.new }
         ensures task { task_of (reconfig_of self.new) ≡ task }
         ensures over { IfFinished result ⊥ }
@@ -199,7 +203,7 @@ impl Reconfig {
     ) -> Progress
         requires own { task_of (reconfig_of self.old) ≡ task }
         requires task { IsTask task }
-        requires room { length out.old + 9 ≤ 192 }
+        requires room { length out.old + 9 ≤ OUTBOX_LIMIT }
         ensures does { Does (prepared_as nodes.now task task.kind old) (step_with self.new result) out.old out.new }
         ensures task { task_of (reconfig_of self.new) ≡ task }
         ensures over { IfFinished result ⊥ }
@@ -214,8 +218,8 @@ impl Reconfig {
         }
     }
 
-    /// After phase 0 all old members are asked, and the promise that ended it counts; it may be a majority alone, and then
-    /// nobody is asked.
+    /// After phase 0 all old members are asked, and the promise that ended it counts; it may be a majority alone, and
+    /// then nobody is asked.
     pub(crate) fn moved(
         &mut self,
         task: Task,
@@ -226,7 +230,7 @@ impl Reconfig {
     ) -> Progress
         requires own { task_of (reconfig_of self.old) ≡ task }
         requires task { IsTask task }
-        requires room { length out.old + 9 ≤ 192 }
+        requires room { length out.old + 9 ≤ OUTBOX_LIMIT }
         ensures does { Does (after_promise task (λ r. enters r old.now.members)
             (promised_with old.now.primary standing (asks_promises task old.now.members old.now.members primary)))
             (step_with self.new result) out.old out.new }

@@ -7,11 +7,11 @@ ghost use Rattle.unit_rules.specs.Questions.{awaited};
 ghost use Rattle.unit_rules.specs.Reconfigs.{Decide};
 
 use crate::arbiters::arbiter_number;
-use crate::step::Source;
+use crate::step::OriginLog;
 use arbiter_quorum::{VoteTally, VoteVerdict};
 use arrayvec::ArrayVec;
+use ring_points::{ARBITRATORS, Config, MAX_ARBITRATORS};
 use fabric_terms::{Body, Message};
-use ring_points::{ARBITRATORS, Config};
 use std::marker::Model;
 use unit_rules::{Next, Task};
 
@@ -20,7 +20,7 @@ use unit_rules::{Next, Task};
 pub struct VotePhase {
     pub(crate) task: Task,
     pub(crate) config: Config,
-    pub(crate) source: Source,
+    pub(crate) source: OriginLog,
     votes: VoteTally,
 }
 
@@ -39,7 +39,7 @@ impl Model for VotePhase {
 
 impl VotePhase {
     /// Nobody has voted yet.
-    pub(crate) fn new(task: Task, config: Config, source: Source) -> Self
+    pub(crate) fn new(task: Task, config: Config, source: OriginLog) -> Self
         requires { IsTask task }
         ensures { result ≡ record { task = task; config = config; source = source; votes = no_votes task.arbitrators } }
     {
@@ -51,8 +51,8 @@ impl VotePhase {
         }
     }
 
-    /// Counts the vote of an arbitrator. Once a configuration has a majority it gives that one, and nothing once none can
-    /// have one any more.
+    /// Counts the vote of an arbitrator. Once a configuration has a majority it gives that one, and nothing once none
+    /// can have one any more.
     fn voted(&mut self, arbitrator: u8, kept: &Config) -> Option<Option<Config>>
         requires from { 1 ≤ arbitrator }
         requires to { arbitrator ≤ self.old.votes.arbitrators }
@@ -84,7 +84,7 @@ impl VotePhase {
 
     /// The arbitrators that have not voted.
     #[tactic(auto, using(crate::proofs::Voted::waits, crate::proofs::Voted::waits_not))]
-    pub(crate) fn awaited(&self) -> ArrayVec<u16, 9>
+    pub(crate) fn awaited(&self) -> ArrayVec<u16, MAX_ARBITRATORS>
         ensures { result.items ≡ awaited (Decide self.now) }
     {
         let mut actors = ArrayVec::new();
@@ -96,8 +96,8 @@ impl VotePhase {
         actors
     }
 
-    /// Hands itself back until a majority of the arbitrators keeps one configuration, which it then gives, or until none
-    /// can have a majority any more.
+    /// Hands itself back until a majority of the arbitrators keeps one configuration, which it then gives, or until
+    /// none can have a majority any more.
     pub fn on(self, answer: &Message) -> Result<Next, Self>
         ensures { result ≡ vote_on answer.now.from.actor answer.now.body self }
     {

@@ -1,5 +1,6 @@
 -- What each call on a replica answers, and what it makes of it.
 use Rattle.std.specs.Prelude.{◌≡◌, ◌≢◌, ℕ, ◌+◌, Bool, true, false, not, ◌&&◌, ◌||◌, ◌==◌, nat_lt, List, [], ◌∷◌, length, Result, Ok, Err, if◌then◌else◌}
+use Rattle.ring_points.specs.Limits.{most_log_entries}
 use Rattle.ring_points.specs.declared.unit.Config.{Config}
 use Rattle.ring_points.specs.declared.unit.Epoch.{Epoch}
 use Rattle.ring_points.specs.Epochs.{is_older, same_epoch}
@@ -47,7 +48,7 @@ append_call e lsn bytes s =
     unless_older e s (
     unless (is_ahead e lsn s) (Gap (length s.log)) s (
     held_if (nat_lt lsn (length s.log + 1)) s (
-    unless (length s.log == 100000) LogFull s (Ok New, written (record { epoch = e; lsn = lsn; bytes = bytes }) s))))
+    unless (length s.log == most_log_entries) LogFull s (Ok New, written (record { epoch = e; lsn = lsn; bytes = bytes }) s))))
 
 abbrev pub own_adopted : Bool → Bool → Epoch → Replica → Outcome Done
 own_adopted true whole e s = (Ok New, adopted e [] s)

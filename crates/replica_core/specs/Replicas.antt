@@ -1,5 +1,6 @@
 -- A replica as a value, and what changes it.
 use Rattle.std.specs.Prelude.{◌≡◌, ℕ, ◌+◌, ◌≤◌, Bool, true, false, ◌&&◌, ◌==◌, nat_eq, List, [], ◌∷◌, ◌++◌, length, IsTrue, if◌then◌else◌}
+use Rattle.ring_points.specs.Limits.{most_log_entries}
 use lib.Pointwise.{pointwise}
 use Rattle.ring_points.specs.declared.unit.Epoch.{Epoch}
 use Rattle.ring_points.specs.Epochs.{same_epoch, is_older}
@@ -73,7 +74,7 @@ is_numbered next (entry ∷ entries) = entry.lsn == next && is_numbered (next + 
 -- a log: numbered from 1, and with room for no more than 100,000
 pub record IsLog (entries : List Entry) : Type 0 where
   pub numbered : IsTrue (is_numbered 1 entries)
-  pub room : length entries ≤ 100000
+  pub room : length entries ≤ most_log_entries
 
 -- what holds of every replica
 pub record IsSound (s : Replica) : Type 0 where

@@ -1,7 +1,7 @@
 ghost use Rattle.std.specs.Prelude.{◌≡◌, ◌≤◌, IfOk, length};
 ghost use Rattle.replica_core.specs.Replicas.{same_entry};
 
-use ring_points::Epoch;
+use ring_points::{Epoch, MAX_WRITE};
 use std::alloc::{AllocError, Global};
 use std::marker::Model;
 
@@ -13,18 +13,19 @@ pub struct EntryBytes {
 
 impl Model for EntryBytes {
     ghost use Rattle.std.specs.Prelude.{◌≤◌, List, ℕ, length};
+    ghost use Rattle.ring_points.specs.Limits.{most_write};
 
     ghost Value = { List ℕ };
 
     ghost view = { λ a. a.bytes.items };
 
-    ghost invariant = { λ a. length a.bytes.items ≤ 512 };
+    ghost invariant = { λ a. length a.bytes.items ≤ most_write };
 }
 
 impl EntryBytes {
     /// A copy of these bytes.
     pub fn from_slice(alloc: Global, bytes: &[u8]) -> Result<Self, AllocError>
-        requires { length bytes.now ≤ 512 }
+        requires { length bytes.now ≤ MAX_WRITE }
         ensures { IfOk result (λ copy. copy ≡ bytes.now) }
     {
         Ok(EntryBytes {
@@ -34,7 +35,7 @@ impl EntryBytes {
 
     pub fn as_slice(&self) -> &[u8]
         ensures bytes { result.now ≡ self.now }
-        ensures short { length result.now ≤ 512 }
+        ensures short { length result.now ≤ MAX_WRITE }
     {
         self.bytes.as_slice()
     }

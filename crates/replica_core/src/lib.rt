@@ -20,5 +20,5 @@ pub use laws::{
     the_log_of_an_epoch_only_grows, the_promised_epoch_never_falls,
 };
 pub use refusal::{Done, ReplicaRefusal};
-pub use replica::{MOST_ENTRIES, Replica};
+pub use replica::Replica;
 pub use role::Role;

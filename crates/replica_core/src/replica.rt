@@ -1,7 +1,8 @@
 ghost use Rattle.std.specs.Prelude.{◌≡◌, ◌≤◌, false, length};
 ghost use Rattle.ring_points.specs.Epochs.{is_older};
 ghost use Rattle.replica_core.specs.Replicas.{first_replica, raised, begun_again, IsSound};
-ghost use Rattle.replica_core.specs.Calls.{Answers, admission, promise_call, append_call, adopt_own_call, idle_call, activate_call};
+ghost use Rattle.replica_core.specs.Calls.{Answers, admission, promise_call, append_call, adopt_own_call, idle_call};
+ghost use Rattle.replica_core.specs.Calls.{activate_call};
 ghost use Rattle.replica_core.specs.Memory.{StoresIfShort};
 
 mod collecting;
@@ -10,12 +11,9 @@ use crate::entry::{Entry, EntryBytes};
 use crate::epoch::first_epoch;
 use crate::refusal::{Done, ReplicaRefusal};
 use crate::role::Role;
-use ring_points::{Config, Epoch};
+use ring_points::{Config, Epoch, MAX_LOG_ENTRIES, MAX_WRITE};
 use std::alloc::Global;
 use std::marker::Model;
-
-/// How many entries a log can have.
-pub const MOST_ENTRIES: u32 = 100_000;
 
 /// A partition's replica at a node. Contracts see the promised epoch, the log and the epoch of which it is, the role,
 /// and the entries that are collected for the promised epoch.
@@ -47,8 +45,8 @@ impl Model for Replica {
 }
 
 impl Replica {
-    /// A replica that has promised the first epoch, 0.0, has its log of it, the empty one, and has no role. Its log grows
-    /// by this allocator.
+    /// A replica that has promised the first epoch, 0.0, has its log of it, the empty one, and has no role. Its log
+    /// grows by this allocator.
     pub fn new(alloc: Global, partition: u16) -> Self
         ensures { result ≡ first_replica partition }
     {
@@ -147,8 +145,8 @@ impl Replica {
     }
 
     /// Takes its role of a configuration, the epoch of which has to be that of the log. It is `Older` where a greater
-    /// epoch is promised; else `NotMember` where the node is no member; else `Gap` with the last number of the log where
-    /// the log is of another epoch.
+    /// epoch is promised; else `NotMember` where the node is no member; else `Gap` with the last number of the log
+    /// where the log is of another epoch.
     pub fn activate(&mut self, me: u16, config: &Config) -> Result<Role, ReplicaRefusal>
         ensures { (result, self.new) ≡ activate_call me config.now self.old }
     {
@@ -169,7 +167,7 @@ impl Replica {
     /// number of the log where the log is of another epoch or entries before this one are missing; `Held` where the
     /// number is in the log; else `LogFull` where it would be 100,001.
     pub fn append(&mut self, e: Epoch, lsn: u32, bytes: &[u8]) -> Result<Done, ReplicaRefusal>
-        requires { length bytes.now ≤ 512 }
+        requires { length bytes.now ≤ MAX_WRITE }
         ensures answers { Answers (append_call e lsn bytes.now self.old) self.old self.new result }
         ensures memory { StoresIfShort (append_call e lsn bytes.now self.old) result }
     {
@@ -181,7 +179,7 @@ impl Replica {
         if lsn < next {
             return Ok(Done::Held);
         }
-        if self.log.len() == MOST_ENTRIES as usize {
+        if self.log.len() == MAX_LOG_ENTRIES as usize {
             return Err(ReplicaRefusal::LogFull);
         }
         let bytes = EntryBytes::from_slice(self.alloc, bytes)?;

@@ -1,5 +1,6 @@
 -- Choices of nodes, and what they cost.
 use Rattle.std.specs.Prelude.{◌≡◌, ◌≢◌, ℕ, ◌≤◌, false, List, length, sum_by, All, AllPairs, Contains, IsTrue}
+use Rattle.ring_points.specs.Limits.{most_domains}
 use Rattle.replica_place.specs.declared.load.NodeLoad.{NodeLoad}
 use Rattle.replica_place.specs.Placement.{comes_before, domains_up, chosen}
 
@@ -15,7 +16,7 @@ cost choice = sum_by (λ n. n.load) choice
 
 -- the domains are numbered from 1 to 64
 abbrev pub HasDomain : NodeLoad → Type 0
-HasDomain n = (1 ≤ n.domain) × (n.domain ≤ 64)
+HasDomain n = (1 ≤ n.domain) × (n.domain ≤ most_domains)
 
 -- what is chosen is a choice, where enough domains have an up node
 abbrev pub PlacementIsAChoice : Type 0

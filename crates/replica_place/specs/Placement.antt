@@ -1,6 +1,7 @@
 -- Where replicas are placed.
 use Rattle.std.specs.Prelude.{ℕ, ◌&&◌, ◌||◌, ◌==◌, Bool, List, [], ◌∷◌, map, count_by, filter, filter_map, take, Option, Some, None, Result, Ok, Err, nat_lt, if◌then◌else◌}
 use Rattle.std.specs.List.{best_of, list_any, range_with_len}
+use Rattle.ring_points.specs.Limits.{most_domains}
 use Rattle.replica_place.specs.declared.load.NodeLoad.{NodeLoad}
 use Rattle.replica_place.specs.declared.placement.TooFewDomains.{TooFewDomains}
 
@@ -19,7 +20,7 @@ least_in nodes domain = first_of (filter (λ n. n.up && n.domain == domain) node
 
 -- the least node of each of the domains 1 to 64 that has an up node
 unfoldable pub least_nodes : List NodeLoad → List NodeLoad
-least_nodes nodes = filter_map (least_in nodes) (range_with_len 1 64)
+least_nodes nodes = filter_map (least_in nodes) (range_with_len 1 most_domains)
 
 -- a node is up in this domain
 abbrev pub has_up : List NodeLoad → ℕ → Bool
@@ -27,7 +28,7 @@ has_up nodes domain = list_any (λ n. n.up && n.domain == domain) nodes
 
 -- how many of the domains 1 to 64 have an up node
 unfoldable pub domains_up : List NodeLoad → ℕ
-domains_up nodes = count_by (has_up nodes) (range_with_len 1 64)
+domains_up nodes = count_by (has_up nodes) (range_with_len 1 most_domains)
 
 -- n at its place among the nodes in order
 abbrev pub inserted : NodeLoad → List NodeLoad → List NodeLoad

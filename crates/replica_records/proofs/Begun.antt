@@ -9,13 +9,13 @@ use Rattle.fabric_lemmas.specs.Maps.{at, rises_from}
 use Rattle.fabric_lemmas.proofs.SameMaps.{at-below}
 use Rattle.fabric_terms.specs.declared.record.Record.TheVariants.{Boot}
 use Rattle.replica_core.specs.Replicas.{Replica, uncollected}
-use Rattle.unit_rules.specs.Seats.{Seat, first_seat, seated}
+use Rattle.unit_rules.specs.ReplicaStates.{ReplicaState, first_state, replica_put}
 use Rattle.unit_rules.specs.Starts.{Replicas, replica_of, without_collected, replicas_after_all}
 use Rattle.unit_rules.specs.Steps.{failover_begun}
-use Rattle.replica_records.specs.Seats.{seat_at, begun_again}
+use Rattle.replica_records.specs.ReplicaStates.{state_at, begun_again}
 use Rattle.replica_records.specs.Kept.{without_role, IsFit}
-use Rattle.replica_records.specs.Laws.{NothingIsKept, StartsStayKept, SeatsAreKept, StartsBeginAgain}
-use Rattle.replica_records.specs.Named.{is_named, named, seats_of, KeptAs}
+use Rattle.replica_records.specs.Laws.{NothingIsKept, StartsStayKept, ReplicaStatesAreKept, StartsBeginAgain}
+use Rattle.replica_records.specs.Named.{is_named, named, states_of, KeptAs}
 use Rattle.replica_records.proofs.Folding.{after_join}
 use Rattle.replica_records.proofs.Named.{shown, Full, named_rises, at_named, full_of, kept_as}
 use Rattle.replica_records.proofs.Roles.{uncollected_at}
@@ -52,32 +52,32 @@ full_uncollected rs full p =
     at_uncollected rs p
     ∙ (ap (option_map uncollected) (full p) ∙ (shown_uncollected (replica_of p rs) ∙ sym (ap shown (uncollected_at rs p))))
 
-again_fit : (p : ℕ) (s : Seat) → IsFit p s → IsFit p (begun_again s)
+again_fit : (p : ℕ) (s : ReplicaState) → IsFit p s → IsFit p (begun_again s)
 again_fit p s fit = record { partition = fit.partition; at_promised = fit.at_promised; room = λ t h. absurd (cc (h)) }
 
 pub starts_stay_lem : StartsStayKept
 starts_stay_lem records s instance k =
     kept_as (records ++ Boot instance ∷ []) (failover_begun records)
-    (λ p. subst (IsFit p) (sym (go_on_lem records s k.stands p)) (again_fit p (seat_at p s) (k.fit p)))
+    (λ p. subst (IsFit p) (sym (go_on_lem records s k.stands p)) (again_fit p (state_at p s) (k.fit p)))
     (starts_rise_lem records) (starts_kept_lem records instance)
     (subst Full (sym (after_join [] records (Boot instance ∷ []))) (full_uncollected (replicas_after_all [] records) (full_of records s k)))
 
--- The seats of a start.
+-- The replicas of a start.
 
-begun_seats : (rs : Replicas) → map (λ e. (e.0, seated (first_seat e.0) e.1)) (without_collected rs) ≡ seats_of rs
-begun_seats [] = refl
-begun_seats (e ∷ es) = ap (λ zs. (e.0, seated (first_seat e.0) (uncollected e.1)) ∷ zs) (begun_seats es)
+begun_states : (rs : Replicas) → map (λ e. (e.0, replica_put (first_state e.0) e.1)) (without_collected rs) ≡ states_of rs
+begun_states [] = refl
+begun_states (e ∷ es) = ap (λ zs. (e.0, replica_put (first_state e.0) (uncollected e.1)) ∷ zs) (begun_states es)
 
-seats_twice : (rs : Replicas) → seats_of (without_collected rs) ≡ seats_of rs
-seats_twice [] = refl
-seats_twice (e ∷ es) = ap (λ zs. (e.0, seated (first_seat e.0) (uncollected e.1)) ∷ zs) (seats_twice es)
+states_twice : (rs : Replicas) → states_of (without_collected rs) ≡ states_of rs
+states_twice [] = refl
+states_twice (e ∷ es) = ap (λ zs. (e.0, replica_put (first_state e.0) (uncollected e.1)) ∷ zs) (states_twice es)
 
 pub begin_again_lem : StartsBeginAgain
 begin_again_lem records s k =
     let next : KeptAs (records ++ Boot 0 ∷ []) (failover_begun records) = starts_stay_lem records s 0 k in
-    begun_seats (replicas_after_all [] records)
-    ∙ (sym (seats_twice (replicas_after_all [] records))
-    ∙ ap seats_of (sym (after_join [] records (Boot 0 ∷ [])) ∙ next.replicas))
+    begun_states (replicas_after_all [] records)
+    ∙ (sym (states_twice (replicas_after_all [] records))
+    ∙ ap states_of (sym (after_join [] records (Boot 0 ∷ [])) ∙ next.replicas))
 
 -- Each replica is of its partition.
 
@@ -105,11 +105,11 @@ all_own low (e ∷ es) up h =
         absurd (cc (i, none))
     go p r behind false g i = i
 
-pub seats_lem : SeatsAreKept
-seats_lem records s k = (
-  begun_seats (replicas_after_all [] records) ∙ ap seats_of k.replicas,
-  all_own 0 (named s.seats) (named_rises 0 s.seats k.rise)
+pub states_lem : ReplicaStatesAreKept
+states_lem records s k = (
+  begun_states (replicas_after_all [] records) ∙ ap states_of k.replicas,
+  all_own 0 (named s.states) (named_rises 0 s.states k.rise)
       (λ p r i.
-      sym (ap (λ (x : Replica). x.partition) (from_shown (without_role (seat_at p s).replica) r (sym (at_named 0 s.seats p k.rise) ∙ i)))
+      sym (ap (λ (x : Replica). x.partition) (from_shown (without_role (state_at p s).replica) r (sym (at_named 0 s.states p k.rise) ∙ i)))
       ∙ (k.fit p).partition),
 )

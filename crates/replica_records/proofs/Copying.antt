@@ -15,10 +15,10 @@ use Rattle.replica_core.specs.Replicas.{Replica, same_entry, raised, settled, co
 use Rattle.replica_core.specs.Calls.{Outcome, unless, unless_older, held_if, is_gap, is_only, is_collected, is_empty, collected_call, adopt_call, adopt_collected_call}
 use Rattle.replica_core.proofs.Orders.{same_is}
 use Rattle.replica_core.proofs.Orders.{not_itself}
-use Rattle.unit_rules.specs.declared.lead.Taking.{Taking}
+use Rattle.unit_rules.specs.declared.progress.CatchUp.{CatchUp}
 use Rattle.unit_rules.specs.Copies.{nothing_adopted, log_adopted, adoption, fetch_next, piece_collected, is_wanted, piece_for, piece_received}
 use Rattle.unit_rules.specs.Deeds.{Keep, acted, still}
-use Rattle.unit_rules.specs.Seats.{Seat, seated}
+use Rattle.unit_rules.specs.ReplicaStates.{ReplicaState, replica_put}
 use Rattle.unit_rules.specs.Starts.{past_all}
 use Rattle.replica_records.specs.Kept.{without_role, IsFit}
 use Rattle.replica_records.proofs.Blind.{adopt_blind, collected_blind}
@@ -121,9 +121,9 @@ settles_last e x r d t = go (is_older e r.promised) refl (same_epoch r.at e) ref
     go false h false i false true j k =
         ap (λ (z : Replica). left (adopt_collected_call e z)) (collected_again e x r j) ∙ (collected_new e x r i ∙ ap left k)
 
-module _ (p : ℕ) (s : Seat) (fit : IsFit p s) where
+module _ (p : ℕ) (s : ReplicaState) (fit : IsFit p s) where
   -- an entry within the log of the Sync
-  module _ (t : Taking) (x : Entry) (some : 1 ≤ x.lsn) (within : x.lsn ≤ t.last) (room : t.last ≤ 100000) where
+  module _ (t : CatchUp) (x : Entry) (some : 1 ≤ x.lsn) (within : x.lsn ≤ t.last) (room : t.last ≤ 100000) where
     past : (x.lsn == past_all) ≡ false
     past = apart_test x.lsn past_all (λ (e : x.lsn ≡ 100001). omega arith)
 
@@ -145,7 +145,7 @@ module _ (p : ℕ) (s : Seat) (fit : IsFit p s) where
 
         zeroes : (x.lsn == t.last) ≡ true → (none : Bool) → (t.last == 0) ≡ none →
             Recorded p s
-            (acted (seated s r)
+            (acted (replica_put s r)
             (Keep (kept.Incoming r.partition t.epoch x.lsn x.epoch x.bytes)
             ∷ (if none then nothing_adopted r.partition t else log_adopted r.partition t false)))
         zeroes l true z = absurd (let a = eqb-true t.last 0 z in let low = some in let high = within in omega arith)
@@ -160,7 +160,7 @@ module _ (p : ℕ) (s : Seat) (fit : IsFit p s) where
 
         ends : (last : Bool) → (x.lsn == t.last) ≡ last →
             Recorded p s
-            (acted (seated s r)
+            (acted (replica_put s r)
             (Keep (kept.Incoming r.partition t.epoch x.lsn x.epoch x.bytes)
             ∷ (if last then adoption r.partition t false else fetch_next t r ∷ [])))
         ends true l = zeroes l (t.last == 0) refl
@@ -171,9 +171,9 @@ module _ (p : ℕ) (s : Seat) (fit : IsFit p s) where
 
   pub piece_recorded : (e : Epoch) (x : Entry) → Recorded p s (piece_received e x s)
   unfolding piece_received
-  piece_recorded e x = go s.taking refl
+  piece_recorded e x = go s.catch_up refl
     where
-      by : (t : Taking) → t.last ≤ 100000 → (b : Bool) → is_wanted t e x.lsn s.replica ≡ b →
+      by : (t : CatchUp) → t.last ≤ 100000 → (b : Bool) → is_wanted t e x.lsn s.replica ≡ b →
           Recorded p s (if b then piece_collected t x s (adopt_call t.epoch x t.last s.replica) else still s)
       by t room false i = record { of = tt; folds = refl }
       by t room true i =
@@ -181,6 +181,6 @@ module _ (p : ℕ) (s : Seat) (fit : IsFit p s) where
           let b = and_parts (same_epoch t.epoch e && not (same_epoch s.replica.at e)) (nat_le 1 x.lsn) a.0 in
           collected t x (leb-true 1 x.lsn b.1) (leb-true x.lsn t.last a.1) room (adopt_call t.epoch x t.last s.replica) refl
 
-      go : (o : Option Taking) → s.taking ≡ o → Recorded p s (piece_for e x s o)
+      go : (o : Option CatchUp) → s.catch_up ≡ o → Recorded p s (piece_for e x s o)
       go None h = record { of = tt; folds = refl }
       go (Some t) h = by t (fit.room t h) (is_wanted t e x.lsn s.replica) refl

@@ -21,18 +21,18 @@ use Rattle.ring_rules.specs.Owns.{holds_point}
 use Rattle.ring_rules.specs.Rings.{Ring}
 use Rattle.replica_core.specs.declared.entry.Entry.{Entry}
 use Rattle.replica_core.specs.Replicas.{first_replica}
-use Rattle.unit_rules.specs.declared.lead.Taking.{Taking}
+use Rattle.unit_rules.specs.declared.progress.CatchUp.{CatchUp}
 use Rattle.unit_rules.specs.declared.reconfig.Kind.{Kind}
 use Rattle.unit_rules.specs.declared.reconfig.Kind.TheVariants.{Create, Swap, Heal, Lose}
 use Rattle.unit_rules.specs.Answers.{names_commanded, resolve_commanded}
 use Rattle.unit_rules.specs.Copies.{fetch_received, piece_received}
 use Rattle.unit_rules.specs.Deeds.{Acted, acted, still, refuse, records_of}
 use Rattle.unit_rules.specs.Loads.{Site, loads}
-use Rattle.unit_rules.specs.Seats.{Seat, first_seat}
+use Rattle.unit_rules.specs.ReplicaStates.{ReplicaState, first_state}
 use Rattle.unit_rules.specs.Starts.{Replicas, replica_of, replicas_after_all}
-use Rattle.unit_rules.specs.Steps.{Failover, by_seat, at_found, at_standing, answer, frame_row, manage, command_row, fired, failover_step}
+use Rattle.unit_rules.specs.Steps.{Failover, by_state, at_found, at_standing, answer, frame_row, manage, command_row, fired, failover_step}
 use Rattle.unit_rules.specs.Writes.{appended_received, write_commanded}
-use Rattle.replica_records.specs.Seats.{seat_at}
+use Rattle.replica_records.specs.ReplicaStates.{state_at}
 use Rattle.unit_rules.proofs.Answered.{names_only_answer, resolve_only_answers}
 use Rattle.replica_records.specs.Kept.{without_role, IsFit}
 use Rattle.replica_records.specs.Named.{is_named, KeptAs, FitsFrame}
@@ -51,36 +51,36 @@ use Rattle.replica_records.proofs.Writing.{append_recorded, appended_recorded, w
 
 -- what a step leaves of the replicas: each is fit, they rise, and the records name each replica that they give
 record Leaves (records : List Record) (a : Acted Failover) : Type 0 where
-  fit : (p : ℕ) → IsFit p (seat_at p a.state)
-  rise : rises a.state.seats ≡ true
+  fit : (p : ℕ) → IsFit p (state_at p a.state)
+  rise : rises a.state.states ≡ true
   full : Full (replicas_after_all [] (records ++ records_of a.deeds))
 
 module _ (records : List Record) (s : Failover) (k : KeptAs records s) where
   -- nothing is recorded, and the replicas stay
-  quiet : (a : Acted Failover) → Silent a.deeds → a.state.seats ≡ s.seats → Leaves records a
+  quiet : (a : Acted Failover) → Silent a.deeds → a.state.states ≡ s.states → Leaves records a
   quiet a none same = record {
-    fit = λ p. subst (λ (es : List (ℕ × Seat)). IsFit p (unwrap_or (at p es) (first_seat p))) (sym same) (k.fit p);
-    rise = ap (λ (es : List (ℕ × Seat)). rises es) same ∙ k.rise;
+    fit = λ p. subst (λ (es : List (ℕ × ReplicaState)). IsFit p (unwrap_or (at p es) (first_state p))) (sym same) (k.fit p);
+    rise = ap (λ (es : List (ℕ × ReplicaState)). rises es) same ∙ k.rise;
     full =
         subst Full (sym (ap (λ (rs : List Record). replicas_after_all [] (records ++ rs)) none ∙ after_join [] records []))
         (full_of records s k);
   }
 
-  module _ (q : ℕ) (a : Acted Seat) (r : Recorded q (seat_at q s) a) (st : Stood a) where
-    seat_put : (p : ℕ) (b : Bool) → (q == p) ≡ b → seat_at p (record s { seats = put q a.state s.seats }) ≡ cond b a.state (seat_at p s)
-    seat_put p true h =
-        ap (λ o. unwrap_or o (first_seat p)) (at-put q a.state s.seats p ∙ ap (λ t. cond t (Some a.state) (at p s.seats)) h)
-    seat_put p false h =
-        ap (λ o. unwrap_or o (first_seat p)) (at-put q a.state s.seats p ∙ ap (λ t. cond t (Some a.state) (at p s.seats)) h)
+  module _ (q : ℕ) (a : Acted ReplicaState) (r : Recorded q (state_at q s) a) (st : Stood a) where
+    state_put : (p : ℕ) (b : Bool) → (q == p) ≡ b → state_at p (record s { states = put q a.state s.states }) ≡ cond b a.state (state_at p s)
+    state_put p true h =
+        ap (λ o. unwrap_or o (first_state p)) (at-put q a.state s.states p ∙ ap (λ t. cond t (Some a.state) (at p s.states)) h)
+    state_put p false h =
+        ap (λ o. unwrap_or o (first_state p)) (at-put q a.state s.states p ∙ ap (λ t. cond t (Some a.state) (at p s.states)) h)
 
-    fit_put : (p : ℕ) → IsFit p (seat_at p (record s { seats = put q a.state s.seats }))
+    fit_put : (p : ℕ) → IsFit p (state_at p (record s { states = put q a.state s.states }))
     fit_put p = go (q == p) refl
       where
-        go : (b : Bool) → (q == p) ≡ b → IsFit p (seat_at p (record s { seats = put q a.state s.seats }))
+        go : (b : Bool) → (q == p) ≡ b → IsFit p (state_at p (record s { states = put q a.state s.states }))
         go true h =
-            subst (λ (z : Seat). IsFit p z) (sym (seat_put p true h))
-            (subst (λ t. IsFit t a.state) (eqb-true q p h) (recorded_fit q (seat_at q s) a r (k.fit q) st.room))
-        go false h = subst (λ (z : Seat). IsFit p z) (sym (seat_put p false h)) (k.fit p)
+            subst (λ (z : ReplicaState). IsFit p z) (sym (state_put p true h))
+            (subst (λ t. IsFit t a.state) (eqb-true q p h) (recorded_fit q (state_at q s) a r (k.fit q) st.room))
+        go false h = subst (λ (z : ReplicaState). IsFit p z) (sym (state_put p false h)) (k.fit p)
 
     abbrev before : Replicas
     before = replicas_after_all [] records
@@ -110,23 +110,23 @@ module _ (records : List Record) (s : Failover) (k : KeptAs records s) where
                 same ∙ (full_of records s k p ∙ sym (ap (λ o. shown (unwrap_or o (first_replica p))) same))
 
     -- a row of the partition's replica
-    seat : Leaves records (by_seat q s a)
-    seat = record {
+    state : Leaves records (by_state q s a)
+    state = record {
       fit = fit_put;
-      rise = rises-put q a.state s.seats k.rise;
+      rise = rises-put q a.state s.states k.rise;
       full = subst Full (sym (after_join [] records (records_of a.deeds))) full_put;
     }
 
   -- a row of the replica that was found, or else nothing of the kind
-  standing : (q : ℕ) (row : Seat → Acted Seat) (none : Acted Failover) → Leaves records none → Recorded q (seat_at q s) (row (seat_at q s)) →
-      Stood (row (seat_at q s)) → Leaves records (at_standing q row none s)
-  standing q row none otherwise r st = go (at q s.seats) refl
+  standing : (q : ℕ) (row : ReplicaState → Acted ReplicaState) (none : Acted Failover) → Leaves records none → Recorded q (state_at q s) (row (state_at q s)) →
+      Stood (row (state_at q s)) → Leaves records (at_standing q row none s)
+  standing q row none otherwise r st = go (at q s.states) refl
     where
-      go : (o : Option Seat) → at q s.seats ≡ o → Leaves records (at_found q row none s o)
+      go : (o : Option ReplicaState) → at q s.states ≡ o → Leaves records (at_found q row none s o)
       go None i = otherwise
       go (Some found) i =
-          let same : seat_at q s ≡ found = ap (λ o. unwrap_or o (first_seat q)) i in
-          seat q (row found) (subst (λ (z : Seat). Recorded q (seat_at q s) (row z)) same r) (subst (λ (z : Seat). Stood (row z)) same st)
+          let same : state_at q s ≡ found = ap (λ o. unwrap_or o (first_state q)) i in
+          state q (row found) (subst (λ (z : ReplicaState). Recorded q (state_at q s) (row z)) same r) (subst (λ (z : ReplicaState). Stood (row z)) same st)
 
   nothing : Leaves records (still s)
   nothing = quiet (still s) refl refl
@@ -151,28 +151,28 @@ module _ (records : List Record) (s : Failover) (k : KeptAs records s) where
     frame_leaves from (body.Activated q e) h = answered from q e (body.Activated q e)
     frame_leaves from (body.Older q e higher) h = answered from q e (body.Older q e higher)
     frame_leaves from (body.Promise q e) h =
-        seat q _ (promise_recorded q (seat_at q s) (k.fit q).partition from e) (promise_stood (seat_at q s) (k.fit q).room from e)
+        state q _ (promise_recorded q (state_at q s) (k.fit q).partition from e) (promise_stood (state_at q s) (k.fit q).room from e)
     frame_leaves from (body.Sync q e origin last) h =
-        let t : Taking = record { epoch = e; origin = origin; last = last; asker = from } in
+        let t : CatchUp = record { epoch = e; origin = origin; last = last; asker = from } in
         let small = leb-true last 100000 (and_parts (is_unit q e && is_node origin) (is_last last) h).1 in
-        seat q _ (sync_recorded q r.me.actor t (seat_at q s) (k.fit q).partition)
-        (sync_stood r.me.actor t small (seat_at q s) (k.fit q).room (k.fit q).at_promised)
+        state q _ (sync_recorded q r.me.actor t (state_at q s) (k.fit q).partition)
+        (sync_stood r.me.actor t small (state_at q s) (k.fit q).room (k.fit q).at_promised)
     frame_leaves from (body.Fetch q e lsn) h =
-        standing q (fetch_received from e lsn) (still s) nothing (fetch_recorded q (seat_at q s) from e lsn)
-        (fetch_stood (seat_at q s) (k.fit q).room from e lsn)
+        standing q (fetch_received from e lsn) (still s) nothing (fetch_recorded q (state_at q s) from e lsn)
+        (fetch_stood (state_at q s) (k.fit q).room from e lsn)
     frame_leaves from (body.Piece q e lsn entry_epoch text) h =
         let x : Entry = record { epoch = entry_epoch; lsn = lsn; bytes = text } in
-        standing q (piece_received e x) (still s) nothing (piece_recorded q (seat_at q s) (k.fit q) e x)
-        (piece_stood (seat_at q s) (k.fit q).room (k.fit q).at_promised e x)
+        standing q (piece_received e x) (still s) nothing (piece_recorded q (state_at q s) (k.fit q) e x)
+        (piece_stood (state_at q s) (k.fit q).room (k.fit q).at_promised e x)
     frame_leaves from (body.Activate config) h =
         let q = config.partition in
-        seat q _ (activate_recorded q (seat_at q s) (k.fit q).at_promised r.me.actor from config)
-        (activate_stood (seat_at q s) (k.fit q).room r.me.actor from config)
+        state q _ (activate_recorded q (state_at q s) (k.fit q).at_promised r.me.actor from config)
+        (activate_stood (state_at q s) (k.fit q).room r.me.actor from config)
     frame_leaves from (body.Append q e lsn text) h =
-        seat q _ (append_recorded q (seat_at q s) (k.fit q).partition from e lsn text) (append_stood (seat_at q s) (k.fit q).room from e lsn text)
+        state q _ (append_recorded q (state_at q s) (k.fit q).partition from e lsn text) (append_stood (state_at q s) (k.fit q).room from e lsn text)
     frame_leaves from (body.Appended q e last) h =
-        standing q (appended_received from.actor e last) (still s) nothing (appended_recorded q (seat_at q s) from.actor e last)
-        (appended_stood (seat_at q s) (k.fit q).room from.actor e last)
+        standing q (appended_received from.actor e last) (still s) nothing (appended_recorded q (state_at q s) from.actor e last)
+        (appended_stood (state_at q s) (k.fit q).room from.actor e last)
     frame_leaves from b h = nothing
 
     command_leaves : (d : Command) → Leaves records (command_row c now r d s)
@@ -182,16 +182,16 @@ module _ (records : List Record) (s : Failover) (k : KeptAs records s) where
     command_leaves (command.Lose q node) = commanded q (Lose node)
     command_leaves (command.Write q text) =
         standing q (write_commanded text) (refuse verb.Write reason.NotPrimary s) (quiet (refuse verb.Write reason.NotPrimary s) refl refl)
-        (write_recorded q (seat_at q s) (k.fit q).partition text) (write_stood (seat_at q s) (k.fit q).room text)
+        (write_recorded q (state_at q s) (k.fit q).partition text) (write_stood (state_at q s) (k.fit q).room text)
     command_leaves (command.Units range) = quiet (command_row c now r (command.Units range) s) refl refl
     command_leaves (command.Resolve q name) =
-        let h = resolve_only_answers name (seat_at q s) in
+        let h = resolve_only_answers name (state_at q s) in
         standing q (resolve_commanded name) (refuse verb.Resolve reason.NotPrimary s) (quiet (refuse verb.Resolve reason.NotPrimary s) refl refl)
-        (answer_recorded q (seat_at q s) (resolve_commanded name (seat_at q s)) h) (answer_stood (seat_at q s) (k.fit q).room (resolve_commanded name (seat_at q s)) h)
+        (answer_recorded q (state_at q s) (resolve_commanded name (state_at q s)) h) (answer_stood (state_at q s) (k.fit q).room (resolve_commanded name (state_at q s)) h)
     command_leaves (command.Names q range) =
-        let h = names_only_answer range (seat_at q s) in
+        let h = names_only_answer range (state_at q s) in
         standing q (names_commanded range) (refuse verb.Names reason.NotPrimary s) (quiet (refuse verb.Names reason.NotPrimary s) refl refl)
-        (answer_recorded q (seat_at q s) (names_commanded range (seat_at q s)) h) (answer_stood (seat_at q s) (k.fit q).room (names_commanded range (seat_at q s)) h)
+        (answer_recorded q (state_at q s) (names_commanded range (state_at q s)) h) (answer_stood (state_at q s) (k.fit q).room (names_commanded range (state_at q s)) h)
     command_leaves d = nothing
 
 step_leaves : (c : Site) (now : ℕ) (r : Ring) (s : Failover) (i : Input) (records : List Record) → FitsFrame i → KeptAs records s →

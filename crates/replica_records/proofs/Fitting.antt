@@ -10,9 +10,9 @@ use Rattle.replica_core.specs.Histories.{Promise, Append, AdoptOwn, Adopt, Adopt
 use Rattle.replica_core.specs.Laws.{IsNotAhead}
 use Rattle.replica_core.specs.Replicas.{Replica}
 use Rattle.replica_core.proofs.Risen.{staying_behind}
-use Rattle.unit_rules.specs.declared.lead.Taking.{Taking}
+use Rattle.unit_rules.specs.declared.progress.CatchUp.{CatchUp}
 use Rattle.unit_rules.specs.Deeds.{Acted, records_of}
-use Rattle.unit_rules.specs.Seats.{Seat}
+use Rattle.unit_rules.specs.ReplicaStates.{ReplicaState}
 use Rattle.unit_rules.specs.Starts.{past_all}
 use Rattle.replica_records.specs.Kept.{without_role, IsFit}
 use Rattle.replica_records.proofs.Blind.{promise_blind, append_blind, adopt_blind}
@@ -52,8 +52,8 @@ all_behind r [] h = h
 all_behind r (x ∷ xs) h = all_behind (replica_after r x) xs (stays_behind r x h)
 
 -- a replica that differs in its role alone is as fit, if it takes no log that has no room
-pub same_fit : (p : ℕ) (s u : Seat) → IsFit p s → without_role s.replica ≡ without_role u.replica →
-    ((t : Taking) → u.taking ≡ Some t → t.last ≤ 100000) → IsFit p u
+pub same_fit : (p : ℕ) (s u : ReplicaState) → IsFit p s → without_role s.replica ≡ without_role u.replica →
+    ((t : CatchUp) → u.catch_up ≡ Some t → t.last ≤ 100000) → IsFit p u
 same_fit p s u fit same room = record {
   partition = sym (ap (λ (r : Replica). r.partition) same) ∙ fit.partition;
   at_promised = sym (ap (λ (r : Replica). is_older r.promised r.at) same) ∙ fit.at_promised;
@@ -61,7 +61,7 @@ same_fit p s u fit same room = record {
 }
 
 -- what is recorded is fit
-pub recorded_fit : (p : ℕ) (s : Seat) (a : Acted Seat) → Recorded p s a → IsFit p s → ((t : Taking) → a.state.taking ≡ Some t → t.last ≤ 100000) →
+pub recorded_fit : (p : ℕ) (s : ReplicaState) (a : Acted ReplicaState) → Recorded p s a → IsFit p s → ((t : CatchUp) → a.state.catch_up ≡ Some t → t.last ≤ 100000) →
     IsFit p a.state
 recorded_fit p s a r fit room = record {
   partition =

@@ -17,12 +17,12 @@ use Rattle.replica_core.specs.Roles.{is_idle, is_member, role_of}
 use Rattle.replica_core.specs.Replicas.{Replica, raised}
 use Rattle.replica_core.specs.Calls.{Outcome, unless, held_if, idle_call, adopt_own_call}
 use Rattle.replica_core.proofs.Orders.{is_between, same_is}
-use Rattle.unit_rules.specs.declared.lead.Taking.{Taking}
+use Rattle.unit_rules.specs.declared.progress.CatchUp.{CatchUp}
 use Rattle.unit_rules.specs.Activations.{same_role, say_activated, role_begun, activate_answered, activate_received}
 use Rattle.unit_rules.specs.Copies.{nothing_adopted, log_adopted, fetch_next, own_adopted, log_taken, copy_begun, sync_taken, sync_answered, sync_received, entry_given, fetch_received}
 use Rattle.unit_rules.specs.Deeds.{Send, Acted, acted, still, records_of}
 use Rattle.unit_rules.specs.Promises.{promise_answered, promise_received}
-use Rattle.unit_rules.specs.Seats.{Seat, seated, last_of, entry_at}
+use Rattle.unit_rules.specs.ReplicaStates.{ReplicaState, replica_put, last_of, entry_at}
 use Rattle.replica_records.specs.Kept.{without_role}
 use Rattle.replica_records.proofs.Blind.{own_blind}
 use Rattle.replica_records.proofs.Folding.{replica_after_all}
@@ -44,7 +44,7 @@ idle_same r =
     (keeps_held (same_epoch r.promised r.promised && is_idle r.role) r (Ok New, record (raised r.promised r) { role = IdleSecondary }) (raise_own r))
 
 module _ (p : ℕ) where
-  pub promise_recorded : (s : Seat) → s.replica.partition ≡ p → (from : Who) (e : Epoch) → Recorded p s (promise_received from e s)
+  pub promise_recorded : (s : ReplicaState) → s.replica.partition ≡ p → (from : Who) (e : Epoch) → Recorded p s (promise_received from e s)
   unfolding promise_received
   promise_recorded s here from e = go (is_older e s.replica.promised) refl (same_epoch s.replica.promised e) refl
     where
@@ -54,8 +54,8 @@ module _ (p : ℕ) where
       go false h true i = record { of = tt; folds = refl }
       go false h false i = record { of = (here, tt); folds = promise_new e s.replica h i }
 
-  module _ (me : ℕ) (t : Taking) where
-    own_recorded : (s u : Seat) → s.replica.partition ≡ p → without_role s.replica ≡ without_role u.replica → (o : Outcome Done) →
+  module _ (me : ℕ) (t : CatchUp) where
+    own_recorded : (s u : ReplicaState) → s.replica.partition ≡ p → without_role s.replica ≡ without_role u.replica → (o : Outcome Done) →
         adopt_own_call t.epoch t.last u.replica ≡ o → Recorded p s (own_adopted t u o)
     own_recorded s u here same (Err why, r) i = record { of = tt; folds = same }
     own_recorded s u here same (Ok d, r) i = adopts (t.last == 0) refl
@@ -71,18 +71,18 @@ module _ (p : ℕ) where
             ∙ ap (λ (o : Outcome Done). without_role o.1) i
 
         adopts : (none : Bool) → (t.last == 0) ≡ none →
-            Recorded p s (acted (seated u r) (if none then nothing_adopted r.partition t else log_adopted r.partition t true))
+            Recorded p s (acted (replica_put u r) (if none then nothing_adopted r.partition t else log_adopted r.partition t true))
         adopts true z = record { of = (part, tt); folds = ap left (kept_zero t.epoch t.last (without_role s.replica) z) ∙ done }
         adopts false z = record { of = (part, tt); folds = done }
 
-    log_recorded : (s u : Seat) → s.replica.partition ≡ p → without_role s.replica ≡ without_role u.replica → Recorded p s (log_taken me t u)
+    log_recorded : (s u : ReplicaState) → s.replica.partition ≡ p → without_role s.replica ≡ without_role u.replica → Recorded p s (log_taken me t u)
     log_recorded s u here same = go (t.last == 0 || t.origin == me)
       where
         go : (b : Bool) → Recorded p s (if b then own_adopted t u (adopt_own_call t.epoch t.last u.replica) else acted u (fetch_next t u.replica ∷ []))
         go true = own_recorded s u here same (adopt_own_call t.epoch t.last u.replica) refl
         go false = record { of = tt; folds = same }
 
-    taken_recorded : (s : Seat) → s.replica.partition ≡ p → s.replica.promised ≡ t.epoch → Recorded p s (sync_taken me t s)
+    taken_recorded : (s : ReplicaState) → s.replica.partition ≡ p → s.replica.promised ≡ t.epoch → Recorded p s (sync_taken me t s)
     taken_recorded s here promised = go (same_epoch s.replica.at t.epoch)
       where
         go : (b : Bool) →
@@ -90,10 +90,10 @@ module _ (p : ℕ) where
             (if b then acted s (Send t.asker (body.Adopted s.replica.partition t.epoch (last_of s.replica)) ∷ []) else copy_begun me t s)
         go true = record { of = tt; folds = refl }
         go false =
-            log_recorded s (record s { replica = (idle_call t.epoch s.replica).1; taking = Some t }) here
+            log_recorded s (record s { replica = (idle_call t.epoch s.replica).1; catch_up = Some t }) here
             (sym (subst (λ e. without_role (left (idle_call e s.replica)) ≡ without_role s.replica) promised (idle_same s.replica)))
 
-    pub sync_recorded : (s : Seat) → s.replica.partition ≡ p → Recorded p s (sync_received me t s)
+    pub sync_recorded : (s : ReplicaState) → s.replica.partition ≡ p → Recorded p s (sync_received me t s)
     unfolding sync_received
     sync_recorded s here = go (is_older t.epoch s.replica.promised) refl (same_epoch s.replica.promised t.epoch) refl
       where
@@ -102,15 +102,15 @@ module _ (p : ℕ) where
         go true h same i = record { of = tt; folds = refl }
         go false h true i = taken_recorded s here (same_is s.replica.promised t.epoch i)
         go false h false i =
-            let next : Recorded p (seated s (raised t.epoch s.replica)) (sync_taken me t (seated s (raised t.epoch s.replica)))
-            = taken_recorded (seated s (raised t.epoch s.replica)) here refl in
-            let a : Acted Seat = sync_taken me t (seated s (raised t.epoch s.replica)) in
+            let next : Recorded p (replica_put s (raised t.epoch s.replica)) (sync_taken me t (replica_put s (raised t.epoch s.replica)))
+            = taken_recorded (replica_put s (raised t.epoch s.replica)) here refl in
+            let a : Acted ReplicaState = sync_taken me t (replica_put s (raised t.epoch s.replica)) in
             record {
               of = (here, next.of);
               folds = ap (λ (z : Replica). replica_after_all z (records_of a.deeds)) (promise_new t.epoch s.replica h i) ∙ next.folds;
             }
 
-  pub fetch_recorded : (s : Seat) (from : Who) (e : Epoch) (lsn : ℕ) → Recorded p s (fetch_received from e lsn s)
+  pub fetch_recorded : (s : ReplicaState) (from : Who) (e : Epoch) (lsn : ℕ) → Recorded p s (fetch_received from e lsn s)
   unfolding fetch_received
   fetch_recorded s from e lsn = go (same_epoch s.replica.promised e)
     where
@@ -122,7 +122,7 @@ module _ (p : ℕ) where
       go true = given (entry_at lsn s.replica.log)
       go false = record { of = tt; folds = refl }
 
-  pub activate_recorded : (s : Seat) → is_older s.replica.promised s.replica.at ≡ false → (me : ℕ) (from : Who) (config : Config) →
+  pub activate_recorded : (s : ReplicaState) → is_older s.replica.promised s.replica.at ≡ false → (me : ℕ) (from : Who) (config : Config) →
       Recorded p s (activate_received me from config s)
   unfolding activate_received
   activate_recorded s behind me from config =

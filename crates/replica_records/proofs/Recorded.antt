@@ -13,13 +13,13 @@ use Rattle.replica_core.specs.Calls.{Outcome, unless, held_if, promise_call, ado
 use Rattle.replica_core.proofs.Orders.{not_itself}
 use Rattle.unit_rules.specs.Deeds.{Deed, Keep, Send, Tell, Acted, records_of}
 use Rattle.world_rules.specs.Above.{is_ring_record}
-use Rattle.unit_rules.specs.Seats.{Seat}
+use Rattle.unit_rules.specs.ReplicaStates.{ReplicaState}
 use Rattle.unit_rules.specs.Starts.{adopt_kept}
 use Rattle.replica_records.specs.Kept.{without_role}
 use Rattle.replica_records.proofs.Blind.{raised_same}
 use Rattle.replica_records.proofs.Folding.{replica_after_all, AllOf}
 
-pub record Recorded (p : ℕ) (s : Seat) (a : Acted Seat) : Type 0 where
+pub record Recorded (p : ℕ) (s : ReplicaState) (a : Acted ReplicaState) : Type 0 where
   pub of : AllOf p (records_of a.deeds)
   pub folds : replica_after_all (without_role s.replica) (records_of a.deeds) ≡ without_role a.state.replica
 

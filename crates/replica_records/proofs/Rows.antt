@@ -18,24 +18,24 @@ use Rattle.replica_core.specs.Histories.{Adopt, taken_epoch}
 use Rattle.replica_core.specs.Laws.{IsNotAhead}
 use Rattle.replica_core.specs.Replicas.{Replica, raised}
 use Rattle.replica_core.proofs.Orders.{same_is}
-use Rattle.unit_rules.specs.declared.lead.Taking.{Taking}
+use Rattle.unit_rules.specs.declared.progress.CatchUp.{CatchUp}
 use Rattle.unit_rules.specs.Answers.{OnlyAnswers}
 use Rattle.unit_rules.specs.Activations.{same_role, say_activated, role_begun, activate_answered, activate_received}
 use Rattle.unit_rules.specs.Copies.{entry_given, fetch_received, is_wanted, piece_collected, piece_for, piece_received}
 use Rattle.unit_rules.specs.Deeds.{Acted, acted, still, records_of}
-use Rattle.unit_rules.specs.Leads.{lead_of, confirmed_by, confirmed_of, most_confirmed}
+use Rattle.unit_rules.specs.Progress.{progress_of, confirmed_by, confirmed_of, most_confirmed}
 use Rattle.unit_rules.specs.Promises.{say_older, promise_answered, promise_received}
-use Rattle.unit_rules.specs.Seats.{Lead, Seat, seated, last_of, entry_at}
+use Rattle.unit_rules.specs.ReplicaStates.{ReplicationProgress, ReplicaState, replica_put, last_of, entry_at}
 use Rattle.unit_rules.specs.Writes.{say_appended, append_answered, append_received, commits, committed, appended_to, appended_received, write_answered, write_to, write_commanded}
 use Rattle.replica_records.specs.Named.{is_named}
 use Rattle.replica_records.proofs.Naming.{not_first, promised_named, written_named, append_named, taken_named}
 use Rattle.replica_records.proofs.Recorded.{left}
 use Rattle.replica_records.proofs.Writing.{committed_noted, next_added}
 
-abbrev pub HasRoom : Seat → Type 0
-HasRoom s = (t : Taking) → s.taking ≡ Some t → t.last ≤ 100000
+abbrev pub HasRoom : ReplicaState → Type 0
+HasRoom s = (t : CatchUp) → s.catch_up ≡ Some t → t.last ≤ 100000
 
-pub record Stood (a : Acted Seat) : Type 0 where
+pub record Stood (a : Acted ReplicaState) : Type 0 where
   pub room : HasRoom a.state
   pub named : (records_of a.deeds ≡ []) ⊎ (is_named a.state.replica ≡ true)
 
@@ -46,11 +46,11 @@ older_quiet asker q e (Gap last) = refl
 older_quiet asker q e LogFull = refl
 older_quiet asker q e OutOfMemory = refl
 
-module _ (s : Seat) (room : HasRoom s) where
-  quiet : (a : Acted Seat) → a.state.taking ≡ s.taking → records_of a.deeds ≡ [] → Stood a
+module _ (s : ReplicaState) (room : HasRoom s) where
+  quiet : (a : Acted ReplicaState) → a.state.catch_up ≡ s.catch_up → records_of a.deeds ≡ [] → Stood a
   quiet a same none = record { room = λ t h. room t (sym same ∙ h); named = inl none }
 
-  names : (a : Acted Seat) → a.state.taking ≡ s.taking → is_named a.state.replica ≡ true → Stood a
+  names : (a : Acted ReplicaState) → a.state.catch_up ≡ s.catch_up → is_named a.state.replica ≡ true → Stood a
   names a same some = record { room = λ t h. room t (sym same ∙ h); named = inr some }
 
   pub promise_stood : (from : Who) (e : Epoch) → Stood (promise_received from e s)
@@ -77,9 +77,9 @@ module _ (s : Seat) (room : HasRoom s) where
 
   pub piece_stood : IsNotAhead s.replica → (e : Epoch) (x : Entry) → Stood (piece_received e x s)
   unfolding piece_received
-  piece_stood behind e x = go s.taking
+  piece_stood behind e x = go s.catch_up
     where
-      collected : (t : Taking) → same_epoch s.replica.at t.epoch ≡ false → (o : Outcome Done) → adopt_call t.epoch x t.last s.replica ≡ o →
+      collected : (t : CatchUp) → same_epoch s.replica.at t.epoch ≡ false → (o : Outcome Done) → adopt_call t.epoch x t.last s.replica ≡ o →
           Stood (piece_collected t x s o)
       collected t other (Err why, r) i = quiet _ refl refl
       collected t other (Ok d, r) i =
@@ -87,7 +87,7 @@ module _ (s : Seat) (room : HasRoom s) where
           (subst (λ (z : Replica). is_named z ≡ true) (ap left i)
           (taken_named (Adopt t.epoch x t.last) s.replica t.epoch behind (ap (λ (o : Outcome Done). taken_epoch t.epoch o.0) i) other))
 
-      by : (t : Taking) → (b : Bool) → is_wanted t e x.lsn s.replica ≡ b →
+      by : (t : CatchUp) → (b : Bool) → is_wanted t e x.lsn s.replica ≡ b →
           Stood (if b then piece_collected t x s (adopt_call t.epoch x t.last s.replica) else still s)
       by t false i = quiet _ refl refl
       by t true i =
@@ -101,7 +101,7 @@ module _ (s : Seat) (room : HasRoom s) where
           off true h = absurd (cc (h))
           off false h = refl
 
-      go : (o : Option Taking) → Stood (piece_for e x s o)
+      go : (o : Option CatchUp) → Stood (piece_for e x s o)
       go None = quiet _ refl refl
       go (Some t) = by t (is_wanted t e x.lsn s.replica) refl
 
@@ -137,46 +137,46 @@ module _ (s : Seat) (room : HasRoom s) where
       go (Err LogFull, r) i = quiet _ refl refl
       go (Err OutOfMemory, r) i = quiet _ refl refl
 
-  committed_taking : (l : Lead) (u : Seat) → (committed l u).state.taking ≡ u.taking
-  committed_taking l u = go (nat_lt l.committed (most_confirmed (confirmed_of l (last_of u.replica))))
+  committed_catch_up : (l : ReplicationProgress) (u : ReplicaState) → (committed l u).state.catch_up ≡ u.catch_up
+  committed_catch_up l u = go (nat_lt l.committed (most_confirmed (confirmed_of l (last_of u.replica))))
     where
       go : (b : Bool) →
-          (let a : Acted Seat = if b then commits l (most_confirmed (confirmed_of l (last_of u.replica))) u else still (record u { lead = Some l }) in a).state.taking
-          ≡ u.taking
+          (let a : Acted ReplicaState = if b then commits l (most_confirmed (confirmed_of l (last_of u.replica))) u else still (record u { progress = Some l }) in a).state.catch_up
+          ≡ u.catch_up
       go true = refl
       go false = refl
 
   pub appended_stood : (node : ℕ) (e : Epoch) (last : ℕ) → Stood (appended_received node e last s)
   unfolding appended_received
-  appended_stood node e last = go (lead_of s)
+  appended_stood node e last = go (progress_of s)
     where
-      by : (l : Lead) (b : Bool) → Stood (if b then committed l s else still s)
-      by l true = quiet _ (committed_taking l s) (committed_noted l s).silent
+      by : (l : ReplicationProgress) (b : Bool) → Stood (if b then committed l s else still s)
+      by l true = quiet _ (committed_catch_up l s) (committed_noted l s).silent
       by l false = quiet _ refl refl
 
-      go : (o : Option Lead) → Stood (appended_to node e last s o)
+      go : (o : Option ReplicationProgress) → Stood (appended_to node e last s o)
       go None = quiet _ refl refl
       go (Some l) = by (confirmed_by node last (last_of s.replica) l) (same_epoch s.replica.at e)
 
   pub write_stood : (text : List ℕ) → Stood (write_commanded text s)
   unfolding write_commanded
-  write_stood text = go (lead_of s)
+  write_stood text = go (progress_of s)
     where
-      by : (l : Lead) (o : Outcome Done) → append_call s.replica.at (last_of s.replica + 1) text s.replica ≡ o → Stood (write_answered text l s o)
+      by : (l : ReplicationProgress) (o : Outcome Done) → append_call s.replica.at (last_of s.replica + 1) text s.replica ≡ o → Stood (write_answered text l s o)
       by l (Err (Older x), r) i = quiet _ refl refl
       by l (Err NotMember, r) i = quiet _ refl refl
       by l (Err (Gap last), r) i = quiet _ refl refl
       by l (Err LogFull, r) i = quiet _ refl refl
       by l (Err OutOfMemory, r) i = quiet _ refl refl
       by l (Ok d, r) i =
-          names _ (committed_taking l (seated s r))
-          (subst (λ (z : Replica). is_named z ≡ true) (sym (committed_noted l (seated s r)).same)
+          names _ (committed_catch_up l (replica_put s r))
+          (subst (λ (z : Replica). is_named z ≡ true) (sym (committed_noted l (replica_put s r)).same)
           (written_named (record { epoch = s.replica.at; lsn = length s.replica.log + 1; bytes = text }) s.replica r
           (next_added s.replica.at text s.replica d r i)))
 
-      go : (o : Option Lead) → Stood (write_to text s o)
+      go : (o : Option ReplicationProgress) → Stood (write_to text s o)
       go None = quiet _ refl refl
       go (Some l) = by l (append_call s.replica.at (last_of s.replica + 1) text s.replica) refl
 
-  pub answer_stood : (a : Acted Seat) → OnlyAnswers s a → Stood a
+  pub answer_stood : (a : Acted ReplicaState) → OnlyAnswers s a → Stood a
   answer_stood a h = subst Stood (sym h.is) (quiet _ refl refl)

@@ -25,11 +25,11 @@ use Rattle.unit_rules.specs.Deeds.{Acted, acted, still, refuse, records_of}
 use Rattle.unit_rules.specs.Loads.{Site, loads}
 use Rattle.unit_rules.specs.Questions.{reconfig_fired}
 use Rattle.unit_rules.specs.Reconfigs.{Reconfig}
-use Rattle.unit_rules.specs.Seats.{Seat, first_seat}
+use Rattle.unit_rules.specs.ReplicaStates.{ReplicaState, first_state}
 use Rattle.unit_rules.specs.Starts.{replica_of, replicas_after_all}
-use Rattle.unit_rules.specs.Steps.{Failover, by_seat, at_found, at_standing, answer, frame_row, manage, command_row, fired, failover_step}
-use Rattle.unit_rules.specs.Writes.{appended_received, write_commanded, seat_fired}
-use Rattle.replica_records.specs.Seats.{seat_at}
+use Rattle.unit_rules.specs.Steps.{Failover, by_state, at_found, at_standing, answer, frame_row, manage, command_row, fired, failover_step}
+use Rattle.unit_rules.specs.Writes.{appended_received, write_commanded, state_fired}
+use Rattle.replica_records.specs.ReplicaStates.{state_at}
 use Rattle.unit_rules.proofs.Answered.{names_only_answer, resolve_only_answers}
 use Rattle.replica_records.specs.Kept.{without_role, AreKept, IsFit}
 use Rattle.replica_records.specs.Laws.{StepsAreKept}
@@ -43,35 +43,35 @@ use Rattle.replica_records.proofs.Silent.{Silent, answered_silent, commanded_sil
 -- a firing records nothing
 pub fired_quiet : (s : Failover) → Silent (fired s)
 fired_quiet s =
-    silent_join (flat_map (λ e. reconfig_fired e.1) s.managed.reconfigs) (flat_map (λ e. seat_fired e.1) s.seats)
-    (asked s.managed.reconfigs) (sent s.seats)
+    silent_join (flat_map (λ e. reconfig_fired e.1) s.managed.reconfigs) (flat_map (λ e. state_fired e.1) s.states)
+    (asked s.managed.reconfigs) (sent s.states)
   where
     asked : (es : List (ℕ × Reconfig)) → Silent (flat_map (λ e. reconfig_fired e.1) es)
     asked [] = refl
     asked (e ∷ es) = silent_join (reconfig_fired e.1) (flat_map (λ e. reconfig_fired e.1) es) (asked_silent e.1) (asked es)
 
-    sent : (es : List (ℕ × Seat)) → Silent (flat_map (λ e. seat_fired e.1) es)
+    sent : (es : List (ℕ × ReplicaState)) → Silent (flat_map (λ e. state_fired e.1) es)
     sent [] = refl
-    sent (e ∷ es) = silent_join (seat_fired e.1) (flat_map (λ e. seat_fired e.1) es) (fired_silent e.1) (sent es)
+    sent (e ∷ es) = silent_join (state_fired e.1) (flat_map (λ e. state_fired e.1) es) (fired_silent e.1) (sent es)
 
 -- with what is recorded of it, what stands after a step is kept
 abbrev Keeps : List Record → Acted Failover → Type 0
 Keeps records a = AreKept (records ++ records_of a.deeds) a.state
 
-module _ (records : List Record) (s : Failover) (fit : (p : ℕ) → IsFit p (seat_at p s)) (kept : AreKept records s) where
+module _ (records : List Record) (s : Failover) (fit : (p : ℕ) → IsFit p (state_at p s)) (kept : AreKept records s) where
   -- nothing is recorded, and the replicas stay
-  silent : (a : Acted Failover) → Silent a.deeds → a.state.seats ≡ s.seats → Keeps records a
+  silent : (a : Acted Failover) → Silent a.deeds → a.state.states ≡ s.states → Keeps records a
   silent a quiet same p =
       ap (λ (rs : List Record). replica_of p (replicas_after_all [] (records ++ rs))) quiet
       ∙ (ap (replica_of p) (after_join [] records []) ∙ (kept p
-      ∙ sym (ap (λ (es : List (ℕ × Seat)). without_role (unwrap_or (at p es) (first_seat p)).replica) same)))
+      ∙ sym (ap (λ (es : List (ℕ × ReplicaState)). without_role (unwrap_or (at p es) (first_state p)).replica) same)))
 
-  module _ (q : ℕ) (a : Acted Seat) (r : Recorded q (seat_at q s) a) where
-    put_seat : (p : ℕ) (b : Bool) → (q == p) ≡ b → seat_at p (record s { seats = put q a.state s.seats }) ≡ cond b a.state (seat_at p s)
-    put_seat p true h =
-        ap (λ o. unwrap_or o (first_seat p)) (at-put q a.state s.seats p ∙ ap (λ t. cond t (Some a.state) (at p s.seats)) h)
-    put_seat p false h =
-        ap (λ o. unwrap_or o (first_seat p)) (at-put q a.state s.seats p ∙ ap (λ t. cond t (Some a.state) (at p s.seats)) h)
+  module _ (q : ℕ) (a : Acted ReplicaState) (r : Recorded q (state_at q s) a) where
+    put_state : (p : ℕ) (b : Bool) → (q == p) ≡ b → state_at p (record s { states = put q a.state s.states }) ≡ cond b a.state (state_at p s)
+    put_state p true h =
+        ap (λ o. unwrap_or o (first_state p)) (at-put q a.state s.states p ∙ ap (λ t. cond t (Some a.state) (at p s.states)) h)
+    put_state p false h =
+        ap (λ o. unwrap_or o (first_state p)) (at-put q a.state s.states p ∙ ap (λ t. cond t (Some a.state) (at p s.states)) h)
 
     here : replica_of q (replicas_after_all [] (records ++ records_of a.deeds)) ≡ without_role a.state.replica
     here =
@@ -79,33 +79,33 @@ module _ (records : List Record) (s : Failover) (fit : (p : ℕ) → IsFit p (se
         ∙ (all_here q (records_of a.deeds) r.of (replicas_after_all [] records)
         ∙ (ap (λ z. replica_after_all z (records_of a.deeds)) (kept q) ∙ r.folds))
 
-    there : (p : ℕ) → (q ≡ p → ⊥) → replica_of p (replicas_after_all [] (records ++ records_of a.deeds)) ≡ without_role (seat_at p s).replica
+    there : (p : ℕ) → (q ≡ p → ⊥) → replica_of p (replicas_after_all [] (records ++ records_of a.deeds)) ≡ without_role (state_at p s).replica
     there p d =
         ap (replica_of p) (after_join [] records (records_of a.deeds))
         ∙ (all_there q (records_of a.deeds) r.of (replicas_after_all [] records) p d ∙ kept p)
 
     -- a row of the partition's replica
-    seat_keeps : Keeps records (by_seat q s a)
-    seat_keeps p = go (q == p) refl
+    state_keeps : Keeps records (by_state q s a)
+    state_keeps p = go (q == p) refl
       where
         go : (b : Bool) → (q == p) ≡ b →
             replica_of p (replicas_after_all [] (records ++ records_of a.deeds))
-            ≡ without_role (seat_at p (record s { seats = put q a.state s.seats })).replica
+            ≡ without_role (state_at p (record s { states = put q a.state s.states })).replica
         go true h =
             subst (λ t. replica_of t (replicas_after_all [] (records ++ records_of a.deeds)) ≡ without_role a.state.replica) (eqb-true q p h) here
-            ∙ sym (ap (λ (z : Seat). without_role z.replica) (put_seat p true h))
-        go false h = there p (eqb-false q p h) ∙ sym (ap (λ (z : Seat). without_role z.replica) (put_seat p false h))
+            ∙ sym (ap (λ (z : ReplicaState). without_role z.replica) (put_state p true h))
+        go false h = there p (eqb-false q p h) ∙ sym (ap (λ (z : ReplicaState). without_role z.replica) (put_state p false h))
 
   -- a row of the replica that was found, or else nothing of the kind
-  standing : (q : ℕ) (row : Seat → Acted Seat) (none : Acted Failover) → Keeps records none → Recorded q (seat_at q s) (row (seat_at q s)) →
+  standing : (q : ℕ) (row : ReplicaState → Acted ReplicaState) (none : Acted Failover) → Keeps records none → Recorded q (state_at q s) (row (state_at q s)) →
       Keeps records (at_standing q row none s)
-  standing q row none otherwise r = go (at q s.seats) refl
+  standing q row none otherwise r = go (at q s.states) refl
     where
-      go : (o : Option Seat) → at q s.seats ≡ o → Keeps records (at_found q row none s o)
+      go : (o : Option ReplicaState) → at q s.states ≡ o → Keeps records (at_found q row none s o)
       go None i = otherwise
-      go (Some seat) i =
-          let same : seat_at q s ≡ seat = ap (λ o. unwrap_or o (first_seat q)) i in
-          seat_keeps q (row seat) (subst (λ (z : Seat). Recorded q (seat_at q s) (row z)) same r)
+      go (Some state) i =
+          let same : state_at q s ≡ state = ap (λ o. unwrap_or o (first_state q)) i in
+          state_keeps q (row state) (subst (λ (z : ReplicaState). Recorded q (state_at q s) (row z)) same r)
 
   nothing : Keeps records (still s)
   nothing = silent (still s) refl refl
@@ -129,19 +129,19 @@ module _ (records : List Record) (s : Failover) (fit : (p : ℕ) → IsFit p (se
     frame_keeps from (body.Adopted q e last) = answered from q e (body.Adopted q e last)
     frame_keeps from (body.Activated q e) = answered from q e (body.Activated q e)
     frame_keeps from (body.Older q e higher) = answered from q e (body.Older q e higher)
-    frame_keeps from (body.Promise q e) = seat_keeps q _ (promise_recorded q (seat_at q s) (fit q).partition from e)
+    frame_keeps from (body.Promise q e) = state_keeps q _ (promise_recorded q (state_at q s) (fit q).partition from e)
     frame_keeps from (body.Sync q e origin last) =
-        seat_keeps q _ (sync_recorded q r.me.actor (record { epoch = e; origin = origin; last = last; asker = from }) (seat_at q s) (fit q).partition)
-    frame_keeps from (body.Fetch q e lsn) = standing q (fetch_received from e lsn) (still s) nothing (fetch_recorded q (seat_at q s) from e lsn)
+        state_keeps q _ (sync_recorded q r.me.actor (record { epoch = e; origin = origin; last = last; asker = from }) (state_at q s) (fit q).partition)
+    frame_keeps from (body.Fetch q e lsn) = standing q (fetch_received from e lsn) (still s) nothing (fetch_recorded q (state_at q s) from e lsn)
     frame_keeps from (body.Piece q e lsn entry_epoch text) =
         standing q (piece_received e (record { epoch = entry_epoch; lsn = lsn; bytes = text })) (still s) nothing
-        (piece_recorded q (seat_at q s) (fit q) e (record { epoch = entry_epoch; lsn = lsn; bytes = text }))
+        (piece_recorded q (state_at q s) (fit q) e (record { epoch = entry_epoch; lsn = lsn; bytes = text }))
     frame_keeps from (body.Activate config) =
-        seat_keeps config.partition _
-        (activate_recorded config.partition (seat_at config.partition s) (fit config.partition).at_promised r.me.actor from config)
-    frame_keeps from (body.Append q e lsn text) = seat_keeps q _ (append_recorded q (seat_at q s) (fit q).partition from e lsn text)
+        state_keeps config.partition _
+        (activate_recorded config.partition (state_at config.partition s) (fit config.partition).at_promised r.me.actor from config)
+    frame_keeps from (body.Append q e lsn text) = state_keeps q _ (append_recorded q (state_at q s) (fit q).partition from e lsn text)
     frame_keeps from (body.Appended q e last) =
-        standing q (appended_received from.actor e last) (still s) nothing (appended_recorded q (seat_at q s) from.actor e last)
+        standing q (appended_received from.actor e last) (still s) nothing (appended_recorded q (state_at q s) from.actor e last)
     frame_keeps from b = nothing
 
     command_keeps : (d : Command) → Keeps records (command_row c now r d s)
@@ -151,14 +151,14 @@ module _ (records : List Record) (s : Failover) (fit : (p : ℕ) → IsFit p (se
     command_keeps (command.Lose q node) = commanded q (Lose node)
     command_keeps (command.Write q text) =
         standing q (write_commanded text) (refuse verb.Write reason.NotPrimary s) (silent (refuse verb.Write reason.NotPrimary s) refl refl)
-        (write_recorded q (seat_at q s) (fit q).partition text)
+        (write_recorded q (state_at q s) (fit q).partition text)
     command_keeps (command.Units range) = silent (command_row c now r (command.Units range) s) refl refl
     command_keeps (command.Resolve q name) =
         standing q (resolve_commanded name) (refuse verb.Resolve reason.NotPrimary s) (silent (refuse verb.Resolve reason.NotPrimary s) refl refl)
-        (answer_recorded q (seat_at q s) (resolve_commanded name (seat_at q s)) (resolve_only_answers name (seat_at q s)))
+        (answer_recorded q (state_at q s) (resolve_commanded name (state_at q s)) (resolve_only_answers name (state_at q s)))
     command_keeps (command.Names q range) =
         standing q (names_commanded range) (refuse verb.Names reason.NotPrimary s) (silent (refuse verb.Names reason.NotPrimary s) refl refl)
-        (answer_recorded q (seat_at q s) (names_commanded range (seat_at q s)) (names_only_answer range (seat_at q s)))
+        (answer_recorded q (state_at q s) (names_commanded range (state_at q s)) (names_only_answer range (state_at q s)))
     command_keeps d = nothing
 
   fire_keeps : Keeps records (acted s (fired s))

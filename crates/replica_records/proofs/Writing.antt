@@ -12,30 +12,30 @@ use Rattle.replica_core.specs.declared.refusal.Done.TheVariants.{New, Held}
 use Rattle.replica_core.specs.declared.refusal.ReplicaRefusal.TheVariants.{Older, NotMember, Gap, LogFull, OutOfMemory}
 use Rattle.replica_core.specs.Replicas.{Replica, written}
 use Rattle.replica_core.specs.Calls.{Outcome, unless, held_if, is_ahead, append_call}
-use Rattle.unit_rules.specs.declared.lead.Peer.{Peer}
+use Rattle.unit_rules.specs.declared.progress.PeerProgress.{PeerProgress}
 use Rattle.unit_rules.specs.Answers.{OnlyAnswers}
 use Rattle.unit_rules.specs.Deeds.{Acted, acted, still, records_of}
-use Rattle.unit_rules.specs.Leads.{lead_of, confirmed_by, confirmed_of, most_confirmed}
-use Rattle.unit_rules.specs.Seats.{Lead, Seat, seated, last_of, entry_at}
-use Rattle.unit_rules.specs.Writes.{say_appended, append_answered, append_received, commits, committed, appended_to, appended_received, append_to, write_answered, write_to, write_commanded, entry_sent, lead_fired, seat_fired}
+use Rattle.unit_rules.specs.Progress.{progress_of, confirmed_by, confirmed_of, most_confirmed}
+use Rattle.unit_rules.specs.ReplicaStates.{ReplicationProgress, ReplicaState, replica_put, last_of, entry_at}
+use Rattle.unit_rules.specs.Writes.{say_appended, append_answered, append_received, commits, committed, appended_to, appended_received, append_to, write_answered, write_to, write_commanded, entry_sent, progress_fired, state_fired}
 use Rattle.replica_records.specs.Kept.{without_role}
 use Rattle.replica_records.proofs.Blind.{append_blind}
 use Rattle.replica_records.proofs.Folding.{replica_after_all, AllOf}
 use Rattle.replica_records.proofs.Recorded.{Recorded, left, silent_join, refused_not}
 
 -- what a primary notes of its members is not recorded
-pub record Noted (s : Seat) (a : Acted Seat) : Type 0 where
+pub record Noted (s : ReplicaState) (a : Acted ReplicaState) : Type 0 where
   pub silent : records_of a.deeds ≡ []
   pub same : a.state.replica ≡ s.replica
 
-pub committed_noted : (l : Lead) (s : Seat) → Noted s (committed l s)
+pub committed_noted : (l : ReplicationProgress) (s : ReplicaState) → Noted s (committed l s)
 committed_noted l s = go (nat_lt l.committed (most_confirmed (confirmed_of l (last_of s.replica))))
   where
-    go : (b : Bool) → Noted s (if b then commits l (most_confirmed (confirmed_of l (last_of s.replica))) s else still (record s { lead = Some l }))
+    go : (b : Bool) → Noted s (if b then commits l (most_confirmed (confirmed_of l (last_of s.replica))) s else still (record s { progress = Some l }))
     go true = record { silent = refl; same = refl }
     go false = record { silent = refl; same = refl }
 
-appends_silent : (e : Epoch) (r : Replica) (lsn : ℕ) (text : List ℕ) (peers : List Peer) → records_of (map (append_to e r lsn text) peers) ≡ []
+appends_silent : (e : Epoch) (r : Replica) (lsn : ℕ) (text : List ℕ) (peers : List PeerProgress) → records_of (map (append_to e r lsn text) peers) ≡ []
 appends_silent e r lsn text [] = refl
 appends_silent e r lsn text (q ∷ qs) = appends_silent e r lsn text qs
 
@@ -58,7 +58,7 @@ next_added e text r d t =
     go false false false h true k = absurd (refused_not LogFull r t d k)
     go false false false h false k = sym (ap left k)
 
-module _ (p : ℕ) (s : Seat) where
+module _ (p : ℕ) (s : ReplicaState) where
   pub append_recorded : s.replica.partition ≡ p → (from : Who) (e : Epoch) (lsn : ℕ) (text : List ℕ) → Recorded p s (append_received from e lsn text s)
   unfolding append_received
   append_recorded here from e lsn text = go (append_call e lsn text s.replica) refl
@@ -79,7 +79,7 @@ module _ (p : ℕ) (s : Seat) where
       go (Err LogFull, r) i = record { of = tt; folds = refl }
       go (Err OutOfMemory, r) i = record { of = tt; folds = refl }
 
-  noted : (a : Acted Seat) → Noted s a → Recorded p s a
+  noted : (a : Acted ReplicaState) → Noted s a → Recorded p s a
   noted a n = record {
     of = subst (AllOf p) (sym n.silent) tt;
     folds = ap (replica_after_all (without_role s.replica)) n.silent ∙ ap without_role (sym n.same);
@@ -87,29 +87,29 @@ module _ (p : ℕ) (s : Seat) where
 
   pub appended_recorded : (node : ℕ) (e : Epoch) (last : ℕ) → Recorded p s (appended_received node e last s)
   unfolding appended_received
-  appended_recorded node e last = go (lead_of s)
+  appended_recorded node e last = go (progress_of s)
     where
-      by : (l : Lead) (b : Bool) → Recorded p s (if b then committed l s else still s)
+      by : (l : ReplicationProgress) (b : Bool) → Recorded p s (if b then committed l s else still s)
       by l true = noted (committed l s) (committed_noted l s)
       by l false = record { of = tt; folds = refl }
 
-      go : (o : Option Lead) → Recorded p s (appended_to node e last s o)
+      go : (o : Option ReplicationProgress) → Recorded p s (appended_to node e last s o)
       go None = record { of = tt; folds = refl }
       go (Some l) = by (confirmed_by node last (last_of s.replica) l) (same_epoch s.replica.at e)
 
   pub write_recorded : s.replica.partition ≡ p → (text : List ℕ) → Recorded p s (write_commanded text s)
   unfolding write_commanded
-  write_recorded here text = go (lead_of s)
+  write_recorded here text = go (progress_of s)
     where
-      by : (l : Lead) (o : Outcome Done) → append_call s.replica.at (last_of s.replica + 1) text s.replica ≡ o → Recorded p s (write_answered text l s o)
+      by : (l : ReplicationProgress) (o : Outcome Done) → append_call s.replica.at (last_of s.replica + 1) text s.replica ≡ o → Recorded p s (write_answered text l s o)
       by l (Err (Older x), r) i = record { of = tt; folds = refl }
       by l (Err NotMember, r) i = record { of = tt; folds = refl }
       by l (Err (Gap last), r) i = record { of = tt; folds = refl }
       by l (Err LogFull, r) i = record { of = tt; folds = refl }
       by l (Err OutOfMemory, r) i = record { of = tt; folds = refl }
       by l (Ok d, r) i =
-          let n = committed_noted l (seated s r) in
-          let a : Acted Seat = committed l (seated s r) in
+          let n = committed_noted l (replica_put s r) in
+          let a : Acted ReplicaState = committed l (replica_put s r) in
           let quiet : records_of (map (append_to r.at r (last_of r) text) l.peers ++ a.deeds) ≡ []
           = silent_join (map (append_to r.at r (last_of r) text) l.peers) a.deeds (appends_silent r.at r (last_of r) text l.peers) n.silent in
           let added = next_added s.replica.at text s.replica d r i in
@@ -129,29 +129,29 @@ module _ (p : ℕ) (s : Seat) where
                 ∙ (folded ∙ ap without_role (sym n.same));
           }
 
-      go : (o : Option Lead) → Recorded p s (write_to text s o)
+      go : (o : Option ReplicationProgress) → Recorded p s (write_to text s o)
       go None = record { of = tt; folds = refl }
       go (Some l) = by l (append_call s.replica.at (last_of s.replica + 1) text s.replica) refl
 
 -- nor does an answer about names
-pub answer_recorded : (p : ℕ) (s : Seat) (a : Acted Seat) → OnlyAnswers s a → Recorded p s a
+pub answer_recorded : (p : ℕ) (s : ReplicaState) (a : Acted ReplicaState) → OnlyAnswers s a → Recorded p s a
 answer_recorded p s a h = subst (Recorded p s) (sym h.is) (record { of = tt; folds = refl })
 
 -- a replica's firing records nothing
-pub fired_silent : (s : Seat) → records_of (seat_fired s) ≡ []
-unfolding seat_fired
-fired_silent s = go (lead_of s)
+pub fired_silent : (s : ReplicaState) → records_of (state_fired s) ≡ []
+unfolding state_fired
+fired_silent s = go (progress_of s)
   where
-    one : (q : Peer) (o : Option Entry) → records_of (entry_sent s.replica q o) ≡ []
+    one : (q : PeerProgress) (o : Option Entry) → records_of (entry_sent s.replica q o) ≡ []
     one q None = refl
     one q (Some x) = refl
 
-    all : (qs : List Peer) → records_of (flat_map (λ q. entry_sent s.replica q (entry_at q.next s.replica.log)) qs) ≡ []
+    all : (qs : List PeerProgress) → records_of (flat_map (λ q. entry_sent s.replica q (entry_at q.next s.replica.log)) qs) ≡ []
     all [] = refl
     all (q ∷ qs) =
         silent_join (entry_sent s.replica q (entry_at q.next s.replica.log))
         (flat_map (λ q. entry_sent s.replica q (entry_at q.next s.replica.log)) qs) (one q (entry_at q.next s.replica.log)) (all qs)
 
-    go : (o : Option Lead) → records_of (lead_fired s.replica o) ≡ []
+    go : (o : Option ReplicationProgress) → records_of (progress_fired s.replica o) ≡ []
     go None = refl
     go (Some l) = all l.peers

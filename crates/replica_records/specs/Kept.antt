@@ -4,11 +4,11 @@ use Rattle.fabric_terms.specs.declared.record.Record.{Record}
 use Rattle.ring_points.specs.Epochs.{is_older}
 use Rattle.replica_core.specs.declared.role.Role.TheVariants.{None as NoRole}
 use Rattle.replica_core.specs.Replicas.{Replica}
-use Rattle.unit_rules.specs.declared.lead.Taking.{Taking}
-use Rattle.unit_rules.specs.Seats.{Seat}
+use Rattle.unit_rules.specs.declared.progress.CatchUp.{CatchUp}
+use Rattle.unit_rules.specs.ReplicaStates.{ReplicaState}
 use Rattle.unit_rules.specs.Starts.{replica_of, replicas_after_all}
 use Rattle.unit_rules.specs.Steps.{Failover}
-use Rattle.replica_records.specs.Seats.{seat_at}
+use Rattle.replica_records.specs.ReplicaStates.{state_at}
 
 -- what records say of a replica: all but its role
 abbrev pub without_role : Replica → Replica
@@ -16,10 +16,10 @@ without_role r = record r { role = NoRole }
 
 -- the replicas that the records give are those that stand
 abbrev pub AreKept : List Record → Failover → Type 0
-AreKept records s = (p : ℕ) → replica_of p (replicas_after_all [] records) ≡ without_role (seat_at p s).replica
+AreKept records s = (p : ℕ) → replica_of p (replicas_after_all [] records) ≡ without_role (state_at p s).replica
 
 -- a replica of its partition, whose log is of no epoch above the promised one, and which takes no log that has no room
-pub record IsFit (p : ℕ) (s : Seat) : Type 0 where
+pub record IsFit (p : ℕ) (s : ReplicaState) : Type 0 where
   pub partition : s.replica.partition ≡ p
   pub at_promised : is_older s.replica.promised s.replica.at ≡ false
-  pub room : (t : Taking) → s.taking ≡ Some t → t.last ≤ 100000
+  pub room : (t : CatchUp) → s.catch_up ≡ Some t → t.last ≤ 100000

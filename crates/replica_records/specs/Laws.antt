@@ -7,22 +7,22 @@ use Rattle.ring_rules.specs.declared.input.Input.{Input}
 use Rattle.ring_rules.specs.Rings.{Ring}
 use Rattle.unit_rules.specs.Deeds.{records_of}
 use Rattle.unit_rules.specs.Loads.{Site}
-use Rattle.unit_rules.specs.Starts.{seats_begun}
+use Rattle.unit_rules.specs.Starts.{states_begun}
 use Rattle.unit_rules.specs.Steps.{Failover, failover_begun, failover_step}
-use Rattle.replica_records.specs.Seats.{seat_at, begun_again}
+use Rattle.replica_records.specs.ReplicaStates.{state_at, begun_again}
 use Rattle.replica_records.specs.Kept.{AreKept, IsFit}
-use Rattle.replica_records.specs.Named.{named, seats_of, KeptAs, FitsFrame}
+use Rattle.replica_records.specs.Named.{named, states_of, KeptAs, FitsFrame}
 
 -- whatever comes to a node, what it records is what its replicas become
 abbrev pub StepsAreKept : Type 0
 StepsAreKept =
-    (c : Site) (now : ℕ) (r : Ring) (s : Failover) (i : Input) (records : List Record) → ((p : ℕ) → IsFit p (seat_at p s)) → AreKept records s →
+    (c : Site) (now : ℕ) (r : Ring) (s : Failover) (i : Input) (records : List Record) → ((p : ℕ) → IsFit p (state_at p s)) → AreKept records s →
     AreKept (records ++ records_of (failover_step c now r s i).deeds) (failover_step c now r s i).state
 
 -- who starts has the replicas of its instance before, but for roles and what was collected
 abbrev pub StartsGoOn : Type 0
 StartsGoOn =
-    (records : List Record) (s : Failover) → AreKept records s → (p : ℕ) → seat_at p (failover_begun records) ≡ begun_again (seat_at p s)
+    (records : List Record) (s : Failover) → AreKept records s → (p : ℕ) → state_at p (failover_begun records) ≡ begun_again (state_at p s)
 
 -- with the record of its start, the records give what it begins with
 abbrev pub StartsAreKept : Type 0
@@ -30,7 +30,7 @@ StartsAreKept = (records : List Record) (instance : ℕ) → AreKept (records ++
 
 -- it has them by rising partition
 abbrev pub StartsRise : Type 0
-StartsRise = (records : List Record) → rises (failover_begun records).seats ≡ true
+StartsRise = (records : List Record) → rises (failover_begun records).states ≡ true
 
 -- At each moment the replicas that the records name are those that stand, as a list.
 
@@ -50,12 +50,12 @@ StartsStayKept =
     (records : List Record) (s : Failover) (instance : ℕ) → KeptAs records s → KeptAs (records ++ Boot instance ∷ []) (failover_begun records)
 
 -- so who starts begins with the replicas that are named, each of its partition
-abbrev pub SeatsAreKept : Type 0
-SeatsAreKept =
+abbrev pub ReplicaStatesAreKept : Type 0
+ReplicaStatesAreKept =
     (records : List Record) (s : Failover) → KeptAs records s →
-    (seats_begun records ≡ seats_of (named s.seats)) × All (λ e. e.1.partition ≡ e.0) (named s.seats)
+    (states_begun records ≡ states_of (named s.states)) × All (λ e. e.1.partition ≡ e.0) (named s.states)
 
 -- and a start that leaves no record of its own keeps what the next one begins with
 abbrev pub StartsBeginAgain : Type 0
 StartsBeginAgain =
-    (records : List Record) (s : Failover) → KeptAs records s → seats_begun records ≡ seats_of (named (failover_begun records).seats)
+    (records : List Record) (s : Failover) → KeptAs records s → states_begun records ≡ states_of (named (failover_begun records).states)

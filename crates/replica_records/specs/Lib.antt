@@ -1,4 +1,4 @@
-pub mod Seats
+pub mod ReplicaStates
 pub mod Kept
 pub mod Named
 pub mod Laws

@@ -1,4 +1,5 @@
-ghost use Rattle.replica_records.specs.Laws.{NothingIsKept, SeatsAreKept, StartsAreKept, StartsBeginAgain, StartsGoOn, StartsRise, StartsStayKept, StepsAreKept, StepsStayKept};
+ghost use Rattle.replica_records.specs.Laws.{NothingIsKept, ReplicaStatesAreKept, StartsAreKept, StartsBeginAgain};
+ghost use Rattle.replica_records.specs.Laws.{StartsGoOn, StartsRise, StartsStayKept, StepsAreKept, StepsStayKept};
 
 /// Whatever frame, command or firing comes to a node, its records with those of the step give its replicas after the
 /// step, but for their roles. It takes no log of more than 100,000 entries.
@@ -6,7 +7,8 @@ pub fn steps_are_kept()
     ensures { StepsAreKept }
 {}
 
-/// Who starts from such records has the replicas of the instance before, but for their roles and what they had collected.
+/// Who starts from such records has the replicas of the instance before, but for their roles and what they had
+/// collected.
 pub fn starts_go_on()
     ensures { StartsGoOn }
 {}
@@ -26,8 +28,8 @@ pub fn nothing_is_kept()
     ensures { NothingIsKept }
 {}
 
-/// Whatever frame in the ranges of frames, command or firing comes to a node, the records with those of the step name the
-/// replicas that stand after it and are not as new, each exactly but for its role, and no other.
+/// Whatever frame in the ranges of frames, command or firing comes to a node, the records with those of the step name
+/// the replicas that stand after it and are not as new, each exactly but for its role, and no other.
 pub fn steps_stay_kept()
     ensures { StepsStayKept }
 {}
@@ -39,8 +41,8 @@ pub fn starts_stay_kept()
 
 /// Who starts begins with the replicas of the instance before that are not as new, without roles and without what they
 /// had collected, and with no other.
-pub fn seats_are_kept()
-    ensures { SeatsAreKept }
+pub fn states_are_kept()
+    ensures { ReplicaStatesAreKept }
 {}
 
 /// A start that records nothing begins with what the next start begins with.

@@ -4,17 +4,18 @@ ghost use Rattle.std.specs.List.{list_all};
 ghost use Rattle.text_fields.specs.Fields.{Gives, word_of};
 ghost use Rattle.line_format.specs.Commands.{partition_at, is_printable, text_of};
 
+use ring_points::MAX_PARTITIONS;
 use line_format::BadLine;
 use text_fields::{BadField, number_in, number_word};
 
 /// The greatest number of a partition.
-const LAST_PARTITION: u64 = 65535;
+const MAX_PARTITION: u64 = MAX_PARTITIONS as u64 - 1;
 
 /// A partition, and what follows it.
 pub fn partition_at(bytes: &[u8]) -> Result<(u16, &[u8]), BadField>
     ensures { Gives (λ x. (x.0, x.1.now)) result (partition_at bytes.now) }
 {
-    let (partition, rest) = number_in(0, LAST_PARTITION, bytes)?;
+    let (partition, rest) = number_in(0, MAX_PARTITION, bytes)?;
     Ok((partition as u16, rest))
 }
 
@@ -22,7 +23,7 @@ pub fn partition_at(bytes: &[u8]) -> Result<(u16, &[u8]), BadField>
 pub fn partition_word(bytes: &[u8]) -> Result<(u16, &[u8]), BadField>
     ensures { Gives (λ x. (x.0, x.1.now)) result (word_of partition_at bytes.now) }
 {
-    let (partition, rest) = number_word(0, LAST_PARTITION, bytes)?;
+    let (partition, rest) = number_word(0, MAX_PARTITION, bytes)?;
     Ok((partition as u16, rest))
 }
 

@@ -2,12 +2,10 @@ ghost use Rattle.std.specs.Prelude.{◌≡◌, ◌≤◌, length};
 ghost use Rattle.text_fields.specs.Fields.{Gives, last, word_of};
 ghost use Rattle.line_format.specs.Names.{is_name_byte, name_length, name_at};
 
+use ring_points::MAX_NAME;
 use fabric_terms::NameText;
 use line_format::BadLine;
 use text_fields::after_word;
-
-/// How many bytes a name may have at most.
-const MOST_NAME: usize = 64;
 
 fn is_name_byte(b: u8) -> bool
     ensures { result ≡ is_name_byte b }
@@ -34,7 +32,7 @@ pub fn name_at(bytes: &[u8]) -> Result<(NameText, &[u8]), BadLine>
     ensures { Gives (λ x. (x.0, x.1.now)) result (name_at bytes.now) }
 {
     let n = name_length(bytes);
-    if n == 0 || n > MOST_NAME {
+    if n == 0 || n > MAX_NAME {
         return Err(BadLine);
     }
     let (name, rest) = bytes.split_at(n);

@@ -13,7 +13,7 @@ use Rattle.ring_machine.specs.SoundFrames.{SoundAck}
 use Rattle.ring_machine.proofs.States.{implied}
 use Rattle.ring_machine.proofs.Duty.{TokenDuty, Duty}
 use Rattle.ring_machine.proofs.Acting.{Acting, good, freeze_mine}
-use Rattle.ring_machine.proofs.Kept.{KeptLink, LeaseKept, kept_duty, lease_same, state_same}
+use Rattle.ring_machine.proofs.Kept.{LeaseKept, kept_duty, state_same}
 use Rattle.ring_machine.proofs.Shrunk.{not_less, not_undone, token_shrunk, place_shrunk}
 
 module _ {c : Settings} {w : World} {e : End} (a : Acting c w e) where

@@ -5,7 +5,7 @@ use Rattle.ring_machine.specs.Points.{Points, no_points, union}
 use Rattle.ring_machine.specs.Ends.{End}
 use Rattle.ring_machine.specs.Slots.{Slot, Flight, Heir, Ended, HasClaim, of_record, of_flight, guards, is_engaged, is_active, is_willing, part_of}
 use Rattle.ring_machine.specs.Tokens.{Token}
-use Rattle.ring_machine.specs.World.{Settings, World, Unborn, Place, At, InFlight, Live, Dead, slot}
+use Rattle.ring_machine.specs.World.{Settings, World, Place, At, InFlight, Live, Dead, slot}
 use Rattle.ring_machine.specs.Arbitration.{HeirBy, AnsweredBy}
 use Rattle.ring_machine.specs.Effects.{outcome, moved, enlarged, ended}
 use Rattle.ring_machine.specs.Sessions.{Tied, BothTied, Closed, elsewhere, over}

@@ -1,4 +1,5 @@
-ghost use Rattle.ring_machine.specs.Laws.{Exclusion, Uniqueness, RingSafe, TakenAfterLeave, OwnsItsPlaces, EachMovesFromItsPlace, NumberedOnce, InvariantHolds};
+ghost use Rattle.ring_machine.specs.Laws.{Exclusion, Uniqueness, RingSafe, TakenAfterLeave, OwnsItsPlaces};
+ghost use Rattle.ring_machine.specs.Laws.{EachMovesFromItsPlace, NumberedOnce, InvariantHolds};
 
 /// After every valid history the invariant holds; all other laws follow from it.
 pub fn invariant_holds()

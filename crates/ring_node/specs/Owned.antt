@@ -2,7 +2,7 @@
 use Rattle.std.specs.Prelude.{Bool, not, ◌&&◌, ◌||◌, List}
 use Rattle.fabric_terms.specs.declared.report.Report.{Report}
 use Rattle.join_phases.specs.Phases.{is_left}
-use Rattle.ring_node.specs.declared.owns.Owned.{Owned}
+use Rattle.ring_node.specs.declared.ownership.Owned.{Owned}
 use Rattle.ring_node.specs.Nodes.{Node}
 use Rattle.ring_rules.specs.Owns.{own_unless, same_fence, same_ranges}
 use Rattle.ring_rules.specs.Slots.{fence_of}

@@ -1,7 +1,7 @@
 ghost use Rattle.std.specs.Prelude.{◌≡◌, ◌+◌, ◌<◌, ◌≤◌, OnErr, OnOk, false, length};
 ghost use Rattle.ring_node.specs.Greetings.{length_for, wire_for};
 ghost use Rattle.ring_node.specs.Nodes.{IsPatched, by, step};
-ghost use Rattle.ring_rules.specs.Commands.{give_commanded, join_commanded, link_commanded, part_commanded};
+ghost use Rattle.ring_rules.specs.Commands.{join_commanded, link_commanded, part_commanded};
 ghost use Rattle.ring_rules.specs.Deeds.{has_numbers};
 ghost use Rattle.ring_rules.specs.Steps.{command_received, command_row};
 
@@ -10,8 +10,8 @@ use crate::node::RingNode;
 use crate::refusals::{refuse, refuse_for};
 use crate::reports::Reports;
 use crate::tokens::Spent;
-use drift_clock::MAX_READING;
-use fabric_terms::{Command, OUTBOX_LIMIT, Outbox, Reason, Verb};
+use ring_points::{MAX_READING, MAX_RING_REPORTS, OUTBOX_LIMIT};
+use fabric_terms::{Command, Outbox, Reason, Verb};
 
 impl RingNode {
     /// The command to link with a node.
@@ -26,9 +26,12 @@ impl RingNode {
     ) -> Result<(), Spent>
         requires now { now ≤ MAX_READING }
         requires room { length out.old < OUTBOX_LIMIT }
-        requires place { length told.old < 64 }
-        ensures ok { OnOk result (step self.new out.new told.new ≡ by (λ c. link_commanded c now node (wire_for span) (length_for c span)) (step self.old out.old told.old)) }
-        ensures err { OnErr result (has_numbers (link_commanded self.old.settings now node (wire_for span) (length_for self.old.settings span) (step self.old out.old told.old).work).ring ≡ false) }
+        requires place { length told.old < MAX_RING_REPORTS }
+        ensures ok { OnOk result (step self.new out.new told.new ≡ by
+            (λ c. link_commanded c now node (wire_for span) (length_for c span)) (step self.old out.old told.old)) }
+        ensures err { OnErr result (has_numbers
+            (link_commanded self.old.settings now node (wire_for span) (length_for self.old.settings span)
+            (step self.old out.old told.old).work).ring ≡ false) }
         ensures kept { OnErr result (step self.new out.new told.new ≡ step self.old out.old told.old) }
         ensures few { length told.new ≤ length told.old + 1 }
         ensures short { length out.new ≤ length out.old + 1 }
@@ -43,8 +46,9 @@ impl RingNode {
     #[tactic(auto, unfolding(ring_rules::specs::Commands::join_commanded))]
     pub(crate) fn join(&mut self, member: u16, out: &mut Outbox, told: &mut Reports)
         requires room { length out.old < OUTBOX_LIMIT }
-        requires place { length told.old < 64 }
-        ensures row { step self.new out.new told.new ≡ by (λ c. join_commanded member) (step self.old out.old told.old) }
+        requires place { length told.old < MAX_RING_REPORTS }
+        ensures row { step self.new out.new told.new ≡ by (λ c. join_commanded member) (step self.old out.old told.old)
+            }
         ensures few { length told.new ≤ length told.old + 1 }
         ensures short { length out.new ≤ length out.old + 1 }
     {
@@ -65,9 +69,11 @@ impl RingNode {
         told: &mut Reports,
     ) -> Result<(), Spent>
         requires room { length out.old < OUTBOX_LIMIT }
-        requires place { length told.old < 64 }
-        ensures ok { OnOk result (step self.new out.new told.new ≡ by (λ c. part_commanded node) (step self.old out.old told.old)) }
-        ensures err { OnErr result (has_numbers (part_commanded node (step self.old out.old told.old).work).ring ≡ false) }
+        requires place { length told.old < MAX_RING_REPORTS }
+        ensures ok { OnOk result (step self.new out.new told.new ≡ by (λ c. part_commanded node)
+            (step self.old out.old told.old)) }
+        ensures err { OnErr result (has_numbers (part_commanded node (step self.old out.old told.old).work).ring
+            ≡ false) }
         ensures kept { OnErr result (IsPatched (step self.old out.old told.old) (step self.new out.new told.new)) }
         ensures few { length told.new ≤ length told.old + 1 }
         ensures short { length out.new ≤ length out.old + 1 }
@@ -93,9 +99,11 @@ impl RingNode {
     ) -> Result<(), Spent>
         requires now { now ≤ MAX_READING }
         requires room { length out.old < OUTBOX_LIMIT }
-        requires place { length told.old < 64 }
-        ensures ok { OnOk result (step self.new out.new told.new ≡ by (λ c. command_row c now command.now) (step self.old out.old told.old)) }
-        ensures err { OnErr result (has_numbers (command_row self.old.settings now command.now (step self.old out.old told.old).work).ring ≡ false) }
+        requires place { length told.old < MAX_RING_REPORTS }
+        ensures ok { OnOk result (step self.new out.new told.new ≡ by (λ c. command_row c now command.now)
+            (step self.old out.old told.old)) }
+        ensures err { OnErr result (has_numbers
+            (command_row self.old.settings now command.now (step self.old out.old told.old).work).ring ≡ false) }
         ensures kept { OnErr result (IsPatched (step self.old out.old told.old) (step self.new out.new told.new)) }
         ensures few { length told.new ≤ length told.old + 1 }
         ensures short { length out.new ≤ length out.old + 1 }
@@ -130,7 +138,8 @@ impl RingNode {
         requires now { now ≤ MAX_READING }
         requires room { length out.old < OUTBOX_LIMIT }
         requires place { length told.old < 63 }
-        ensures row { step self.new out.new told.new ≡ by (λ c. command_received c now command.now) (step self.old out.old told.old) }
+        ensures row { step self.new out.new told.new ≡ by (λ c. command_received c now command.now)
+            (step self.old out.old told.old) }
         ensures few { length told.new ≤ length told.old + 1 }
         ensures short { length out.new ≤ length out.old + 1 }
     {

@@ -8,9 +8,8 @@ ghost use Rattle.fabric_terms.specs.Messages.{is_sound};
 
 use crate::node::RingNode;
 use crate::reports::Reports;
-use drift_clock::MAX_READING;
+use ring_points::{ARBITRATORS, MAX_READING, Point, Who};
 use fabric_terms::{Body, Message, Outbox};
-use ring_points::{ARBITRATORS, Point, Who};
 use ring_route::is_among;
 
 fn is_for(me: Who, to: Who) -> bool
@@ -80,7 +79,8 @@ impl RingNode {
     }
 
     fn may_send(&self, actor: u16, body: &Body) -> bool
-        ensures { result ≡ rules.may_send self.now.settings self.now.ring actor (rules.is_between_nodes body.now) (rules.is_arbiters_answer body.now) }
+        ensures { result ≡ rules.may_send self.now.settings self.now.ring actor (rules.is_between_nodes body.now)
+            (rules.is_arbiters_answer body.now) }
     {
         if is_arbiters_answer(body) {
             self.is_arbiter(actor)
@@ -115,7 +115,8 @@ impl RingNode {
         requires frame { IsTrue (may_come self.old.settings.arbitrators message.now.from message.now.body) }
         requires room { length out.old ≡ 0 }
         requires place { length told.old ≡ 0 }
-        ensures row { step self.new out.new told.new ≡ by (λ c. rules.frame_received c now message.now.from message.now.body) (step self.old out.old told.old) }
+        ensures row { step self.new out.new told.new ≡ by
+            (λ c. rules.frame_received c now message.now.from message.now.body) (step self.old out.old told.old) }
         ensures few { length told.new ≤ 4 }
         ensures short { length out.new ≤ 11 }
     {
@@ -132,7 +133,8 @@ impl RingNode {
         requires frame { IsTrue (is_sound message.now) }
         requires room { length out.old ≡ 0 }
         requires place { length told.old ≡ 0 }
-        ensures row { step self.new out.new told.new ≡ by (λ c w. frame_if c now message.now w (rules.passes c w.ring message.now)) (step self.old out.old told.old) }
+        ensures row { step self.new out.new told.new ≡ by
+            (λ c w. frame_if c now message.now w (rules.passes c w.ring message.now)) (step self.old out.old told.old) }
         ensures few { length told.new ≤ 4 }
         ensures short { length out.new ≤ 11 }
     {

@@ -2,10 +2,10 @@ ghost use Rattle.std.specs.Prelude.{◌≡◌, ◌+◌, ◌<◌, ◌≤◌, ◌+
 ghost use Rattle.fabric_terms.specs.declared.report.Report.TheVariants.{LeftRing};
 ghost use Rattle.ring_node.specs.Nodes.{left_at, step, by};
 ghost use Rattle.ring_rules.specs.Deeds.{leave};
-ghost use Rattle.token_core.specs.Tokens.{last_number};
 
 use crate::node::{Mark, RingNode};
 use crate::reports::Reports;
+use ring_points::MAX_RING_REPORTS;
 use fabric_terms::{Outbox, Report, Why};
 
 /// A row is done whole: one that breaks off for want of a number is not done at all, and the node leaves.
@@ -38,7 +38,7 @@ impl RingNode {
 
     /// The node leaves.
     pub(crate) fn leave(&mut self, why: Why, out: &Outbox, told: &mut Reports)
-        requires { length told.old < 64 }
+        requires { length told.old < MAX_RING_REPORTS }
         ensures { step self.new out.now told.new ≡ by (λ c. leave why) (step self.old out.now told.old) }
     {
         let mark = self.mark(out, told);
@@ -50,7 +50,7 @@ impl RingNode {
     pub(crate) fn roll_back(&mut self, mark: Mark, out: &mut Outbox, told: &mut Reports)
         requires version { mark.version ≤ self.old.ring.token.version }
         requires sessions { mark.last_session < self.old.ring.next_session }
-        requires place { mark.told < 64 }
+        requires place { mark.told < MAX_RING_REPORTS }
         ensures node { self.new ≡ left_at Why.Counters mark.version mark.last_session mark.accused self.old }
         ensures sent { out.new ≡ take mark.sent out.old }
         ensures told { told.new ≡ take mark.told told.old ++ LeftRing Why.Counters ∷ [] }

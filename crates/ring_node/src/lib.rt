@@ -9,25 +9,25 @@
 
 mod acked;
 mod commands;
-mod fires;
+mod ring_firing;
 mod frames;
-mod gives;
-mod greets;
-mod hears;
+mod giving;
+mod greetings;
+mod link_frames;
 mod leave;
 mod near;
 mod node;
 mod notes;
-mod owns;
+mod ownership;
 mod refusals;
 mod reports;
-mod seeks;
+mod searches;
 mod start;
 mod step;
 mod tokens;
 mod up;
 
 pub use node::RingNode;
-pub use owns::Owned;
+pub use ownership::Owned;
 pub use reports::Reports;
 pub use ring_rules::Input;

@@ -2,10 +2,7 @@ ghost use Rattle.std.specs.Prelude.{◌≡◌, IfOk, is_err, not};
 ghost use Rattle.ring_points.specs.Ranges.{fits};
 ghost use Rattle.ring_points.specs.Sets.{nearer_arc, nearer_part_of};
 
-use ring_points::{Interval, Point, RangeSet, TooMany};
-
-/// Half of the ring, in points.
-const HALF_RING: u64 = 1 << 63;
+use ring_points::{HALF_RING, Interval, Point, RangeSet, TooMany};
 
 /// The half of the ring above a point.
 fn half_above(mine: Point) -> RangeSet

@@ -7,10 +7,10 @@ ghost use Rattle.ring_route.specs.Routes.{point_of};
 
 use crate::reports::Reports;
 use arrayvec::ArrayVec;
+use ring_points::{MAX_ARBITRATORS, MAX_LEASE, MAX_NODES, Point, Who};
 use fabric_terms::Outbox;
 use join_phases::Phase;
-use link_core::{Announced, LONGEST_TIME, Links16};
-use ring_points::{Point, Who};
+use link_core::{Announced, Links16};
 use ring_route::RouteTable;
 use std::marker::Model;
 use token_core::Token;
@@ -21,7 +21,7 @@ pub struct RingNode {
     pub(crate) links: Links16,
     pub(crate) token: Token,
     pub(crate) routes: RouteTable,
-    pub(crate) points: ArrayVec<(u16, Point), 64>,
+    pub(crate) points: ArrayVec<(u16, Point), MAX_NODES>,
     pub(crate) phase: Phase,
     pub(crate) target: Option<u16>,
     pub(crate) near: u8,
@@ -77,7 +77,8 @@ fn point_in(points: &[(u16, Point)], node: u16) -> Point
 
 /// What a Renew says of a node with this token in this phase.
 pub(crate) fn announced<'a>(token: &'a Token, phase: &Phase) -> Announced<'a>
-    ensures { result ≡ record { version = token.now.version; ranges = announced token.now; want = is_linked phase.now } }
+    ensures { result ≡ record { version = token.now.version; ranges = announced token.now;
+        want = is_linked phase.now } }
 {
     let want = matches!(phase, Phase::Linked(_));
     Announced::new(token.version(), token.announced(), want)
@@ -94,7 +95,7 @@ impl RingNode {
     /// The lease of a link that names no length, at most 1,000,000,000 ticks.
     pub fn lease(&self) -> u64
         ensures value { result ≡ self.now.settings.lease }
-        ensures short { result ≤ LONGEST_TIME }
+        ensures short { result ≤ MAX_LEASE }
     {
         self.links.lease()
     }
@@ -102,7 +103,7 @@ impl RingNode {
     /// How many arbitrators there are, at most nine.
     pub fn arbitrators(&self) -> u8
         ensures value { result ≡ self.now.settings.arbitrators }
-        ensures few { result ≤ 9 }
+        ensures few { result ≤ MAX_ARBITRATORS }
     {
         self.links.arbitrators()
     }

@@ -1,4 +1,5 @@
-ghost use Rattle.std.specs.Prelude.{◌≡◌, ◌+◌, ◌<◌, ◌≤◌, List, IfSome, OnErr, OnOk, OnSome, [], length, nat_lt, option_map, true};
+ghost use Rattle.std.specs.Prelude.{◌≡◌, ◌+◌, ◌<◌, ◌≤◌, List, IfSome, OnErr, OnOk, OnSome, [], length, nat_lt};
+ghost use Rattle.std.specs.Prelude.{option_map, true};
 ghost use Rattle.ring_rules.specs.Deeds.{undone};
 ghost use Rattle.token_core.specs.Tokens.{last_number};
 ghost use Rattle.ring_rules.specs.Links.{has_flight};
@@ -6,20 +7,22 @@ ghost use Rattle.fabric_terms.specs.declared.message.Body.{Body};
 ghost use Rattle.join_phases.specs.Phases.{is_routing};
 ghost use Rattle.link_core.specs.Calls.{call_in, slot_closed};
 ghost use Rattle.link_core.specs.Links.{did, did_after};
-ghost use Rattle.link_core.specs.Ties.{all_noted, arrived_at, arrived_in, cause_of, noted, returned_in, ripe_in, wanted_at};
+ghost use Rattle.link_core.specs.Ties.{all_noted, arrived_at, arrived_in, cause_of, noted, returned_in, ripe_in};
+ghost use Rattle.link_core.specs.Ties.{wanted_at};
 ghost use Rattle.ring_node.specs.Grants.{part_for};
-ghost use Rattle.ring_node.specs.Nodes.{IsBroken, IsBrokenOff, Rings, RingsBroken, by, links_of, step, with_links, with_token};
+ghost use Rattle.ring_node.specs.Nodes.{IsBroken, IsBrokenOff, Rings, RingsBroken, by, links_of, step, with_links};
+ghost use Rattle.ring_node.specs.Nodes.{with_token};
 ghost use Rattle.ring_points.specs.declared.who.Who.{Who};
 ghost use Rattle.ring_rules.specs.Slots.{slot_at};
 
-use crate::hears::wants_answer;
+use crate::link_frames::wants_answer;
 use crate::near::nearer_part;
 use crate::node::RingNode;
 use crate::reports::Reports;
 use crate::tokens::Spent;
-use fabric_terms::{Body, OUTBOX_LIMIT, Outbox, Report};
+use ring_points::{MAX_RING_REPORTS, OUTBOX_LIMIT, RangeSet, Who};
+use fabric_terms::{Body, Outbox, Report};
 use link_core::LinkNote;
-use ring_points::{RangeSet, Who};
 use token_core::TokenRefusal;
 
 impl RingNode {
@@ -83,9 +86,13 @@ impl RingNode {
         part: &RangeSet,
         told: &mut Reports,
     ) -> Result<(), Spent>
-        requires { length told.old < 64 }
-        ensures ok { OnOk result ((sent : List (Who × Body)) → step self.new sent told.new ≡ by (λ c w. arrived_at i (record { number = number; part = part.now }) (slot_at i w.ring.slots) w) (step self.old sent told.old)) }
-        ensures err { OnErr result ((sent : List (Who × Body)) → IsBroken (λ c w. arrived_at i (record { number = number; part = part.now }) (slot_at i w.ring.slots) w) (step self.old sent told.old) (step self.new sent told.new)) }
+        requires { length told.old < MAX_RING_REPORTS }
+        ensures ok { OnOk result ((sent : List (Who × Body)) →
+            step self.new sent told.new ≡ by (λ c w. arrived_at i (record { number = number; part = part.now })
+            (slot_at i w.ring.slots) w) (step self.old sent told.old)) }
+        ensures err { OnErr result ((sent : List (Who × Body)) →
+            IsBroken (λ c w. arrived_at i (record { number = number; part = part.now }) (slot_at i w.ring.slots) w)
+            (step self.old sent told.old) (step self.new sent told.new)) }
         ensures few { length told.new ≤ length told.old + 1 }
     {
         let Some(peer) = self.peer(i) else {
@@ -107,8 +114,10 @@ impl RingNode {
     fn end(&mut self, i: usize, gone: bool, out: &mut Outbox) -> Result<(), Spent>
         requires inside { i < 16 }
         requires room { length out.old < OUTBOX_LIMIT }
-        ensures links { OnOk result (did (links_of self.new) out.new [] ≡ did_after out.old (call_in i (slot_closed gone) (links_of self.old))) }
-        ensures token { OnOk result (self.new ≡ with_links (links_of self.new) (with_token (undone i self.old.ring.token) self.old)) }
+        ensures links { OnOk result (did (links_of self.new) out.new [] ≡ did_after out.old
+            (call_in i (slot_closed gone) (links_of self.old))) }
+        ensures token { OnOk result (self.new ≡ with_links (links_of self.new)
+            (with_token (undone i self.old.ring.token) self.old)) }
         ensures kept { OnErr result (self.new ≡ self.old) }
         ensures same { OnErr result (out.new ≡ out.old) }
         ensures spent { OnErr result (nat_lt last_number (undone i self.old.ring.token).version ≡ true) }
@@ -125,9 +134,13 @@ impl RingNode {
 
     /// The flight of the frame has arrived.
     fn arrive_by(&mut self, i: usize, body: &Body, told: &mut Reports) -> Result<(), Spent>
-        requires { length told.old < 64 }
-        ensures ok { OnOk result ((sent : List (Who × Body)) → step self.new sent told.new ≡ by (λ c w. arrived_in i (cause_of body.now).flight (slot_at i w.ring.slots) w) (step self.old sent told.old)) }
-        ensures err { OnErr result ((sent : List (Who × Body)) → IsBroken (λ c w. arrived_in i (cause_of body.now).flight (slot_at i w.ring.slots) w) (step self.old sent told.old) (step self.new sent told.new)) }
+        requires { length told.old < MAX_RING_REPORTS }
+        ensures ok { OnOk result ((sent : List (Who × Body)) →
+            step self.new sent told.new ≡ by (λ c w. arrived_in i (cause_of body.now).flight (slot_at i w.ring.slots) w)
+            (step self.old sent told.old)) }
+        ensures err { OnErr result ((sent : List (Who × Body)) →
+            IsBroken (λ c w. arrived_in i (cause_of body.now).flight (slot_at i w.ring.slots) w)
+            (step self.old sent told.old) (step self.new sent told.new)) }
         ensures few { length told.new ≤ length told.old + 1 }
     {
         match body {
@@ -145,9 +158,11 @@ impl RingNode {
         told: &mut Reports,
     ) -> Result<(), Spent>
         requires room { length out.old < OUTBOX_LIMIT }
-        requires place { length told.old < 64 }
-        ensures ok { OnOk result (step self.new out.new told.new ≡ by (λ c w. returned_in i gone (slot_at i w.ring.slots) w) (step self.old out.old told.old)) }
-        ensures err { OnErr result (IsBroken (λ c w. returned_in i gone (slot_at i w.ring.slots) w) (step self.old out.old told.old) (step self.new out.new told.new)) }
+        requires place { length told.old < MAX_RING_REPORTS }
+        ensures ok { OnOk result (step self.new out.new told.new ≡ by
+            (λ c w. returned_in i gone (slot_at i w.ring.slots) w) (step self.old out.old told.old)) }
+        ensures err { OnErr result (IsBroken (λ c w. returned_in i gone (slot_at i w.ring.slots) w)
+            (step self.old out.old told.old) (step self.new out.new told.new)) }
         ensures few { length told.new ≤ length told.old + 1 }
         ensures short { length out.new ≤ length out.old + 1 }
     {
@@ -175,9 +190,13 @@ impl RingNode {
 
     /// An heir is ripe.
     fn take_over(&mut self, i: usize, told: &mut Reports) -> Result<(), Spent>
-        requires { length told.old < 64 }
-        ensures ok { OnOk result ((sent : List (Who × Body)) → step self.new sent told.new ≡ by (λ c w. ripe_in i (slot_at i w.ring.slots) w) (step self.old sent told.old)) }
-        ensures err { OnErr result ((sent : List (Who × Body)) → IsBroken (λ c w. ripe_in i (slot_at i w.ring.slots) w) (step self.old sent told.old) (step self.new sent told.new)) }
+        requires { length told.old < MAX_RING_REPORTS }
+        ensures ok { OnOk result ((sent : List (Who × Body)) →
+            step self.new sent told.new ≡ by (λ c w. ripe_in i (slot_at i w.ring.slots) w)
+            (step self.old sent told.old)) }
+        ensures err { OnErr result ((sent : List (Who × Body)) →
+            IsBroken (λ c w. ripe_in i (slot_at i w.ring.slots) w) (step self.old sent told.old)
+            (step self.new sent told.new)) }
         ensures few { length told.new ≤ length told.old + 1 }
     {
         let Some(Some(link)) = self.links.slots().get(i) else {
@@ -205,9 +224,11 @@ impl RingNode {
         told: &mut Reports,
     ) -> Result<(), Spent>
         requires room { length out.old < OUTBOX_LIMIT }
-        requires place { length told.old < 64 }
-        ensures ok { OnOk result (step self.new out.new told.new ≡ by (λ c. noted (cause_of body.now) note.now) (step self.old out.old told.old)) }
-        ensures err { OnErr result (IsBroken (λ c. noted (cause_of body.now) note.now) (step self.old out.old told.old) (step self.new out.new told.new)) }
+        requires place { length told.old < MAX_RING_REPORTS }
+        ensures ok { OnOk result (step self.new out.new told.new ≡ by (λ c. noted (cause_of body.now) note.now)
+            (step self.old out.old told.old)) }
+        ensures err { OnErr result (IsBroken (λ c. noted (cause_of body.now) note.now) (step self.old out.old told.old)
+            (step self.new out.new told.new)) }
         ensures few { length told.new ≤ length told.old + 1 }
         ensures short { length out.new ≤ length out.old + 1 }
     {
@@ -235,9 +256,11 @@ impl RingNode {
         told: &mut Reports,
     ) -> Result<(), Spent>
         requires room { length out.old + length notes.now ≤ OUTBOX_LIMIT }
-        requires place { length told.old + length notes.now ≤ 64 }
-        ensures ok { OnOk result (step self.new out.new told.new ≡ by (λ c. all_noted (cause_of body.now) notes.now) (step self.old out.old told.old)) }
-        ensures err { OnErr result (IsBrokenOff (λ c. all_noted (cause_of body.now) notes.now) (step self.old out.old told.old) (step self.new out.new told.new)) }
+        requires place { length told.old + length notes.now ≤ MAX_RING_REPORTS }
+        ensures ok { OnOk result (step self.new out.new told.new ≡ by (λ c. all_noted (cause_of body.now) notes.now)
+            (step self.old out.old told.old)) }
+        ensures err { OnErr result (IsBrokenOff (λ c. all_noted (cause_of body.now) notes.now)
+            (step self.old out.old told.old) (step self.new out.new told.new)) }
         ensures few { length told.new ≤ length told.old + length notes.now }
         ensures short { length out.new ≤ length out.old + length notes.now }
     {

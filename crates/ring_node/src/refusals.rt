@@ -4,6 +4,7 @@ ghost use Rattle.ring_node.specs.Refusals.{needs_number, reason_for, reason_of, 
 
 use crate::reports::Reports;
 use crate::tokens::Spent;
+use ring_points::MAX_RING_REPORTS;
 use fabric_terms::{Reason, Report, Verb};
 use link_core::LinkRefusal;
 use token_core::TokenRefusal;
@@ -23,7 +24,7 @@ fn reason_for(refusal: LinkRefusal) -> Option<Reason>
 
 /// A command is refused.
 pub(crate) fn refuse(verb: Verb, reason: Reason, told: &mut Reports)
-    requires { length told.old < 64 }
+    requires { length told.old < MAX_RING_REPORTS }
     ensures { told.new ≡ told.old ++ Report.Refused verb reason ∷ [] }
 {
     told.tell(Report::Refused(verb, reason));
@@ -31,7 +32,7 @@ pub(crate) fn refuse(verb: Verb, reason: Reason, told: &mut Reports)
 
 /// A command is refused as the call on the links was, but for want of a number.
 pub(crate) fn refuse_for(verb: Verb, refusal: LinkRefusal, told: &mut Reports) -> Result<(), Spent>
-    requires { length told.old < 64 }
+    requires { length told.old < MAX_RING_REPORTS }
     ensures told { told.new ≡ told.old ++ refusals verb (reason_for refusal) }
     ensures spent { is_err result ≡ needs_number refusal }
 {
@@ -69,7 +70,7 @@ fn reason_of(refusal: TokenRefusal) -> Option<Reason>
 
 /// The command to give is refused as the token refused the freeze, but for want of a number.
 pub(crate) fn refuse_gift(refusal: TokenRefusal, told: &mut Reports) -> Result<(), Spent>
-    requires { length told.old < 64 }
+    requires { length told.old < MAX_RING_REPORTS }
     ensures told { told.new ≡ told.old ++ refusals Verb.Give (reason_of refusal) }
     ensures spent { is_err result ≡ not (is_some (reason_of refusal)) }
 {

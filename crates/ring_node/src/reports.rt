@@ -1,6 +1,7 @@
 ghost use Rattle.std.specs.Prelude.{◌≡◌, ◌+◌, ◌<◌, ◌≤◌, ◌++◌, ◌∷◌, [], length, take, vec_capacity, vec_len};
 
 use arrayvec::ArrayVec;
+use ring_points::MAX_RING_REPORTS;
 use fabric_terms::Report;
 use std::marker::Model;
 use std::mem;
@@ -8,18 +9,19 @@ use std::mem;
 /// What one step reports, in its order: at most 64 reports. Contracts see them as their list.
 #[derive(Drop)]
 pub struct Reports {
-    reports: ArrayVec<Report, 64>,
+    reports: ArrayVec<Report, MAX_RING_REPORTS>,
 }
 
 impl Model for Reports {
     ghost use Rattle.std.specs.Prelude.{◌≤◌, List, length};
     ghost use Rattle.fabric_terms.specs.declared.report.Report.{Report};
+    ghost use Rattle.ring_points.specs.Limits.{most_ring_reports};
 
     ghost Value = { List Report };
 
     ghost view = { λ r. r.reports.items };
 
-    ghost invariant = { λ r. length r.reports.items ≤ 64 };
+    ghost invariant = { λ r. length r.reports.items ≤ most_ring_reports };
 }
 
 impl Reports {
@@ -34,7 +36,7 @@ impl Reports {
 
     /// Makes one more report.
     pub fn tell(&mut self, report: Report)
-        requires { length self.old < 64 }
+        requires { length self.old < MAX_RING_REPORTS }
         ensures { self.new ≡ self.old ++ report ∷ [] }
     {
         self.reports.push(report);

@@ -8,10 +8,10 @@ ghost use Rattle.ring_rules.specs.Starts.{new_ring};
 use crate::node::{Mark, RingNode};
 use crate::reports::Reports;
 use arrayvec::ArrayVec;
+use ring_points::{MAX_NODES, Point, RangeSet, Who};
 use fabric_terms::{FabricConfig, NodeEntry, OutOfMemory, Report, Why};
 use join_phases::{Booting, Phase};
 use link_core::Links16;
-use ring_points::{Point, RangeSet, Who};
 use ring_route::RouteTable;
 use std::alloc::Global;
 use token_core::Token;
@@ -29,8 +29,8 @@ fn longest_of(nodes: &[NodeEntry], node: u16) -> u64
 }
 
 /// The point of each node.
-fn points_of(nodes: &[NodeEntry]) -> ArrayVec<(u16, Point), 64>
-    requires { length nodes.now ≤ 64 }
+fn points_of(nodes: &[NodeEntry]) -> ArrayVec<(u16, Point), MAX_NODES>
+    requires { length nodes.now ≤ MAX_NODES }
     ensures { map (λ p. (p.0, p.1.0)) result.items ≡ points_of nodes.now }
 {
     let mut points = ArrayVec::new();

@@ -1,14 +1,14 @@
-ghost use Rattle.std.specs.Prelude.{◌≡◌, ◌+◌, ◌<◌, ◌≤◌, ◌++◌, ◌∷◌, [], IsTrue, length};
+ghost use Rattle.std.specs.Prelude.{◌≡◌, ◌+◌, ◌<◌, ◌≤◌, ◌++◌, [], IsTrue, length};
 ghost use Rattle.ring_node.specs.Nodes.{by, step};
 ghost use Rattle.ring_node.specs.Owned.{own_since, owned_of, owns_same};
 ghost use Rattle.ring_node.specs.Steps.{acted, is_sound_input, taken};
-ghost use Rattle.ring_rules.specs.Steps.{before_fence, input_taken};
+ghost use Rattle.ring_rules.specs.Steps.{input_taken};
 
 use crate::node::RingNode;
-use crate::owns::{Owned, keep_ranges, same_fence, same_ranges};
+use crate::ownership::{Owned, keep_ranges, same_fence, same_ranges};
 use crate::reports::Reports;
-use drift_clock::MAX_READING;
-use fabric_terms::{OUTBOX_LIMIT, Outbox, Report, Why};
+use ring_points::{MAX_READING, MAX_RING_REPORTS, OUTBOX_LIMIT};
+use fabric_terms::{Outbox, Report, Why};
 use ring_rules::Input;
 
 impl RingNode {
@@ -42,7 +42,7 @@ impl RingNode {
     /// Tells what the node owns, where the ranges or the fence are others than before, or the node has left since. From
     /// here on that is what it owned before.
     pub fn tell_own(&self, owned: &mut Owned, told: &mut Reports)
-        requires { length told.old < 64 }
+        requires { length told.old < MAX_RING_REPORTS }
         ensures own { told.new ≡ told.old ++ own_since owned.old self.now }
         ensures kept { owned.new ≡ owned_of self.now }
         ensures few { length told.new ≤ length told.old + 1 }
@@ -59,7 +59,8 @@ impl RingNode {
         requires sound { IsTrue (is_sound_input input.now) }
         requires sent { length out.old ≡ 0 }
         requires told { length told.old ≡ 0 }
-        ensures row { step self.new out.new told.new ≡ by (λ c. input_taken c now input.now) (step self.old out.old told.old) }
+        ensures row { step self.new out.new told.new ≡ by (λ c. input_taken c now input.now)
+            (step self.old out.old told.old) }
         ensures few { length told.new ≤ 34 }
         ensures short { length out.new ≤ 185 }
     {
@@ -113,7 +114,7 @@ impl RingNode {
         ensures step { step self.new out.new told.new ≡ acted now input.now self.old }
         ensures owned { owned.new ≡ owned_of self.new }
         ensures messages { length out.new ≤ OUTBOX_LIMIT }
-        ensures reports { length told.new ≤ 64 }
+        ensures reports { length told.new ≤ MAX_RING_REPORTS }
     {
         self.advance(now, input, out, told);
         self.tell_own(owned, told);
@@ -127,7 +128,7 @@ impl RingNode {
         requires sent { out.old ≡ [] }
         ensures step { step self.new out.new result ≡ acted now input.now self.old }
         ensures messages { length out.new ≤ OUTBOX_LIMIT }
-        ensures reports { length result ≤ 64 }
+        ensures reports { length result ≤ MAX_RING_REPORTS }
     {
         let mut owned = self.owned();
         let mut told = Reports::new();

@@ -4,7 +4,7 @@ use Rattle.std.proofs.lemmas.Bool.{false≢true, cases_lt}
 use Rattle.std.proofs.lemmas.Bool.Decides.{nat_tests}
 use Rattle.ring_points.specs.declared.interval.Interval.{Interval}
 use Rattle.ring_points.specs.declared.ranges.TooMany.{TooMany}
-use Rattle.ring_points.specs.declared.ranges.sweep.Kept.{Kept}
+use Rattle.ring_points.specs.declared.ranges.sweep.Swept.{Swept}
 use Rattle.ring_points.specs.Ranges.{in_ranges, rises_from, fits, fitting}
 use Rattle.ring_points.specs.Sets.{meet_with}
 use Rattle.ring_points.specs.Kept.{intervals_of, IsSwept, IsAnswer}
@@ -45,10 +45,10 @@ kept_grows keep is i at last p e o m l inside =
     let more = cases_lt last p in
     grind (arith, nat_tests)
 
-abbrev growing_to : Kept → ℕ → ℕ → Kept
+abbrev growing_to : Swept → ℕ → ℕ → Swept
 growing_to k lo hi = record { intervals = k.intervals; growing = Some (interval lo hi) }
 
-pub begins : (keep : ℕ → Bool) (k : Kept) (at last : ℕ) → k.growing ≡ None → IsSwept keep k at → at ≤ last → last < 2 ^ 64 → ((p : ℕ) → at ≤ p → p ≤ last → keep p ≡ true) → IsSwept keep (growing_to k at last) (last + 1)
+pub begins : (keep : ℕ → Bool) (k : Swept) (at last : ℕ) → k.growing ≡ None → IsSwept keep k at → at ≤ last → last < 2 ^ 64 → ((p : ℕ) → at ≤ p → p ≤ last → keep p ≡ true) → IsSwept keep (growing_to k at last) (last + 1)
 begins keep k at last e s l n inside =
     let rising = rw e at s.rising in
     let points = rw e at s.points in
@@ -62,7 +62,7 @@ begins keep k at last e s l n inside =
       ends = refl;
     }
 
-pub grows : (keep : ℕ → Bool) (k : Kept) (i : Interval) (at last : ℕ) → k.growing ≡ Some i → IsSwept keep k at → at ≤ last → last < 2 ^ 64 → ((p : ℕ) → at ≤ p → p ≤ last → keep p ≡ true) → IsSwept keep (growing_to k i.lo last) (last + 1)
+pub grows : (keep : ℕ → Bool) (k : Swept) (i : Interval) (at last : ℕ) → k.growing ≡ Some i → IsSwept keep k at → at ≤ last → last < 2 ^ 64 → ((p : ℕ) → at ≤ p → p ≤ last → keep p ≡ true) → IsSwept keep (growing_to k i.lo last) (last + 1)
 grows keep k i at last e s l n inside =
     let rising = rw e at s.rising in
     let points = rw e at s.points in
@@ -90,7 +90,7 @@ whole keep is h points l = λ full k same.
     let room : fits is ≡ true = grind (arith, nat_tests) in
     subst (λ (xs : List Interval). ◌≡◌ {A = Result (List Interval) TooMany} (Ok is) (fitting xs)) one (rw room refl)
 
-pub goes_on : (keep : ℕ → Bool) (k : Kept) (at last lo : ℕ) → (k.growing ≡ None) × (lo ≡ at) ⊎ (i : Interval) × (k.growing ≡ Some i) × (lo ≡ i.lo) → IsSwept keep k at → at ≤ last → last < 2 ^ 64 → ((p : ℕ) → at ≤ p → p ≤ last → keep p ≡ true) → IsSwept keep (growing_to k lo last) (last + 1)
+pub goes_on : (keep : ℕ → Bool) (k : Swept) (at last lo : ℕ) → (k.growing ≡ None) × (lo ≡ at) ⊎ (i : Interval) × (k.growing ≡ Some i) × (lo ≡ i.lo) → IsSwept keep k at → at ≤ last → last < 2 ^ 64 → ((p : ℕ) → at ≤ p → p ≤ last → keep p ≡ true) → IsSwept keep (growing_to k lo last) (last + 1)
 goes_on keep k at last lo (inl e) s l n inside = rw e.1 (begins keep k at last e.0 s l n inside)
 goes_on keep k at last lo (inr e) s l n inside = rw e.2 (grows keep k e.0 at last e.1 s l n inside)
 
@@ -98,7 +98,7 @@ goes_on keep k at last lo (inr e) s l n inside = rw e.2 (grows keep k e.0 at las
 grown_past : (i : Interval) (at : ℕ) → i.hi + 1 ≡ at → 0 < at
 grown_past i at e = omega arith
 
-pub refused : (keep : ℕ → Bool) (k : Kept) (at : ℕ) (e : TooMany) → IsSwept keep k at → length k.intervals.items ≡ 32 → IsSome k.growing → IsAnswer keep (Err e)
+pub refused : (keep : ℕ → Bool) (k : Swept) (at : ℕ) (e : TooMany) → IsSwept keep k at → length k.intervals.items ≡ 32 → IsSome k.growing → IsAnswer keep (Err e)
 refused keep k at e s l some = at_growing k.growing refl
   where
     at_growing : (o : Option Interval) → k.growing ≡ o → IsAnswer keep (Err e)
@@ -109,7 +109,7 @@ pub answer_by_error : (keep : ℕ → Bool) (r : Result (List Interval) TooMany)
 answer_by_error keep (Ok is) h k = absurd (false≢true h)
 answer_by_error keep (Err e) h k = k e
 
-same_intervals : (k closed : Kept) → closed.intervals.items ≡ intervals_of k → closed.growing ≡ None → intervals_of closed ≡ intervals_of k
+same_intervals : (k closed : Swept) → closed.intervals.items ≡ intervals_of k → closed.growing ≡ None → intervals_of closed ≡ intervals_of k
 same_intervals k closed e f = rw f (append-nil closed.intervals.items ∙ e)
 
 kept_below : (keep : ℕ → Bool) (is : List Interval) (at last p : ℕ) → in_ranges p is ≡ (nat_lt p at && keep p) → at ≤ last → (at ≤ p → p ≤ last → keep p ≡ false) → in_ranges p is ≡ (nat_lt p (last + 1) && keep p)
@@ -119,7 +119,7 @@ kept_below keep is at last p e l outside =
     grind (arith, nat_tests)
 
 -- nothing was kept from `at` to `last`, and nothing grows
-pub passed_over : (keep : ℕ → Bool) (k closed : Kept) (at last : ℕ) → closed.intervals.items ≡ intervals_of k → closed.growing ≡ None → IsSwept keep k at → at ≤ last → ((p : ℕ) → at ≤ p → p ≤ last → keep p ≡ false) → IsSwept keep closed (last + 1)
+pub passed_over : (keep : ℕ → Bool) (k closed : Swept) (at last : ℕ) → closed.intervals.items ≡ intervals_of k → closed.growing ≡ None → IsSwept keep k at → at ≤ last → ((p : ℕ) → at ≤ p → p ≤ last → keep p ≡ false) → IsSwept keep closed (last + 1)
 passed_over keep k closed at last e f s l outside =
     let same = same_intervals k closed e f in
     record {
@@ -128,9 +128,9 @@ passed_over keep k closed at last e f s l outside =
       ends = rw f (λ p g. outside p (omega arith) (omega arith));
     }
 
-pub closes : (keep : ℕ → Bool) (k closed : Kept) (at last : ℕ) (r : Result Unit TooMany) → OnOk r (closed.intervals.items ≡ intervals_of k) → OnOk r (closed.growing ≡ None) → OnErr r (length k.intervals.items ≡ 32) → OnErr r (IsSome k.growing) → IsSwept keep k at → at ≤ last → ((p : ℕ) → at ≤ p → p ≤ last → keep p ≡ false) → MatchResult r (λ _. IsSwept keep closed (last + 1)) (λ e. IsAnswer keep (Err e))
+pub closes : (keep : ℕ → Bool) (k closed : Swept) (at last : ℕ) (r : Result Unit TooMany) → OnOk r (closed.intervals.items ≡ intervals_of k) → OnOk r (closed.growing ≡ None) → OnErr r (length k.intervals.items ≡ 32) → OnErr r (IsSome k.growing) → IsSwept keep k at → at ≤ last → ((p : ℕ) → at ≤ p → p ≤ last → keep p ≡ false) → MatchResult r (λ _. IsSwept keep closed (last + 1)) (λ e. IsAnswer keep (Err e))
 closes keep k closed at last (Ok u) e f l some s m outside = passed_over keep k closed at last e f s m outside
 closes keep k closed at last (Err x) e f l some s m outside = refused keep k at x s l some
 
-pub finished : (keep : ℕ → Bool) (k closed : Kept) → closed.intervals.items ≡ intervals_of k → length closed.intervals.items ≤ 32 → IsSwept keep k (2 ^ 64) → IsAnswer keep (Ok closed.intervals.items)
+pub finished : (keep : ℕ → Bool) (k closed : Swept) → closed.intervals.items ≡ intervals_of k → length closed.intervals.items ≤ 32 → IsSwept keep k (2 ^ 64) → IsAnswer keep (Ok closed.intervals.items)
 finished keep k closed e l s = whole keep closed.intervals.items (rw e s.rising) (λ p. rw e (s.points p)) l

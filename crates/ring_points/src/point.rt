@@ -1,6 +1,9 @@
 ghost use Rattle.std.specs.Prelude.{◌≡◌};
 ghost use Rattle.ring_points.specs.Distances.{distance_of, is_nearer};
 
+/// Half of the ring, in points.
+pub const HALF_RING: u64 = 1 << 63;
+
 /// A point of the ring.
 #[derive(Clone, Copy, Debug, PartialEq, Eq, PartialOrd, Ord, Default)]
 pub struct Point(pub u64);

@@ -1,4 +1,4 @@
-ghost use Rattle.std.specs.Prelude.{◌≡◌, ◌≢◌, ℕ, ◌^◌, ◌≤◌, ◌<◌, not, ◌||◌, ◌&&◌, [], ◌∷◌, length, IsTrue, IfOk, IfSome, is_err, is_some};
+ghost use Rattle.std.specs.Prelude.{◌≡◌, ◌≢◌, ℕ, ◌^◌, ◌<◌, not, ◌||◌, ◌&&◌, [], IsTrue, IfOk, IfSome, is_err, is_some};
 ghost use Rattle.ring_points.specs.Ranges.{in_ranges, whole_ring, fits, rises_from, is_proper};
 ghost use Rattle.ring_points.specs.Distances.{is_nearer};
 ghost use Rattle.ring_points.specs.Sets.{union_of, minus_of, meet_of, nearer_part_of};
@@ -10,11 +10,9 @@ use crate::interval::Interval;
 use crate::point::Point;
 use arc::nearer_arc;
 use arrayvec::ArrayVec;
+use crate::limits::MAX_INTERVALS;
 use std::marker::Model;
 use sweep::{Rule, Sets, sweep};
-
-/// A set has at most this many intervals.
-pub const MAX_INTERVALS: usize = 32;
 
 /// A result would need more than 32 intervals.
 #[derive(Clone, Copy, Debug, PartialEq, Eq)]
@@ -117,7 +115,8 @@ impl RangeSet {
 
     /// The points of this set that are not in the other. It is `TooMany` where the result needs more than 32 intervals.
     pub fn minus(&self, other: &RangeSet) -> Result<RangeSet, TooMany>
-        ensures points { IfOk result (λ r. (p : ℕ) → in_ranges p r ≡ (in_ranges p self.now && not (in_ranges p other.now))) }
+        ensures points { IfOk result (λ r. (p : ℕ) →
+            in_ranges p r ≡ (in_ranges p self.now && not (in_ranges p other.now))) }
         ensures ok { IfOk result (λ r. r ≡ minus_of self.now other.now) }
         ensures too_many { is_err result ≡ not (fits (minus_of self.now other.now)) }
     {
@@ -158,7 +157,8 @@ impl RangeSet {
     /// where the result needs more than 32 intervals.
     pub fn nearer_part(&self, mine: Point, other: Point) -> Result<RangeSet, TooMany>
         requires { mine.0 ≢ other.0 }
-        ensures points { IfOk result (λ r. (p : ℕ) → p < 2 ^ 64 → in_ranges p r ≡ (in_ranges p self.now && is_nearer p other.0 mine.0)) }
+        ensures points { IfOk result (λ r. (p : ℕ) → p < 2 ^ 64 →
+            in_ranges p r ≡ (in_ranges p self.now && is_nearer p other.0 mine.0)) }
         ensures ok { IfOk result (λ r. r ≡ nearer_part_of self.now mine.0 other.0) }
         ensures too_many { is_err result ≡ not (fits (nearer_part_of self.now mine.0 other.0)) }
     {

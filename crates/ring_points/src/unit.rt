@@ -1,6 +1,7 @@
 ghost use Rattle.std.specs.Prelude.{◌≡◌, ◌≤◌, ◌<◌, ◌∷◌, ◌++◌, [], length};
 
 use arrayvec::ArrayVec;
+use crate::limits::MAX_MEMBERS;
 use std::marker::Model;
 
 /// When a configuration of a partition was made. Epochs are compared by the data loss number, then by
@@ -14,17 +15,18 @@ pub struct Epoch {
 /// The nodes of a configuration: at most 7, which contracts see as their list.
 #[derive(Drop)]
 pub struct Members {
-    nodes: ArrayVec<u16, 7>,
+    nodes: ArrayVec<u16, MAX_MEMBERS>,
 }
 
 impl Model for Members {
     ghost use Rattle.std.specs.Prelude.{◌≤◌, List, ℕ, length};
+    ghost use Rattle.ring_points.specs.Limits.{most_members};
 
     ghost Value = { List ℕ };
 
     ghost view = { λ a. a.nodes.items };
 
-    ghost invariant = { λ a. length a.nodes.items ≤ 7 };
+    ghost invariant = { λ a. length a.nodes.items ≤ most_members };
 }
 
 impl Members {
@@ -39,14 +41,14 @@ impl Members {
 
     pub fn as_slice(&self) -> &[u16]
         ensures nodes { result.now ≡ self.now }
-        ensures few { length result.now ≤ 7 }
+        ensures few { length result.now ≤ MAX_MEMBERS }
     {
         self.nodes.as_slice()
     }
 
     /// Adds a node at the end.
     pub fn push(&mut self, node: u16)
-        requires { length self.old < 7 }
+        requires { length self.old < MAX_MEMBERS }
         ensures { self.new ≡ self.old ++ node ∷ [] }
     {
         self.nodes.push(node);

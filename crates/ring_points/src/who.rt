@@ -2,17 +2,14 @@ ghost use Rattle.std.specs.Prelude.{◌≡◌};
 
 use crate::ranges::RangeSet;
 
-/// The greatest number of a node.
-pub const LAST_NODE: u16 = 999;
-
-/// Arbitrator a is actor a above this. The actors above `LAST_NODE` and up to it are neither node nor arbitrator.
+/// Arbitrator a is actor a above this. The actors above `MAX_NODE_NUMBER` and up to it are neither node nor arbitrator.
 pub const ARBITRATORS: u16 = 32768;
 
 /// A process: the actor, and which of its starts this is.
 ///
-/// Node n is actor n (1 to `LAST_NODE`), arbitrator a is actor `ARBITRATORS` + a (1 to 9). Each start of a node has an
-/// instance number one greater than the former, from 1. An arbitrator's instance is 0, and so is that
-/// of "whichever instance of this node runs".
+/// Node n is actor n (1 to `MAX_NODE_NUMBER`), arbitrator a is actor `ARBITRATORS` + a (1 to `MAX_ARBITRATORS`). Each
+/// start of a node has an instance number one greater than the former, from 1. An arbitrator's instance is 0, and so
+/// is that of "whichever instance of this node runs".
 #[derive(Clone, Copy, Debug, PartialEq, Eq, PartialOrd, Ord, Default)]
 pub struct Who {
     pub actor: u16,

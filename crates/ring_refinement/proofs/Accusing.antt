@@ -12,7 +12,7 @@ use Rattle.fabric_terms.specs.declared.report.Why.TheVariants.{AccusedFull}
 use Rattle.arbiter_quorum.specs.Tallies.{has_answered}
 use Rattle.ring_rules.specs.declared.link.Link.{Link}
 use Rattle.ring_rules.specs.Deeds as rows
-use Rattle.ring_rules.specs.Deeds.{in_slot, in_found, put_slot, send, tell}
+use Rattle.ring_rules.specs.Deeds.{send}
 use Rattle.ring_rules.specs.Firing.{ask_if, ask_first, ask_arbiters, accuse_at, accuse_if, peer_accused}
 use Rattle.ring_rules.specs.Links.{accused_link}
 use Rattle.ring_rules.specs.Rings.{Work, settings_of, accused_limit}

@@ -7,7 +7,7 @@ use Rattle.join_phases.specs.Phases.{is_left}
 use Rattle.ring_rules.specs.declared.link.Link.{Link}
 use Rattle.ring_rules.specs.Rings.{Ring, Slots}
 use Rattle.ring_rules.specs.Slots as table
-use Rattle.ring_rules.specs.Slots.{slot_at, sooner, fence_if, fence_with, fence_of, is_past}
+use Rattle.ring_rules.specs.Slots.{slot_at, sooner, fence_if, fence_of, is_past}
 use Rattle.ring_rules.specs.Starts.{begun}
 use Rattle.ring_machine.specs.Slots.{guards}
 use Rattle.ring_machine.specs.World.{World, BelowFence}

@@ -23,7 +23,7 @@ use Rattle.ring_rules.proofs.Rows.{transfer_received-is, gone_received-is}
 use Rattle.fabric_lemmas.specs.Members.{IsMember}
 use Rattle.ring_machine.specs.Ends.{end_of}
 use Rattle.ring_machine.specs.Slots.{Flight, Asking, Abandoned, stands, Bound}
-use Rattle.ring_machine.specs.Frames.{Frame, Transfer, Gone}
+use Rattle.ring_machine.specs.Frames.{Transfer, Gone}
 use Rattle.ring_machine.specs.Frames as frames
 use Rattle.ring_machine.specs.World as world
 use Rattle.ring_machine.specs.World.{World, slot}

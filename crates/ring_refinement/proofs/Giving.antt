@@ -11,14 +11,14 @@ use Rattle.ring_rules.specs.declared.link.LinkState.TheVariants as state
 use Rattle.ring_rules.specs.Firing.{acked_if, has_acked, all_acked, give_to, give_ready, give_frozen, freeze_given}
 use Rattle.ring_rules.specs.Rings.{Work}
 use Rattle.ring_rules.specs.Slots as table
-use Rattle.ring_rules.specs.Slots.{slot_at, bars_link}
+use Rattle.ring_rules.specs.Slots.{slot_at}
 use Rattle.ring_rules.proofs.Rows.{freeze_given-is}
 use Rattle.ring_machine.specs.Ends.{end_of}
-use Rattle.ring_machine.specs.Slots.{Slot, State, Flight, Unused, Abandoned, Parted, Ended, Heir, part_of, guards, stands, is_tallying, is_decided}
+use Rattle.ring_machine.specs.Slots.{guards, is_tallying}
 use Rattle.ring_machine.specs.Slots as slots
 use Rattle.ring_machine.specs.Tokens as machine
 use Rattle.ring_machine.specs.World as world
-use Rattle.ring_machine.specs.World.{World, Dead, slot}
+use Rattle.ring_machine.specs.World.{World, slot}
 use Rattle.ring_machine.specs.Deeds.{PartGiven}
 use Rattle.ring_machine.specs.Events.{IsSound}
 use Rattle.ring_machine.specs.Guards.{AllAcked}

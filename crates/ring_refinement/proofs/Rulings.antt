@@ -20,7 +20,7 @@ use Rattle.ring_rules.specs.declared.link.Link.{Link}
 use Rattle.ring_rules.specs.declared.link.LinkState.{LinkState}
 use Rattle.ring_rules.specs.declared.link.LinkState.TheVariants as state
 use Rattle.ring_rules.specs.Deeds as rows
-use Rattle.ring_rules.specs.Deeds.{in_slot, in_found, put_slot, send, tell}
+use Rattle.ring_rules.specs.Deeds.{in_slot, in_found, put_slot, tell}
 use Rattle.ring_rules.specs.Links.{is_bare, has_flight}
 use Rattle.ring_rules.specs.Rings.{Work, settings_of}
 use Rattle.ring_rules.specs.Rulings.{ripe_at, becomes_heir, made_heir, may_succeed, kept_discharged, judged, ruling_seen, ruling_received}

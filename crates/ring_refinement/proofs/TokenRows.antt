@@ -21,7 +21,7 @@ use Rattle.ring_machine.specs.Slots.{Slot}
 use Rattle.ring_machine.specs.Tokens as machine
 use Rattle.ring_machine.specs.Frames.{Frame}
 use Rattle.ring_machine.specs.World as world
-use Rattle.ring_machine.specs.World.{World, Settings, slot}
+use Rattle.ring_machine.specs.World.{World, slot}
 use Rattle.ring_machine.specs.Deeds.{SlotDeed, InSlot}
 use Rattle.ring_machine.specs.Guards.{MayInSlot}
 use Rattle.ring_machine.specs.Effects.{Outcome, outcome, effect, moved}

@@ -1,8 +1,8 @@
 ghost use Rattle.ring_refinement.specs.Laws.{StepIsDeeds, StartIsShown, SpentIsLeft};
 
-/// From a world of the machine that a node's ring shows, each step of the ring comes by deeds of its instance, one after
-/// another at one reading, and by leaving where the ring leaves, to a world that the ring then shows. What is sent is
-/// sent there, and each report moves its points from where they are there.
+/// From a world of the machine that a node's ring shows, each step of the ring comes by deeds of its instance, one
+/// after another at one reading, and by leaving where the ring leaves, to a world that the ring then shows. What is
+/// sent is sent there, and each report moves its points from where they are there.
 pub fn each_step_is_deeds()
     ensures { StepIsDeeds }
 {}

@@ -1,6 +1,7 @@
 -- The entries of a table: one for each node that was heard, with its configured point.
 use Rattle.std.specs.Prelude.{ℕ, ◌≤◌, Bool, true, not, ◌&&◌, List, [], ◌∷◌, ◌++◌, length, map, ◌==◌, IsTrue, if◌then◌else◌}
 use Rattle.std.specs.List.{list_any}
+use Rattle.ring_points.specs.Limits.{most_nodes}
 use Rattle.ring_points.specs.declared.point.Point.{Point}
 use Rattle.ring_points.specs.declared.who.Who.{Who}
 use Rattle.ring_points.specs.Distances.{ahead_of}
@@ -26,7 +27,7 @@ are_entries points (k ∷ ks) =
     is_node k.who.actor points && has_its_point points k && not (is_known k.who.actor ks) && are_entries points ks
 
 pub record IsTable (points : List (ℕ × ℕ)) (known : List Known) : Type 0 where
-  pub few : length points ≤ 64
+  pub few : length points ≤ most_nodes
   pub entries : IsTrue (are_entries points known)
 
 -- the points of the configured nodes

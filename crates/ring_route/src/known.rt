@@ -1,12 +1,10 @@
-ghost use Rattle.std.specs.Prelude.{◌≡◌, ◌<◌, ◌≤◌, ◌==◌, ℕ, IsTrue, IfSome, OnSome, true, false, filter, length, position};
+ghost use Rattle.std.specs.Prelude.{◌≡◌, ◌<◌, ◌≤◌, ◌==◌, ℕ, IsTrue, IfSome, OnSome, true, false, filter, length};
+ghost use Rattle.std.specs.Prelude.{position};
 ghost use Rattle.ring_route.specs.Entries.{is_known};
 ghost use Rattle.ring_route.specs.Routes.{heard_in, is_among, is_skipped, may_hop};
 
 use arrayvec::ArrayVec;
-use ring_points::Who;
-
-/// How many nodes are configured at most.
-pub const MAX_NODES: usize = 64;
+use ring_points::{MAX_NODES, Who};
 
 /// A known node: its latest instance, its point, and the reading at which it was last heard.
 #[derive(Clone, Copy, Default)]

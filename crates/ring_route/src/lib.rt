@@ -14,6 +14,6 @@ mod near;
 mod table;
 
 pub use hop::Hop;
-pub use known::{MAX_NODES, is_among};
+pub use known::is_among;
 pub use laws::chains_end;
 pub use table::RouteTable;

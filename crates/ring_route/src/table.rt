@@ -5,11 +5,11 @@ ghost use Rattle.ring_route.specs.Entries.{is_node, no_routes, points_of};
 ghost use Rattle.ring_route.specs.Routes.{heard, hop_to, near_nodes, nearest_of, next_hop, point_of, up_of};
 
 use crate::hop::Hop;
-use crate::known::{Known, MAX_NODES, hear_again, hops};
+use crate::known::{Known, hear_again, hops};
 use crate::near::{Way, add_nodes, sorted, without_repeats};
 use arrayvec::ArrayVec;
+use ring_points::{MAX_NODES, Point, Who, nearer};
 use lane_scan::nearest;
-use ring_points::{Point, Who, nearer};
 use std::marker::Model;
 
 /// What a node knows of the others. Contracts see it as the record `Routes`: the points of the configured
@@ -138,7 +138,8 @@ impl RouteTable {
     /// known node nearest to it, which is not accused and not the one to skip, where that is strictly nearer.
     pub fn next(&self, key: Point, holds: bool, skip: Option<u16>, accused: &[Who]) -> Hop
         ensures hop { result ≡ next_hop self.now key.0 holds skip accused.now }
-        ensures nearer { (w : Who) → result ≡ Hop.To w → IsTrue (is_nearer key.0 (point_of w.actor self.now.points) (point_of self.now.me.actor self.now.points)) }
+        ensures nearer { (w : Who) → result ≡ Hop.To w →
+            IsTrue (is_nearer key.0 (point_of w.actor self.now.points) (point_of self.now.me.actor self.now.points)) }
     {
         if holds {
             return Hop::Here;

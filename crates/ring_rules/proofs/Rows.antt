@@ -2,7 +2,6 @@
 use Rattle.fabric_terms.specs.declared.command.Command.{Command}
 use Rattle.fabric_terms.specs.declared.config.FabricConfig.{FabricConfig}
 use Rattle.fabric_terms.specs.declared.message.Body.{Body}
-use Rattle.fabric_terms.specs.declared.report.Report.TheVariants.{Own}
 use Rattle.join_phases.specs.Phases.{is_left, is_routing}
 use Rattle.ring_points.specs.Whos.{arbiter_actor}
 use Rattle.ring_points.specs.declared.interval.Interval.{Interval}

@@ -17,8 +17,8 @@ pub enum LinkState {
     Parting,
     /// This side has accused the peer, hears nothing of it any more, and waits for a majority of arbitrators.
     Accused,
-    /// A majority has freed this side of the peer, and another may be the peer's heir, or this side by a later ruling or
-    /// round.
+    /// A majority has freed this side of the peer, and another may be the peer's heir, or this side by a later ruling
+    /// or round.
     Discharged,
     /// This side is the peer's heir, and takes over once the slot is ripe.
     Heir,

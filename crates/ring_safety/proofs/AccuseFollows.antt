@@ -14,11 +14,10 @@ use Rattle.ring_points.specs.Whos.{same_who, arbiter_actor}
 use Rattle.ring_machine.specs.Arbitration.{ruled, ruling_of, first_after}
 use Rattle.ring_machine.specs.Ends.{updated}
 use Rattle.ring_machine.specs.Events as events
-use Rattle.ring_machine.specs.Events.{Answers, Keeps}
+use Rattle.ring_machine.specs.Events.{Answers}
 use Rattle.ring_machine.specs.Frames.{Accuse, Ruled}
 use Rattle.fabric_lemmas.specs.Members.{IsMember}
 use Rattle.ring_machine.specs.World as machine
-use Rattle.ring_machine.specs.World.{Instance, Running, Place, Dead, first_of}
 use Rattle.ring_machine.proofs.Histories.{event_done}
 use Rattle.ring_points.proofs.Whos.{same_who-true}
 use Rattle.ring_refinement.specs.Images.{machine_of, IsSent, frame_of}

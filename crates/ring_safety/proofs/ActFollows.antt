@@ -10,7 +10,6 @@ use Rattle.ring_points.specs.declared.who.Who.{Who}
 use Rattle.ring_points.specs.Whos.{node_instance}
 use Rattle.ring_machine.proofs.Lists.{IsMember-append_cases}
 use Rattle.ring_machine.specs.World as machine
-use Rattle.ring_machine.specs.World.{first_of}
 use Rattle.ring_machine.specs.Events as events
 use Rattle.ring_refinement.specs.Images.{machine_of}
 use Rattle.ring_refinement.proofs.Steps.{step_is_deeds_lem}

@@ -14,7 +14,7 @@ use Rattle.join_phases.specs.Phases.{is_left}
 use Rattle.ring_points.specs.declared.who.Who.{Who}
 use Rattle.ring_points.specs.Whos.{node_instance}
 use Rattle.ring_machine.specs.World as machine
-use Rattle.ring_machine.specs.World.{Instance, Running, Unborn, first_of, born}
+use Rattle.ring_machine.specs.World.{Instance, Running, born}
 use Rattle.ring_machine.specs.Events as events
 use Rattle.ring_machine.specs.Events.{Starts, next_instance, started}
 use Rattle.ring_machine.proofs.Histories.{EventDone, event_done}

@@ -13,11 +13,10 @@ use Rattle.ring_points.specs.Whos.{same_who, arbiter_actor}
 use Rattle.ring_machine.specs.Arbitration.{claimed, kept_of, kept_after, kept_answer}
 use Rattle.ring_machine.specs.Ends.{updated, replaced}
 use Rattle.ring_machine.specs.Events as events
-use Rattle.ring_machine.specs.Events.{Answers, Keeps}
+use Rattle.ring_machine.specs.Events.{Keeps}
 use Rattle.ring_machine.specs.Frames.{RoundClaim, Kept}
 use Rattle.fabric_lemmas.specs.Members.{IsMember}
 use Rattle.ring_machine.specs.World as machine
-use Rattle.ring_machine.specs.World.{Instance, Running, Place, Dead, first_of}
 use Rattle.ring_machine.proofs.Lists.{IsMember-append_right}
 use Rattle.ring_machine.proofs.Histories.{event_done}
 use Rattle.ring_points.proofs.Whos.{same_who-refl}

@@ -8,7 +8,6 @@ use Rattle.fabric_terms.specs.Places.{With}
 use Rattle.fabric_terms.specs.Reports.{Told, told, told_in}
 use Rattle.ring_machine.specs.Points.{is_point}
 use Rattle.ring_machine.specs.World as machine
-use Rattle.ring_machine.specs.World.{first_of}
 use Rattle.ring_machine.specs.Events as events
 use Rattle.ring_machine.proofs.Histories.{empty_sound}
 use Rattle.ring_refinement.specs.Images.{machine_of}

@@ -8,9 +8,9 @@ use Rattle.join_phases.specs.Phases.{is_left}
 use Rattle.ring_points.specs.declared.who.Who.{Who}
 use Rattle.ring_points.specs.Ranges.{in_ranges}
 use Rattle.ring_machine.specs.Slots as slots
-use Rattle.ring_machine.specs.Slots.{Slot, State}
+use Rattle.ring_machine.specs.Slots.{Slot}
 use Rattle.ring_machine.specs.World as machine
-use Rattle.ring_machine.specs.World.{Instance, Live, Running}
+use Rattle.ring_machine.specs.World.{Live, Running}
 use Rattle.ring_machine.proofs.States.{excluded}
 use Rattle.ring_refinement.specs.Images.{machine_of, slot_of, state_of}
 use Rattle.ring_refinement.specs.Shown.{ShowsAs, ShowsInstance}

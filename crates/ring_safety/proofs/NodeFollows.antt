@@ -15,7 +15,7 @@ use Rattle.ring_points.specs.Whos.{same_who, arbiter_actor}
 use Rattle.ring_machine.specs.Frames.{Frame}
 use Rattle.fabric_lemmas.specs.Members.{IsMember}
 use Rattle.ring_machine.specs.World as machine
-use Rattle.ring_machine.specs.World.{Instance, Running, Dead, first_of}
+use Rattle.ring_machine.specs.World.{Instance, Running, Dead}
 use Rattle.ring_machine.specs.Invariant.{Invariant}
 use Rattle.ring_points.proofs.Whos.{same_who-true, same_who-false, same_who_from}
 use Rattle.ring_machine.proofs.Whos.{test}

@@ -9,10 +9,8 @@ use Rattle.ring_points.specs.declared.who.Who.{Who}
 use Rattle.ring_points.specs.Whos.{arbiter_actor}
 use Rattle.ring_machine.specs.Arbitration.{ruled, claimed}
 use Rattle.ring_machine.specs.Events as events
-use Rattle.ring_machine.specs.Events.{Answers, Keeps}
 use Rattle.fabric_lemmas.specs.Members.{IsMember}
 use Rattle.ring_machine.specs.World as machine
-use Rattle.ring_machine.specs.World.{Instance, Running, Place, Dead, first_of}
 use Rattle.ring_refinement.specs.Images.{machine_of}
 use Rattle.ring_rules.specs.Arbiters.{accusation_kept, accusation_ruled, claim_kept, claim_settled, first_accuser, takes_frame}
 use Rattle.world_rules.specs.Arbiters.{ArbiterState, arbiter_step, arbiter_takes, accused_by, claimed_by, beside_did}

@@ -10,7 +10,7 @@ use Rattle.ring_machine.specs.Frames.{Frame}
 use Rattle.ring_machine.specs.Invariant.{Invariant}
 use Rattle.fabric_lemmas.specs.Members.{IsMember}
 use Rattle.ring_machine.specs.World as machine
-use Rattle.ring_machine.specs.World.{Instance, Running, Place, Dead, first_of}
+use Rattle.ring_machine.specs.World.{Instance, Dead}
 use Rattle.ring_refinement.specs.Images.{machine_of}
 use Rattle.ring_refinement.specs.Moves.{place_of}
 use Rattle.ring_rules.specs.Arbiters.{Table, first_accuser, first_claimer, table_after}

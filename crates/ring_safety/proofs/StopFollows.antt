@@ -11,7 +11,7 @@ use Rattle.join_phases.specs.Phases.{is_left}
 use Rattle.ring_points.specs.declared.who.Who.{Who}
 use Rattle.ring_points.specs.Whos.{same_who}
 use Rattle.ring_machine.specs.World as machine
-use Rattle.ring_machine.specs.World.{Instance, Running, first_of, has_clock}
+use Rattle.ring_machine.specs.World.{Instance, Running, has_clock}
 use Rattle.ring_machine.specs.Events as events
 use Rattle.ring_machine.specs.Events.{Stops, in_phase}
 use Rattle.ring_machine.proofs.Histories.{EventDone, event_done}
@@ -24,7 +24,7 @@ use Rattle.world_rules.specs.Events.{node_stops}
 use Rattle.fabric_lemmas.specs.Maps.{at, without}
 use Rattle.world_rules.specs.Uppers.{Upper}
 use Rattle.world_rules.specs.Worlds as real
-use Rattle.world_rules.specs.Worlds.{World, kept_of}
+use Rattle.world_rules.specs.Worlds.{World}
 use Rattle.ring_safety.proofs.ActFollows.{Followed, Numbered, named}
 use Rattle.ring_safety.proofs.Follows.{Follows, Runs, shows_still, clock_still, first_instance, places_in, next_of}
 use Rattle.run_facts.proofs.Kept.{without_cases, at_without_other}

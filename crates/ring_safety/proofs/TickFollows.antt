@@ -11,7 +11,7 @@ use Rattle.ring_points.specs.declared.who.Who.{Who}
 use Rattle.ring_machine.specs.Frames.{Frame}
 use Rattle.fabric_lemmas.specs.Members.{IsMember}
 use Rattle.ring_machine.specs.World as machine
-use Rattle.ring_machine.specs.World.{Instance, Running, first_of, has_clock}
+use Rattle.ring_machine.specs.World.{Instance, Running, has_clock}
 use Rattle.ring_machine.specs.Events as events
 use Rattle.ring_machine.specs.Events.{Ticks, passed}
 use Rattle.ring_machine.proofs.Histories.{EventDone, event_done}
@@ -23,7 +23,7 @@ use Rattle.fabric_lemmas.specs.Maps.{at}
 use Rattle.world_rules.specs.Schedules.{are_of, fits_pairs, readings_fit}
 use Rattle.world_rules.specs.Uppers.{Upper}
 use Rattle.world_rules.specs.Worlds as real
-use Rattle.world_rules.specs.Worlds.{World, kept_of}
+use Rattle.world_rules.specs.Worlds.{World}
 use Rattle.ring_safety.proofs.ActFollows.{Followed, Numbered, named}
 use Rattle.ring_safety.proofs.Follows.{Follows, Runs, ShowsClock}
 

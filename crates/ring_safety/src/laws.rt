@@ -1,4 +1,5 @@
-ghost use Rattle.ring_safety.specs.Laws.{AnswersExcludeAlways, LeavesBeforeTakeOver, OneHeirAlways, PlacesAreKept, RingIsSafe};
+ghost use Rattle.ring_safety.specs.Laws.{AnswersExcludeAlways, LeavesBeforeTakeOver, OneHeirAlways, PlacesAreKept};
+ghost use Rattle.ring_safety.specs.Laws.{RingIsSafe};
 ghost use Rattle.world_rules.specs.Nothing.{nothing};
 
 use world_rules::{Above, Nothing};

@@ -14,4 +14,4 @@ pub use frame_format::{one_spelling, short_spelling};
 pub use not_frame::NotFrame;
 pub use read::{decode, decode_into};
 pub use wire_fields::{read_config_field, read_epoch, read_ranges, read_who};
-pub use write::{FRAME_LIMIT, encode};
+pub use write::encode;

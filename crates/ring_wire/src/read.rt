@@ -1,5 +1,3 @@
-// How frames are read.
-
 ghost use Rattle.std.specs.Prelude.{◌≡◌, ◌≢◌, IsTrue, MatchResult};
 ghost use Rattle.fabric_terms.specs.declared.message.Message.{Message};
 ghost use Rattle.fabric_terms.specs.Messages.{is_sound};
@@ -14,17 +12,15 @@ mod rulings;
 mod searches;
 
 use crate::not_frame::NotFrame;
+use crate::write::FIRST_BYTE;
 use fabric_terms::{Body, Message};
-use frame_format::Head;
+use frame_format::FrameHead;
 use links::{read_lease, read_link};
 use ring_points::Who;
 use wire_fields::read::{addressee_at, sender_at, u8_at};
 
-/// The first byte of every frame.
-const FIRST_BYTE: u8 = 0x53;
-
 #[tactic(auto, unfolding(frame_format::specs::Kinds::head_at))]
-fn head_at(bytes: &[u8]) -> Result<(Head, &[u8]), NotFrame>
+fn head_at(bytes: &[u8]) -> Result<(FrameHead, &[u8]), NotFrame>
     ensures { Gives (λ x. (x.0, x.1.now)) result (head_at bytes.now) }
 {
     let (first, rest) = u8_at(bytes)?;
@@ -36,7 +32,7 @@ fn head_at(bytes: &[u8]) -> Result<(Head, &[u8]), NotFrame>
     let (from, rest) = sender_at(rest)?;
     let (to, rest) = addressee_at(rest)?;
     Ok((
-        Head {
+        FrameHead {
             version,
             kind,
             from,
@@ -48,7 +44,7 @@ fn head_at(bytes: &[u8]) -> Result<(Head, &[u8]), NotFrame>
 
 // The body, to the end of the bytes. A refusal may leave any body.
 #[tactic(auto, unfolding(frame_format::specs::Kinds::body_of))]
-fn read_body(head: Head, bytes: &[u8], body: &mut Body) -> Result<(), NotFrame>
+fn read_body(head: FrameHead, bytes: &[u8], body: &mut Body) -> Result<(), NotFrame>
     ensures { Fills result body.new (body_of head.version head.kind bytes.now) }
 {
     match head.version {

@@ -1,9 +1,6 @@
-// How frames are written.
-
 ghost use Rattle.std.specs.Prelude.{◌≡◌, ◌≤◌, ◌+◌, ◌++◌, [], ◌∷◌, length, drop, IsTrue};
 ghost use Rattle.fabric_terms.specs.Messages.{is_sound, is_sound_body};
 ghost use Rattle.frame_format.specs.Frames.{version_of, kind_of, body_bytes, spelling};
-ghost use Rattle.wire_fields.specs.Texts.{who_bytes};
 ghost use Rattle.wire_fields.specs.Writers.{Puts};
 
 mod greetings;
@@ -14,6 +11,7 @@ mod roles;
 mod rulings;
 mod searches;
 
+use ring_points::FRAME_LIMIT;
 use fabric_terms::{Body, Message};
 use greetings::put_greeting;
 use links::put_link;
@@ -24,11 +22,8 @@ use rulings::put_ruling_body;
 use searches::put_search;
 use wire_fields::write::{put_u8, put_who};
 
-/// No frame has more bytes.
-pub const FRAME_LIMIT: usize = 1200;
-
 /// The first byte of every frame.
-const FIRST_BYTE: u8 = 0x53;
+pub(crate) const FIRST_BYTE: u8 = 0x53;
 
 // Leases of their own length have the version 2.
 fn version_of(body: &Body) -> u8
@@ -94,7 +89,7 @@ fn put_start(into: &mut [u8; FRAME_LIMIT], body: &Body) -> usize
 
 // The fields of the body. Gives the place after them.
 fn put_body(into: &mut [u8; FRAME_LIMIT], at: usize, body: &Body) -> usize
-    requires room { at + 600 ≤ 1200 }
+    requires room { at + 600 ≤ FRAME_LIMIT }
     requires sound { IsTrue (is_sound_body body.now) }
     ensures { Puts (body_bytes body.now) into.old at into.new result }
 {
@@ -115,7 +110,7 @@ pub fn encode(message: &Message, into: &mut [u8; FRAME_LIMIT]) -> usize
     requires { IsTrue (is_sound message.now) }
     ensures written { into.new ≡ spelling message.now ++ drop (length (spelling message.now)) into.old }
     ensures length { result ≡ length (spelling message.now) }
-    ensures fits { result ≤ 1200 }
+    ensures fits { result ≤ FRAME_LIMIT }
 {
     let at = put_start(into, &message.body);
     let at = put_who(into, at, message.from);

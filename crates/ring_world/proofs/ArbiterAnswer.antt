@@ -6,11 +6,11 @@ use Rattle.fabric_terms.specs.declared.report.Report.{Report}
 use Rattle.ring_points.specs.declared.who.Who.{Who}
 use Rattle.world_rules.specs.Worlds.{numbers_of, posted}
 use Rattle.ring_world.specs.Seen.{Seen, seen_of}
-use Rattle.ring_world.specs.declared.seat.Seat.{Seat}
+use Rattle.ring_world.specs.declared.configured_arbiter.ConfiguredArbiter.{ConfiguredArbiter}
 use Rattle.ring_world.specs.declared.world.Acted.{Acted}
 use Rattle.ring_world.specs.declared.world.World.{World}
 
-pub seen_answered : (a mid new : World) (ss : List Seat) (who name : Who) (ms : List (Who × Body)) → seen_of mid ≡ record (seen_of a) { seats = ss }
+pub seen_answered : (a mid new : World) (ss : List ConfiguredArbiter) (who name : Who) (ms : List (Who × Body)) → seen_of mid ≡ record (seen_of a) { seats = ss }
     → new ≡ record mid { frames = new.frames; sent = mid.sent + length ms } → new.frames.frames ≡ posted who ms mid.frames.frames → who ≡ name
     → seen_of (record new { events = new.events + 1 }) ≡ record (seen_of a) { events = a.events + 1; seats = ss; frames = posted name ms a.frames.frames; sent = a.sent + length ms }
 seen_answered a mid new ss who name ms seats rest frames is =
@@ -22,7 +22,7 @@ seen_answered a mid new ss who name ms seats rest frames is =
 abbrev pub acted_of : ℕ → ℕ → Who → ℕ × ℕ → List Report → Acted
 acted_of line time who numbers reports = record { line = line; time = time; who = who; reading = None; sent = numbers; reports = reports }
 
-pub acted_answered : (a mid new : World) (ss : List Seat) (line : ℕ) (who name : Who) (ms : List (Who × Body)) (numbers : ℕ × ℕ) (reports : List Report) → seen_of mid ≡ record (seen_of a) { seats = ss }
+pub acted_answered : (a mid new : World) (ss : List ConfiguredArbiter) (line : ℕ) (who name : Who) (ms : List (Who × Body)) (numbers : ℕ × ℕ) (reports : List Report) → seen_of mid ≡ record (seen_of a) { seats = ss }
     → new ≡ record mid { frames = new.frames; sent = mid.sent + length ms } → who ≡ name → numbers ≡ numbers_of mid.sent ms → reports ≡ []
     → acted_of line new.time who numbers reports ≡ acted_of line a.time name (numbers_of a.sent ms) []
 acted_answered a mid new ss line who name ms numbers reports seats rest is sent none =

@@ -17,12 +17,12 @@ use Rattle.fabric_terms.specs.declared.record.Record.{Record}
 use Rattle.ring_points.specs.declared.who.Who.{Who}
 use Rattle.ring_rules.specs.Arbiters.{takes_frame}
 use Rattle.world_rules.specs.Arbiters.{ArbiterState, arbiter_takes}
-use Rattle.fabric_above.specs.Fabric.{fabric}
+use Rattle.unit_rules.specs.Fabric.{fabric}
 use Rattle.world_rules.specs.Uppers.{Did}
 use Rattle.world_rules.proofs.Rows.{arbiter_step-is}
 use Rattle.ring_world.specs.Rulings.{Hears, ruled_by}
-use Rattle.ring_world.specs.Seats.{state_of}
-use Rattle.ring_world.specs.declared.seat.Seat.{Seat}
+use Rattle.ring_world.specs.ConfiguredArbiters.{state_of}
+use Rattle.ring_world.specs.declared.configured_arbiter.ConfiguredArbiter.{ConfiguredArbiter}
 use Rattle.ring_world.proofs.Entries.{few_entries}
 use Rattle.arbiter_core.proofs.Steps.{is_ruling}
 
@@ -44,14 +44,14 @@ module _ (c : FabricConfig) (m : Message) (a : Arbiter) where
 
 -- by what the call has answered, the seat that keeps it
 
-pub hears_nothing : (c : FabricConfig) (m : Message) (old : Seat) (n : Arbiter) (answer : Answer) → frame_call m old.arbiter ≡ (Ok answer, n) → answer ≡ Nothing
+pub hears_nothing : (c : FabricConfig) (m : Message) (old : ConfiguredArbiter) (n : Arbiter) (answer : Answer) → frame_call m old.arbiter ≡ (Ok answer, n) → answer ≡ Nothing
     → Hears c m old (record old { arbiter = n }) None
 hears_nothing c m old n answer e is =
     let d : Did (ArbiterState fabric) = ruled_by c m old.arbiter in
     let h : Agreed old.arbiter d.records d.sent [] [] n = agrees c m old.arbiter (Ok Nothing, n) (e ∙ ap (λ (x : Answer). (Ok x, n)) is) in
     record { runs = refl; arbiter = h.now; sent = h.sent }
 
-pub hears_reply : (c : FabricConfig) (m : Message) (old : Seat) (n : Arbiter) (answer : Answer) (kept : Option Record) (to : Who) (said : Body)
+pub hears_reply : (c : FabricConfig) (m : Message) (old : ConfiguredArbiter) (n : Arbiter) (answer : Answer) (kept : Option Record) (to : Who) (said : Body)
     → frame_call m old.arbiter ≡ (Ok answer, n) → answer ≡ Reply kept to said → Hears c m old (record old { arbiter = n }) (Some (to, said))
 hears_reply c m old n answer kept to said e is =
     let d : Did (ArbiterState fabric) = ruled_by c m old.arbiter in

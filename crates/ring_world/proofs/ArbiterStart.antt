@@ -8,23 +8,23 @@ use Rattle.world_rules.specs.Arbiters.{ArbiterState, arbiter_begun}
 use Rattle.world_rules.proofs.Rows.{arbiter_begun-is}
 use Rattle.world_rules.specs.Events.{starts_with, arbiter_number}
 use Rattle.fabric_lemmas.specs.Maps.{at, put}
-use Rattle.fabric_above.specs.Fabric.{fabric}
+use Rattle.unit_rules.specs.Fabric.{fabric}
 use Rattle.world_rules.specs.Worlds.{World as RuledWorld, Stepped, kept_of}
 use Rattle.ring_world.specs.Answers.{entry_of}
 use Rattle.ring_world.specs.Moves.{Moves}
-use Rattle.ring_world.specs.Room.{most_events}
-use Rattle.ring_world.specs.Seats.{IsSeat, state_of}
+use Rattle.ring_world.specs.EventLimits.{most_events}
+use Rattle.ring_world.specs.ConfiguredArbiters.{IsSeat, state_of}
 use Rattle.ring_world.specs.Seen.{Seen, seen_of}
 use Rattle.ring_world.specs.Stands.{Stands, SeenStands}
-use Rattle.ring_world.specs.declared.seat.Seat.{Seat}
+use Rattle.ring_world.specs.declared.configured_arbiter.ConfiguredArbiter.{ConfiguredArbiter}
 use Rattle.ring_world.specs.declared.world.Acted.{Acted}
 use Rattle.ring_world.specs.declared.world.World.{World}
 use Rattle.ring_world.proofs.KeptNodes.{kept_follows, same_run}
 use Rattle.ring_world.proofs.SeatChanges.{arbiters_set, at_other_put, at_same_put}
 
-module _ (a : World) (w : RuledWorld fabric) (place : ℕ) (q : Seat)
+module _ (a : World) (w : RuledWorld fabric) (place : ℕ) (q : ConfiguredArbiter)
     (st : Stands a w) (here : slice_get (seen_of a).seats place ≡ Some q) (within : place < length (seen_of a).seats) (few : a.events < most_events) where
-  abbrev pub started_seat : Seat
+  abbrev pub started_seat : ConfiguredArbiter
   started_seat = record q { runs = true }
 
   abbrev pub seen_started : Seen

@@ -6,7 +6,7 @@ use Rattle.fabric_terms.specs.declared.event.Event.TheVariants.{Start}
 use Rattle.ring_points.specs.Whos.{arbiter_actor}
 use Rattle.world_rules.specs.Events.{world_step, starts_with, arbiter_number}
 use Rattle.fabric_lemmas.specs.Maps.{at}
-use Rattle.fabric_above.specs.Fabric.{fabric}
+use Rattle.unit_rules.specs.Fabric.{fabric}
 use Rattle.world_rules.specs.Schedules.{is_there, is_configured_arbiter, arbiter_runs}
 use Rattle.world_rules.specs.Worlds.{World as RuledWorld, kept_of}
 use Rattle.world_rules.proofs.Rows.{is_there-start, world_step-start}

@@ -13,15 +13,15 @@ use Rattle.ring_points.specs.declared.who.Who.{Who}
 use Rattle.fabric_terms.specs.Messages.{is_sound}
 use Rattle.world_rules.specs.Arbiters.{ArbiterState, arbiter_step}
 use Rattle.fabric_lemmas.specs.Maps.{at}
-use Rattle.fabric_above.specs.Fabric.{fabric}
+use Rattle.unit_rules.specs.Fabric.{fabric}
 use Rattle.world_rules.specs.Uppers.{Did}
 use Rattle.world_rules.specs.Worlds.{World as RuledWorld, arbiter_acted, arbiter_who, kept_of, numbers_of, posted}
 use Rattle.ring_world.specs.Answers.{entry_of}
 use Rattle.ring_world.specs.Moves.{Moves, placed_by}
-use Rattle.ring_world.specs.Room.{most_events, most_frames}
+use Rattle.ring_world.specs.EventLimits.{most_events, most_frames}
 use Rattle.ring_world.specs.Rulings.{HeardAt, Hears, ruled_by}
 use Rattle.ring_world.specs.Running.{last_node}
-use Rattle.ring_world.specs.Seats.{IsSeat, state_of, state_where}
+use Rattle.ring_world.specs.ConfiguredArbiters.{IsSeat, state_of, state_where}
 use Rattle.ring_world.specs.Seen.{Seen, seen_of}
 use Rattle.ring_world.specs.Stands.{SeenStands, Stands}
 use Rattle.ring_world.specs.Steps.{IsSoundFrame}

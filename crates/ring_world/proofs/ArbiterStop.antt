@@ -7,23 +7,23 @@ use Rattle.ring_points.specs.Whos.{arbiter_actor}
 use Rattle.ring_points.specs.declared.who.Who.{Who}
 use Rattle.world_rules.specs.Arbiters.{ArbiterState}
 use Rattle.world_rules.specs.Events.{arbiter_stops}
-use Rattle.fabric_above.specs.Fabric.{fabric}
+use Rattle.unit_rules.specs.Fabric.{fabric}
 use Rattle.world_rules.specs.Worlds.{World as RuledWorld, Stepped}
 use Rattle.ring_world.specs.Answers.{entry_of}
 use Rattle.ring_world.specs.Moves.{Moves}
-use Rattle.ring_world.specs.Room.{most_events}
-use Rattle.ring_world.specs.Seats.{IsSeat}
+use Rattle.ring_world.specs.EventLimits.{most_events}
+use Rattle.ring_world.specs.ConfiguredArbiters.{IsSeat}
 use Rattle.ring_world.specs.Seen.{Seen, seen_of}
 use Rattle.ring_world.specs.Stands.{Stands, SeenStands}
-use Rattle.ring_world.specs.declared.seat.Seat.{Seat}
+use Rattle.ring_world.specs.declared.configured_arbiter.ConfiguredArbiter.{ConfiguredArbiter}
 use Rattle.ring_world.specs.declared.world.Acted.{Acted}
 use Rattle.ring_world.specs.declared.world.World.{World}
 use Rattle.ring_world.proofs.KeptNodes.{kept_follows, same_run}
 use Rattle.ring_world.proofs.SeatChanges.{arbiters_set, at_other_without, at_same_without}
 
-module _ (a : World) (w : RuledWorld fabric) (place : ℕ) (q : Seat) (t : ArbiterState fabric)
+module _ (a : World) (w : RuledWorld fabric) (place : ℕ) (q : ConfiguredArbiter) (t : ArbiterState fabric)
     (st : Stands a w) (here : slice_get (seen_of a).seats place ≡ Some q) (within : place < length (seen_of a).seats) (few : a.events < most_events) where
-  abbrev pub stopped_seat : Seat
+  abbrev pub stopped_seat : ConfiguredArbiter
   stopped_seat = record q { runs = false }
 
   abbrev pub seen_stopped : Seen

@@ -12,7 +12,7 @@ use Rattle.ring_rules.specs.declared.input.Input.TheVariants as input
 use Rattle.world_rules.specs.Arbiters.{ArbiterState, arbiter_step}
 use Rattle.world_rules.specs.Events.{arbiter_number, arrives, arrives_at, arrives_at_arbiter, arrives_at_node, arrives_if, is_arbiter_actor, node_acts}
 use Rattle.fabric_lemmas.specs.Maps.{at}
-use Rattle.fabric_above.specs.Fabric.{fabric}
+use Rattle.unit_rules.specs.Fabric.{fabric}
 use Rattle.world_rules.specs.Worlds.{World as RuledWorld, arbiter_acted, quiet}
 use Rattle.ring_world.specs.Finds.{IsAt}
 use Rattle.ring_world.specs.Stands.{Stands}

@@ -9,17 +9,17 @@ use Rattle.fabric_terms.specs.declared.record.Record.{Record}
 use Rattle.fabric_terms.specs.declared.record.Record.TheVariants as kind
 use Rattle.unit_rules.specs.Registers.{Registers, register_after, registers_after}
 use Rattle.world_rules.specs.Worlds.{World as RuledWorld, kept_of}
-use Rattle.fabric_above.specs.Fabric.{fabric}
+use Rattle.unit_rules.specs.Fabric.{fabric}
 use Rattle.ring_points.specs.Whos.{arbiter_actor}
-use Rattle.ring_world.specs.Seats.{IsSeat}
-use Rattle.ring_world.specs.declared.seat.Seat.{Seat}
+use Rattle.ring_world.specs.ConfiguredArbiters.{IsSeat}
+use Rattle.ring_world.specs.declared.configured_arbiter.ConfiguredArbiter.{ConfiguredArbiter}
 use Rattle.std.specs.Prelude.{ℕ}
 
 rises_after : (rs : Registers) (records : List Record) → rises rs ≡ true → rises (registers_after rs records) ≡ true
 rises_after rs [] up = up
 rises_after rs (r ∷ more) up = rises_after (register_after rs r) more (rises_with r rs up)
 
-pub seat_rises : (w : RuledWorld fabric) (events k : ℕ) (s : Seat) → IsSeat w events k s → rises s.arbiter.registers ≡ true
+pub seat_rises : (w : RuledWorld fabric) (events k : ℕ) (s : ConfiguredArbiter) → IsSeat w events k s → rises s.arbiter.registers ≡ true
 seat_rises w events k s h = ap (λ (a : Arbiter). rises a.registers) h.kept ∙ rises_after [] (kept_of w (arbiter_actor k)) refl
 
 -- one record makes one entry at most

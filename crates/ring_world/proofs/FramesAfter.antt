@@ -8,11 +8,11 @@ use Rattle.node_core.specs.Nodes.{frames_limit}
 use Rattle.node_core.specs.declared.outcome.Outcome.{Outcome}
 use Rattle.ring_points.specs.declared.who.Who.{Who}
 use Rattle.world_rules.specs.Nodes.{NodeState}
-use Rattle.fabric_above.specs.Fabric.{fabric}
+use Rattle.unit_rules.specs.Fabric.{fabric}
 use Rattle.world_rules.specs.Uppers.{Did}
 use Rattle.world_rules.specs.Worlds.{World as RuledWorld, posted}
 use Rattle.ring_world.specs.Commits.{posted_all}
-use Rattle.ring_world.specs.Room.{most_frames}
+use Rattle.ring_world.specs.EventLimits.{most_frames}
 use Rattle.ring_world.specs.Seen.{Seen}
 use Rattle.ring_world.specs.Stands.{FramesStand}
 use Rattle.ring_world.proofs.Growth.{posted_is, posted-length, from-length}

@@ -6,7 +6,7 @@ use Rattle.fabric_terms.specs.declared.message.Message.{Message}
 use Rattle.frame_bag.specs.Bags.{frame_of}
 use Rattle.fabric_terms.specs.Ranges.{Fits}
 use Rattle.world_rules.specs.Events.{arrives, world_step}
-use Rattle.fabric_above.specs.Fabric.{fabric}
+use Rattle.unit_rules.specs.Fabric.{fabric}
 use Rattle.world_rules.specs.Schedules.{is_there}
 use Rattle.world_rules.specs.Worlds.{World as RuledWorld, Stepped, frame_in}
 use Rattle.world_rules.proofs.Rows.{is_there-give, world_step-give}

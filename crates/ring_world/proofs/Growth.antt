@@ -13,17 +13,17 @@ use Rattle.fabric_terms.specs.Sent.{from_all}
 use Rattle.ring_points.specs.Whos.{arbiter_actor}
 use Rattle.ring_points.specs.declared.who.Who.{Who}
 use Rattle.fabric_lemmas.specs.Maps.{at, put}
-use Rattle.fabric_above.specs.Fabric.{fabric}
+use Rattle.unit_rules.specs.Fabric.{fabric}
 use Rattle.world_rules.specs.Worlds.{World as RuledWorld, kept_of, posted, numbers_of}
 use Rattle.fabric_lemmas.proofs.Maps.{at-put}
 use Rattle.ring_world.specs.Commits.{posted_all, numbers_after}
-use Rattle.ring_world.specs.Room.{most_events}
-use Rattle.ring_world.specs.Seats.{IsSeat}
+use Rattle.ring_world.specs.EventLimits.{most_events}
+use Rattle.ring_world.specs.ConfiguredArbiters.{IsSeat}
 use Rattle.ring_world.specs.Seen.{Seen}
-use Rattle.ring_world.specs.declared.seat.Seat.{Seat}
+use Rattle.ring_world.specs.declared.configured_arbiter.ConfiguredArbiter.{ConfiguredArbiter}
 use Rattle.ring_world.specs.Stands.{SeenStands, ArbitersStand}
 
-pub seat_later : (w : RuledWorld fabric) (events k : ℕ) (s : Seat) → IsSeat w events k s → IsSeat w (events + 1) k s
+pub seat_later : (w : RuledWorld fabric) (events k : ℕ) (s : ConfiguredArbiter) → IsSeat w events k s → IsSeat w (events + 1) k s
 seat_later w events k s h = record { running = h.running; kept = h.kept; few = omega (arith, h.few) }
 
 -- arbitrators of whom nothing is recorded, while other actors act

@@ -17,7 +17,7 @@ use Rattle.ring_points.specs.Whos.{same_who}
 use Rattle.ring_rules.specs.Rings.{Settings}
 use Rattle.ring_rules.specs.Slots.{fence_of}
 use Rattle.run_facts.specs.Held.{owned_by}
-use Rattle.fabric_above.specs.Fabric.{fabric_stays, fabric}
+use Rattle.unit_rules.specs.Fabric.{fabric_stays, fabric}
 use Rattle.run_facts.proofs.Clocks.{clocks_are, clocks_are_of_running_lem}
 use Rattle.run_facts.proofs.Orderly.{last_own_is_held_lem}
 use Rattle.fabric_lemmas.specs.Maps.{at, rises}

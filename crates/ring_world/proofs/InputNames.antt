@@ -5,7 +5,7 @@ use Rattle.fabric_terms.specs.declared.command.Command.{Command}
 use Rattle.fabric_terms.specs.declared.event.Event.TheVariants.{Fire, Do}
 use Rattle.ring_rules.specs.declared.input.Input.TheVariants as input
 use Rattle.fabric_lemmas.specs.Maps.{at}
-use Rattle.fabric_above.specs.Fabric.{fabric}
+use Rattle.unit_rules.specs.Fabric.{fabric}
 use Rattle.world_rules.specs.Schedules.{is_there, command_names}
 use Rattle.world_rules.specs.Worlds.{World as RuledWorld}
 use Rattle.world_rules.proofs.Rows.{world_step-fire, world_step-do, is_there-fire, is_there-do}

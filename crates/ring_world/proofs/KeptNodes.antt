@@ -11,7 +11,7 @@ use Rattle.world_rules.specs.Events.{ticked}
 use Rattle.world_rules.specs.Nodes.{NodeState}
 use Rattle.fabric_lemmas.specs.Maps.{at, put, without}
 use Rattle.fabric_lemmas.proofs.Maps.{at-put, at-without}
-use Rattle.fabric_above.specs.Fabric.{fabric}
+use Rattle.unit_rules.specs.Fabric.{fabric}
 use Rattle.world_rules.specs.Worlds.{World as RuledWorld, Running as RuledRunning, kept_of}
 use Rattle.ring_world.specs.Running.{last_node}
 use Rattle.ring_world.specs.Stands.{IsKeptAs, IsKeptFor, KeptStand}

@@ -25,15 +25,15 @@ use Rattle.world_rules.proofs.Rows.{node_begun-is, node_step-is}
 use Rattle.run_facts.proofs.Kept.{boots_append, no_boots}
 use Rattle.run_facts.proofs.Steps.{begun_boots, node_acted-told, node_begun-told}
 use Rattle.unit_rules.specs.Loads.{site_of}
-use Rattle.unit_rules.specs.Seats.{Seat}
-use Rattle.unit_rules.specs.Starts.{seats_begun}
+use Rattle.unit_rules.specs.ReplicaStates.{ReplicaState}
+use Rattle.unit_rules.specs.Starts.{states_begun}
 use Rattle.unit_rules.specs.Steps.{Failover, failover_begun}
-use Rattle.unit_replica.specs.Starts.{is_recorded, seat_again, seats_again}
-use Rattle.fabric_above.specs.Fabric.{fabric, fabric_stays}
+use Rattle.unit_replica.specs.Starts.{is_recorded, state_again, states_again}
+use Rattle.unit_rules.specs.Fabric.{fabric, fabric_stays}
 use Rattle.frames_fit.proofs.Steps.{spent_left}
 use Rattle.replica_records.specs.Kept.{without_role}
-use Rattle.replica_records.specs.Named.{FitsFrame, KeptAs, is_named, named, seats_of}
-use Rattle.replica_records.proofs.Begun.{begin_again_lem, nothing_lem, seats_lem, starts_stay_lem}
+use Rattle.replica_records.specs.Named.{FitsFrame, KeptAs, is_named, named, states_of}
+use Rattle.replica_records.proofs.Begun.{begin_again_lem, nothing_lem, states_lem, starts_stay_lem}
 use Rattle.replica_records.proofs.Exactly.{stay_lem}
 use Rattle.node_core.specs.Nodes.{FitsInput, kept_in, nothing_kept}
 use Rattle.node_core.specs.declared.kept.NodeKept.{NodeKept}
@@ -48,19 +48,19 @@ empty_is (e ∷ es) = let some : (suc (length es) == 0) ≡ false = grind (arith
 named_is : (r : Replica) → is_named (without_role r) ≡ is_recorded r
 named_is r = ap (λ b. not (same_epoch r.promised first_epoch && b)) (empty_is r.log)
 
-pub again_is : (seats : List (ℕ × Seat)) → seats_of (named seats) ≡ seats_again seats
+pub again_is : (states : List (ℕ × ReplicaState)) → states_of (named states) ≡ states_again states
 again_is [] = refl
 again_is (e ∷ es) =
-    ap (λ b. seats_of (cond b ((e.0, without_role e.1.replica) ∷ named es) (named es))) (named_is e.1.replica)
+    ap (λ b. states_of (cond b ((e.0, without_role e.1.replica) ∷ named es) (named es))) (named_is e.1.replica)
     ∙ by_test (is_recorded e.1.replica) (again_is es)
   where
-    by_test : (b : Bool) → seats_of (named es) ≡ seats_again es → seats_of (cond b ((e.0, without_role e.1.replica) ∷ named es) (named es)) ≡ cond b ((e.0, seat_again e.1) ∷ seats_again es) (seats_again es)
-    by_test true rest = ap (λ xs. (e.0, seat_again e.1) ∷ xs) rest
+    by_test : (b : Bool) → states_of (named es) ≡ states_again es → states_of (cond b ((e.0, without_role e.1.replica) ∷ named es) (named es)) ≡ cond b ((e.0, state_again e.1) ∷ states_again es) (states_again es)
+    by_test true rest = ap (λ xs. (e.0, state_again e.1) ∷ xs) rest
     by_test false rest = rest
 
 -- what stands is what the records amount to
-seats_are : (records : List Record) (s : Failover) → KeptAs records s → seats_begun records ≡ seats_again s.seats
-seats_are records s k = (seats_lem records s k).0 ∙ again_is s.seats
+states_are : (records : List Record) (s : Failover) → KeptAs records s → states_begun records ≡ states_again s.states
+states_are records s k = (states_lem records s k).0 ∙ again_is s.states
 
 pub fits_frame : (i : Input) → FitsInput i → FitsFrame i
 fits_frame input.Fire h = tt
@@ -86,12 +86,12 @@ module _ (c : FabricConfig) (now : ℕ) (i : Input) (s : NodeState fabric) (reco
       omega arith
 
   kept_by : (d : Did (NodeState fabric)) → step ≡ d → (last : Failover) → KeptAs (records ++ d.records) last → (is_left d.state.ring.phase ≡ false → last ≡ d.state.above)
-      → seats_begun (records ++ d.records) ≡ seats_again d.state.above.seats → IsKeptAs (records ++ d.records) d.state
-  kept_by d same last kept acts seats = record {
+      → states_begun (records ++ d.records) ≡ states_again d.state.above.states → IsKeptAs (records ++ d.records) d.state
+  kept_by d same last kept acts states = record {
     last = last;
     kept = kept;
     acts = acts;
-    amounts = record { boots = subst (λ (x : Did (NodeState fabric)). boots_of (records ++ x.records) ≡ x.state.ring.me.instance) same boots; seats = seats };
+    amounts = record { boots = subst (λ (x : Did (NodeState fabric)). boots_of (records ++ x.records) ≡ x.state.ring.me.instance) same boots; states = states };
   }
 
   -- where it has left, it does nothing
@@ -108,7 +108,7 @@ module _ (c : FabricConfig) (now : ℕ) (i : Input) (s : NodeState fabric) (reco
       let none : records ++ [] ≡ records = append-nil records in
       let d : Did (NodeState fabric) = both_did fabric c s.ring (begun s.ring) (idle s.above) in
       subst (λ (x : Did (NodeState fabric)). IsKeptAs (records ++ x.records) x.state) (sym (left_is left))
-      (kept_by d (left_is left) k.last (subst (λ rs. KeptAs rs k.last) (sym none) k.kept) k.acts (ap seats_begun none ∙ k.amounts.seats))
+      (kept_by d (left_is left) k.last (subst (λ rs. KeptAs rs k.last) (sym none) k.kept) k.acts (ap states_begun none ∙ k.amounts.states))
 
   -- where it has not, all is kept of what it does
 
@@ -122,7 +122,7 @@ module _ (c : FabricConfig) (now : ℕ) (i : Input) (s : NodeState fabric) (reco
       let d : Did (NodeState fabric) = both_did fabric c s.ring work (above_acts fabric c now i s work.ring) in
       let kept : KeptAs (records ++ d.records) d.state.above = above_kept on work.ring (not (is_left work.ring.phase) && comes_above (settings_of c s.ring.me.actor) s.ring i) in
       subst (λ (x : Did (NodeState fabric)). IsKeptAs (records ++ x.records) x.state) (sym (node_step-is fabric c now i s))
-      (kept_by d (node_step-is fabric c now i s) d.state.above kept (λ e. refl) (seats_are (records ++ d.records) d.state.above kept))
+      (kept_by d (node_step-is fabric c now i s) d.state.above kept (λ e. refl) (states_are (records ++ d.records) d.state.above kept))
 
   pub step_kept : IsKeptAs (records ++ step.records) step.state
   step_kept = by_left (is_left s.ring.phase) refl
@@ -156,7 +156,7 @@ module _ (c : FabricConfig) (node : ℕ) (records : List Record) (kept : NodeKep
     acts = λ on. let left = spent_left c me in absurd (cc (left, on));
     amounts = record {
       boots = boots;
-      seats = ap seats_begun (append-nil records) ∙ (begin_again_lem records k.last k.kept ∙ again_is (failover_begun records).seats);
+      states = ap states_begun (append-nil records) ∙ (begin_again_lem records k.last k.kept ∙ again_is (failover_begun records).states);
     };
   }
   begun_by false goes boots =
@@ -165,7 +165,7 @@ module _ (c : FabricConfig) (node : ℕ) (records : List Record) (kept : NodeKep
         last = failover_begun records;
         kept = next;
         acts = λ on. refl;
-        amounts = record { boots = boots; seats = seats_are (records ++ Boot (instance_begun records) ∷ []) (failover_begun records) next };
+        amounts = record { boots = boots; states = states_are (records ++ Boot (instance_begun records) ∷ []) (failover_begun records) next };
       }
 
   pub begun_kept : IsKeptAs (records ++ begins.records) begins.state
@@ -180,4 +180,4 @@ pub ended_kept : (records : List Record) (s : NodeState fabric) → IsKeptAs rec
 ended_kept records s k = record { last = k.last; kept = k.kept; amounts = k.amounts }
 
 pub none_kept : IsKeptFor [] nothing_kept
-none_kept = record { last = failover_begun []; kept = nothing_lem; amounts = record { boots = refl; seats = refl } }
+none_kept = record { last = failover_begun []; kept = nothing_lem; amounts = record { boots = refl; states = refl } }

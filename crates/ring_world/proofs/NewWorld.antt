@@ -8,21 +8,21 @@ use Rattle.fabric_terms.specs.Sound.{IsSound}
 use Rattle.fabric_terms.specs.declared.config.FabricConfig.{FabricConfig}
 use Rattle.point_places.specs.Spots.{place_at}
 use Rattle.ring_points.specs.Whos.{node_instance}
-use Rattle.fabric_above.specs.Fabric.{fabric}
+use Rattle.unit_rules.specs.Fabric.{fabric}
 use Rattle.world_rules.specs.Worlds.{empty_world}
 use Rattle.ring_world.specs.Answers.{StandsFor}
 use Rattle.ring_world.specs.Running.{last_node}
 use Rattle.node_core.specs.Nodes.{nothing_kept}
 use Rattle.node_core.specs.declared.kept.NodeKept.{NodeKept}
-use Rattle.ring_world.specs.Seats.{AreEmpty, IsSeat, empty_seat}
+use Rattle.ring_world.specs.ConfiguredArbiters.{AreEmpty, IsSeat, empty_seat}
 use Rattle.ring_world.specs.Seen.{Seen, seen_of}
 use Rattle.ring_world.specs.Stands.{IsKeptFor, KeptStand, SeenStands}
-use Rattle.ring_world.specs.declared.seat.Seat.{Seat}
+use Rattle.ring_world.specs.declared.configured_arbiter.ConfiguredArbiter.{ConfiguredArbiter}
 use Rattle.ring_world.proofs.KeptReplicas.{none_kept}
 use Rattle.ring_world.specs.declared.world.World.{World}
 
 -- what a new world has
-abbrev pub new_seen : FabricConfig → List NodeKept → List Seat → Seen
+abbrev pub new_seen : FabricConfig → List NodeKept → List ConfiguredArbiter → Seen
 new_seen c kept seats =
     record {
       config = c;
@@ -59,13 +59,13 @@ kept_is n kept many e = record {
 }
 
 -- one more arbitrator that has recorded nothing
-pub empty_more : (n : ℕ) (seats : List Seat) (s : Seat) → AreEmpty n seats → s ≡ empty_seat (n + 1) → AreEmpty (n + 1) (seats ++ s ∷ [])
+pub empty_more : (n : ℕ) (seats : List ConfiguredArbiter) (s : ConfiguredArbiter) → AreEmpty n seats → s ≡ empty_seat (n + 1) → AreEmpty (n + 1) (seats ++ s ∷ [])
 empty_more n seats s h is = record {
   many = let size = length-append seats (s ∷ []) in omega (arith, h.many, size);
   each = λ k x g. one seats k x h.each (h.many) g;
 }
   where
-    one : (rest : List Seat) (k : ℕ) (x : Seat) → ((j : ℕ) (y : Seat) → slice_get rest j ≡ Some y → y ≡ empty_seat (j + 1)) → length rest ≡ n → slice_get (rest ++ s ∷ []) k ≡ Some x → x ≡ empty_seat (k + 1)
+    one : (rest : List ConfiguredArbiter) (k : ℕ) (x : ConfiguredArbiter) → ((j : ℕ) (y : ConfiguredArbiter) → slice_get rest j ≡ Some y → y ≡ empty_seat (j + 1)) → length rest ≡ n → slice_get (rest ++ s ∷ []) k ≡ Some x → x ≡ empty_seat (k + 1)
     one rest k x each many g = elim (get_last rest s k x g) [
       | inl h ↦ h.1 ∙ (is ∙ ap (λ j. empty_seat (j + 1)) (sym (h.0 ∙ many)))
       | inr h ↦ each k x h
@@ -74,7 +74,7 @@ empty_more n seats s h is = record {
 seat_is : (k : ℕ) → IsSeat (empty_world fabric) 0 k (empty_seat k)
 seat_is k = record { running = refl; kept = refl; few = omega arith }
 
-pub new_stands : (c : FabricConfig) (n : ℕ) (kept : List NodeKept) (seats : List Seat) → IsSound c → n ≡ last_node + 1 → kept ≡ replicate n nothing_kept → AreEmpty (length c.arbiters) seats → SeenStands (new_seen c kept seats) (empty_world fabric)
+pub new_stands : (c : FabricConfig) (n : ℕ) (kept : List NodeKept) (seats : List ConfiguredArbiter) → IsSound c → n ≡ last_node + 1 → kept ≡ replicate n nothing_kept → AreEmpty (length c.arbiters) seats → SeenStands (new_seen c kept seats) (empty_world fabric)
 new_stands c n kept seats sound many none empty = record {
   sound = sound;
   time = refl;
@@ -83,14 +83,14 @@ new_stands c n kept seats sound many none empty = record {
   nodes = record { rise = refl; running = tt; clocks = refl; few = omega arith; kept = kept_is n kept many none };
   arbiters = record {
     count = empty.many;
-    seats = λ k s g. subst (λ (x : Seat). IsSeat (empty_world fabric) 0 (k + 1) x) (sym (empty.each k s g)) (seat_is (k + 1));
+    seats = λ k s g. subst (λ (x : ConfiguredArbiter). IsSeat (empty_world fabric) 0 (k + 1) x) (sym (empty.each k s g)) (seat_is (k + 1));
     others = λ arbiter lt. refl;
     from_one = refl;
   };
   frames = record { frames = refl; counted = refl; sent = refl; few = omega arith };
 }
 
-pub new_world : (a : World) (n : ℕ) (kept : List NodeKept) (seats : List Seat) → IsSound a.config → n ≡ last_node + 1 → kept ≡ replicate n nothing_kept → AreEmpty (length a.config.arbiters) seats → seen_of a ≡ new_seen a.config kept seats
+pub new_world : (a : World) (n : ℕ) (kept : List NodeKept) (seats : List ConfiguredArbiter) → IsSound a.config → n ≡ last_node + 1 → kept ≡ replicate n nothing_kept → AreEmpty (length a.config.arbiters) seats → seen_of a ≡ new_seen a.config kept seats
     → ((p : ℕ) → place_at a.places p ≡ With (node_instance a.config.first 1)) → StandsFor a a.config []
 new_world a n kept seats sound many none empty seen places = record {
   config = refl;

@@ -7,14 +7,14 @@ use Rattle.ring_rules.specs.declared.input.Input.{Input}
 use Rattle.fabric_terms.specs.Ranges.{Fits}
 use Rattle.world_rules.specs.Events.{world_step, acts_at, node_acts}
 use Rattle.fabric_lemmas.specs.Maps.{at}
-use Rattle.fabric_above.specs.Fabric.{fabric}
+use Rattle.unit_rules.specs.Fabric.{fabric}
 use Rattle.world_rules.specs.Runs.{History}
 use Rattle.world_rules.specs.Schedules.{is_there, keeps_bound}
 use Rattle.world_rules.specs.Worlds.{World as RuledWorld, Running as RuledRunning, Stepped}
 use Rattle.ring_world.specs.Answers.{IsWorld, StandsFor, is_frame, ruled}
 use Rattle.ring_world.specs.Finds.{IsAt}
 use Rattle.ring_world.specs.Moves.{MayCome, Moves}
-use Rattle.ring_world.specs.Room.{acts, time_after}
+use Rattle.ring_world.specs.EventLimits.{acts, time_after}
 use Rattle.ring_world.specs.Stands.{Stands}
 use Rattle.ring_world.specs.Steps.{LeavesSound, CanStep}
 use Rattle.ring_world.specs.declared.world.Acted.{Acted}

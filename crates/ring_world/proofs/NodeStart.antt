@@ -6,7 +6,7 @@ use Rattle.std.proofs.lemmas.Option.{slice_get_read}
 use Rattle.std.proofs.lemmas.List.Edits.{length-insert}
 use Rattle.std.specs.declared.alloc.Global.{Global}
 use Rattle.fabric_terms.specs.declared.message.Message.{Message}
-use Rattle.drift_clock.specs.Extremes.{Kept, Stands as DriftStands}
+use Rattle.drift_clock.specs.Extremes.{Extremes, Stands as DriftStands}
 use Rattle.fabric_terms.specs.Runs.{Entry}
 use Rattle.fabric_terms.specs.declared.config.FabricConfig.{FabricConfig}
 use Rattle.fabric_terms.specs.declared.record.Record.{Record}
@@ -21,7 +21,7 @@ use Rattle.ring_points.specs.declared.who.Who.{Who}
 use Rattle.run_facts.proofs.Steps.{node_begun-told}
 use Rattle.fabric_lemmas.specs.Maps.{at, put}
 use Rattle.world_rules.specs.Nodes.{NodeState, instance_begun, node_begun}
-use Rattle.fabric_above.specs.Fabric.{fabric}
+use Rattle.unit_rules.specs.Fabric.{fabric}
 use Rattle.world_rules.specs.Uppers.{Did}
 use Rattle.world_rules.specs.Worlds.{World as RuledWorld, Running as RuledRunning, kept_of, node_acted, numbers_of}
 use Rattle.fabric_lemmas.proofs.Maps.{rises-put}
@@ -29,7 +29,7 @@ use Rattle.world_rules.proofs.Rows.{node_begun-is}
 use Rattle.ring_world.specs.Answers.{entry_of}
 use Rattle.ring_world.specs.Commits.{numbers_after, posted_all}
 use Rattle.ring_world.specs.Moves.{Moves, Same, placed_by}
-use Rattle.ring_world.specs.Room.{most_events, most_frames, most_time}
+use Rattle.ring_world.specs.EventLimits.{most_events, most_frames, most_time}
 use Rattle.ring_world.specs.Running.{AllRun, RunsAs, last_node}
 use Rattle.ring_world.specs.Seen.{Seen, seen_of}
 use Rattle.ring_world.specs.Stands.{IsKeptAs, SeenStands, Stands}
@@ -76,12 +76,12 @@ place_within node (e ∷ es) = by_test (nat_lt node e.0) (place_within node es)
     by_test false h = omega arith
 
 -- the drift of a clock that has shown its first reading
-pub record IsFirst (a : World) (reading : ℕ) (k : Kept) : Type 0 where
+pub record IsFirst (a : World) (reading : ℕ) (k : Extremes) : Type 0 where
   pub bound : k.bound ≡ a.config.bound
   pub latest : k.latest ≡ (a.time, reading)
   pub first : DriftStands k ((a.time, reading) ∷ [])
 
-module _ (a : World) (w : RuledWorld fabric) (node reading : ℕ) (n : Core) (o : Outcome) (k : Kept) (q : Running)
+module _ (a : World) (w : RuledWorld fabric) (node reading : ℕ) (n : Core) (o : Outcome) (k : Extremes) (q : Running)
     (st : Stands a w) (le : node ≤ last_node) (fits : reading ≤ most_time) (begins : Begins a node n o) (drift : IsFirst a reading k)
     (inside : q.node.value ≡ n) (kept : q.drift ≡ k) (absent : at node w.nodes ≡ None) where
   abbrev pub begun : Did (NodeState fabric)
@@ -133,15 +133,15 @@ module _ (a : World) (w : RuledWorld fabric) (node reading : ℕ) (n : Core) (o 
   runs_new : RunsAs a.config a.time q (node, is_new)
   unfolding is_new
   runs_new =
-      let value : q.drift.latest ≡ (a.time, reading) = ap (λ (x : Kept). x.latest) kept ∙ drift.latest in
+      let value : q.drift.latest ≡ (a.time, reading) = ap (λ (x : Extremes). x.latest) kept ∙ drift.latest in
       let time : q.drift.latest.0 ≡ a.time = ap (λ (p : ℕ × ℕ). p.0) value in
       record {
         number = actor_is;
         in_range = le;
         node = ap (λ (x : Core). x.state) inside ∙ does.state;
         goes_by = subst (λ (x : Core). GoesBy a.config x) (sym inside) begins.goes_by;
-        drift = subst (λ (x : Kept). DriftStands x ((w.time, reading) ∷ [])) (sym kept) (subst (λ (t : ℕ). DriftStands k ((t, reading) ∷ [])) st.time drift.first);
-        bound = ap (λ (x : Kept). x.bound) kept ∙ drift.bound;
+        drift = subst (λ (x : Extremes). DriftStands x ((w.time, reading) ∷ [])) (sym kept) (subst (λ (t : ℕ). DriftStands k ((t, reading) ∷ [])) st.time drift.first);
+        bound = ap (λ (x : Extremes). x.bound) kept ∙ drift.bound;
         latest = omega arith;
         reading = fits;
       }

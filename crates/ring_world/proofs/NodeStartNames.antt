@@ -5,7 +5,7 @@ use Rattle.fabric_terms.specs.declared.event.Event.TheVariants.{Start}
 use Rattle.world_rules.specs.Events.{world_step}
 use Rattle.fabric_lemmas.specs.Maps.{at}
 use Rattle.world_rules.specs.Nodes.{node_begun}
-use Rattle.fabric_above.specs.Fabric.{fabric}
+use Rattle.unit_rules.specs.Fabric.{fabric}
 use Rattle.world_rules.specs.Schedules.{is_configured_node, is_there, node_runs}
 use Rattle.world_rules.specs.Worlds.{World as RuledWorld, kept_of, node_acted, Stepped}
 use Rattle.world_rules.proofs.Rows.{is_there-start, world_step-start}

@@ -2,7 +2,7 @@
 use Rattle.std.proofs.Common.{◌≡◌, ℕ, zero, suc, ◌+◌, ◌≤◌, ◌<◌, ◌^◌, false, List, [], ◌∷◌, ◌++◌, Option, Some, refl, sym, ap, subst, ◌∙◌, arith, length, get_or}
 use Rattle.std.specs.Prelude.{◌==◌, unwrap_or, slice_get, slice_set, map, All, Vec, Box}
 use Rattle.std.proofs.lemmas.List.{length-set, set-get_or}
-use Rattle.drift_clock.specs.Extremes.{Kept, Stands as DriftStands}
+use Rattle.drift_clock.specs.Extremes.{Extremes, Stands as DriftStands}
 use Rattle.std.specs.Box.{with_value}
 use Rattle.std.specs.Vec.{with_item}
 use Rattle.std.specs.declared.alloc.Global.{Global}
@@ -21,14 +21,14 @@ use Rattle.ring_rules.specs.declared.input.Input.{Input}
 use Rattle.world_rules.specs.Events.{node_acts}
 use Rattle.fabric_lemmas.specs.Maps.{at, put}
 use Rattle.world_rules.specs.Nodes.{NodeState, node_step}
-use Rattle.fabric_above.specs.Fabric.{fabric}
+use Rattle.unit_rules.specs.Fabric.{fabric}
 use Rattle.world_rules.specs.Uppers.{Did}
 use Rattle.world_rules.specs.Worlds.{World as RuledWorld, Running as RuledRunning, kept_of, numbers_of}
 use Rattle.fabric_lemmas.proofs.Maps.{rises-put}
 use Rattle.ring_world.specs.Answers.{entry_of}
 use Rattle.ring_world.specs.Commits.{posted_all, numbers_after}
 use Rattle.ring_world.specs.Moves.{Moves, Same, placed_by}
-use Rattle.ring_world.specs.Room.{most_events, most_frames}
+use Rattle.ring_world.specs.EventLimits.{most_events, most_frames}
 use Rattle.ring_world.specs.Running.{AllRun, RunsAs}
 use Rattle.ring_world.specs.Seen.{Seen, seen_of}
 use Rattle.ring_world.specs.Stands.{IsKeptAs, KeptStand, NodesStand, SeenStands, Stands}
@@ -172,9 +172,9 @@ module _ (a : World) (w : RuledWorld fabric) (place node : ℕ) (s : RuledRunnin
         in_range = runs.in_range;
         node = ap (λ (q : Core). q.state) value ∙ node_does.state;
         goes_by = subst (λ (m : Core). GoesBy a.config m) (sym value) (record { settings = settings; domains = did.domains ∙ goes_by.domains });
-        drift = subst (λ (k : Kept). DriftStands k s.pairs) (sym drift) runs.drift;
-        bound = ap (λ (k : Kept). k.bound) drift ∙ runs.bound;
-        latest = subst (λ (k : Kept). k.latest.0 ≤ a.time) (sym drift) runs.latest;
+        drift = subst (λ (k : Extremes). DriftStands k s.pairs) (sym drift) runs.drift;
+        bound = ap (λ (k : Extremes). k.bound) drift ∙ runs.bound;
+        latest = subst (λ (k : Extremes). k.latest.0 ≤ a.time) (sym drift) runs.latest;
         reading = runs.reading;
       }
 

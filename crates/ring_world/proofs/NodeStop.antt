@@ -7,12 +7,12 @@ use Rattle.fabric_terms.specs.declared.report.Report.TheVariants.{Stopped}
 use Rattle.point_places.specs.Spots.{place_at}
 use Rattle.ring_points.specs.declared.who.Who.{Who}
 use Rattle.world_rules.specs.Events.{node_stops}
-use Rattle.fabric_above.specs.Fabric.{fabric}
+use Rattle.unit_rules.specs.Fabric.{fabric}
 use Rattle.world_rules.specs.Worlds.{World as RuledWorld, Running as RuledRunning, Stepped}
 use Rattle.fabric_lemmas.proofs.Maps.{rises-without}
 use Rattle.ring_world.specs.Answers.{entry_of}
 use Rattle.ring_world.specs.Moves.{Moves}
-use Rattle.ring_world.specs.Room.{most_events}
+use Rattle.ring_world.specs.EventLimits.{most_events}
 use Rattle.node_core.specs.Nodes.{kept_in}
 use Rattle.node_core.specs.declared.kept.NodeKept.{NodeKept}
 use Rattle.ring_world.specs.declared.running.Running.{Running}

@@ -6,13 +6,13 @@ use Rattle.arbiter_core.specs.Arbiters.{restored}
 use Rattle.fabric_terms.specs.declared.config.FabricConfig.{FabricConfig}
 use Rattle.ring_points.specs.Whos.{arbiter_actor}
 use Rattle.fabric_lemmas.specs.Maps.{at, put, without}
-use Rattle.fabric_above.specs.Fabric.{fabric}
+use Rattle.unit_rules.specs.Fabric.{fabric}
 use Rattle.world_rules.specs.Worlds.{World as RuledWorld, kept_of}
 use Rattle.fabric_lemmas.proofs.Maps.{at-put, at-without}
-use Rattle.ring_world.specs.Seats.{IsSeat}
+use Rattle.ring_world.specs.ConfiguredArbiters.{IsSeat}
 use Rattle.ring_world.specs.Seen.{Seen}
 use Rattle.ring_world.specs.Stands.{ArbitersStand}
-use Rattle.ring_world.specs.declared.seat.Seat.{Seat}
+use Rattle.ring_world.specs.declared.configured_arbiter.ConfiguredArbiter.{ConfiguredArbiter}
 use Rattle.ring_world.proofs.Maps.{unequal, equal}
 
 -- what stands in a list after a change is new, or was there
@@ -24,7 +24,7 @@ get_set (q ∷ xs) (suc i) zero y x e = inr ((λ s. absurd (omega arith)), e)
 get_set (q ∷ xs) (suc i) (suc k) y x e =
     elim (get_set xs i k y x e) [ inl h ↦ inl (ap suc h.0, h.1) | inr h ↦ inr ((λ s. h.0 (omega arith)), h.1) ]
 
-pub arbiters_set : (a b : Seen) (w v : RuledWorld fabric) (place : ℕ) (q : Seat) → ArbitersStand a w → place < length a.seats
+pub arbiters_set : (a b : Seen) (w v : RuledWorld fabric) (place : ℕ) (q : ConfiguredArbiter) → ArbitersStand a w → place < length a.seats
     → b.seats ≡ slice_set a.seats place q → b.config ≡ a.config → b.events ≡ a.events + 1 → IsSeat v (a.events + 1) (place + 1) q
     → ((k : ℕ) → (k ≡ place + 1 → ⊥) → at k v.arbiters ≡ at k w.arbiters)
     → ((k : ℕ) → (k ≡ place + 1 → ⊥) → kept_of v (arbiter_actor k) ≡ kept_of w (arbiter_actor k))
@@ -38,10 +38,10 @@ arbiters_set a b w v place q s within seats config events new tables kept =
       from_one = tables 0 (λ e. absurd (omega arith)) ∙ s.from_one;
     }
   where
-    by_place : (k : ℕ) (x : Seat) → ((k ≡ place) × (x ≡ q)) ⊎ ((k ≡ place → ⊥) × (slice_get a.seats k ≡ Some x)) → IsSeat v b.events (k + 1) x
+    by_place : (k : ℕ) (x : ConfiguredArbiter) → ((k ≡ place) × (x ≡ q)) ⊎ ((k ≡ place → ⊥) × (slice_get a.seats k ≡ Some x)) → IsSeat v b.events (k + 1) x
     by_place k x (inl h) =
         subst (λ (n : ℕ). IsSeat v n (k + 1) x) (sym events)
-        (subst (λ (n : ℕ). IsSeat v (a.events + 1) (n + 1) x) (sym h.0) (subst (λ (y : Seat). IsSeat v (a.events + 1) (place + 1) y) (sym h.1) new))
+        (subst (λ (n : ℕ). IsSeat v (a.events + 1) (n + 1) x) (sym h.0) (subst (λ (y : ConfiguredArbiter). IsSeat v (a.events + 1) (place + 1) y) (sym h.1) new))
     by_place k x (inr h) =
         let old = s.seats k x h.1 in
         let other : k + 1 ≡ place + 1 → ⊥ = λ e. h.0 (omega arith) in

@@ -10,17 +10,17 @@ use Rattle.std.specs.Vec.{with_item}
 use Rattle.ring_world.specs.Moves.{Same}
 use Rattle.ring_world.specs.Rulings.{HeardAt, Hears}
 use Rattle.ring_world.specs.Seen.{seen_of}
-use Rattle.ring_world.specs.declared.seat.Seat.{Seat}
+use Rattle.ring_world.specs.declared.configured_arbiter.ConfiguredArbiter.{ConfiguredArbiter}
 use Rattle.ring_world.specs.declared.world.World.{World}
 use Rattle.ring_world.proofs.Edits.{set_same}
 use Rattle.ring_world.proofs.Seats.{seat_here}
 
-module _ (a : World) (place : ℕ) (q s : Seat) (bag : Bag) (lt : place < length a.seats.items) (read : q ≡ get_or a.seats.items place q) (frames : bag.frames ≡ a.frames.frames) where
+module _ (a : World) (place : ℕ) (q s : ConfiguredArbiter) (bag : Bag) (lt : place < length a.seats.items) (read : q ≡ get_or a.seats.items place q) (frames : bag.frames ≡ a.frames.frames) where
   pub unheard : s ≡ q → Same a (record a { seats = with_item a.seats place s; frames = bag })
   unheard same =
       let seats : slice_set a.seats.items place s ≡ a.seats.items = ap (λ x. slice_set a.seats.items place x) same ∙ set_same a.seats.items place q (seat_here a place q lt read) in
       record {
-        seen = ap (λ (ss : List Seat). record (seen_of a) { seats = ss; frames = bag.frames }) seats ∙ ap (λ (fs : List Message). record (seen_of a) { frames = fs }) frames;
+        seen = ap (λ (ss : List ConfiguredArbiter). record (seen_of a) { seats = ss; frames = bag.frames }) seats ∙ ap (λ (fs : List Message). record (seen_of a) { frames = fs }) frames;
         places = λ p lt. refl;
       }
 

@@ -7,19 +7,19 @@ use Rattle.arbiter_core.specs.Arbiters.{Arbiter}
 use Rattle.ring_points.specs.Whos.{arbiter_actor}
 use Rattle.world_rules.specs.Events.{is_arbiter_actor, arbiter_number}
 use Rattle.fabric_lemmas.specs.Maps.{at}
-use Rattle.fabric_above.specs.Fabric.{fabric}
+use Rattle.unit_rules.specs.Fabric.{fabric}
 use Rattle.world_rules.specs.Schedules.{runs, runs_as}
 use Rattle.world_rules.specs.Worlds.{World as RuledWorld}
-use Rattle.ring_world.specs.Seats.{IsSeat, state_of, state_where}
+use Rattle.ring_world.specs.ConfiguredArbiters.{IsSeat, state_of, state_where}
 use Rattle.ring_world.specs.Stands.{Stands}
-use Rattle.ring_world.specs.declared.seat.Seat.{Seat}
+use Rattle.ring_world.specs.declared.configured_arbiter.ConfiguredArbiter.{ConfiguredArbiter}
 use Rattle.ring_world.specs.declared.world.World.{World}
 
 -- the seat that was read at a place
-pub seat_here : (a : World) (place : ℕ) (q : Seat) → place < length a.seats.items → q ≡ get_or a.seats.items place q → slice_get a.seats.items place ≡ Some q
+pub seat_here : (a : World) (place : ℕ) (q : ConfiguredArbiter) → place < length a.seats.items → q ≡ get_or a.seats.items place q → slice_get a.seats.items place ≡ Some q
 seat_here a place q lt read = slice_get_read a.seats.items (length a.seats.items) place q refl lt read
 
-pub seat_at : (a : World) (w : RuledWorld fabric) (place : ℕ) (q : Seat) → Stands a w → place < length a.seats.items → q ≡ get_or a.seats.items place q → IsSeat w a.events (place + 1) q
+pub seat_at : (a : World) (w : RuledWorld fabric) (place : ℕ) (q : ConfiguredArbiter) → Stands a w → place < length a.seats.items → q ≡ get_or a.seats.items place q → IsSeat w a.events (place + 1) q
 seat_at a w place q s lt read = s.arbiters.seats place q (seat_here a place q lt read)
 
 -- an arbitrator has a state where it runs
@@ -38,7 +38,7 @@ seat_actor actor place e = grind (arith, nat_tests)
 pub far_number : (actor count : ℕ) → arbiter_actor count < actor → count < arbiter_number actor
 far_number actor count lt = omega arith
 
-module _ (a : World) (w : RuledWorld fabric) (actor place : ℕ) (q : Seat)
+module _ (a : World) (w : RuledWorld fabric) (actor place : ℕ) (q : ConfiguredArbiter)
     (s : Stands a w) (e : actor ≡ arbiter_actor (place + 1)) (lt : place < length a.seats.items) (read : q ≡ get_or a.seats.items place q) where
   -- an arbitrator runs where its seat says so
   pub runs_at : is_some (at (arbiter_number actor) w.arbiters) ≡ q.runs
@@ -55,7 +55,7 @@ module _ (a : World) (w : RuledWorld fabric) (actor place : ℕ) (q : Seat)
       ∙ (sym (seat_at a w place q s lt read).running ∙ ap (λ b. state_where b q.arbiter) stopped)
 
 -- the state of a running arbitrator
-pub running_at : (a : World) (w : RuledWorld fabric) (place : ℕ) (q : Seat) → Stands a w → place < length a.seats.items → q ≡ get_or a.seats.items place q → q.runs ≡ true
+pub running_at : (a : World) (w : RuledWorld fabric) (place : ℕ) (q : ConfiguredArbiter) → Stands a w → place < length a.seats.items → q ≡ get_or a.seats.items place q → q.runs ≡ true
     → at (place + 1) w.arbiters ≡ Some (state_of q.arbiter)
 running_at a w place q s lt read is = sym (seat_at a w place q s lt read).running ∙ ap (λ b. state_where b q.arbiter) is
 

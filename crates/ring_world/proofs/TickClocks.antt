@@ -4,7 +4,7 @@ use Rattle.std.specs.Prelude.{◌==◌, ◌&&◌, nat_le, map, slice_get, slice_
 use Rattle.std.proofs.lemmas.Bool.{and_parts, eqb-true}
 use Rattle.std.proofs.lemmas.Option.{slice_get-get_or, slice_get-map, slice_get_within}
 use Rattle.std.specs.declared.alloc.Global.{Global}
-use Rattle.drift_clock.specs.Extremes.{Kept, Stands as DriftStands}
+use Rattle.drift_clock.specs.Extremes.{Extremes, Stands as DriftStands}
 use Rattle.drift_clock.specs.Within.{Pair, FitsAll, fits_all}
 use Rattle.drift_clock.specs.declared.bound.Bound.{Bound}
 use Rattle.drift_clock.proofs.Decided.{fits_decided}
@@ -12,10 +12,10 @@ use Rattle.fabric_terms.specs.declared.config.FabricConfig.{FabricConfig}
 use Rattle.ring_points.specs.declared.who.Who.{Who}
 use Rattle.world_rules.specs.Events.{shows, ticked}
 use Rattle.fabric_lemmas.specs.Maps.{at, rises_from}
-use Rattle.fabric_above.specs.Fabric.{fabric}
+use Rattle.unit_rules.specs.Fabric.{fabric}
 use Rattle.world_rules.specs.Schedules.{are_of, fits_pairs, readings_fit}
 use Rattle.world_rules.specs.Worlds.{World as RuledWorld}
-use Rattle.ring_world.specs.Room.{most_time}
+use Rattle.ring_world.specs.EventLimits.{most_time}
 use Rattle.ring_world.specs.Running.{AllRun, RunsAs}
 use Rattle.ring_world.specs.Stands.{Stands}
 use Rattle.ring_world.specs.Ticks.{Shows, after_tick}
@@ -174,7 +174,7 @@ module _ (a : World) (w : RuledWorld fabric) (t : ℕ) (nodes : List Running) (c
         let fits : fits_all a.config.bound entry.1.pairs (t, reading) ≡ true = sym (ap (λ o. fits_pairs a.config t reading o) here) ∙ fits_at a.config w t rs i d fit lt in
         subst (λ (b : Bound). FitsAll b entry.1.pairs (t, reading)) (sym runs.bound) ((fits_decided a.config.bound entry.1.pairs (t, reading)).0 fits)
 
-    pub shows_more : (clock : Who × ℕ) (k : Kept) → clock ≡ get_or clocks i clock → reading ≤ most_time → k.bound ≡ r.drift.bound → k.latest ≡ (t, reading) → DriftStands k ((t, reading) ∷ entry.1.pairs)
+    pub shows_more : (clock : Who × ℕ) (k : Extremes) → clock ≡ get_or clocks i clock → reading ≤ most_time → k.bound ≡ r.drift.bound → k.latest ≡ (t, reading) → DriftStands k ((t, reading) ∷ entry.1.pairs)
         → ShowsSoFar a.config t (slice_set nodes i (record r { drift = k })) (slice_set clocks i (clock.0, reading)) rs (i + 1) w.nodes
     shows_more clock k at_clock le bound latest stands =
         let time : k.latest.0 ≡ t = ap (λ (p : Pair). p.0) latest in

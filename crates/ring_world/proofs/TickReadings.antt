@@ -5,7 +5,7 @@ use Rattle.std.proofs.lemmas.Bool.{and_parts, eqb-true}
 use Rattle.std.proofs.lemmas.List.{drop_all}
 use Rattle.drift_clock.proofs.Decided.{fits_decided}
 use Rattle.drift_clock.proofs.Named.{named}
-use Rattle.drift_clock.specs.Extremes.{Kept, Stands as DriftStands}
+use Rattle.drift_clock.specs.Extremes.{Extremes, Stands as DriftStands}
 use Rattle.drift_clock.specs.Refusals.{broken_with}
 use Rattle.drift_clock.specs.Within.{Pair, FitsAll, fits_all}
 use Rattle.drift_clock.specs.declared.bound.Bound.{Bound}
@@ -14,7 +14,7 @@ use Rattle.drift_clock.proofs.Kept.{latest_is}
 use Rattle.fabric_terms.specs.declared.config.FabricConfig.{FabricConfig}
 use Rattle.ring_points.specs.declared.who.Who.{Who}
 use Rattle.fabric_lemmas.specs.Maps.{at}
-use Rattle.fabric_above.specs.Fabric.{fabric}
+use Rattle.unit_rules.specs.Fabric.{fabric}
 use Rattle.world_rules.specs.Schedules.{are_of, fits_pairs, readings_fit}
 use Rattle.world_rules.specs.Worlds.{World as RuledWorld, Running as RuledRunning}
 use Rattle.ring_world.specs.Drifts.{broken_of, first_broken, shown_by}
@@ -88,7 +88,7 @@ refused b pairs now h = by_value (fits_all b pairs now) refl
     by_value true e = absurd (h ((fits_decided b pairs now).0 e))
     by_value false e = refl
 
-none_broken : (k : Kept) (pairs : List Pair) (now : Pair) → DriftStands k pairs → k.latest.0 ≤ now.0 → FitsAll k.bound pairs now → broken_with k.bound pairs now ≡ None
+none_broken : (k : Extremes) (pairs : List Pair) (now : Pair) → DriftStands k pairs → k.latest.0 ≤ now.0 → FitsAll k.bound pairs now → broken_with k.bound pairs now ≡ None
 none_broken k [] now s le fits = refl
 none_broken k (p ∷ ps) now s le fits =
     let latest = latest_is k p ps s in

@@ -7,13 +7,13 @@ use Rattle.fabric_terms.specs.declared.event.Event.{Event}
 use Rattle.frame_format.specs.Kinds.{message_of}
 use Rattle.fabric_terms.specs.Ranges.{Fits}
 use Rattle.world_rules.specs.Events.{world_step}
-use Rattle.fabric_above.specs.Fabric.{fabric}
+use Rattle.unit_rules.specs.Fabric.{fabric}
 use Rattle.world_rules.specs.Runs.{History, world_after}
 use Rattle.world_rules.specs.Schedules.{Valid, is_there, keeps_bound}
 use Rattle.world_rules.specs.Worlds.{World as RuledWorld}
 use Rattle.ring_world.specs.Drifts.{drift_broken}
 use Rattle.ring_world.specs.Keeps.{Keeps}
-use Rattle.ring_world.specs.Room.{has_room}
+use Rattle.ring_world.specs.EventLimits.{has_room}
 use Rattle.ring_world.specs.declared.world.Acted.{Acted}
 use Rattle.ring_world.specs.declared.world.EventRefusal.{EventRefusal}
 use Rattle.ring_world.specs.declared.world.EventRefusal.TheVariants.{NoSuch, DriftBroken as BrokenDrift, TooLarge, OutOfMemory}

@@ -5,7 +5,7 @@ use Rattle.fabric_terms.specs.Places.{place_of}
 use Rattle.fabric_terms.specs.Reports.{told}
 use Rattle.point_places.specs.Spots.{place_at}
 use Rattle.ring_points.specs.Whos.{node_instance}
-use Rattle.fabric_above.specs.Fabric.{fabric}
+use Rattle.unit_rules.specs.Fabric.{fabric}
 use Rattle.world_rules.specs.Runs.{History, run_of, world_after}
 use Rattle.ring_world.specs.Stands.{Stands}
 use Rattle.ring_world.specs.declared.world.World.{World}

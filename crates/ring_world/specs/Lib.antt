@@ -1,11 +1,11 @@
-pub mod Room
+pub mod EventLimits
 pub mod Drifts
 pub mod Holders
 pub mod Running
 pub mod Replicas
 pub mod Seen
 pub mod Finds
-pub mod Seats
+pub mod ConfiguredArbiters
 pub mod Stands
 pub mod Keeps
 pub mod Answers

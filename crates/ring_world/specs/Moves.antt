@@ -8,12 +8,12 @@ use Rattle.fabric_terms.specs.declared.report.Report.{Report}
 use Rattle.point_places.specs.Spots.{place_at}
 use Rattle.ring_points.specs.declared.who.Who.{Who}
 use Rattle.world_rules.specs.Events.{world_step}
-use Rattle.fabric_above.specs.Fabric.{fabric}
+use Rattle.unit_rules.specs.Fabric.{fabric}
 use Rattle.world_rules.specs.Schedules.{is_there, keeps_bound}
 use Rattle.world_rules.specs.Worlds.{World as RuledWorld, Stepped}
 use Rattle.ring_world.specs.Answers.{is_frame, entry_of, IsSeenAt}
 use Rattle.ring_world.specs.Drifts.{drift_broken}
-use Rattle.ring_world.specs.Room.{has_room}
+use Rattle.ring_world.specs.EventLimits.{has_room}
 use Rattle.ring_world.specs.Seen.{seen_of}
 use Rattle.ring_world.specs.Stands.{Stands}
 use Rattle.ring_world.specs.declared.world.Acted.{Acted}

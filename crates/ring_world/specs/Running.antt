@@ -3,9 +3,9 @@ use Rattle.std.specs.Prelude.{◌≡◌, ℕ, ◌≤◌, List, [], ◌∷◌}
 use Rattle.drift_clock.specs.Extremes.{Stands as DriftStands}
 use Rattle.fabric_terms.specs.declared.config.FabricConfig.{FabricConfig}
 use Rattle.node_core.specs.Nodes.{GoesBy}
-use Rattle.fabric_above.specs.Fabric.{fabric}
+use Rattle.unit_rules.specs.Fabric.{fabric}
 use Rattle.world_rules.specs.Worlds.{Running as RuledRunning}
-use Rattle.ring_world.specs.Room.{most_time}
+use Rattle.ring_world.specs.EventLimits.{most_time}
 use Rattle.ring_world.specs.declared.running.Running.{Running}
 
 -- the greatest number of a node

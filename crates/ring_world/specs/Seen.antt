@@ -5,7 +5,7 @@ use Rattle.fabric_terms.specs.declared.message.Message.{Message}
 use Rattle.node_core.specs.declared.kept.NodeKept.{NodeKept}
 use Rattle.ring_points.specs.declared.who.Who.{Who}
 use Rattle.ring_world.specs.declared.running.Running.{Running}
-use Rattle.ring_world.specs.declared.seat.Seat.{Seat}
+use Rattle.ring_world.specs.declared.configured_arbiter.ConfiguredArbiter.{ConfiguredArbiter}
 use Rattle.ring_world.specs.declared.world.World.{World}
 
 pub record Seen : Type 0 where
@@ -15,7 +15,7 @@ pub record Seen : Type 0 where
   pub running : List Running
   pub clocks : List (Who × ℕ)
   pub kept : List NodeKept
-  pub seats : List Seat
+  pub seats : List ConfiguredArbiter
   pub frames : List Message
   pub sent : ℕ
 

@@ -7,15 +7,15 @@ use Rattle.join_phases.specs.Phases.{is_left}
 use Rattle.replica_records.specs.Named.{KeptAs}
 use Rattle.node_core.specs.Nodes.{Amounts, frames_limit, kept_in}
 use Rattle.node_core.specs.declared.kept.NodeKept.{NodeKept}
-use Rattle.fabric_above.specs.Fabric.{fabric}
+use Rattle.unit_rules.specs.Fabric.{fabric}
 use Rattle.unit_rules.specs.Steps.{Failover}
 use Rattle.world_rules.specs.Nodes.{NodeState}
 use Rattle.world_rules.specs.Worlds.{World as RuledWorld, Running as RuledRunning, clocks_in, kept_of}
-use Rattle.ring_world.specs.Room.{most_events, most_frames, most_time}
+use Rattle.ring_world.specs.EventLimits.{most_events, most_frames, most_time}
 use Rattle.ring_world.specs.Running.{AllRun, last_node}
-use Rattle.ring_world.specs.Seats.{IsSeat}
+use Rattle.ring_world.specs.ConfiguredArbiters.{IsSeat}
 use Rattle.ring_world.specs.Seen.{Seen, seen_of}
-use Rattle.ring_world.specs.declared.seat.Seat.{Seat}
+use Rattle.ring_world.specs.declared.configured_arbiter.ConfiguredArbiter.{ConfiguredArbiter}
 use Rattle.ring_world.specs.declared.world.World.{World}
 
 -- what a running node recorded, and what its next start would find
@@ -49,7 +49,7 @@ pub record NodesStand (a : Seen) (w : RuledWorld fabric) : Type 0 where
 -- each configured arbitrator has its seat, and no other runs
 pub record ArbitersStand (a : Seen) (w : RuledWorld fabric) : Type 0 where
   pub count : length a.seats ≡ length a.config.arbiters
-  pub seats : (k : ℕ) (s : Seat) → slice_get a.seats k ≡ Some s → IsSeat w a.events (k + 1) s
+  pub seats : (k : ℕ) (s : ConfiguredArbiter) → slice_get a.seats k ≡ Some s → IsSeat w a.events (k + 1) s
   pub others : (arbiter : ℕ) → length a.seats < arbiter → at arbiter w.arbiters ≡ None
   pub from_one : at 0 w.arbiters ≡ None
 

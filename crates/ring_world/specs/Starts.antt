@@ -6,7 +6,7 @@ use Rattle.node_core.specs.declared.kept.NodeKept.{NodeKept}
 use Rattle.node_core.specs.declared.outcome.Outcome.{Outcome}
 use Rattle.ring_points.specs.declared.who.Who.{Who}
 use Rattle.world_rules.specs.Nodes.{node_begun}
-use Rattle.fabric_above.specs.Fabric.{fabric}
+use Rattle.unit_rules.specs.Fabric.{fabric}
 use Rattle.ring_world.specs.declared.world.World.{World}
 
 -- the place of the first clock of a greater node, or that behind all

@@ -5,7 +5,7 @@ use Rattle.fabric_terms.specs.declared.message.Message.{Message}
 use Rattle.ring_rules.specs.declared.input.Input.{Input}
 use Rattle.fabric_terms.specs.Messages.{is_sound}
 use Rattle.world_rules.specs.Events.{node_acts}
-use Rattle.fabric_above.specs.Fabric.{fabric}
+use Rattle.unit_rules.specs.Fabric.{fabric}
 use Rattle.world_rules.specs.Worlds.{World as RuledWorld, Running as RuledRunning, Stepped}
 
 abbrev pub IsSoundFrame : Message → Type 0

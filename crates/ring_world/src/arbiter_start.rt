@@ -1,5 +1,5 @@
 ghost use Rattle.std.specs.Prelude.{◌<◌, None};
-ghost use Rattle.fabric_above.specs.Fabric.{fabric};
+ghost use Rattle.unit_rules.specs.Fabric.{fabric};
 ghost use Rattle.world_rules.specs.Worlds.{World as RuledWorld};
 ghost use Rattle.ring_world.specs.Moves.{Comes};
 ghost use Rattle.ring_world.specs.Stands.{Stands};
@@ -18,7 +18,8 @@ impl World {
     ) -> Result<Option<Acted>, EventRefusal>
         requires can { (w : RuledWorld fabric) × Stands self.old w }
         requires actor { ARBITRATORS < actor }
-        ensures { (w : RuledWorld fabric) → Stands self.old w → Comes self.old self.new w line (Event.Start actor None) result }
+        ensures { (w : RuledWorld fabric) → Stands self.old w →
+            Comes self.old self.new w line (Event.Start actor None) result }
     {
         let Some(place) = self.seat_of(actor) else {
             return Err(EventRefusal::NoSuch);

@@ -1,13 +1,13 @@
 ghost use Rattle.std.specs.Prelude.{◌≡◌, ◌<◌, ◌==◌, ◌||◌, Some};
 ghost use Rattle.world_rules.specs.Events.{arrives, arrives_at_node};
 ghost use Rattle.fabric_lemmas.specs.Maps.{at};
-ghost use Rattle.fabric_above.specs.Fabric.{fabric};
+ghost use Rattle.unit_rules.specs.Fabric.{fabric};
 ghost use Rattle.world_rules.specs.Worlds.{World as RuledWorld};
 ghost use Rattle.ring_points.specs.Whos.{arbiter_actor};
 ghost use Rattle.fabric_terms.specs.Ranges.{Fits};
 ghost use Rattle.ring_world.specs.Answers.{IsWorld};
 ghost use Rattle.ring_world.specs.Moves.{Comes, Delivers};
-ghost use Rattle.ring_world.specs.Room.{most_events, most_frames};
+ghost use Rattle.ring_world.specs.EventLimits.{most_events, most_frames};
 ghost use Rattle.ring_world.specs.Stands.{Stands};
 ghost use Rattle.ring_world.specs.Steps.{IsSoundFrame, LeavesSound};
 
@@ -26,7 +26,8 @@ fn is_meant(to: Who, me: Who) -> bool
 impl World {
     /// A message comes to a node. It is lost where the node does not run, or another instance than it names.
     fn reach_node(&mut self, line: u64, message: Message) -> Result<Option<Acted>, OutOfMemory>
-        requires can { (w : RuledWorld fabric) × Stands self.old w × LeavesSound (arrives_at_node fabric self.old.config w message (at message.to.actor w.nodes)) }
+        requires can { (w : RuledWorld fabric) × Stands self.old w ×
+            LeavesSound (arrives_at_node fabric self.old.config w message (at message.to.actor w.nodes)) }
         requires sound { IsSoundFrame message }
         requires events { self.old.events < most_events }
         requires frames { self.old.sent < most_frames }
@@ -49,7 +50,8 @@ impl World {
     /// A message comes to an arbitrator. It is lost where the arbitrator does not run.
     fn reach_arbiter(&mut self, line: u64, message: &Message) -> Result<Option<Acted>, OutOfMemory>
         requires arbiter { arbiter_actor 0 < message.now.to.actor }
-        requires can { (w : RuledWorld fabric) × Stands self.old w × LeavesSound (arrives fabric self.old.config w (Some message.now)) }
+        requires can { (w : RuledWorld fabric) × Stands self.old w ×
+            LeavesSound (arrives fabric self.old.config w (Some message.now)) }
         requires events { self.old.events < most_events }
         requires frames { self.old.sent < most_frames }
         ensures { (w : RuledWorld fabric) → Stands self.old w →
@@ -68,7 +70,8 @@ impl World {
 
     /// A message comes to its addressee.
     fn reach(&mut self, line: u64, message: Message) -> Result<Option<Acted>, OutOfMemory>
-        requires can { (w : RuledWorld fabric) × Stands self.old w × LeavesSound (arrives fabric self.old.config w (Some message)) }
+        requires can { (w : RuledWorld fabric) × Stands self.old w ×
+            LeavesSound (arrives fabric self.old.config w (Some message)) }
         requires sound { IsSoundFrame message }
         requires events { self.old.events < most_events }
         requires frames { self.old.sent < most_frames }
@@ -86,7 +89,8 @@ impl World {
     pub(crate) fn give(&mut self, line: u64, number: u64) -> Result<Option<Acted>, EventRefusal>
         requires world { IsWorld self.old }
         requires fits { Fits (Event.Give number) }
-        ensures { (w : RuledWorld fabric) → Stands self.old w → Comes self.old self.new w line (Event.Give number) result }
+        ensures { (w : RuledWorld fabric) → Stands self.old w →
+            Comes self.old self.new w line (Event.Give number) result }
     {
         let Some(message) = self.frames.get(number) else {
             return Err(EventRefusal::NoSuch);

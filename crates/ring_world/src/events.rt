@@ -1,17 +1,17 @@
 ghost use Rattle.std.specs.Prelude.{◌≡◌, ◌<◌, ℕ, None};
 ghost use Rattle.fabric_terms.specs.Ranges.{Fits};
-ghost use Rattle.fabric_above.specs.Fabric.{fabric};
+ghost use Rattle.unit_rules.specs.Fabric.{fabric};
 ghost use Rattle.world_rules.specs.Worlds.{World as RuledWorld, quiet};
 ghost use Rattle.ring_world.specs.Answers.{IsWorld, is_frame};
 ghost use Rattle.ring_world.specs.Moves.{Comes, Moves};
-ghost use Rattle.ring_world.specs.Room.{most_events};
+ghost use Rattle.ring_world.specs.EventLimits.{most_events};
 ghost use Rattle.ring_world.specs.Stands.{Stands};
 
 use crate::world::{Acted, EventRefusal, World};
-use fabric_terms::{Command, Event};
+use fabric_terms::{Command, Event, copy_of};
 use ring_node::Input;
 use ring_wire::decode;
-use source_commands::{copy_of, is_named};
+use world_rules::is_named;
 
 fn is_frame(bytes: &[u8]) -> bool
     ensures { result ≡ is_frame bytes.now }
@@ -26,7 +26,8 @@ impl World {
     /// An event at which no actor does anything.
     pub(crate) fn pass(&mut self)
         requires { self.old.events < most_events }
-        ensures { (w : RuledWorld fabric) (line : ℕ) → Stands self.old w → Moves self.old self.new (quiet fabric w) line None }
+        ensures { (w : RuledWorld fabric) (line : ℕ) → Stands self.old w →
+            Moves self.old self.new (quiet fabric w) line None }
     {
         self.events += 1;
     }
@@ -35,7 +36,8 @@ impl World {
     pub(crate) fn fire(&mut self, line: u64, node: u16) -> Result<Option<Acted>, EventRefusal>
         requires world { IsWorld self.old }
         requires fits { Fits (Event.Fire node) }
-        ensures { (w : RuledWorld fabric) → Stands self.old w → Comes self.old self.new w line (Event.Fire node) result }
+        ensures { (w : RuledWorld fabric) → Stands self.old w →
+            Comes self.old self.new w line (Event.Fire node) result }
     {
         let Some(place) = self.place_of(node) else {
             return Err(EventRefusal::NoSuch);
@@ -55,7 +57,8 @@ impl World {
     ) -> Result<Option<Acted>, EventRefusal>
         requires world { IsWorld self.old }
         requires fits { Fits (Event.Do node command.now) }
-        ensures { (w : RuledWorld fabric) → Stands self.old w → Comes self.old self.new w line (Event.Do node command.now) result }
+        ensures { (w : RuledWorld fabric) → Stands self.old w →
+            Comes self.old self.new w line (Event.Do node command.now) result }
     {
         let Some(place) = self.place_of(node) else {
             return Err(EventRefusal::NoSuch);
@@ -77,7 +80,8 @@ impl World {
         actor: u16,
         bytes: &[u8],
     ) -> Result<Option<Acted>, EventRefusal>
-        ensures { (w : RuledWorld fabric) → Stands self.old w → Comes self.old self.new w line (Event.Junk actor bytes.now) result }
+        ensures { (w : RuledWorld fabric) → Stands self.old w →
+            Comes self.old self.new w line (Event.Junk actor bytes.now) result }
     {
         let _ = line;
         if !self.runs(actor) {

@@ -11,7 +11,8 @@ use replica_core::Replica;
 impl World {
     /// The node's replica of a partition: None exactly where the node does not run or has no such replica.
     pub fn replica(&self, node: u16, partition: u16) -> Option<&Replica>
-        ensures { (c : Configuration) (h : History) → StandsFor self.now c h → option_copied result ≡ replica_in (ruled c h) node partition }
+        ensures { (c : Configuration) (h : History) → StandsFor self.now c h →
+            option_copied result ≡ replica_in (ruled c h) node partition }
     {
         let place = self.place_of(node)?;
         let running = self.running.get(place)?;

@@ -6,21 +6,21 @@ ghost use Rattle.fabric_terms.specs.Messages.{is_sound};
 ghost use Rattle.std.specs.Option.{option_to_list};
 ghost use Rattle.world_rules.specs.Arbiters.{ArbiterState, arbiter_step};
 ghost use Rattle.fabric_lemmas.specs.Maps.{at, rises};
-ghost use Rattle.fabric_above.specs.Fabric.{fabric};
+ghost use Rattle.unit_rules.specs.Fabric.{fabric};
 ghost use Rattle.world_rules.specs.Worlds.{World as RuledWorld, arbiter_acted, numbers_of, posted};
 ghost use Rattle.ring_world.specs.Moves.{Same, Steps};
-ghost use Rattle.ring_world.specs.Room.{most_events, most_frames};
+ghost use Rattle.ring_world.specs.EventLimits.{most_events, most_frames};
 ghost use Rattle.ring_world.specs.Rulings.{CanRule, HeardAt, Hears};
 ghost use Rattle.ring_world.specs.Stands.{Stands};
 
-use crate::seat::Seat;
+use crate::configured_arbiter::ConfiguredArbiter;
 use crate::world::{Acted, World};
 use arbiter_core::{Answer, ArbiterError};
 use fabric_terms::{Body, Message, OutOfMemory};
 use node_core::Batch;
 use ring_points::Who;
 
-impl Seat {
+impl ConfiguredArbiter {
     /// The arbitrator hears a message: what it records is kept, and its answer is given.
     fn hear(&mut self, message: &Message) -> Result<Option<(Who, Body)>, OutOfMemory>
         requires few { entries self.old.arbiter < most_events }
@@ -57,7 +57,8 @@ impl World {
         requires room { 0 < self.old.frames.room }
         requires sound { IfSome reply (λ r. IsTrue (is_sound (record { from = from; to = r.0; body = r.1 }))) }
         requires few { self.old.sent < most_frames }
-        ensures rest { self.new ≡ record self.old { frames = self.new.frames; sent = self.old.sent + length (option_to_list reply) } }
+        ensures rest { self.new ≡ record self.old { frames = self.new.frames;
+            sent = self.old.sent + length (option_to_list reply) } }
         ensures frames { self.new.frames.frames ≡ posted from (option_to_list reply) self.old.frames.frames }
         ensures numbers { result ≡ numbers_of self.old.sent (option_to_list reply) }
     {

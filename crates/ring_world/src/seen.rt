@@ -6,7 +6,7 @@ ghost use Rattle.point_places.specs.Lines.{IsAppended};
 ghost use Rattle.ring_points.specs.Whos.{node_instance};
 ghost use Rattle.ring_world.specs.Answers.{StandsFor};
 ghost use Rattle.ring_world.specs.Holders.{held_now, holders_in, holders_of, holds_in, is_some_range};
-ghost use Rattle.fabric_above.specs.Fabric.{fabric};
+ghost use Rattle.unit_rules.specs.Fabric.{fabric};
 ghost use Rattle.world_rules.specs.Runs.{History, run_of};
 
 use crate::world::World;
@@ -61,7 +61,8 @@ impl World {
 
     /// The running instances that hold a point, each with what it holds.
     fn holders(&self) -> Result<Vec<Holder>, OutOfMemory>
-        ensures { (c : Configuration) (h : History) → StandsFor self.now c h → IfOk result (λ r. r.items ≡ holders_of (run_of fabric c h)) }
+        ensures { (c : Configuration) (h : History) → StandsFor self.now c h →
+            IfOk result (λ r. r.items ≡ holders_of (run_of fabric c h)) }
     {
         let mut holders = Vec::new(self.alloc);
         for (clock, running) in self.clocks.iter().zip(self.running.iter()) {
@@ -72,7 +73,9 @@ impl World {
 
     /// Appends the lines of the points that are with an instance which does not hold them, and of those in flight.
     pub(crate) fn push_place_lines(&self, into: &mut Vec<u8>) -> Result<(), OutOfMemory>
-        ensures ok { (c : Configuration) (h : History) → StandsFor self.now c h → OnOk result (IsAppended (place_of (node_instance c.first 1) (told (run_of fabric c h))) (holds_in (run_of fabric c h)) into.old.items into.new.items) }
+        ensures ok { (c : Configuration) (h : History) → StandsFor self.now c h →
+            OnOk result (IsAppended (place_of (node_instance c.first 1) (told (run_of fabric c h)))
+            (holds_in (run_of fabric c h)) into.old.items into.new.items) }
         ensures refused { OnErr result (into.new.items ≡ into.old.items) }
     {
         let holders = self.holders()?;

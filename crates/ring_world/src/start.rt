@@ -1,24 +1,24 @@
-ghost use Rattle.std.specs.Prelude.{◌≡◌, ◌≤◌, ◌<◌, ◌^◌, ◌∷◌, [], None, true, OnOk, length, insert, vec_len, vec_capacity};
+ghost use Rattle.std.specs.Prelude.{◌≡◌, ◌≤◌, ◌<◌, ◌∷◌, [], None, true, OnOk, length, insert, vec_len, vec_capacity};
 ghost use Rattle.node_core.specs.Nodes.{most_reports};
 ghost use Rattle.fabric_terms.specs.Ranges.{Fits};
 ghost use Rattle.fabric_lemmas.specs.Maps.{at};
 ghost use Rattle.world_rules.specs.Nodes.{node_begun};
-ghost use Rattle.fabric_above.specs.Fabric.{fabric};
+ghost use Rattle.unit_rules.specs.Fabric.{fabric};
 ghost use Rattle.world_rules.specs.Schedules.{is_configured_node};
 ghost use Rattle.world_rules.specs.Worlds.{World as RuledWorld, kept_of, node_acted};
 ghost use Rattle.ring_world.specs.Moves.{Comes, Same, Steps};
-ghost use Rattle.ring_world.specs.Room.{most_events, most_frames};
+ghost use Rattle.ring_world.specs.EventLimits.{most_events, most_frames};
 ghost use Rattle.ring_world.specs.Running.{last_node};
 ghost use Rattle.ring_world.specs.Stands.{Stands};
 ghost use Rattle.ring_world.specs.Starts.{place_for};
 
 use crate::running::Running;
 use crate::world::{Acted, EventRefusal, World};
-use drift_clock::{Drift, MAX_READING};
+use drift_clock::Drift;
+use ring_points::{MAX_READING, Who};
 use fabric_terms::{Event, OutOfMemory};
 use node_core::NodeCore;
-use ring_points::Who;
-use source_commands::is_configured_node;
+use world_rules::is_configured_node;
 
 /// Where the clock of this node has to stand.
 fn place_for(clocks: &[(Who, u64)], node: u16) -> usize
@@ -93,7 +93,8 @@ impl World {
         requires can { (w : RuledWorld fabric) × Stands self.old w }
         requires node { node ≤ last_node }
         requires reading { reading ≤ MAX_READING }
-        ensures { (w : RuledWorld fabric) → Stands self.old w → Comes self.old self.new w line (Event.Start node (Some reading)) result }
+        ensures { (w : RuledWorld fabric) → Stands self.old w →
+            Comes self.old self.new w line (Event.Start node (Some reading)) result }
     {
         if !is_configured_node(&self.config, node) {
             return Err(EventRefusal::NoSuch);
@@ -108,8 +109,8 @@ impl World {
         Ok(Some(self.enter(line, node, reading)?))
     }
 
-    /// An actor's process begins: a node's with the reading of its clock, an arbitrator's without one. It is never inlined,
-    /// for the room in which a node is made.
+    /// An actor's process begins: a node's with the reading of its clock, an arbitrator's without one. It is never
+    /// inlined, for the room in which a node is made.
     #[inline(never)]
     pub(crate) fn start(
         &mut self,
@@ -119,7 +120,8 @@ impl World {
     ) -> Result<Option<Acted>, EventRefusal>
         requires can { (w : RuledWorld fabric) × Stands self.old w }
         requires fits { Fits (Event.Start actor reading) }
-        ensures { (w : RuledWorld fabric) → Stands self.old w → Comes self.old self.new w line (Event.Start actor reading) result }
+        ensures { (w : RuledWorld fabric) → Stands self.old w →
+            Comes self.old self.new w line (Event.Start actor reading) result }
     {
         match reading {
             Some(reading) => self.start_node(line, actor, reading),

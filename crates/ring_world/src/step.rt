@@ -2,19 +2,17 @@ ghost use Rattle.std.specs.Prelude.{◌≡◌, ◌≤◌, ◌<◌, ℕ, Some, On
 ghost use Rattle.node_core.specs.Nodes.{FitsInput, frames_limit, most_reports};
 ghost use Rattle.world_rules.specs.Events.{node_acts};
 ghost use Rattle.fabric_lemmas.specs.Maps.{at};
-ghost use Rattle.fabric_above.specs.Fabric.{fabric};
+ghost use Rattle.unit_rules.specs.Fabric.{fabric};
 ghost use Rattle.world_rules.specs.Worlds.{World as RuledWorld, Running as RuledRunning};
 ghost use Rattle.ring_world.specs.Moves.{Same, Steps};
-ghost use Rattle.ring_world.specs.Room.{most_events, most_frames};
+ghost use Rattle.ring_world.specs.EventLimits.{most_events, most_frames};
 ghost use Rattle.ring_world.specs.Stands.{Stands};
 ghost use Rattle.ring_world.specs.Steps.{CanStep};
 
 use crate::world::{Acted, World};
+use ring_points::MAX_STEP_REPORTS;
 use fabric_terms::OutOfMemory;
 use ring_node::Input;
-
-/// The most reports of a step.
-const MOST_REPORTS: usize = 72;
 
 impl World {
     /// Makes room for so many frames and for what one step tells.
@@ -26,7 +24,7 @@ impl World {
         ensures reports { OnOk result (most_reports ≤ self.new.places.room) }
     {
         self.frames.reserve(frames)?;
-        self.places.reserve(MOST_REPORTS)?;
+        self.places.reserve(MAX_STEP_REPORTS)?;
         Ok(())
     }
 

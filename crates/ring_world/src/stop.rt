@@ -1,14 +1,14 @@
 ghost use Rattle.std.specs.Prelude.{◌≡◌, ◌≤◌, ◌<◌, [], ◌∷◌, IfOk};
 ghost use Rattle.fabric_terms.specs.Ranges.{Fits};
-ghost use Rattle.fabric_above.specs.Fabric.{fabric};
+ghost use Rattle.unit_rules.specs.Fabric.{fabric};
 ghost use Rattle.world_rules.specs.Worlds.{World as RuledWorld};
 ghost use Rattle.ring_world.specs.Moves.{Comes};
 ghost use Rattle.ring_world.specs.Stands.{Stands};
 
 use crate::world::{Acted, EventRefusal, World};
+use ring_points::{ARBITRATORS, MAX_NODE_NUMBER, Who};
 use fabric_terms::{Event, OutOfMemory, Report};
 use node_core::Batch;
-use ring_points::{ARBITRATORS, Who};
 use std::alloc::Global;
 
 fn stopped(alloc: Global) -> Result<Batch<Report>, OutOfMemory>
@@ -23,8 +23,9 @@ impl World {
     /// A node's process ends.
     fn stop_node(&mut self, line: u64, node: u16) -> Result<Option<Acted>, EventRefusal>
         requires can { (w : RuledWorld fabric) × Stands self.old w }
-        requires node { node ≤ 999 }
-        ensures { (w : RuledWorld fabric) → Stands self.old w → Comes self.old self.new w line (Event.Stop node) result }
+        requires node { node ≤ MAX_NODE_NUMBER }
+        ensures { (w : RuledWorld fabric) → Stands self.old w →
+            Comes self.old self.new w line (Event.Stop node) result }
     {
         let Some(place) = self.place_of(node) else {
             return Err(EventRefusal::NoSuch);
@@ -50,7 +51,8 @@ impl World {
     /// An arbitrator's process ends.
     fn stop_arbiter(&mut self, line: u64, actor: u16) -> Result<Option<Acted>, EventRefusal>
         requires { ARBITRATORS < actor }
-        ensures { (w : RuledWorld fabric) → Stands self.old w → Comes self.old self.new w line (Event.Stop actor) result }
+        ensures { (w : RuledWorld fabric) → Stands self.old w →
+            Comes self.old self.new w line (Event.Stop actor) result }
     {
         let Some(place) = self.seat_of(actor) else {
             return Err(EventRefusal::NoSuch);
@@ -80,7 +82,8 @@ impl World {
     pub(crate) fn stop(&mut self, line: u64, actor: u16) -> Result<Option<Acted>, EventRefusal>
         requires can { (w : RuledWorld fabric) × Stands self.old w }
         requires fits { Fits (Event.Stop actor) }
-        ensures { (w : RuledWorld fabric) → Stands self.old w → Comes self.old self.new w line (Event.Stop actor) result }
+        ensures { (w : RuledWorld fabric) → Stands self.old w →
+            Comes self.old self.new w line (Event.Stop actor) result }
     {
         if actor <= ARBITRATORS {
             self.stop_node(line, actor)

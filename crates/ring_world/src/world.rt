@@ -9,20 +9,20 @@ ghost use Rattle.point_places.specs.Lines.{IsAppended};
 ghost use Rattle.ring_points.specs.Whos.{node_instance};
 ghost use Rattle.ring_world.specs.Answers.{Answers, AnswersTick, IsWorld, StandsFor, ruled};
 ghost use Rattle.ring_world.specs.Holders.{holders_in, holds_in};
-ghost use Rattle.ring_world.specs.Seats.{AreEmpty};
+ghost use Rattle.ring_world.specs.ConfiguredArbiters.{AreEmpty};
 ghost use Rattle.fabric_terms.specs.Ranges.{Fits};
-ghost use Rattle.fabric_above.specs.Fabric.{fabric};
+ghost use Rattle.unit_rules.specs.Fabric.{fabric};
 ghost use Rattle.world_rules.specs.Runs.{History, run_of};
 
 use crate::running::Running;
-use crate::seat::Seat;
+use crate::configured_arbiter::ConfiguredArbiter;
 use arbiter_core::Arbiter;
 use drift_clock::DriftBroken;
+use ring_points::{MAX_ARBITRATORS, MAX_NODE_NUMBER, Who};
 use fabric_terms::{Event, FabricConfig, OutOfMemory, Report};
 use frame_bag::FrameBag;
 use node_core::{Batch, NodeKept};
 use point_places::Places;
-use ring_points::Who;
 use std::alloc::Global;
 
 /// Why an event is refused. Each comes where no earlier one does.
@@ -49,8 +49,8 @@ impl From<OutOfMemory> for EventRefusal {
     }
 }
 
-/// What one actor did at an event: at which line and true time, in ticks; its reading, if it has a clock; the numbers of
-/// the first and the last frame that it sent, 0 and 0 where it sent none; and its reports in order.
+/// What one actor did at an event: at which line and true time, in ticks; its reading, if it has a clock; the numbers
+/// of the first and the last frame that it sent, 0 and 0 where it sent none; and its reports in order.
 #[derive(Drop)]
 pub struct Acted {
     pub line: u64,
@@ -62,7 +62,7 @@ pub struct Acted {
 }
 
 /// Nodes have the numbers below this.
-const NODE_NUMBERS: usize = 1000;
+const NODE_NUMBERS: usize = MAX_NODE_NUMBER as usize + 1;
 
 /// Nothing is kept of so many nodes.
 fn nothing_kept(alloc: Global, count: usize) -> Result<Vec<NodeKept>, OutOfMemory>
@@ -76,13 +76,13 @@ fn nothing_kept(alloc: Global, count: usize) -> Result<Vec<NodeKept>, OutOfMemor
 }
 
 /// So many arbitrators that have recorded nothing and do not run.
-fn empty_seats(alloc: Global, count: u16) -> Result<Vec<Seat>, OutOfMemory>
-    requires { count ≤ 9 }
+fn empty_seats(alloc: Global, count: u16) -> Result<Vec<ConfiguredArbiter>, OutOfMemory>
+    requires { count ≤ MAX_ARBITRATORS }
     ensures { IfOk result (λ seats. AreEmpty count seats.items) }
 {
     let mut seats = Vec::new(alloc);
     for i in 0..count {
-        seats.push(Seat {
+        seats.push(ConfiguredArbiter {
             arbiter: Arbiter::new(alloc, i + 1),
             runs: false,
         })?;
@@ -105,7 +105,7 @@ pub struct World {
     /// What is kept of each node that does not run, by its number.
     pub(crate) kept: Vec<NodeKept>,
     /// The arbitrators, from number 1.
-    pub(crate) seats: Vec<Seat>,
+    pub(crate) seats: Vec<ConfiguredArbiter>,
     pub(crate) frames: FrameBag,
     /// How many frames were sent.
     pub(crate) sent: u32,
@@ -146,7 +146,8 @@ impl World {
     pub fn apply(&mut self, line: u64, event: &Event) -> Result<Option<Acted>, EventRefusal>
         requires world { IsWorld self.old }
         requires fits { Fits event.now }
-        ensures { (c : Configuration) (h : History) → StandsFor self.old c h → Answers self.new c h line event.now result }
+        ensures { (c : Configuration) (h : History) → StandsFor self.old c h →
+            Answers self.new c h line event.now result }
     {
         match event {
             Event::Start { actor, reading } => self.start(line, *actor, *reading),
@@ -172,7 +173,8 @@ impl World {
     ) -> Result<(), EventRefusal>
         requires world { IsWorld self.old }
         requires fits { Fits (Event.Tick advance readings.now) }
-        ensures answers { (c : Configuration) (h : History) → StandsFor self.old c h → AnswersTick self.new c h line (Event.Tick advance readings.now) result }
+        ensures answers { (c : Configuration) (h : History) → StandsFor self.old c h →
+            AnswersTick self.new c h line (Event.Tick advance readings.now) result }
         ensures memory { result ≢ Err EventRefusal.OutOfMemory }
     {
         let _ = line;
@@ -182,7 +184,9 @@ impl World {
     /// Appends the lines of the points that are with an instance which does not hold them, and of those in flight. It
     /// is an error where memory is short, and then nothing is appended.
     pub fn place_lines(&self, into: &mut Vec<u8>) -> Result<(), OutOfMemory>
-        ensures ok { (c : Configuration) (h : History) → StandsFor self.now c h → OnOk result (IsAppended (place_of (node_instance c.first 1) (told (run_of fabric c h))) (holds_in (run_of fabric c h)) into.old.items into.new.items) }
+        ensures ok { (c : Configuration) (h : History) → StandsFor self.now c h →
+            OnOk result (IsAppended (place_of (node_instance c.first 1) (told (run_of fabric c h)))
+            (holds_in (run_of fabric c h)) into.old.items into.new.items) }
         ensures refused { OnErr result (into.new.items ≡ into.old.items) }
     {
         self.push_place_lines(into)
@@ -190,14 +194,16 @@ impl World {
 
     /// How many events were taken, and how many frames were sent.
     pub fn counts(&self) -> (u64, u32)
-        ensures { (c : Configuration) (h : History) → StandsFor self.now c h → (result.0 ≡ length h) × (result.1 ≡ (ruled c h).count) }
+        ensures { (c : Configuration) (h : History) → StandsFor self.now c h → (result.0 ≡ length h) ×
+            (result.1 ≡ (ruled c h).count) }
     {
         (self.events, self.sent)
     }
 
     /// The running node instances, rising by node, each with its present reading in ticks.
     pub fn clocks(&self) -> &[(Who, u64)]
-        ensures { (c : Configuration) (h : History) → StandsFor self.now c h → result.now ≡ clocks_of (run_of fabric c h) }
+        ensures { (c : Configuration) (h : History) → StandsFor self.now c h →
+            result.now ≡ clocks_of (run_of fabric c h) }
     {
         self.clocks.as_slice()
     }

@@ -8,10 +8,10 @@ use Rattle.fabric_terms.specs.TakeOvers.{was_taken_over}
 use Rattle.run_audit.specs.declared.bounds.Lapse.{Lapse}
 use Rattle.run_audit.specs.declared.breach.Breach.TheVariants.{Ring, Early}
 use Rattle.run_audit.specs.declared.finding.Findings.{Findings}
-use Rattle.run_audit.specs.declared.overlap.Holder.{Holder}
+use Rattle.run_audit.specs.declared.overlap.LiveHolder.{LiveHolder}
 use Rattle.run_audit.specs.declared.overlap.Overlap.{Overlap}
 use Rattle.run_audit.specs.declared.primaries.Rivals.{Rivals}
-use Rattle.run_audit.specs.declared.taken.Taken.{Taken}
+use Rattle.run_audit.specs.declared.take_overs.TakeOvers.{TakeOvers}
 use Rattle.run_audit.specs.declared.victim.Victim.{Victim}
 use Rattle.run_audit.specs.Breaches.{is_below, rivals_in, lapse_in, OneHolder, TakenHoldNothing, TakenHolds}
 use Rattle.run_audit.specs.Findings.{Finds, breach_of}
@@ -28,7 +28,7 @@ not_below c d h = grind (arith, nat_tests)
 not_lower : (w : Who) (p q : ℕ) → is_named_before (record { who = w; point = q }) (record { who = w; point = p }) ≡ false → p ≤ q
 not_lower w p q h = grind (arith, nat_tests)
 
-module _ (rows : List Holder) (taken : Taken) (m : Moment) (ms : Run) (are : AreHolders ms (m ∷ ms) rows)
+module _ (rows : List LiveHolder) (taken : TakeOvers) (m : Moment) (ms : Run) (are : AreHolders ms (m ∷ ms) rows)
     (over : (v : Who) → taken_at v taken ≡ was_taken_over v (told (m ∷ ms))) where
   victim : (x : Who) (q : ℕ) → was_taken_over x (told (m ∷ ms)) ≡ true → Holds (m ∷ ms) x q → Among rows (IsVictim taken) (record { who = x; point = q })
   victim x q taken_over holds =
@@ -52,7 +52,7 @@ module _ (rows : List Holder) (taken : Taken) (m : Moment) (ms : Run) (are : Are
       mine : was_taken_over v.who (told (m ∷ ms)) ≡ true
       mine = subst (λ w. was_taken_over w (told (m ∷ ms)) ≡ true) (sym is.is) (sym (over least.0.0.who) ∙ is.over)
 
-module _ (line : ℕ) (rows : List Holder) (taken : Taken) (findings : Findings) where
+module _ (line : ℕ) (rows : List LiveHolder) (taken : TakeOvers) (findings : Findings) where
   pub finds_ring : (o : Overlap) → IsLeastOf (Among rows (AmongPairs rows)) (Some o) → Finds line rows taken findings (Some (Ring line (record { 0 = o.point }) o.a o.b))
   finds_ring o least m ms at safe are over found = (sym at, two_hold ms (m ∷ ms) rows are (sound_end ms safe).ring o least)
 

@@ -2,7 +2,7 @@
 use Rattle.std.proofs.Common.{◌≡◌, ℕ, ◌+◌, ◌<◌, ◌≤◌, Bool, true, false, List, [], ◌∷◌, ◌++◌, length, take, get_or, Option, Some, None, ◌⊎◌, inl, inr, refl, sym, subst}
 use Rattle.std.proofs.lemmas.List.{take_all, take_more}
 use Rattle.std.proofs.lemmas.List.Elements.{Contains-append_left, Contains-push, Contains-push_cases}
-use Rattle.run_audit.specs.declared.overlap.Holder.{Holder}
+use Rattle.run_audit.specs.declared.overlap.LiveHolder.{LiveHolder}
 use Rattle.run_audit.specs.Least.{lesser_in, IsLeast}
 use Rattle.run_audit.specs.Overlaps.{Among}
 use Rattle.run_audit.proofs.Members.{Contains-empty}
@@ -25,11 +25,11 @@ module _ (X : Type 0) (before : X → X → Bool)
   least_of_same P Q (Some b) there back h = (there b h.0, λ c q. h.1 c (back c q))
 
   -- of no holder
-  pub least_of_none : (P : Holder → X → Type 0) → IsLeast before (Among [] P) None
+  pub least_of_none : (P : LiveHolder → X → Type 0) → IsLeast before (Among [] P) None
   least_of_none P = λ c h. Contains-empty h.0 h.1
 
   -- of one more
-  pub least_of_more : (P : Holder → X → Type 0) (hs : List Holder) (h : Holder) (o f : Option X)
+  pub least_of_more : (P : LiveHolder → X → Type 0) (hs : List LiveHolder) (h : LiveHolder) (o f : Option X)
       → IsLeast before (Among hs P) o → IsLeast before (P h) f → IsLeast before (Among (hs ++ h ∷ []) P) (lesser_in before o f)
   least_of_more P hs h o f p q =
       least_of_same (λ c. Among hs P c ⊎ P h c) (Among (hs ++ h ∷ []) P) (lesser_in before o f) there back (least_of_both (Among hs P) (P h) o f p q)
@@ -45,12 +45,12 @@ module _ (X : Type 0) (before : X → X → Bool)
       ]
 
   -- of one more in a walk over all
-  pub least_on : (P : Holder → X → Type 0) (hs : List Holder) (i : ℕ) (d : Holder) (o f r : Option X) → i < length hs
+  pub least_on : (P : LiveHolder → X → Type 0) (hs : List LiveHolder) (i : ℕ) (d : LiveHolder) (o f r : Option X) → i < length hs
       → IsLeast before (Among (take i hs) P) o → IsLeast before (P (get_or hs i d)) f → r ≡ lesser_in before o f → IsLeast before (Among (take (i + 1) hs) P) r
   least_on P hs i d o f r h p q e =
       let more = least_of_more P (take i hs) (get_or hs i d) o f p q in
       let longer : take (i + 1) hs ≡ take i hs ++ get_or hs i d ∷ [] = take_more hs i d h in
       subst (λ l. IsLeast before (Among l P) r) (sym longer) (subst (λ x. IsLeast before (Among (take i hs ++ get_or hs i d ∷ []) P) x) (sym e) more)
 
-  pub least_of_all : (P : Holder → X → Type 0) (hs : List Holder) (i : ℕ) (o : Option X) → length hs ≤ i → IsLeast before (Among (take i hs) P) o → IsLeast before (Among hs P) o
+  pub least_of_all : (P : LiveHolder → X → Type 0) (hs : List LiveHolder) (i : ℕ) (o : Option X) → length hs ≤ i → IsLeast before (Among (take i hs) P) o → IsLeast before (Among hs P) o
   least_of_all P hs i o h p = subst (λ l. IsLeast before (Among l P) o) (take_all i hs h) p

@@ -6,7 +6,7 @@ use Rattle.std.proofs.lemmas.Bool.Decides.{nat_tests}
 use Rattle.std.proofs.lemmas.List.Elements.{Contains-push_cases}
 use Rattle.ring_points.specs.declared.who.Who.{Who}
 use Rattle.fabric_terms.specs.Runs.{Clocks}
-use Rattle.run_audit.specs.declared.overlap.Holder.{Holder}
+use Rattle.run_audit.specs.declared.overlap.LiveHolder.{LiveHolder}
 use Rattle.run_audit.specs.Breaches.{is_below}
 use Rattle.run_audit.specs.Clocks.{AreKnown, begins_with, from_who, whos_of, whos_rise}
 use Rattle.run_audit.proofs.Members.{Contains-cases, Contains-empty, Contains-first, Contains-rest}
@@ -77,7 +77,7 @@ pub follow_first : (c : Who × ℕ) (rest : Clocks) (lived left : List Who) → 
 follow_first c rest lived left f has = first_left c.0 left f.rises (f.there c.0 has (Contains-first c.0 (whos_of rest)))
 
 -- The holders so far are known, and of the clocks to come those that lived are left.
-pub record Knows (rest : Clocks) (lived left : List Who) (actor : Option Who) (hs : List Holder) : Type 0 where
+pub record Knows (rest : Clocks) (lived left : List Who) (actor : Option Who) (hs : List LiveHolder) : Type 0 where
   pub follows : Follows rest lived left
   pub known : AreKnown lived actor hs
 
@@ -87,11 +87,11 @@ knows_first clocks lived actor rise old = record {
   known = λ h has. absurd (Contains-empty h has);
 }
 
-pub knows_none : (c : Who × ℕ) (rest : Clocks) (lived left : List Who) (actor : Option Who) (hs : List Holder) → Knows (c ∷ rest) lived left actor hs
+pub knows_none : (c : Who × ℕ) (rest : Clocks) (lived left : List Who) (actor : Option Who) (hs : List LiveHolder) → Knows (c ∷ rest) lived left actor hs
     → Knows rest lived (from_who c.0 left) actor hs
 knows_none c rest lived left actor hs k = record { follows = follow_on c rest lived left k.follows; known = k.known }
 
-pub knows_some : (c : Who × ℕ) (rest : Clocks) (lived left : List Who) (actor : Option Who) (hs : List Holder) (x : Holder) → Knows (c ∷ rest) lived left actor hs
+pub knows_some : (c : Who × ℕ) (rest : Clocks) (lived left : List Who) (actor : Option Who) (hs : List LiveHolder) (x : LiveHolder) → Knows (c ∷ rest) lived left actor hs
     → x.who ≡ c.0 → (begins_with c.0 (from_who c.0 left) ≡ true → actor ≢ Some c.0 → x.fresh ≡ false)
     → Knows rest lived (from_who c.0 left) actor (hs ++ x ∷ [])
 knows_some c rest lived left actor hs x k is old = record { follows = follow_on c rest lived left k.follows; known = known }
@@ -100,7 +100,7 @@ knows_some c rest lived left actor hs x k is old = record { follows = follow_on 
     known h has = elim (Contains-push_cases hs x h has) as (λ _. Contains lived h.who → actor ≢ Some h.who → h.fresh ≡ false) [
       | inl there ↦ k.known h there
       | inr e ↦ λ lives other.
-          let who : h.who ≡ c.0 = ap (λ (y : Holder). y.who) (sym e) ∙ is in
-          ap (λ (y : Holder). y.fresh) (sym e)
+          let who : h.who ≡ c.0 = ap (λ (y : LiveHolder). y.who) (sym e) ∙ is in
+          ap (λ (y : LiveHolder). y.fresh) (sym e)
           ∙ old (follow_first c rest lived left k.follows (subst (λ w. Contains lived w) who lives)) (subst (λ w. actor ≢ Some w) who other)
     ]

@@ -6,7 +6,7 @@ use Rattle.std.proofs.lemmas.List.Elements.{Contains-push, Contains-push_cases, 
 use Rattle.std.proofs.lemmas.Option.{same_Some}
 use Rattle.ring_points.specs.declared.who.Who.{Who}
 use Rattle.fabric_terms.specs.Runs.{Clocks, IsBelow, reading_of}
-use Rattle.run_audit.specs.declared.overlap.Holder.{Holder}
+use Rattle.run_audit.specs.declared.overlap.LiveHolder.{LiveHolder}
 use Rattle.run_audit.specs.declared.owners.Owners.{Owners}
 use Rattle.run_audit.specs.Clocks.{EachIsFirst, Owns, HoldsNow, AreRows}
 use Rattle.run_audit.specs.Standing.{HoldsAt, HoldsNothingAt}
@@ -40,7 +40,7 @@ module _ (owners : Owners) (clocks : Clocks) (lived : List Who) (actor : Option 
   next : (i : ℕ) (c : Who × ℕ) → i < length clocks → c ≡ get_or clocks i c → take (i + 1) clocks ≡ take i clocks ++ c ∷ []
   next i c h is = take_more clocks i c h ∙ ap (λ x. take i clocks ++ x ∷ []) (sym is)
 
-  pub row_none : (i : ℕ) (c : Who × ℕ) (reading : ℕ) (hs : List Holder) → i < length clocks → c ≡ get_or clocks i c → reading_of c.0 clocks ≡ Some reading
+  pub row_none : (i : ℕ) (c : Who × ℕ) (reading : ℕ) (hs : List LiveHolder) → i < length clocks → c ≡ get_or clocks i c → reading_of c.0 clocks ≡ Some reading
       → AreRows owners clocks (take i clocks) lived actor hs → HoldsNothingAt owners c.0 reading → AreRows owners clocks (take (i + 1) clocks) lived actor hs
   row_none i c reading hs h is runs rows none =
       subst (λ l. AreRows owners clocks l lived actor hs) (sym (next i c h is)) (record { each = rows.each; all = all; stale = rows.stale })
@@ -50,13 +50,13 @@ module _ (owners : Owners) (clocks : Clocks) (lived : List Who) (actor : Option 
           let same : owns.reading ≡ reading = same_Some owns.reading reading (sym owns.runs ∙ runs) in
           none owns.owned owns.own (subst (λ r. IsBelow r owns.owned.fence) same owns.below)
 
-      all : (w : Who) (r : ℕ) → Contains (take i clocks ++ c ∷ []) (w, r) → Owns owners clocks w → (h : Holder) × Contains hs h × (h.who ≡ w)
-      all w r has owns = elim (Contains-push_cases (take i clocks) c (w, r) has) as (λ _. (h : Holder) × Contains hs h × (h.who ≡ w)) [
+      all : (w : Who) (r : ℕ) → Contains (take i clocks ++ c ∷ []) (w, r) → Owns owners clocks w → (h : LiveHolder) × Contains hs h × (h.who ≡ w)
+      all w r has owns = elim (Contains-push_cases (take i clocks) c (w, r) has) as (λ _. (h : LiveHolder) × Contains hs h × (h.who ≡ w)) [
         | inl k ↦ rows.all w r k owns
         | inr e ↦ let who : c.0 ≡ w = ap (λ (x : Who × ℕ). x.0) e in absurd (nothing (subst (λ x. Owns owners clocks x) (sym who) owns))
       ]
 
-  pub row_some : (i : ℕ) (c : Who × ℕ) (reading : ℕ) (hs : List Holder) (x : Holder) → i < length clocks → c ≡ get_or clocks i c → reading_of c.0 clocks ≡ Some reading
+  pub row_some : (i : ℕ) (c : Who × ℕ) (reading : ℕ) (hs : List LiveHolder) (x : LiveHolder) → i < length clocks → c ≡ get_or clocks i c → reading_of c.0 clocks ≡ Some reading
       → AreRows owners clocks (take i clocks) lived actor hs → HoldsAt owners c.0 reading x → (x.fresh ≡ false → Contains lived c.0 × (actor ≢ Some c.0))
       → AreRows owners clocks (take (i + 1) clocks) lived actor (hs ++ x ∷ [])
   row_some i c reading hs x h is runs rows at old =
@@ -69,33 +69,33 @@ module _ (owners : Owners) (clocks : Clocks) (lived : List Who) (actor : Option 
         holds = subst (λ w. HoldsAt owners w reading x) (sym at.is) at;
       }
 
-      each : (h : Holder) → Contains (hs ++ x ∷ []) h → HoldsNow owners clocks h
+      each : (h : LiveHolder) → Contains (hs ++ x ∷ []) h → HoldsNow owners clocks h
       each h has = elim (Contains-push_cases hs x h has) as (λ _. HoldsNow owners clocks h) [
         | inl k ↦ rows.each h k
         | inr e ↦ subst (λ y. HoldsNow owners clocks y) e holds
       ]
 
-      all : (w : Who) (r : ℕ) → Contains (take i clocks ++ c ∷ []) (w, r) → Owns owners clocks w → (h : Holder) × Contains (hs ++ x ∷ []) h × (h.who ≡ w)
-      all w r has owns = elim (Contains-push_cases (take i clocks) c (w, r) has) as (λ _. (h : Holder) × Contains (hs ++ x ∷ []) h × (h.who ≡ w)) [
+      all : (w : Who) (r : ℕ) → Contains (take i clocks ++ c ∷ []) (w, r) → Owns owners clocks w → (h : LiveHolder) × Contains (hs ++ x ∷ []) h × (h.who ≡ w)
+      all w r has owns = elim (Contains-push_cases (take i clocks) c (w, r) has) as (λ _. (h : LiveHolder) × Contains (hs ++ x ∷ []) h × (h.who ≡ w)) [
         | inl k ↦ let found = rows.all w r k owns in (found.0, Contains-append_left hs (x ∷ []) found.0 found.1, found.2)
         | inr e ↦ let who : c.0 ≡ w = ap (λ (y : Who × ℕ). y.0) e in (x, Contains-push hs x, at.is ∙ who)
       ]
 
-      lives : (h : Holder) → Contains (hs ++ x ∷ []) h → h.fresh ≡ false → Contains lived h.who × (actor ≢ Some h.who)
+      lives : (h : LiveHolder) → Contains (hs ++ x ∷ []) h → h.fresh ≡ false → Contains lived h.who × (actor ≢ Some h.who)
       lives h has = elim (Contains-push_cases hs x h has) as (λ _. h.fresh ≡ false → Contains lived h.who × (actor ≢ Some h.who)) [
         | inl k ↦ rows.stale h k
         | inr e ↦ λ stale.
-            let who : h.who ≡ c.0 = ap (λ (y : Holder). y.who) (sym e) ∙ at.is in
-            let was = old (ap (λ (y : Holder). y.fresh) e ∙ stale) in (
+            let who : h.who ≡ c.0 = ap (λ (y : LiveHolder). y.who) (sym e) ∙ at.is in
+            let was = old (ap (λ (y : LiveHolder). y.fresh) e ∙ stale) in (
               subst (λ w. Contains lived w) (sym who) was.0,
               subst (λ w. actor ≢ Some w) (sym who) was.1,
             )
       ]
 
-  pub rows_all : (i : ℕ) (hs : List Holder) → length clocks ≤ i → AreRows owners clocks (take i clocks) lived actor hs → AreRows owners clocks clocks lived actor hs
+  pub rows_all : (i : ℕ) (hs : List LiveHolder) → length clocks ≤ i → AreRows owners clocks (take i clocks) lived actor hs → AreRows owners clocks clocks lived actor hs
   rows_all i hs h rows = subst (λ l. AreRows owners clocks l lived actor hs) (take_all i clocks h) rows
 
 -- what a push that succeeds leaves
-pub pushed_items : {E : Type 0} (r : Result (Unit {0}) E) (xs ys : List Holder) {zs : List Holder} → IsOk r → zs ≡ (if is_ok r then xs else ys) → zs ≡ xs
+pub pushed_items : {E : Type 0} (r : Result (Unit {0}) E) (xs ys : List LiveHolder) {zs : List LiveHolder} → IsOk r → zs ≡ (if is_ok r then xs else ys) → zs ≡ xs
 pushed_items (Ok u) xs ys is e = e
 pushed_items (Err x) xs ys is e = absurd (cc (is))

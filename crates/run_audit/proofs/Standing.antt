@@ -11,11 +11,11 @@ use Rattle.fabric_terms.specs.declared.report.Report.{Report}
 use Rattle.fabric_terms.specs.Primaries.{Safe}
 use Rattle.fabric_terms.specs.Reports.{told}
 use Rattle.fabric_terms.specs.Runs as runs
-use Rattle.fabric_terms.specs.Runs.{Clocks, Run, Entry, Owned, Holds, IsBelow, clocks_of, reading_of, own_of, own_in}
+use Rattle.fabric_terms.specs.Runs.{Clocks, Run, Entry, Owned, Holds, own_of, own_in}
 use Rattle.run_audit.specs.declared.auditor.Auditor.{Auditor}
 use Rattle.run_audit.specs.declared.breach.Breach.{Breach}
 use Rattle.run_audit.specs.declared.moment.Moment.{Moment}
-use Rattle.run_audit.specs.declared.overlap.Holder.{Holder}
+use Rattle.run_audit.specs.declared.overlap.LiveHolder.{LiveHolder}
 use Rattle.run_audit.specs.declared.owners.Owners.{Owners}
 use Rattle.run_audit.specs.declared.finding.Findings.{Findings}
 use Rattle.run_audit.specs.Auditing.{StandsFor, IsUpToDate, IsSame, HasHeard, seen, entry_of}
@@ -25,7 +25,7 @@ use Rattle.run_audit.specs.Clocks.{HoldsNow, AreRows}
 use Rattle.run_audit.specs.Overlaps.{Rises}
 use Rattle.run_audit.specs.Owners.{own_at, taken_at}
 use Rattle.run_audit.specs.Standing.{AreHolders, IsLive}
-use Rattle.run_audit.specs.Tables.{Keeps, KeepsBounds, seat_of, replica_of}
+use Rattle.run_audit.specs.Tables.{Keeps, KeepsBounds, epoch_key, replica_key}
 use Rattle.run_audit.proofs.Verdicts.{verdict_on, verdict_stays}
 use Rattle.run_audit.proofs.Readings.{read_there, same_who-true}
 
@@ -34,8 +34,8 @@ pub up_to_date-same : (old new : Auditor) (run : Run) → IsSame old new → IsU
 up_to_date-same old new run same up = record {
   knows = record {
     owned = λ w. same.owned w ∙ up.knows.owned w;
-    primaries = record { primaries = λ partition epoch. same.primaries (seat_of partition epoch) ∙ up.knows.primaries.primaries partition epoch };
-    bounds = record { bounds = λ node partition. same.bounds (replica_of node partition) ∙ up.knows.bounds.bounds node partition };
+    primaries = record { primaries = λ partition epoch. same.primaries (epoch_key partition epoch) ∙ up.knows.primaries.primaries partition epoch };
+    bounds = record { bounds = λ node partition. same.bounds (replica_key node partition) ∙ up.knows.bounds.bounds node partition };
   };
   taken = λ v. same.taken v ∙ up.taken v;
   live = λ w has. up.live w (subst (λ l. Contains l w) same.live has);
@@ -56,12 +56,12 @@ own_in-other w (Some e) before other = by (same_who e.who w) refl
     by true h = absurd (other (ap (λ x. Some x) (same_who-true e.who w h)))
     by false h = rw h refl
 
-module _ (owners : Owners) (m : runs.Moment) (ms : Run) (lived : List Who) (actor : Option Who) (hs : List Holder)
+module _ (owners : Owners) (m : runs.Moment) (ms : Run) (lived : List Who) (actor : Option Who) (hs : List LiveHolder)
     (owned : (w : Who) → own_at w owners ≡ own_of w (m ∷ ms))
     (acts : actor ≡ option_map (λ (e : Entry). e.who) m.entry)
     (lives : (w : Who) → Contains lived w → IsLive ms w)
     (rows : AreRows owners m.clocks m.clocks lived actor hs) where
-  rows_hold : (h : Holder) (p : ℕ) → Contains hs h → in_ranges p h.ranges.now ≡ true → Holds (m ∷ ms) h.who p
+  rows_hold : (h : LiveHolder) (p : ℕ) → Contains hs h → in_ranges p h.ranges.now ≡ true → Holds (m ∷ ms) h.who p
   rows_hold h p has at =
       let now = rows.each h has in
       record {
@@ -73,15 +73,15 @@ module _ (owners : Owners) (m : runs.Moment) (ms : Run) (lived : List Who) (acto
         below = now.holds.below;
       }
 
-  pub rows_live : (h : Holder) → Contains hs h → IsLive (m ∷ ms) h.who
+  pub rows_live : (h : LiveHolder) → Contains hs h → IsLive (m ∷ ms) h.who
   rows_live h has =
       let now = rows.each h has in
       record { reading = now.reading; owned = now.holds.owned; runs = now.runs; own = sym (owned h.who) ∙ now.holds.own; below = now.holds.below }
 
-  rows_found : (w : Who) (p : ℕ) → Holds (m ∷ ms) w p → (h : Holder) × Contains hs h × (h.who ≡ w) × (in_ranges p h.ranges.now ≡ true)
+  rows_found : (w : Who) (p : ℕ) → Holds (m ∷ ms) w p → (h : LiveHolder) × Contains hs h × (h.who ≡ w) × (in_ranges p h.ranges.now ≡ true)
   rows_found w p holds = (found.0, found.1, found.2, has)
     where
-      found : (h : Holder) × Contains hs h × (h.who ≡ w)
+      found : (h : LiveHolder) × Contains hs h × (h.who ≡ w)
       found = rows.all w holds.reading (read_there m.clocks w holds.reading holds.runs) (record {
         reading = holds.reading;
         runs = holds.runs;
@@ -101,7 +101,7 @@ module _ (owners : Owners) (m : runs.Moment) (ms : Run) (lived : List Who) (acto
           subst (λ l. in_ranges p l ≡ true) (sym (now.holds.ranges ∙ ranges)) holds.has
 
   -- one that is not fresh held them a moment ago
-  rows_held : (h : Holder) (p : ℕ) → Contains hs h → h.fresh ≡ false → in_ranges p h.ranges.now ≡ true → Holds ms h.who p
+  rows_held : (h : LiveHolder) (p : ℕ) → Contains hs h → h.fresh ≡ false → in_ranges p h.ranges.now ≡ true → Holds ms h.who p
   rows_held h p has stale at = record {
     reading = live.reading;
     owned = live.owned;
@@ -134,7 +134,7 @@ module _ (owners : Owners) (m : runs.Moment) (ms : Run) (lived : List Who) (acto
     held = rows_held;
   }
     where
-      get_or-any : (k : ℕ) (d : Holder) → k < length hs → get_or hs k (get_or hs k d) ≡ get_or hs k d
+      get_or-any : (k : ℕ) (d : LiveHolder) → k < length hs → get_or hs k (get_or hs k d) ≡ get_or hs k d
       get_or-any k d h = get_or_default hs k (get_or hs k d) d h
 
 -- a breach that was found stays the verdict
@@ -151,7 +151,7 @@ stands-still a m run some stands = (verdict, record { verdict = verdict; tables 
     verdict : IsVerdict (m ∷ run) a.breach
     verdict = by a.breach refl stands.verdict some
 
-pub rows_rise : (owners : Owners) (clocks walked : Clocks) (lived : List Who) (actor : Option Who) (hs : List Holder) → AreRows owners clocks walked lived actor hs → All Rises hs
+pub rows_rise : (owners : Owners) (clocks walked : Clocks) (lived : List Who) (actor : Option Who) (hs : List LiveHolder) → AreRows owners clocks walked lived actor hs → All Rises hs
 rows_rise owners clocks walked lived actor hs rows k d h = (rows.each (get_or hs k d) (k, h, get_or_default hs k (get_or hs k d) d h)).holds.rises
 
 pub none_yet : {X : Type 0} (o : Option X) → is_some o ≡ false → o ≡ None
@@ -159,7 +159,7 @@ none_yet None e = refl
 none_yet (Some x) e = absurd (cc (e))
 
 -- what a moment makes of the auditor
-module _ (old kept heard new : Auditor) (m : Moment) (findings : Findings) (clocks : Clocks) (lived : List Who) (actor : Option Who) (hs found_in kept_from : List Holder) (b : Option Breach)
+module _ (old kept heard new : Auditor) (m : Moment) (findings : Findings) (clocks : Clocks) (lived : List Who) (actor : Option Who) (hs found_in kept_from : List LiveHolder) (b : Option Breach)
     (none : old.breach ≡ None) (same : IsSame old kept)
     (hears : (run : Run) → Safe run → IsUpToDate kept run → HasHeard heard (seen m ∷ run) findings)
     (ticks : clocks ≡ m.clocks.items) (live : lived ≡ kept.live.items) (told_by : actor ≡ option_map (λ e. e.0) m.entry)
@@ -167,7 +167,7 @@ module _ (old kept heard new : Auditor) (m : Moment) (findings : Findings) (cloc
     (first : found_in ≡ hs) (second : kept_from ≡ hs)
     (finds : Finds m.line found_in heard.taken findings b)
     (owners : new.owners ≡ heard.owners) (taken : new.taken ≡ heard.taken) (primaries : new.primaries ≡ heard.primaries) (bounds : new.bounds ≡ heard.bounds)
-    (keeps : (w : Who) → Contains new.live.items w → (h : Holder) × Contains kept_from h × (h.who ≡ w))
+    (keeps : (w : Who) → Contains new.live.items w → (h : LiveHolder) × Contains kept_from h × (h.who ≡ w))
     (breach : new.breach ≡ b) where
   acts : (e : Option (Who × Vec Report)) → option_map (λ x. x.0) e ≡ option_map (λ (x : Entry). x.who) (entry_of e)
   acts None = refl

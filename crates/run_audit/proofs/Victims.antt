@@ -6,8 +6,8 @@ use Rattle.ring_points.specs.declared.interval.Interval.{Interval}
 use Rattle.ring_points.specs.declared.who.Who.{Who}
 use Rattle.ring_points.specs.Ranges.{in_ranges, rises_from}
 use Rattle.ring_points.proofs.Rising.{RisesWith, first_and_rest, in_ranges-from}
-use Rattle.run_audit.specs.declared.overlap.Holder.{Holder}
-use Rattle.run_audit.specs.declared.taken.Taken.{Taken}
+use Rattle.run_audit.specs.declared.overlap.LiveHolder.{LiveHolder}
+use Rattle.run_audit.specs.declared.take_overs.TakeOvers.{TakeOvers}
 use Rattle.run_audit.specs.declared.victim.Victim.{Victim}
 use Rattle.run_audit.specs.Overlaps.{Among}
 use Rattle.run_audit.specs.Owners.{taken_at}
@@ -20,23 +20,23 @@ named_chain c d e h k = grind (arith, nat_tests)
 named_flip : (c d : Victim) → is_named_before c d ≡ true → is_named_before d c ≡ false
 named_flip c d h = grind (arith, nat_tests)
 
-pub least_of_none : (P : Holder → Victim → Type 0) → IsLeastVictim (Among [] P) None
+pub least_of_none : (P : LiveHolder → Victim → Type 0) → IsLeastVictim (Among [] P) None
 least_of_none = least.least_of_none Victim is_named_before named_chain named_flip
 
-pub least_on : (P : Holder → Victim → Type 0) (hs : List Holder) (i : ℕ) (d : Holder) (o f r : Option Victim) → i < length hs
+pub least_on : (P : LiveHolder → Victim → Type 0) (hs : List LiveHolder) (i : ℕ) (d : LiveHolder) (o f r : Option Victim) → i < length hs
     → IsLeastVictim (Among (take i hs) P) o → IsLeastVictim (P (get_or hs i d)) f → r ≡ lesser_victim o f → IsLeastVictim (Among (take (i + 1) hs) P) r
 least_on = least.least_on Victim is_named_before named_chain named_flip
 
-pub least_of_all : (P : Holder → Victim → Type 0) (hs : List Holder) (i : ℕ) (o : Option Victim) → length hs ≤ i → IsLeastVictim (Among (take i hs) P) o → IsLeastVictim (Among hs P) o
+pub least_of_all : (P : LiveHolder → Victim → Type 0) (hs : List LiveHolder) (i : ℕ) (o : Option Victim) → length hs ≤ i → IsLeastVictim (Among (take i hs) P) o → IsLeastVictim (Among hs P) o
 least_of_all = least.least_of_all Victim is_named_before named_chain named_flip
 
 named_equal : (c b : Victim) → c.who ≡ b.who → b.point ≤ c.point → is_named_before c b ≡ false
 named_equal c b e h = grind (arith, nat_tests, ap (λ (w : Who). w.actor) e, ap (λ (w : Who). w.instance) e)
 
-pub not_over : (t : Taken) (h : Holder) → taken_at h.who t ≡ false → IsLeastVictim (IsVictim t h) None
+pub not_over : (t : TakeOvers) (h : LiveHolder) → taken_at h.who t ≡ false → IsLeastVictim (IsVictim t h) None
 not_over t h off = λ c v. let over = v.over in absurd (cc (over, off))
 
-pub without_points : (t : Taken) (h : Holder) → h.ranges.now ≡ [] → IsLeastVictim (IsVictim t h) None
+pub without_points : (t : TakeOvers) (h : LiveHolder) → h.ranges.now ≡ [] → IsLeastVictim (IsVictim t h) None
 without_points t h none = λ c v. let at : in_ranges c.point [] ≡ true = rw none at v.has in false≢true at
 
 at_lo : (i : Interval) (is : List Interval) (p : ℕ) → p ≡ i.lo → i.lo ≤ i.hi → in_ranges p (i ∷ is) ≡ true
@@ -49,7 +49,7 @@ least_point : (i : Interval) (is : List Interval) (p : ℕ) → IsTrue (rises_fr
 least_point i is p rises has = in_ranges-from i.lo p (i ∷ is) (raised i is (first_and_rest 0 i is rises)) has
 
 -- the first point of its ranges
-pub first_point : (t : Taken) (h : Holder) (d : Interval) → taken_at h.who t ≡ true → 0 < length h.ranges.now → IsTrue (rises_from 0 h.ranges.now)
+pub first_point : (t : TakeOvers) (h : LiveHolder) (d : Interval) → taken_at h.who t ≡ true → 0 < length h.ranges.now → IsTrue (rises_from 0 h.ranges.now)
     → IsLeastVictim (IsVictim t h) (Some (record { who = h.who; point = (get_or h.ranges.now 0 d).lo }))
 first_point t h d over some rises = by h.ranges.now refl
   where

@@ -4,7 +4,7 @@ use Rattle.std.specs.List.{list_all}
 use Rattle.ring_points.specs.declared.who.Who.{Who}
 use Rattle.ring_points.specs.Whos.{same_who}
 use Rattle.fabric_terms.specs.Runs.{Clocks, Owned, IsBelow, reading_of}
-use Rattle.run_audit.specs.declared.overlap.Holder.{Holder}
+use Rattle.run_audit.specs.declared.overlap.LiveHolder.{LiveHolder}
 use Rattle.run_audit.specs.declared.owners.Owners.{Owners}
 use Rattle.run_audit.specs.Breaches.{is_below}
 use Rattle.run_audit.specs.Owners.{own_at}
@@ -28,17 +28,17 @@ pub record Owns (owners : Owners) (clocks : Clocks) (w : Who) : Type 0 where
   pub below : IsBelow reading owned.fence
 
 -- h holds what its instance owned last, at the present reading
-pub record HoldsNow (owners : Owners) (clocks : Clocks) (h : Holder) : Type 0 where
+pub record HoldsNow (owners : Owners) (clocks : Clocks) (h : LiveHolder) : Type 0 where
   pub reading : ℕ
   pub runs : reading_of h.who clocks ≡ Some reading
   pub holds : HoldsAt owners h.who reading h
 
 -- These are the holders of the walk over the first clocks. One that is not fresh is among those that lived, and is not
 -- the actor.
-pub record AreRows (owners : Owners) (clocks walked : Clocks) (lived : List Who) (actor : Option Who) (hs : List Holder) : Type 0 where
-  pub each : (h : Holder) → Contains hs h → HoldsNow owners clocks h
-  pub all : (w : Who) (reading : ℕ) → Contains walked (w, reading) → Owns owners clocks w → (h : Holder) × Contains hs h × (h.who ≡ w)
-  pub stale : (h : Holder) → Contains hs h → h.fresh ≡ false → Contains lived h.who × (actor ≢ Some h.who)
+pub record AreRows (owners : Owners) (clocks walked : Clocks) (lived : List Who) (actor : Option Who) (hs : List LiveHolder) : Type 0 where
+  pub each : (h : LiveHolder) → Contains hs h → HoldsNow owners clocks h
+  pub all : (w : Who) (reading : ℕ) → Contains walked (w, reading) → Owns owners clocks w → (h : LiveHolder) × Contains hs h × (h.who ≡ w)
+  pub stale : (h : LiveHolder) → Contains hs h → h.fresh ≡ false → Contains lived h.who × (actor ≢ Some h.who)
 
 -- each is below all later ones
 abbrev pub whos_rise : List Who → Bool
@@ -58,5 +58,5 @@ begins_with v [] = false
 begins_with v (w ∷ ws) = same_who w v
 
 -- one that lived and is not the actor is not fresh
-abbrev pub AreKnown : List Who → Option Who → List Holder → Type 0
-AreKnown lived actor hs = (h : Holder) → Contains hs h → Contains lived h.who → actor ≢ Some h.who → h.fresh ≡ false
+abbrev pub AreKnown : List Who → Option Who → List LiveHolder → Type 0
+AreKnown lived actor hs = (h : LiveHolder) → Contains hs h → Contains lived h.who → actor ≢ Some h.who → h.fresh ≡ false

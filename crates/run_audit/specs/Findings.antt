@@ -9,9 +9,9 @@ use Rattle.run_audit.specs.declared.bounds.Lapse.{Lapse}
 use Rattle.run_audit.specs.declared.breach.Breach.{Breach}
 use Rattle.run_audit.specs.declared.breach.Breach.TheVariants.{Primary, Older}
 use Rattle.run_audit.specs.declared.finding.Findings.{Findings}
-use Rattle.run_audit.specs.declared.overlap.Holder.{Holder}
+use Rattle.run_audit.specs.declared.overlap.LiveHolder.{LiveHolder}
 use Rattle.run_audit.specs.declared.primaries.Rivals.{Rivals}
-use Rattle.run_audit.specs.declared.taken.Taken.{Taken}
+use Rattle.run_audit.specs.declared.take_overs.TakeOvers.{TakeOvers}
 use Rattle.run_audit.specs.Breaches.{rivals_in, lapse_in}
 use Rattle.run_audit.specs.Owners.{taken_at}
 use Rattle.run_audit.specs.Standing.{AreHolders, IsFinding}
@@ -28,6 +28,6 @@ pub record AreFindings (findings : Findings) (run : Run) : Type 0 where
   pub lapse : findings.lapse ≡ lapse_in (told run)
 
 -- of a run that was safe before, whose holders, victims and findings these are, it is what is found
-abbrev pub Finds : ℕ → List Holder → Taken → Findings → Option Breach → Type 0
+abbrev pub Finds : ℕ → List LiveHolder → TakeOvers → Findings → Option Breach → Type 0
 Finds line rows taken findings b = (m : Moment) (ms : Run) → m.line ≡ line → Safe ms → AreHolders ms (m ∷ ms) rows
     → ((v : Who) → taken_at v taken ≡ was_taken_over v (told (m ∷ ms))) → AreFindings findings (m ∷ ms) → IsFinding m ms b

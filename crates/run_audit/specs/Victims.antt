@@ -2,8 +2,8 @@
 use Rattle.std.specs.Prelude.{◌≡◌, Bool, true, ◌&&◌, ◌||◌, nat_lt, Option}
 use Rattle.ring_points.specs.Ranges.{in_ranges}
 use Rattle.ring_points.specs.Whos.{same_who}
-use Rattle.run_audit.specs.declared.overlap.Holder.{Holder}
-use Rattle.run_audit.specs.declared.taken.Taken.{Taken}
+use Rattle.run_audit.specs.declared.overlap.LiveHolder.{LiveHolder}
+use Rattle.run_audit.specs.declared.take_overs.TakeOvers.{TakeOvers}
 use Rattle.run_audit.specs.declared.victim.Victim.{Victim}
 use Rattle.run_audit.specs.Breaches.{is_below}
 use Rattle.run_audit.specs.Least.{lesser_in, IsLeast}
@@ -20,7 +20,7 @@ abbrev pub IsLeastVictim : (Victim → Type 0) → Option Victim → Type 0
 IsLeastVictim P o = IsLeast is_named_before P o
 
 -- it is this holder with a point of its ranges, and the holder was taken over
-pub record IsVictim (taken : Taken) (h : Holder) (c : Victim) : Type 0 where
+pub record IsVictim (taken : TakeOvers) (h : LiveHolder) (c : Victim) : Type 0 where
   pub is : c.who ≡ h.who
   pub over : taken_at h.who taken ≡ true
   pub has : in_ranges c.point h.ranges.now ≡ true

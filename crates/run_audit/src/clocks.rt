@@ -26,8 +26,8 @@ pub fn comes_after(last: Option<Who>, who: Who) -> bool
     }
 }
 
-/// True only where each clock is the first of its instance, so that no reading need be searched for. It looks whether they
-/// rise.
+/// True only where each clock is the first of its instance, so that no reading need be searched for. It looks whether
+/// they rise.
 pub fn rise(clocks: &[(Who, u64)]) -> bool
     ensures { OnTrue result (EachIsFirst clocks.now) }
 {

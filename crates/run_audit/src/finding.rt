@@ -1,14 +1,12 @@
-// What is wrong at a moment.
 ghost use Rattle.std.specs.Prelude.{◌≡◌, All};
-ghost use Rattle.fabric_terms.specs.Runs.{Moment, Run};
 ghost use Rattle.run_audit.specs.Overlaps.{Rises};
 ghost use Rattle.run_audit.specs.Findings.{Finds, breach_of};
 
 use crate::bounds::Lapse;
 use crate::breach::Breach;
-use crate::overlap::{Holder, first_overlap};
+use crate::overlap::{LiveHolder, first_overlap};
 use crate::primaries::Rivals;
-use crate::taken::Taken;
+use crate::take_overs::TakeOvers;
 use crate::victim::first_victim;
 use ring_points::Point;
 
@@ -44,9 +42,9 @@ fn breach_of(line: u64, findings: Findings) -> Option<Breach>
     }
 }
 
-/// The breach at the end of a run that was safe a moment ago: two holders of a point first, then a victim that holds one,
-/// then what is wrong with the reports.
-pub fn breach_at(line: u64, rows: &[Holder], taken: &Taken, findings: Findings) -> Option<Breach>
+/// The breach at the end of a run that was safe a moment ago: two holders of a point first, then a victim that holds
+/// one, then what is wrong with the reports.
+pub fn breach_at(line: u64, rows: &[LiveHolder], taken: &TakeOvers, findings: Findings) -> Option<Breach>
     requires { All Rises rows.now }
     ensures { Finds line rows.now taken.now findings result }
 {

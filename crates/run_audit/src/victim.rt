@@ -3,8 +3,8 @@ ghost use Rattle.ring_points.specs.Ranges.{rises_from};
 ghost use Rattle.run_audit.specs.Overlaps.{Among, Rises};
 ghost use Rattle.run_audit.specs.Victims.{is_named_before, lesser_victim, IsLeastVictim, IsVictim};
 
-use crate::overlap::Holder;
-use crate::taken::Taken;
+use crate::overlap::LiveHolder;
+use crate::take_overs::TakeOvers;
 use ring_points::Who;
 
 /// An instance that was taken over and holds a point.
@@ -40,7 +40,7 @@ fn lesser(best: Option<Victim>, found: Option<Victim>) -> Option<Victim>
 
 /// The holder with its least point, if it was taken over and has one.
 #[tactic(auto, using(crate::proofs::Victims::victims))]
-fn victim_of(holder: &Holder, taken: &Taken) -> Option<Victim>
+fn victim_of(holder: &LiveHolder, taken: &TakeOvers) -> Option<Victim>
     requires { IsTrue (rises_from 0 holder.now.ranges.now) }
     ensures { IsLeastVictim (IsVictim taken.now holder.now) result }
 {
@@ -58,7 +58,7 @@ fn victim_of(holder: &Holder, taken: &Taken) -> Option<Victim>
 
 /// Of these holders, the least that was taken over and has a point, with its least point.
 #[tactic(auto, using(crate::proofs::Victims::victims))]
-pub fn first_victim(all: &[Holder], taken: &Taken) -> Option<Victim>
+pub fn first_victim(all: &[LiveHolder], taken: &TakeOvers) -> Option<Victim>
     requires { All Rises all.now }
     ensures { IsLeastVictim (Among all.now (IsVictim taken.now)) result }
 {

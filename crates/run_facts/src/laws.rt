@@ -1,4 +1,5 @@
-ghost use Rattle.run_facts.specs.Laws.{ClocksAreOfRunning, InstancesAreCounted, LastOwnIsHeld, LeaveIsTold, RecordsGrow, TableIsKept};
+ghost use Rattle.run_facts.specs.Laws.{ClocksAreOfRunning, InstancesAreCounted, LastOwnIsHeld, LeaveIsTold};
+ghost use Rattle.run_facts.specs.Laws.{RecordsGrow, TableIsKept};
 
 use world_rules::Above;
 

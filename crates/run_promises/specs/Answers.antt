@@ -9,16 +9,16 @@ use Rattle.fabric_terms.specs.declared.event.Event.TheVariants.{Do}
 use Rattle.fabric_terms.specs.declared.report.Report.{Report}
 use Rattle.join_phases.specs.Phases.{is_left}
 use Rattle.name_rules.specs.Names.{NameMap, names_of}
-use Rattle.replica_records.specs.Seats.{seat_at}
+use Rattle.replica_records.specs.ReplicaStates.{state_at}
 use Rattle.ring_points.specs.declared.who.Who.{Who}
 use Rattle.unit_rules.specs.Answers.{listing, ready, resolution}
-use Rattle.unit_rules.specs.Leads.{lead_of}
+use Rattle.unit_rules.specs.Progress.{progress_of}
 use Rattle.unit_rules.specs.Units.{units}
 use Rattle.world_rules.specs.Runs.{History, run_of, world_after}
 use Rattle.world_rules.specs.Worlds.{World, Running}
 use Rattle.run_promises.specs.Covered.{CoverCommitted}
 use Rattle.run_promises.specs.Questions.{tells_names}
-use Rattle.run_promises.specs.Reports.{Reports}
+use Rattle.run_promises.specs.Reports.{HasReported}
 
 -- the node was ready to answer by so many entries of its log, and this is the answer by the names that they leave
 pub record AnsweredBy (w : World units) (node partition : ℕ) (answer : NameMap → Report) (r : Report) : Type 0 where
@@ -26,13 +26,13 @@ pub record AnsweredBy (w : World units) (node partition : ℕ) (answer : NameMap
   pub there : at node w.nodes ≡ Some running
   pub stays : is_left running.node.ring.phase ≡ false
   pub count : ℕ
-  pub is_ready : ready (lead_of (seat_at partition running.node.above)) ≡ Ok count
-  pub told : r ≡ answer (names_of (take count (seat_at partition running.node.above).replica.log))
+  pub is_ready : ready (progress_of (state_at partition running.node.above)) ≡ Ok count
+  pub told : r ≡ answer (names_of (take count (state_at partition running.node.above).replica.log))
 
 -- the node answered so behind the history, and the entries cover what was committed in it
 pub record RestsOnCommitted (c : FabricConfig) (h : History) (node partition : ℕ) (answer : NameMap → Report) (r : Report) : Type 0 where
   pub by : AnsweredBy (world_after units c h) node partition answer r
-  pub covers : CoverCommitted c h partition by.count (seat_at partition by.running.node.above).replica
+  pub covers : CoverCommitted c h partition by.count (state_at partition by.running.node.above).replica
 
 -- the report answers what the command asked, of the partition that it asked about
 abbrev pub AnswersCommand : FabricConfig → History → (node : ℕ) → Report → Command → Type 0
@@ -50,4 +50,4 @@ AnswersEvent c h x r _ = ⊥
 abbrev pub AnswersOfCommitted : FabricConfig → History → Type 0
 AnswersOfCommitted c [] = Unit {0}
 AnswersOfCommitted c (now ∷ earlier) =
-    (x : Who) (r : Report) → Reports (run_of units c (now ∷ earlier)) x r → tells_names r ≡ true → AnswersEvent c earlier x r now.1
+    (x : Who) (r : Report) → HasReported (run_of units c (now ∷ earlier)) x r → tells_names r ≡ true → AnswersEvent c earlier x r now.1

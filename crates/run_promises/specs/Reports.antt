@@ -17,9 +17,9 @@ IsAmong None x r = ⊥
 IsAmong (Some e) x r = (e.who ≡ x) × Contains e.reports r
 
 -- x reports r in the last moment of the run
-abbrev pub Reports : Run → Who → Report → Type 0
-Reports [] x r = ⊥
-Reports (m ∷ ms) x r = IsAmong m.entry x r
+abbrev pub HasReported : Run → Who → Report → Type 0
+HasReported [] x r = ⊥
+HasReported (m ∷ ms) x r = IsAmong m.entry x r
 
 -- the node's log of the partition: what its synced records amount to
 abbrev pub log_in : World units → (node partition : ℕ) → List Entry

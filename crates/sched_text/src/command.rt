@@ -1,30 +1,19 @@
 ghost use Rattle.std.specs.Prelude.{◌≡◌, IfOk, OnErr};
 ghost use Rattle.fabric_terms.specs.declared.command.Command.{Command};
 ghost use Rattle.text_fields.specs.Fields.{Gives, whole_of};
-ghost use Rattle.line_format.specs.Commands.{members_of, link_of, give_of, text_of, in_partition, partition_command_of, command_of};
+ghost use Rattle.line_format.specs.Commands.{members_of, link_of, give_of, text_of, in_partition, partition_command_of};
+ghost use Rattle.line_format.specs.Commands.{command_of};
 
+use ring_points::{MAX_LEASE, MAX_MEMBERS, MAX_WRITE, MIN_LEASE, Point};
 use fabric_terms::{Command, Payload};
 use line_format::BadLine;
 use report_lines::{last_name, partition_word, text_of};
-use ring_points::Point;
 use text_fields::{BadField, after_word, last_node, last_number, last_point, last_span, node_at};
-
-/// The shortest lease that a link may ask for, in ticks.
-const SHORTEST_LEASE: u64 = 10;
-
-/// The longest, in ticks.
-const LONGEST_LEASE: u64 = 1_000_000_000;
-
-/// How many replicas a partition may have at most.
-const MOST_MEMBERS: u64 = 7;
-
-/// How many bytes a write may have at most.
-const MOST_TEXT: usize = 512;
 
 fn members_of(bytes: &[u8]) -> Result<u8, BadField>
     ensures { Gives (λ x. x) result (members_of bytes.now) }
 {
-    Ok(last_number(1, MOST_MEMBERS, bytes)? as u8)
+    Ok(last_number(1, MAX_MEMBERS as u64, bytes)? as u8)
 }
 
 // The command, where nothing is left.
@@ -44,7 +33,7 @@ fn link_of(words: &[u8]) -> Result<Command, BadLine>
 {
     let (node, rest) = node_at(words)?;
     if let Ok(lease) = after_word(b" for ", rest) {
-        let lease = last_number(SHORTEST_LEASE, LONGEST_LEASE, lease)?;
+        let lease = last_number(MIN_LEASE, MAX_LEASE, lease)?;
         Ok(Command::LinkFor(node, lease))
     } else {
         whole_of(Command::Link(node), rest)
@@ -67,7 +56,7 @@ fn write_of(words: &[u8]) -> Result<Command, BadLine>
     ensures { Gives (λ x. x) result (in_partition (text_of 1 512) Command.Write words.now) }
 {
     let (partition, rest) = partition_word(words)?;
-    Ok(Command::Write(partition, Payload::from_slice(text_of(MOST_TEXT, rest)?)))
+    Ok(Command::Write(partition, Payload::from_slice(text_of(MAX_WRITE, rest)?)))
 }
 
 #[tactic(auto, unfolding(line_format::specs::Commands::partition_command_of))]

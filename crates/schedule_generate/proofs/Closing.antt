@@ -20,8 +20,8 @@ use Rattle.schedule_generate.proofs.Making.{text_is_judged_so}
 use Rattle.schedule_generate.specs.Settings.{generated_config}
 use Rattle.schedule_generate.specs.Texts.{Writing, all_written, ended, ended_at, gen_text, generated, last_written, lines_written}
 use Rattle.schedule_generate.specs.declared.generator.Generator.{Generator}
-use Rattle.schedule_generate.specs.declared.halt.Halt.{Halt}
-use Rattle.schedule_generate.specs.declared.halt.Halt.TheVariants as halt
+use Rattle.schedule_generate.specs.declared.course_halt.CourseHalt.{CourseHalt}
+use Rattle.schedule_generate.specs.declared.course_halt.CourseHalt.TheVariants as halt
 use Rattle.schedule_generate.proofs.Steps.{rounds_stick}
 
 -- nothing is a front of everything
@@ -40,20 +40,20 @@ pub at_first : (w : ℕ → Writing) (knows : Known) (n : ℕ) (a : Generator) (
 at_first w knows n a text before seed goes known none is = record { goes = goes; known = known; told = is ∙ ap (λ t. t ++ (w n).heading) none }
 
 -- the opening was taken, or halted
-pub opened : (w : ℕ → Writing) (knows known : Known) (n : ℕ) (r : Result (Unit {0}) Halt) (a b : Generator) (text now : List ℕ) (seed : ℕ) (es : List Event) → At w knows n a text (begun seed) [] → es ≡ opening n
+pub opened : (w : ℕ → Writing) (knows known : Known) (n : ℕ) (r : Result (Unit {0}) CourseHalt) (a b : Generator) (text now : List ℕ) (seed : ℕ) (es : List Event) → At w knows n a text (begun seed) [] → es ≡ opening n
     → ((g : Course) (sent : List ℕ) → At w knows a.nodes a text g sent → Went w known a.nodes r b now (taken_all (generated_config a.nodes) es g) sent) → Went w known n r b now (taken_all (generated_config n) (opening n) (begun seed)) []
 opened w knows known n r a b text now seed es at is went =
     subst (λ (ds : List Event). Went w known n r b now (taken_all (generated_config n) ds (begun seed)) []) is
     (subst (λ (m : ℕ). At w knows m a text (begun seed) [] → Went w known m r b now (taken_all (generated_config m) es (begun seed)) []) at.goes.nodes (went (begun seed) []) at)
 
 -- all rounds were gone, or halted
-pub gone : (w : ℕ → Writing) (knows known : Known) (n count : ℕ) (r : Result (Unit {0}) Halt) (a b : Generator) (text now : List ℕ) (g : Course) (old new : Option (List ℕ)) → At w knows n a text g []
+pub gone : (w : ℕ → Writing) (knows known : Known) (n count : ℕ) (r : Result (Unit {0}) CourseHalt) (a b : Generator) (text now : List ℕ) (g : Course) (old new : Option (List ℕ)) → At w knows n a text g []
     → ((k : Course) → At w knows a.nodes a text k [] → WentAll w known a.nodes r b now (rounds (generated_config a.nodes) a.nodes count k) old new) → WentAll w known n r b now (rounds (generated_config n) n count g) old new
 gone w knows known n count r a b text now g old new at went =
     subst (λ (m : ℕ). At w knows m a text g [] → WentAll w known m r b now (rounds (generated_config m) m count g) old new) at.goes.nodes (went g) at
 
 -- a halt in the opening
-pub opening_halts : (w : ℕ → Writing) (knows : Known) (n count : ℕ) (stop : Halt) (a : Generator) (text : List ℕ) (g : Course) (held : Option (List ℕ))
+pub opening_halts : (w : ℕ → Writing) (knows : Known) (n count : ℕ) (stop : CourseHalt) (a : Generator) (text : List ℕ) (g : Course) (held : Option (List ℕ))
     → Went w knows n (Err stop) a text g [] → Made n (w n) (Err stop) text (rounds (generated_config n) n count g) held held
 opening_halts w knows n count (halt.TooLarge line) a text g held r =
     let same = (rounds_stick (generated_config n) n count).sticks g r.event r.refused in (
@@ -70,7 +70,7 @@ opening_halts w knows n count halt.OutOfMemory a text g held r = nothing_sent he
 opening_halts w knows n count halt.SinkFailed a text g held r = absurd r
 
 -- a halt in the rounds
-pub rounds_halt : (w : ℕ → Writing) (knows : Known) (n : ℕ) (stop : Halt) (a : Generator) (text : List ℕ) (g : Course) (old new : Option (List ℕ))
+pub rounds_halt : (w : ℕ → Writing) (knows : Known) (n : ℕ) (stop : CourseHalt) (a : Generator) (text : List ℕ) (g : Course) (old new : Option (List ℕ))
     → WentAll w knows n (Err stop) a text g old new → Made n (w n) (Err stop) text g old new
 rounds_halt w knows n (halt.TooLarge line) a text g old new r = r
 rounds_halt w knows n halt.OutOfMemory a text g old new r = front_longer old new (lines_written (w n) g.history) (last_written (w n) g.history g.refused) r

@@ -2,7 +2,7 @@
 use Rattle.std.proofs.Common.{◌≡◌, ℕ, ◌+◌, Bool, List, [], ◌∷◌, Option, Some, None, Result, Ok, Err, OnOk, ap, sym, ◌∙◌, arith}
 use Rattle.std.specs.Prelude.{count_by, cond}
 use Rattle.std.proofs.lemmas.List.Sums.{sum_by-cons}
-use Rattle.fabric_above.specs.Fabric.{fabric}
+use Rattle.unit_rules.specs.Fabric.{fabric}
 use Rattle.fabric_terms.specs.Reports.{Told, told, told_in, told_on}
 use Rattle.fabric_terms.specs.Runs.{Entry}
 use Rattle.fabric_terms.specs.declared.config.FabricConfig.{FabricConfig}
@@ -17,7 +17,7 @@ use Rattle.schedule_generate.specs.Settings.{generated_config}
 use Rattle.schedule_generate.specs.Tallies.{Counts, reports_in}
 use Rattle.fabric_terms.specs.Places.{tells_leave}
 use Rattle.schedule_generate.specs.Texts.{is_take_over, told_of}
-use Rattle.schedule_generate.specs.declared.summary.Tally.{Tally}
+use Rattle.schedule_generate.specs.declared.summary.DrillCounts.{DrillCounts}
 
 count_on : (test : Report → Bool) (who : Who) (rs : List Report) (before : Told) → count_by (λ t. test t.1) (told_on who rs before) ≡ count_by (λ t. test t.1) before + count_by test rs
 count_on test who [] before = let e : count_by (λ t. test t.1) before ≡ count_by (λ t. test t.1) before + 0 = omega arith in e
@@ -41,7 +41,7 @@ one_more : (test : Report → Bool) (w : World) (c : FabricConfig) (h : History)
 one_more test w c h line e acted takes =
     ap (λ (o : Option Entry). count_by (λ t. test t.1) (told_in o (told (run_of fabric c h)))) (sym takes.entry) ∙ in_entry test acted (told (run_of fabric c h))
 
-pub counts_on : (a b : Tally) (n : ℕ) (w : World) (h : History) (line : ℕ) (e : Event) (acted : Option Acted) → Counts a n h → Takes w (generated_config n) h line e acted
+pub counts_on : (a b : DrillCounts) (n : ℕ) (w : World) (h : History) (line : ℕ) (e : Event) (acted : Option Acted) → Counts a n h → Takes w (generated_config n) h line e acted
     → b.took_over ≡ a.took_over + count_by is_take_over (reports_in acted) → b.left ≡ a.left + count_by tells_leave (reports_in acted) → Counts b n ((line, e) ∷ h)
 counts_on a b n w h line e acted counts takes took left = record {
   took_over = took ∙ (ap (λ (k : ℕ). k + count_by is_take_over (reports_in acted)) counts.took_over ∙ sym (one_more is_take_over w (generated_config n) h line e acted takes));

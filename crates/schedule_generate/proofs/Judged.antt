@@ -5,13 +5,13 @@ use Rattle.std.proofs.lemmas.Bool.{and_parts, ltb-true}
 use Rattle.std.proofs.lemmas.Bool.Decides.{nat_tests}
 use Rattle.std.proofs.lemmas.List.{append-nil}
 use Rattle.std.proofs.lemmas.List.Elements.{All-head, All-tail}
-use Rattle.fabric_above.specs.Fabric.{fabric}
+use Rattle.unit_rules.specs.Fabric.{fabric}
 use Rattle.fabric_status.specs.declared.status.Refusal.TheVariants.{TooLarge}
 use Rattle.fabric_terms.specs.Ranges.{Fits}
 use Rattle.fabric_terms.specs.declared.config.FabricConfig.{FabricConfig}
 use Rattle.fabric_terms.specs.declared.event.Event.{Event}
 use Rattle.ring_world.specs.Answers.{is_frame, ruled}
-use Rattle.ring_world.specs.Room.{acts, has_room, is_room}
+use Rattle.ring_world.specs.EventLimits.{acts, has_room, is_room}
 use Rattle.line_format.proofs.LineLaws.{spelled_is_read}
 use Rattle.line_format.specs.Lines.{event_text, lines_of, onto_first}
 use Rattle.source_lines.proofs.Cuts.{lines_cut}

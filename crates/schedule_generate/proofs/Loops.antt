@@ -19,8 +19,8 @@ use Rattle.schedule_generate.specs.Moves.{event_for, events_for}
 use Rattle.schedule_generate.specs.Settings.{generated_config}
 use Rattle.schedule_generate.specs.Texts.{Writing, lines_written}
 use Rattle.schedule_generate.specs.declared.generator.Generator.{Generator}
-use Rattle.schedule_generate.specs.declared.halt.Halt.{Halt}
-use Rattle.schedule_generate.specs.declared.halt.Halt.TheVariants as halt
+use Rattle.schedule_generate.specs.declared.course_halt.CourseHalt.{CourseHalt}
+use Rattle.schedule_generate.specs.declared.course_halt.CourseHalt.TheVariants as halt
 use Rattle.schedule_generate.specs.declared.moves.Move.{Move}
 use Rattle.schedule_generate.proofs.Growing.{rounds_grow}
 use Rattle.schedule_generate.proofs.Steps.{considers_stick, rounds_stick, taken_all-append, taken_all_sticks, went_on}
@@ -62,7 +62,7 @@ all_rest c moves i g =
     ∙ (ap (λ es. taken_all c es g) (map-append event_for (take i moves) (drop i moves)) ∙ taken_all-append c (events_for (take i moves)) (events_for (drop i moves)) g)
 
 -- a halt at one of the moves
-pub all_halt : (w : ℕ → Writing) (knows known : Known) (n : ℕ) (stop : Halt) (a b : Generator) (text : List ℕ) (moves : List Move) (i : ℕ) (d : Move) (g : Course) (sent : List ℕ) → i < length moves
+pub all_halt : (w : ℕ → Writing) (knows known : Known) (n : ℕ) (stop : CourseHalt) (a b : Generator) (text : List ℕ) (moves : List Move) (i : ℕ) (d : Move) (g : Course) (sent : List ℕ) → i < length moves
     → Went w knows n (Err stop) a text (taken (generated_config n) (event_for (get_or moves i d)) (taken_all (generated_config n) (events_for (take i moves)) g)) sent
     → Went w known n (Err stop) b text (taken_all (generated_config n) (events_for moves) g) sent
 all_halt w knows known n stop a b text moves i d g sent lt went =
@@ -77,7 +77,7 @@ considers_add : (c : FabricConfig) (more k : ℕ) (g : Course) → considers c (
 considers_add c zero k g = let e : 0 + k ≡ k = omega arith in ap (λ (j : ℕ). considers c j g) e
 considers_add c (suc more) k g = let e : suc more + k ≡ suc (more + k) = omega arith in ap (λ (j : ℕ). considers c j g) e ∙ ap (considered_next c) (considers_add c more k g)
 
-pub considers_halt : (w : ℕ → Writing) (knows known : Known) (n : ℕ) (stop : Halt) (a b : Generator) (text : List ℕ) (k all : ℕ) (g : Course) (sent : List ℕ) → k < all
+pub considers_halt : (w : ℕ → Writing) (knows known : Known) (n : ℕ) (stop : CourseHalt) (a b : Generator) (text : List ℕ) (k all : ℕ) (g : Course) (sent : List ℕ) → k < all
     → Went w knows n (Err stop) a text (considered_next (generated_config n) (considers (generated_config n) k g)) sent
     → Went w known n (Err stop) b text (considers (generated_config n) all g) sent
 considers_halt w knows known n stop a b text k all g sent lt went =
@@ -123,7 +123,7 @@ memory_halts w c n k all g old mid new sent text lt grew told (inr some) =
     front_more w c n (suc k) all g old mid new sent some.0 (omega arith) some.1 grew some.2
 
 -- a halt in a round
-pub rounded_halts : (w : ℕ → Writing) (knows known : Known) (n : ℕ) (stop : Halt) (a b : Generator) (text old_text : List ℕ) (k all : ℕ) (g : Course) (old mid new : Option (List ℕ)) (sent : List ℕ) → k < all
+pub rounded_halts : (w : ℕ → Writing) (knows known : Known) (n : ℕ) (stop : CourseHalt) (a b : Generator) (text old_text : List ℕ) (k all : ℕ) (g : Course) (old mid new : Option (List ℕ)) (sent : List ℕ) → k < all
     → Grew old mid sent → sent ++ old_text ≡ lines_written (w n) (rounds (generated_config n) n k g).history
     → Rounded w knows n (Err stop) a text (rounds (generated_config n) n (suc k) g) sent mid new → WentAll w known n (Err stop) b text (rounds (generated_config n) n all g) old new
 rounded_halts w knows known n (halt.TooLarge line) a b text old_text k all g old mid new sent lt grew told rounded =
@@ -156,24 +156,24 @@ full_round w knows n a text g sent held u full is at =
     subst (λ b. Rounded w knows n (Ok u) a text (round_unless (generated_config n) n g b) sent held held) (sym is)
     ([], grew_none held, subst (λ s. At w knows n a text g s) (sym (append-nil sent)) at)
 
-halted : (w : ℕ → Writing) (knows known : Known) (n : ℕ) (stop : Halt) (a b : Generator) (text : List ℕ) (g : Course) (sent : List ℕ) (held : Option (List ℕ)) → Went w knows n (Err stop) a text g sent → Rounded w known n (Err stop) b text g sent held held
+halted : (w : ℕ → Writing) (knows known : Known) (n : ℕ) (stop : CourseHalt) (a b : Generator) (text : List ℕ) (g : Course) (sent : List ℕ) (held : Option (List ℕ)) → Went w knows n (Err stop) a text g sent → Rounded w known n (Err stop) b text g sent held held
 halted w knows known n (halt.TooLarge line) a b text g sent held went = (went, refl)
 halted w knows known n halt.OutOfMemory a b text g sent held went = inl refl
 halted w knows known n halt.SinkFailed a b text g sent held went = absurd went
 
 -- a round alone sends nothing, so the sink does not fail in it
-pub no_failure : (w : ℕ → Writing) (knows : Known) (n : ℕ) (stop : Halt) (a : Generator) (text : List ℕ) (g : Course) (sent : List ℕ) → ◌≡◌ {A = Result (Unit {0}) Halt} (Err stop) (Err halt.SinkFailed) → Went w knows n (Err stop) a text g sent → ⊥
+pub no_failure : (w : ℕ → Writing) (knows : Known) (n : ℕ) (stop : CourseHalt) (a : Generator) (text : List ℕ) (g : Course) (sent : List ℕ) → ◌≡◌ {A = Result (Unit {0}) CourseHalt} (Err stop) (Err halt.SinkFailed) → Went w knows n (Err stop) a text g sent → ⊥
 no_failure w knows n (halt.TooLarge line) a text g sent is went = cc
 no_failure w knows n halt.OutOfMemory a text g sent is went = cc
 no_failure w knows n halt.SinkFailed a text g sent is went = went
 
-pub round_halted : (w : ℕ → Writing) (knows known : Known) (n : ℕ) (stop : Halt) (a b : Generator) (text : List ℕ) (g : Course) (sent : List ℕ) (held : Option (List ℕ)) (full : Bool) → full ≡ false → Went w knows n (Err stop) a text (round (generated_config n) n g) sent
+pub round_halted : (w : ℕ → Writing) (knows known : Known) (n : ℕ) (stop : CourseHalt) (a b : Generator) (text : List ℕ) (g : Course) (sent : List ℕ) (held : Option (List ℕ)) (full : Bool) → full ≡ false → Went w knows n (Err stop) a text (round (generated_config n) n g) sent
     → Rounded w known n (Err stop) b text (round_unless (generated_config n) n g full) sent held held
 round_halted w knows known n stop a b text g sent held full is went =
     subst (λ f. Rounded w known n (Err stop) b text (round_unless (generated_config n) n g f) sent held held) (sym is) (halted w knows known n stop a b text (round (generated_config n) n g) sent held went)
 
 -- why a round halts, if it does, where its text is sent so
-abbrev pub sending : Result (Unit {0}) EdgeRefusal → Result (Unit {0}) Halt
+abbrev pub sending : Result (Unit {0}) EdgeRefusal → Result (Unit {0}) CourseHalt
 sending (Ok u) = Ok u
 sending (Err refusal.Failed) = Err halt.SinkFailed
 sending (Err refusal.OutOfMemory) = Err halt.OutOfMemory

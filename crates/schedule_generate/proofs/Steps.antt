@@ -4,7 +4,7 @@ use Rattle.std.specs.Prelude.{◌%◌}
 use Rattle.fabric_terms.specs.declared.config.FabricConfig.{FabricConfig}
 use Rattle.fabric_terms.specs.declared.event.Event.{Event}
 use Rattle.ring_world.specs.Answers.{Accepts, Refuses, is_frame, ruled}
-use Rattle.ring_world.specs.Room.{has_room}
+use Rattle.ring_world.specs.EventLimits.{has_room}
 use Rattle.ring_world.specs.declared.world.EventRefusal.{EventRefusal}
 use Rattle.ring_world.specs.declared.world.EventRefusal.TheVariants as refusal
 use Rattle.world_rules.specs.Runs.{History}
@@ -15,8 +15,8 @@ use Rattle.schedule_generate.specs.Goes.{Known, Passes, Went}
 use Rattle.schedule_generate.specs.Settings.{generated_config}
 use Rattle.schedule_generate.specs.Texts.{Writing, lines_written}
 use Rattle.schedule_generate.specs.declared.generator.Generator.{Generator}
-use Rattle.schedule_generate.specs.declared.halt.Halt.{Halt}
-use Rattle.schedule_generate.specs.declared.halt.Halt.TheVariants as halt
+use Rattle.schedule_generate.specs.declared.course_halt.CourseHalt.{CourseHalt}
+use Rattle.schedule_generate.specs.declared.course_halt.CourseHalt.TheVariants as halt
 use Rattle.rand_pcg.specs.Pcg.{pcg32}
 
 pub taken_may : (c : FabricConfig) (e : Event) (g : Course) → g.refused ≡ None → may_come c g.history e ≡ true → taken c e g ≡ record g { history = (next_line g.history, e) ∷ g.history }
@@ -120,7 +120,7 @@ rounds_stick c n (suc k) = record {
 }
 
 -- a halt in a part of a course is one of the course
-pub went_on : (w : ℕ → Writing) (knows known : Known) (n : ℕ) (stop : Halt) (a b : Generator) (text : List ℕ) (g : Course) (sent : List ℕ) (f : Course → Course) → Sticks f → Went w knows n (Err stop) a text g sent → Went w known n (Err stop) b text (f g) sent
+pub went_on : (w : ℕ → Writing) (knows known : Known) (n : ℕ) (stop : CourseHalt) (a b : Generator) (text : List ℕ) (g : Course) (sent : List ℕ) (f : Course → Course) → Sticks f → Went w knows n (Err stop) a text g sent → Went w known n (Err stop) b text (f g) sent
 went_on w knows known n (halt.TooLarge line) a b text g sent f s r =
     let same = s.sticks g r.event r.refused in
     record {

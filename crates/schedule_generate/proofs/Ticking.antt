@@ -1,6 +1,6 @@
 -- The tick of a round, and the turn at its end.
 use Rattle.std.proofs.Common.{◌≡◌, ℕ, ◌+◌, ◌≤◌, List, ◌∷◌, map, Option, ap, sym, subst, ◌∙◌, arith}
-use Rattle.fabric_above.specs.Fabric.{fabric}
+use Rattle.unit_rules.specs.Fabric.{fabric}
 use Rattle.fabric_terms.specs.Ranges.{AreReadings}
 use Rattle.fabric_terms.specs.Runs.{clocks_of}
 use Rattle.fabric_terms.specs.declared.event.Event.TheVariants.{Tick}

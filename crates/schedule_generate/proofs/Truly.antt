@@ -4,7 +4,7 @@ use Rattle.std.specs.Prelude.{◌==◌, ◌&&◌, unwrap_or}
 use Rattle.std.proofs.lemmas.Bool.{and_from, eq-eqb, eqb-true}
 use Rattle.std.proofs.lemmas.Bool.Decides.{nat_tests}
 use Rattle.drift_clock.specs.Within.{Pair, fits_all, is_within}
-use Rattle.fabric_above.specs.Fabric.{fabric}
+use Rattle.unit_rules.specs.Fabric.{fabric}
 use Rattle.fabric_lemmas.proofs.Maps.{at-put, at-without}
 use Rattle.fabric_lemmas.specs.Maps.{at, put, without}
 use Rattle.fabric_terms.specs.declared.config.FabricConfig.{FabricConfig}

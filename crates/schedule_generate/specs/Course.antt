@@ -5,12 +5,12 @@ use Rattle.fabric_terms.specs.declared.command.Command.TheVariants.{Link}
 use Rattle.fabric_terms.specs.declared.config.FabricConfig.{FabricConfig}
 use Rattle.fabric_terms.specs.declared.event.Event.{Event}
 use Rattle.fabric_terms.specs.declared.event.Event.TheVariants.{Start, Stop, Tick, Fire, Give, Do}
-use Rattle.fabric_above.specs.Fabric.{fabric}
+use Rattle.unit_rules.specs.Fabric.{fabric}
 use Rattle.rand_core.specs.Pcg32Seed.{pcg32_seed}
 use Rattle.rand_pcg.specs.Lcg.{Lcg}
 use Rattle.rand_pcg.specs.Pcg.{pcg32, pcg32_of_seed}
 use Rattle.ring_world.specs.Answers.{is_frame, ruled}
-use Rattle.ring_world.specs.Room.{has_room}
+use Rattle.ring_world.specs.EventLimits.{has_room}
 use Rattle.world_rules.specs.Runs.{History}
 use Rattle.world_rules.specs.Schedules.{is_there, keeps_bound, node_runs}
 use Rattle.world_rules.specs.Worlds.{World}

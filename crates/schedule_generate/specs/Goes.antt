@@ -17,8 +17,8 @@ use Rattle.schedule_generate.specs.Settings.{generated_config}
 use Rattle.schedule_generate.specs.Shown.{nodes_of}
 use Rattle.schedule_generate.specs.Texts.{Writing, all_written, lines_written}
 use Rattle.schedule_generate.specs.declared.generator.Generator.{Generator}
-use Rattle.schedule_generate.specs.declared.halt.Halt.{Halt}
-use Rattle.schedule_generate.specs.declared.halt.Halt.TheVariants as halt
+use Rattle.schedule_generate.specs.declared.course_halt.CourseHalt.{CourseHalt}
+use Rattle.schedule_generate.specs.declared.course_halt.CourseHalt.TheVariants as halt
 
 -- what a listener knows of a history of so many nodes
 abbrev pub Known : Type 1
@@ -76,7 +76,7 @@ pub record Refused (w : ℕ → Writing) (n number : ℕ) (text : List ℕ) (g :
   pub told : sent ++ text ≡ lines_written (w n) g.history
 
 -- what a part of a course came to
-abbrev pub Went : (ℕ → Writing) → Known → ℕ → Result (Unit {0}) Halt → Generator → List ℕ → Course → List ℕ → Type 0
+abbrev pub Went : (ℕ → Writing) → Known → ℕ → Result (Unit {0}) CourseHalt → Generator → List ℕ → Course → List ℕ → Type 0
 Went w knows n (Ok u) a text g sent = At w knows n a text g sent
 Went w knows n (Err (halt.TooLarge line)) a text g sent = Refused w n line text g sent
 Went w knows n (Err halt.OutOfMemory) a text g sent = Unit {0}
@@ -90,13 +90,13 @@ IsLimit EventRefusal.TooLarge = Unit {0}
 IsLimit EventRefusal.OutOfMemory = Unit {0}
 
 -- why a course halts where an event is refused so at this line
-abbrev pub halt_at : EventRefusal → ℕ → Halt
+abbrev pub halt_at : EventRefusal → ℕ → CourseHalt
 halt_at EventRefusal.TooLarge line = halt.TooLarge line
 halt_at _ line = halt.OutOfMemory
 
 -- what a round came to, by what the sink has more: what waited was sent in part; or nothing was sent before a refused event;
 -- or a front of what waited was, if anything
-abbrev pub Rounded : (ℕ → Writing) → Known → ℕ → Result (Unit {0}) Halt → Generator → List ℕ → Course → List ℕ → Option (List ℕ) → Option (List ℕ) → Type 0
+abbrev pub Rounded : (ℕ → Writing) → Known → ℕ → Result (Unit {0}) CourseHalt → Generator → List ℕ → Course → List ℕ → Option (List ℕ) → Option (List ℕ) → Type 0
 Rounded w knows n (Ok u) a text g sent old new = (more : List ℕ) × Grew old new more × At w knows n a text g (sent ++ more)
 Rounded w knows n (Err (halt.TooLarge line)) a text g sent old new = Refused w n line text g sent × (new ≡ old)
 Rounded w knows n (Err halt.OutOfMemory) a text g sent old new =
@@ -113,7 +113,7 @@ pub record RefusedAt (n number : ℕ) (g : Course) : Type 0 where
   pub fits : All (λ e. Fits e.1) g.history
 
 -- the whole course was gone, or it halted; by what the sink has more
-abbrev pub WentAll : (ℕ → Writing) → Known → ℕ → Result (Unit {0}) Halt → Generator → List ℕ → Course → Option (List ℕ) → Option (List ℕ) → Type 0
+abbrev pub WentAll : (ℕ → Writing) → Known → ℕ → Result (Unit {0}) CourseHalt → Generator → List ℕ → Course → Option (List ℕ) → Option (List ℕ) → Type 0
 WentAll w knows n (Ok u) a text g old new = Goes n a g × knows n g.history × Wrote old new text (lines_written (w n) g.history)
 WentAll w knows n (Err (halt.TooLarge line)) a text g old new =
     RefusedAt n line g × Wrote old new text (lines_written (w n) g.history)
@@ -121,7 +121,7 @@ WentAll w knows n (Err halt.OutOfMemory) a text g old new = GrewByFront old new 
 WentAll w knows n (Err halt.SinkFailed) a text g old new = GrewByFront old new (lines_written (w n) g.history)
 
 -- the schedule was made and all that is written of it was sent or waits, or it halted
-abbrev pub Made : ℕ → Writing → Result (Unit {0}) Halt → List ℕ → Course → Option (List ℕ) → Option (List ℕ) → Type 0
+abbrev pub Made : ℕ → Writing → Result (Unit {0}) CourseHalt → List ℕ → Course → Option (List ℕ) → Option (List ℕ) → Type 0
 Made n w (Ok u) text g old new = (g.refused ≡ None) × All (λ e. Fits e.1) g.history × Wrote old new text (all_written w g)
 Made n w (Err (halt.TooLarge line)) text g old new = RefusedAt n line g × Wrote old new text (lines_written w g.history)
 Made n w (Err halt.OutOfMemory) text g old new = GrewByFront old new (all_written w g)

@@ -7,7 +7,7 @@ use Rattle.fabric_terms.specs.declared.report.Report.{Report}
 use Rattle.fabric_terms.specs.declared.report.Report.TheVariants.{TookOver}
 use Rattle.fabric_terms.specs.Places.{tells_leave}
 use Rattle.fabric_terms.specs.Reports.{told}
-use Rattle.fabric_above.specs.Fabric.{fabric}
+use Rattle.unit_rules.specs.Fabric.{fabric}
 use Rattle.fabric_status.specs.Faults.{fault_line}
 use Rattle.fabric_status.specs.declared.status.Status.{Status}
 use Rattle.fabric_status.specs.declared.status.Status.TheVariants as status

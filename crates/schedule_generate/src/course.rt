@@ -2,15 +2,16 @@
 ghost use Rattle.std.specs.Prelude.{◌≡◌, ◌+◌, ◌≤◌, ◌<◌, ◌^◌, ℕ, List, OnOk, map};
 ghost use Rattle.ring_world.specs.Answers.{ruled};
 ghost use Rattle.fabric_terms.specs.Ranges.{AreReadings};
-ghost use Rattle.schedule_generate.specs.Course.{Course, considered_next, fires, round, running, with_firings, with_gives, with_tick, with_turn};
+ghost use Rattle.schedule_generate.specs.Course.{Course, considered_next, fires, round, running, with_firings};
+ghost use Rattle.schedule_generate.specs.Course.{with_gives, with_tick, with_turn};
 ghost use Rattle.schedule_generate.specs.Goes.{At, HasMore, HasShown, IsAt, Went};
 ghost use Rattle.schedule_generate.specs.Moves.{events_for};
 ghost use Rattle.schedule_generate.specs.Settings.{generated_config};
 ghost use Rattle.schedule_generate.specs.Shown.{nodes_of, shown};
 
 use crate::generator::Generator;
-use crate::halt::{Halt, halt_of};
-use crate::listener::Listener;
+use crate::course_halt::{CourseHalt, halt_of};
+use crate::course_observer::CourseObserver;
 use crate::moves::Move;
 use fabric_terms::OutOfMemory;
 use rand_core::utils::NextWord;
@@ -47,12 +48,18 @@ fn push_firings(moves: &mut Vec<Move>, readings: &[(u16, u64)]) -> Result<(), Ou
 
 impl Generator {
     /// The clock of each running node shows the true time.
-    fn tick<L: Listener>(&mut self, listener: &mut L, text: &mut Vec<u8>) -> Result<(), Halt>
+    fn tick<L: CourseObserver>(&mut self, listener: &mut L, text: &mut Vec<u8>) -> Result<(), CourseHalt>
         requires at { IsAt L.writing (L.knows listener.old) self.old text.old.items }
         requires early { self.old.time ≤ 10 ^ 14 }
         requires few { self.old.nodes ≤ 16 }
-        ensures went { (g : Course) (sent : List ℕ) → At L.writing (L.knows listener.old) self.old.nodes self.old text.old.items g sent → Went L.writing (L.knows listener.new) self.old.nodes result self.new text.new.items (with_tick (generated_config self.old.nodes) g) sent }
-        ensures shown { (g : Course) (sent : List ℕ) → At L.writing (L.knows listener.old) self.old.nodes self.old text.old.items g sent → OnOk result (nodes_of self.new.readings.items ≡ running (ruled (generated_config self.old.nodes) (with_tick (generated_config self.old.nodes) g).history)) }
+        ensures went { (g : Course) (sent : List ℕ) →
+            At L.writing (L.knows listener.old) self.old.nodes self.old text.old.items g sent →
+            Went L.writing (L.knows listener.new) self.old.nodes result self.new text.new.items
+            (with_tick (generated_config self.old.nodes) g) sent }
+        ensures shown { (g : Course) (sent : List ℕ) →
+            At L.writing (L.knows listener.old) self.old.nodes self.old text.old.items g sent →
+            OnOk result (nodes_of self.new.readings.items ≡ running
+            (ruled (generated_config self.old.nodes) (with_tick (generated_config self.old.nodes) g).history)) }
         ensures fit { OnOk result (AreReadings self.new.readings.items) }
         ensures later { OnOk result (self.new.time ≡ self.old.time + 100) }
         ensures nodes { self.new.nodes ≡ self.old.nodes }
@@ -72,16 +79,19 @@ impl Generator {
     }
 
     /// A draw decides of the next frame, behind those considered before, whether it is lost, given twice or given once.
-    fn consider<L: Listener>(
+    fn consider<L: CourseObserver>(
         &mut self,
         before: u32,
         listener: &mut L,
         text: &mut Vec<u8>,
-    ) -> Result<(), Halt>
+    ) -> Result<(), CourseHalt>
         requires at { HasMore L.writing (L.knows listener.old) self.old text.old.items before }
         requires before { before ≡ self.old.considered }
         requires few { before < 2 ^ 31 }
-        ensures went { (g : Course) (sent : List ℕ) → At L.writing (L.knows listener.old) self.old.nodes self.old text.old.items g sent → Went L.writing (L.knows listener.new) self.old.nodes result self.new text.new.items (considered_next (generated_config self.old.nodes) g) sent }
+        ensures went { (g : Course) (sent : List ℕ) →
+            At L.writing (L.knows listener.old) self.old.nodes self.old text.old.items g sent →
+            Went L.writing (L.knows listener.new) self.old.nodes result self.new text.new.items
+            (considered_next (generated_config self.old.nodes) g) sent }
         ensures counted { self.new.considered ≡ before + 1 }
         ensures still { self.new.time ≡ self.old.time }
         ensures nodes { self.new.nodes ≡ self.old.nodes }
@@ -99,9 +109,12 @@ impl Generator {
     }
 
     /// All frames that were sent so far and not considered yet, in their order.
-    fn give<L: Listener>(&mut self, listener: &mut L, text: &mut Vec<u8>) -> Result<(), Halt>
+    fn give<L: CourseObserver>(&mut self, listener: &mut L, text: &mut Vec<u8>) -> Result<(), CourseHalt>
         requires at { IsAt L.writing (L.knows listener.old) self.old text.old.items }
-        ensures went { (g : Course) (sent : List ℕ) → At L.writing (L.knows listener.old) self.old.nodes self.old text.old.items g sent → Went L.writing (L.knows listener.new) self.old.nodes result self.new text.new.items (with_gives (generated_config self.old.nodes) g) sent }
+        ensures went { (g : Course) (sent : List ℕ) →
+            At L.writing (L.knows listener.old) self.old.nodes self.old text.old.items g sent →
+            Went L.writing (L.knows listener.new) self.old.nodes result self.new text.new.items
+            (with_gives (generated_config self.old.nodes) g) sent }
         ensures still { self.new.time ≡ self.old.time }
         ensures nodes { self.new.nodes ≡ self.old.nodes }
     {
@@ -116,15 +129,19 @@ impl Generator {
     }
 
     /// The frames of a round, and the turn of a node.
-    fn give_and_turn<L: Listener>(
+    fn give_and_turn<L: CourseObserver>(
         &mut self,
         listener: &mut L,
         text: &mut Vec<u8>,
-    ) -> Result<(), Halt>
+    ) -> Result<(), CourseHalt>
         requires at { IsAt L.writing (L.knows listener.old) self.old text.old.items }
         requires some { 1 ≤ self.old.nodes }
         requires few { self.old.nodes ≤ 16 }
-        ensures went { (g : Course) (sent : List ℕ) → At L.writing (L.knows listener.old) self.old.nodes self.old text.old.items g sent → Went L.writing (L.knows listener.new) self.old.nodes result self.new text.new.items (with_turn (generated_config self.old.nodes) self.old.nodes (with_gives (generated_config self.old.nodes) g)) sent }
+        ensures went { (g : Course) (sent : List ℕ) →
+            At L.writing (L.knows listener.old) self.old.nodes self.old text.old.items g sent →
+            Went L.writing (L.knows listener.new) self.old.nodes result self.new text.new.items
+            (with_turn (generated_config self.old.nodes) self.old.nodes
+            (with_gives (generated_config self.old.nodes) g)) sent }
         ensures still { self.new.time ≡ self.old.time }
         ensures nodes { self.new.nodes ≡ self.old.nodes }
     {
@@ -135,17 +152,22 @@ impl Generator {
     }
 
     /// What follows the tick of a round: firings, frames, and the turn of a node.
-    fn go_on<L: Listener>(
+    fn go_on<L: CourseObserver>(
         &mut self,
         moves: &mut Vec<Move>,
         listener: &mut L,
         text: &mut Vec<u8>,
-    ) -> Result<(), Halt>
+    ) -> Result<(), CourseHalt>
         requires at { HasShown L.writing (L.knows listener.old) self.old text.old.items }
         requires some { 1 ≤ self.old.nodes }
         requires few { self.old.nodes ≤ 16 }
         requires fit { AreReadings self.old.readings.items }
-        ensures went { (g : Course) (sent : List ℕ) → At L.writing (L.knows listener.old) self.old.nodes self.old text.old.items g sent → nodes_of self.old.readings.items ≡ running (ruled (generated_config self.old.nodes) g.history) → Went L.writing (L.knows listener.new) self.old.nodes result self.new text.new.items (with_turn (generated_config self.old.nodes) self.old.nodes (with_gives (generated_config self.old.nodes) (with_firings (generated_config self.old.nodes) g))) sent }
+        ensures went { (g : Course) (sent : List ℕ) →
+            At L.writing (L.knows listener.old) self.old.nodes self.old text.old.items g sent →
+            nodes_of self.old.readings.items ≡ running (ruled (generated_config self.old.nodes) g.history) →
+            Went L.writing (L.knows listener.new) self.old.nodes result self.new text.new.items
+            (with_turn (generated_config self.old.nodes) self.old.nodes
+            (with_gives (generated_config self.old.nodes) (with_firings (generated_config self.old.nodes) g))) sent }
         ensures still { self.new.time ≡ self.old.time }
         ensures nodes { self.new.nodes ≡ self.old.nodes }
     {
@@ -157,17 +179,20 @@ impl Generator {
     }
 
     /// A round: a tick, firings, frames, and the turn of a node. The list of moves serves each round.
-    pub fn round<L: Listener>(
+    pub fn round<L: CourseObserver>(
         &mut self,
         moves: &mut Vec<Move>,
         listener: &mut L,
         text: &mut Vec<u8>,
-    ) -> Result<(), Halt>
+    ) -> Result<(), CourseHalt>
         requires at { IsAt L.writing (L.knows listener.old) self.old text.old.items }
         requires early { self.old.time ≤ 10 ^ 14 }
         requires some { 1 ≤ self.old.nodes }
         requires few { self.old.nodes ≤ 16 }
-        ensures went { (g : Course) (sent : List ℕ) → At L.writing (L.knows listener.old) self.old.nodes self.old text.old.items g sent → Went L.writing (L.knows listener.new) self.old.nodes result self.new text.new.items (round (generated_config self.old.nodes) self.old.nodes g) sent }
+        ensures went { (g : Course) (sent : List ℕ) →
+            At L.writing (L.knows listener.old) self.old.nodes self.old text.old.items g sent →
+            Went L.writing (L.knows listener.new) self.old.nodes result self.new text.new.items
+            (round (generated_config self.old.nodes) self.old.nodes g) sent }
         ensures later { OnOk result (self.new.time ≡ self.old.time + 100) }
         ensures nodes { self.new.nodes ≡ self.old.nodes }
     {

@@ -7,8 +7,8 @@ ghost use Rattle.schedule_generate.specs.Goes.{At, Goes, IsDue, Went};
 ghost use Rattle.schedule_generate.specs.Moves.{event_for, events_for};
 ghost use Rattle.schedule_generate.specs.Settings.{generated_config};
 
-use crate::halt::{Halt, halt_of};
-use crate::listener::Listener;
+use crate::course_halt::{CourseHalt, halt_of};
+use crate::course_observer::CourseObserver;
 use crate::moves::Move;
 use crate::settings::config_of;
 use fabric_terms::OutOfMemory;
@@ -69,16 +69,19 @@ impl Generator {
     }
 
     /// The world takes an event, and the listener is told.
-    pub fn take<L: Listener>(
+    pub fn take<L: CourseObserver>(
         &mut self,
         made: Move,
         listener: &mut L,
         text: &mut Vec<u8>,
-    ) -> Result<(), Halt>
+    ) -> Result<(), CourseHalt>
         requires due { IsDue L.writing (L.knows listener.old) self.old text.old.items (event_for made ∷ []) }
         requires fits { Fits (event_for made) }
         requires shows { ShowsTime self.old.time (event_for made) }
-        ensures went { (g : Course) (sent : List ℕ) → At L.writing (L.knows listener.old) self.old.nodes self.old text.old.items g sent → Went L.writing (L.knows listener.new) self.old.nodes result self.new text.new.items (taken (generated_config self.old.nodes) (event_for made) g) sent }
+        ensures went { (g : Course) (sent : List ℕ) →
+            At L.writing (L.knows listener.old) self.old.nodes self.old text.old.items g sent →
+            Went L.writing (L.knows listener.new) self.old.nodes result self.new text.new.items
+            (taken (generated_config self.old.nodes) (event_for made) g) sent }
         ensures rest { self.new ≡ record self.old { world = self.new.world; line = self.new.line } }
     {
         let line = self.line;
@@ -93,16 +96,19 @@ impl Generator {
     }
 
     /// The world takes these events, one after the other.
-    pub fn take_all<L: Listener>(
+    pub fn take_all<L: CourseObserver>(
         &mut self,
         moves: &[Move],
         listener: &mut L,
         text: &mut Vec<u8>,
-    ) -> Result<(), Halt>
+    ) -> Result<(), CourseHalt>
         requires due { IsDue L.writing (L.knows listener.old) self.old text.old.items (events_for moves.now) }
         requires fit { All Fits (events_for moves.now) }
         requires shows { All (ShowsTime self.old.time) (events_for moves.now) }
-        ensures went { (g : Course) (sent : List ℕ) → At L.writing (L.knows listener.old) self.old.nodes self.old text.old.items g sent → Went L.writing (L.knows listener.new) self.old.nodes result self.new text.new.items (taken_all (generated_config self.old.nodes) (events_for moves.now) g) sent }
+        ensures went { (g : Course) (sent : List ℕ) →
+            At L.writing (L.knows listener.old) self.old.nodes self.old text.old.items g sent →
+            Went L.writing (L.knows listener.new) self.old.nodes result self.new text.new.items
+            (taken_all (generated_config self.old.nodes) (events_for moves.now) g) sent }
         ensures rest { self.new ≡ record self.old { world = self.new.world; line = self.new.line } }
     {
         for i in 0..moves.len() {

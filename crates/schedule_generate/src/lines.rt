@@ -27,7 +27,8 @@ fn push_two(
     between: &[u8],
     second: u64,
 ) -> Result<(), OutOfMemory>
-    ensures { OnOk result (text.new.items ≡ text.old.items ++ (words.now ++ (decimal first ++ (between.now ++ decimal second)))) }
+    ensures { OnOk result (text.new.items ≡ text.old.items ++
+        (words.now ++ (decimal first ++ (between.now ++ decimal second)))) }
 {
     push_counted(text, words, first)?;
     push_counted(text, between, second)

@@ -1,4 +1,3 @@
-// The events of a generated schedule, but for its ticks.
 ghost use Rattle.std.specs.Prelude.{◌≡◌};
 ghost use Rattle.schedule_generate.specs.Moves.{event_for};
 

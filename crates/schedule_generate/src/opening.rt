@@ -10,7 +10,8 @@ use ring_points::ARBITRATORS;
 use std::alloc::Global;
 
 fn push_arbiters(moves: &mut Vec<Move>) -> Result<(), OutOfMemory>
-    ensures { OnOk result (events_for moves.new.items ≡ events_for moves.old.items ++ map arbiter_starts (numbers_from 1 3)) }
+    ensures { OnOk result (events_for moves.new.items ≡ events_for moves.old.items ++ map arbiter_starts
+        (numbers_from 1 3)) }
 {
     for arbiter in 0..3u16 {
         moves.push(Move::Start(ARBITRATORS + arbiter + 1, None))?;
@@ -20,7 +21,8 @@ fn push_arbiters(moves: &mut Vec<Move>) -> Result<(), OutOfMemory>
 
 fn push_nodes(moves: &mut Vec<Move>, nodes: u16) -> Result<(), OutOfMemory>
     requires { nodes ≤ 16 }
-    ensures { OnOk result (events_for moves.new.items ≡ events_for moves.old.items ++ map node_starts (numbers_from 1 nodes)) }
+    ensures { OnOk result (events_for moves.new.items ≡ events_for moves.old.items ++ map node_starts
+        (numbers_from 1 nodes)) }
 {
     for node in 0..nodes {
         moves.push(Move::Start(node + 1, Some(0)))?;
@@ -32,7 +34,8 @@ fn push_nodes(moves: &mut Vec<Move>, nodes: u16) -> Result<(), OutOfMemory>
 fn push_links(moves: &mut Vec<Move>, nodes: u16) -> Result<(), OutOfMemory>
     requires some { 1 ≤ nodes }
     requires few { nodes ≤ 16 }
-    ensures { OnOk result (events_for moves.new.items ≡ events_for moves.old.items ++ map asks_first (numbers_from 2 (nodes - 1))) }
+    ensures { OnOk result (events_for moves.new.items ≡ events_for moves.old.items ++ map asks_first
+        (numbers_from 2 (nodes - 1))) }
 {
     for node in 0..nodes - 1 {
         moves.push(Move::Link(node + 2, 1))?;

@@ -1,4 +1,3 @@
-// The command `drill`: a generated schedule is run, and its summary written.
 ghost use Rattle.std.specs.Prelude.{◌≡◌, ◌++◌, ◌+◌, ◌≤◌, ◌<◌, ℕ, IfOk, OnOk, count_by};
 ghost use Rattle.fabric_status.specs.Writes.{Wrote};
 ghost use Rattle.schedule_generate.specs.Goes.{IsSettled};
@@ -8,10 +7,11 @@ ghost use Rattle.ring_world.specs.Answers.{StandsFor};
 ghost use Rattle.schedule_generate.specs.Settings.{generated_config};
 ghost use Rattle.schedule_generate.specs.Tallies.{Counts, reports_in};
 ghost use Rattle.fabric_terms.specs.Places.{tells_leave};
-ghost use Rattle.schedule_generate.specs.Texts.{all_written, drill_writing, ended, gen_text, generated, is_take_over, summary};
+ghost use Rattle.schedule_generate.specs.Texts.{all_written, drill_writing, ended, gen_text, generated, is_take_over};
+ghost use Rattle.schedule_generate.specs.Texts.{summary};
 ghost use Rattle.world_rules.specs.Runs.{History};
 
-use crate::listener::Listener;
+use crate::course_observer::CourseObserver;
 use crate::moves::Move;
 use crate::write::write_schedule;
 use edge_io::Sink;
@@ -22,7 +22,7 @@ use std::alloc::Global;
 
 /// How many take-overs and how many leaves were reported.
 #[derive(Drop)]
-pub struct Tally {
+pub struct DrillCounts {
     took_over: u64,
     left: u64,
 }
@@ -49,7 +49,7 @@ fn one_more(count: u64) -> Result<u64, OutOfMemory>
     }
 }
 
-impl Tally {
+impl DrillCounts {
     /// Counts these reports.
     fn count(&mut self, reports: &[Report]) -> Result<(), OutOfMemory>
         ensures took_over { OnOk result (self.new.took_over ≡ self.old.took_over + count_by is_take_over reports.now) }
@@ -67,7 +67,8 @@ impl Tally {
     }
 
     fn take(&mut self, acted: &Option<Acted>) -> Result<(), OutOfMemory>
-        ensures took_over { OnOk result (self.new.took_over ≡ self.old.took_over + count_by is_take_over (reports_in acted.now)) }
+        ensures took_over { OnOk result (self.new.took_over ≡ self.old.took_over + count_by is_take_over
+            (reports_in acted.now)) }
         ensures left { OnOk result (self.new.left ≡ self.old.left + count_by tells_leave (reports_in acted.now)) }
     {
         match acted {
@@ -78,7 +79,8 @@ impl Tally {
 
     /// Appends the summary.
     fn push_summary(&self, world: &World, text: &mut Vec<u8>) -> Result<(), OutOfMemory>
-        ensures { (n : ℕ) (h : History) → Counts self.now n h → StandsFor world.now (generated_config n) h → OnOk result (text.new.items ≡ text.old.items ++ summary (generated_config n) h) }
+        ensures { (n : ℕ) (h : History) → Counts self.now n h → StandsFor world.now (generated_config n) h →
+            OnOk result (text.new.items ≡ text.old.items ++ summary (generated_config n) h) }
     {
         let (events, frames) = world.counts();
         push_numbered(text, b"events ", events)?;
@@ -89,7 +91,7 @@ impl Tally {
     }
 }
 
-impl Listener for Tally {
+impl CourseObserver for DrillCounts {
     ghost writing = { drill_writing };
 
     ghost knows = { Counts };
@@ -125,17 +127,20 @@ impl Listener for Tally {
     }
 }
 
-/// Runs the schedule of a seed, so many nodes and so many rounds, and writes how many events it has, how many frames were
-/// sent, how many take-overs and leaves were reported, and how many instances hold a point at the end; or the fault of the
-/// line that is too large. At `OutOfMemory` and `WriteFault` the sink has a front of that; `WriteFault` comes only where
-/// the sink's count of faults rose.
+/// Runs the schedule of a seed, so many nodes and so many rounds, and writes how many events it has, how many frames
+/// were sent, how many take-overs and leaves were reported, and how many instances hold a point at the end; or the
+/// fault of the line that is too large. At `OutOfMemory` and `WriteFault` the sink has a front of that; `WriteFault`
+/// comes only where the sink's count of faults rose.
 pub fn drill<K: Sink>(alloc: Global, seed: u64, nodes: u16, rounds: u32, sink: &mut K) -> Status
     requires some { 1 ≤ nodes }
     requires few { nodes ≤ 16 }
-    ensures judged { IsSettled result → judge (gen_text seed nodes rounds) ≡ judged_of nodes (generated seed nodes rounds) }
-    ensures wrote { Wrote (ended (generated seed nodes rounds)) (all_written (drill_writing nodes) (generated seed nodes rounds)) result (K.held sink.old) (K.held sink.new) (K.faults sink.old) (K.faults sink.new) }
+    ensures judged { IsSettled result → judge (gen_text seed nodes rounds) ≡ judged_of nodes
+        (generated seed nodes rounds) }
+    ensures wrote { Wrote (ended (generated seed nodes rounds))
+        (all_written (drill_writing nodes) (generated seed nodes rounds)) result (K.held sink.old) (K.held sink.new)
+        (K.faults sink.old) (K.faults sink.new) }
 {
-    let mut tally = Tally {
+    let mut tally = DrillCounts {
         took_over: 0,
         left: 0,
     };

@@ -1,4 +1,3 @@
-// The command `generate`: a generated schedule is written.
 ghost use Rattle.std.specs.Prelude.{◌≡◌, ◌≤◌};
 ghost use Rattle.fabric_status.specs.Writes.{Wrote};
 ghost use Rattle.schedule_generate.specs.Goes.{IsSettled};
@@ -7,7 +6,7 @@ ghost use Rattle.schedule_rules.specs.Schedule.{judge};
 ghost use Rattle.schedule_generate.specs.Texts.{all_written, ended, gen_text, generate_writing, generated};
 
 use crate::lines::{push_move_line, push_tick_line};
-use crate::listener::Listener;
+use crate::course_observer::CourseObserver;
 use crate::moves::Move;
 use crate::settings::push_config_line;
 use crate::write::write_schedule;
@@ -22,7 +21,7 @@ use text_fields::push_bytes;
 #[derive(Drop)]
 struct Lines {}
 
-impl Listener for Lines {
+impl CourseObserver for Lines {
     ghost writing = { generate_writing };
 
     ghost knows = { λ _ n h. Unit {0} };
@@ -60,13 +59,16 @@ impl Listener for Lines {
 }
 
 /// Writes the schedule of a seed, so many nodes and so many rounds: its text, or the lines before the one that is too
-/// large, and its fault. At `OutOfMemory` and `WriteFault` the sink has a front of that; `WriteFault` comes only where the
-/// sink's count of faults rose.
+/// large, and its fault. At `OutOfMemory` and `WriteFault` the sink has a front of that; `WriteFault` comes only where
+/// the sink's count of faults rose.
 pub fn generate<K: Sink>(alloc: Global, seed: u64, nodes: u16, rounds: u32, sink: &mut K) -> Status
     requires some { 1 ≤ nodes }
     requires few { nodes ≤ 16 }
-    ensures judged { IsSettled result → judge (gen_text seed nodes rounds) ≡ judged_of nodes (generated seed nodes rounds) }
-    ensures wrote { Wrote (ended (generated seed nodes rounds)) (all_written (generate_writing nodes) (generated seed nodes rounds)) result (K.held sink.old) (K.held sink.new) (K.faults sink.old) (K.faults sink.new) }
+    ensures judged { IsSettled result → judge (gen_text seed nodes rounds) ≡ judged_of nodes
+        (generated seed nodes rounds) }
+    ensures wrote { Wrote (ended (generated seed nodes rounds))
+        (all_written (generate_writing nodes) (generated seed nodes rounds)) result (K.held sink.old) (K.held sink.new)
+        (K.faults sink.old) (K.faults sink.new) }
 {
     write_schedule(alloc, seed, nodes, rounds, &mut Lines {}, sink)
 }

@@ -6,8 +6,8 @@ ghost use Rattle.schedule_generate.specs.Goes.{At, IsAt, Went};
 ghost use Rattle.schedule_generate.specs.Settings.{generated_config};
 
 use crate::generator::Generator;
-use crate::halt::Halt;
-use crate::listener::Listener;
+use crate::course_halt::CourseHalt;
+use crate::course_observer::CourseObserver;
 use crate::moves::Move;
 use rand_core::utils::NextWord;
 use ring_points::Who;
@@ -20,13 +20,16 @@ fn is_among(clocks: &[(Who, u64)], node: u16) -> bool
 }
 
 impl Generator {
-    /// A draw decides whether a node is stopped or started, and which: one that runs is stopped, and one that does not is
-    /// started, its clock showing the true time.
-    pub fn turn<L: Listener>(&mut self, listener: &mut L, text: &mut Vec<u8>) -> Result<(), Halt>
+    /// A draw decides whether a node is stopped or started, and which: one that runs is stopped, and one that does not
+    /// is started, its clock showing the true time.
+    pub fn turn<L: CourseObserver>(&mut self, listener: &mut L, text: &mut Vec<u8>) -> Result<(), CourseHalt>
         requires at { IsAt L.writing (L.knows listener.old) self.old text.old.items }
         requires some { 1 ≤ self.old.nodes }
         requires few { self.old.nodes ≤ 16 }
-        ensures went { (g : Course) (sent : List ℕ) → At L.writing (L.knows listener.old) self.old.nodes self.old text.old.items g sent → Went L.writing (L.knows listener.new) self.old.nodes result self.new text.new.items (with_turn (generated_config self.old.nodes) self.old.nodes g) sent }
+        ensures went { (g : Course) (sent : List ℕ) →
+            At L.writing (L.knows listener.old) self.old.nodes self.old text.old.items g sent →
+            Went L.writing (L.knows listener.new) self.old.nodes result self.new text.new.items
+            (with_turn (generated_config self.old.nodes) self.old.nodes g) sent }
         ensures still { self.new.time ≡ self.old.time }
         ensures nodes { self.new.nodes ≡ self.old.nodes }
     {

@@ -1,4 +1,3 @@
-// A schedule is made and written.
 ghost use Rattle.std.specs.Prelude.{◌≡◌, ◌≤◌, ◌+◌, ◌^◌, ℕ, List, [], Err, OnOk};
 ghost use Rattle.edge_io.specs.Edge.{HasRisen};
 ghost use Rattle.fabric_status.specs.Writes.{Wrote};
@@ -10,8 +9,8 @@ ghost use Rattle.schedule_generate.specs.Texts.{all_written, ended, gen_text, ge
 ghost use Rattle.schedule_rules.specs.Schedule.{judge};
 
 use crate::generator::Generator;
-use crate::halt::Halt;
-use crate::listener::Listener;
+use crate::course_halt::CourseHalt;
+use crate::course_observer::CourseObserver;
 use crate::moves::Move;
 use crate::opening::opening_moves;
 use edge_io::{EdgeRefusal, Sink};
@@ -20,21 +19,25 @@ use schedule_rules::{send_full, write_fault};
 use std::alloc::Global;
 
 /// Goes one more round, unless none may begin, and writes what waits where it is long.
-fn go_round<L: Listener, K: Sink>(
+fn go_round<L: CourseObserver, K: Sink>(
     generator: &mut Generator,
     moves: &mut Vec<Move>,
     listener: &mut L,
     text: &mut Vec<u8>,
     sink: &mut K,
-) -> Result<(), Halt>
+) -> Result<(), CourseHalt>
     requires at { IsAt L.writing (L.knows listener.old) generator.old text.old.items }
     requires early { generator.old.time ≤ 10 ^ 14 }
     requires some { 1 ≤ generator.old.nodes }
     requires few { generator.old.nodes ≤ 16 }
-    ensures went { (g : Course) (sent : List ℕ) → At L.writing (L.knows listener.old) generator.old.nodes generator.old text.old.items g sent → Rounded L.writing (L.knows listener.new) generator.old.nodes result generator.new text.new.items (round_unless (generated_config generator.old.nodes) generator.old.nodes g (is_full (generated_config generator.old.nodes) g)) sent (K.held sink.old) (K.held sink.new) }
+    ensures went { (g : Course) (sent : List ℕ) →
+        At L.writing (L.knows listener.old) generator.old.nodes generator.old text.old.items g sent →
+        Rounded L.writing (L.knows listener.new) generator.old.nodes result generator.new text.new.items
+        (round_unless (generated_config generator.old.nodes) generator.old.nodes g
+        (is_full (generated_config generator.old.nodes) g)) sent (K.held sink.old) (K.held sink.new) }
     ensures later { OnOk result (generator.new.time ≤ generator.old.time + 100) }
     ensures nodes { generator.new.nodes ≡ generator.old.nodes }
-    ensures failed { result ≡ Err Halt.SinkFailed → HasRisen (K.faults sink.old) (K.faults sink.new) }
+    ensures failed { result ≡ Err CourseHalt.SinkFailed → HasRisen (K.faults sink.old) (K.faults sink.new) }
     ensures faults { K.faults sink.old ≤ K.faults sink.new }
 {
     if generator.is_full() {
@@ -43,28 +46,32 @@ fn go_round<L: Listener, K: Sink>(
     match generator.round(moves, listener, text) {
         Ok(()) => match send_full(sink, text) {
             Ok(()) => Ok(()),
-            Err(EdgeRefusal::Failed) => Err(Halt::SinkFailed),
-            Err(EdgeRefusal::OutOfMemory) => Err(Halt::OutOfMemory),
+            Err(EdgeRefusal::Failed) => Err(CourseHalt::SinkFailed),
+            Err(EdgeRefusal::OutOfMemory) => Err(CourseHalt::OutOfMemory),
         },
         Err(halt) => Err(halt),
     }
 }
 
 /// Goes so many rounds, and writes what waits behind each where it is long.
-fn go_rounds<L: Listener, K: Sink>(
+fn go_rounds<L: CourseObserver, K: Sink>(
     generator: &mut Generator,
     count: u32,
     moves: &mut Vec<Move>,
     listener: &mut L,
     text: &mut Vec<u8>,
     sink: &mut K,
-) -> Result<(), Halt>
+) -> Result<(), CourseHalt>
     requires at { IsAt L.writing (L.knows listener.old) generator.old text.old.items }
     requires time { generator.old.time ≡ 0 }
     requires some { 1 ≤ generator.old.nodes }
     requires few { generator.old.nodes ≤ 16 }
-    ensures went { (g : Course) → At L.writing (L.knows listener.old) generator.old.nodes generator.old text.old.items g [] → WentAll L.writing (L.knows listener.new) generator.old.nodes result generator.new text.new.items (rounds (generated_config generator.old.nodes) generator.old.nodes count g) (K.held sink.old) (K.held sink.new) }
-    ensures failed { result ≡ Err Halt.SinkFailed → HasRisen (K.faults sink.old) (K.faults sink.new) }
+    ensures went { (g : Course) → At L.writing (L.knows listener.old)
+        generator.old.nodes generator.old text.old.items g [] →
+        WentAll L.writing (L.knows listener.new) generator.old.nodes result generator.new text.new.items
+        (rounds (generated_config generator.old.nodes) generator.old.nodes count g) (K.held sink.old) (K.held sink.new)
+        }
+    ensures failed { result ≡ Err CourseHalt.SinkFailed → HasRisen (K.faults sink.old) (K.faults sink.new) }
     ensures later { K.faults sink.old ≤ K.faults sink.new }
 {
     for round in 0..count {
@@ -78,7 +85,7 @@ fn go_rounds<L: Listener, K: Sink>(
 }
 
 /// Makes the schedule, and writes or leaves in the text what is written of it.
-fn make<L: Listener, K: Sink>(
+fn make<L: CourseObserver, K: Sink>(
     alloc: Global,
     seed: u64,
     nodes: u16,
@@ -86,26 +93,27 @@ fn make<L: Listener, K: Sink>(
     listener: &mut L,
     text: &mut Vec<u8>,
     sink: &mut K,
-) -> Result<(), Halt>
+) -> Result<(), CourseHalt>
     requires known { L.knows listener.old nodes [] }
     requires empty { text.old.items ≡ [] }
     requires some { 1 ≤ nodes }
     requires few { nodes ≤ 16 }
-    ensures made { Made nodes (L.writing nodes) result text.new.items (generated seed nodes count) (K.held sink.old) (K.held sink.new) }
-    ensures failed { result ≡ Err Halt.SinkFailed → HasRisen (K.faults sink.old) (K.faults sink.new) }
+    ensures made { Made nodes (L.writing nodes) result text.new.items (generated seed nodes count) (K.held sink.old)
+        (K.held sink.new) }
+    ensures failed { result ≡ Err CourseHalt.SinkFailed → HasRisen (K.faults sink.old) (K.faults sink.new) }
     ensures later { K.faults sink.old ≤ K.faults sink.new }
 {
     match listener.begin(nodes, text) {
         Ok(()) => {}
-        Err(_) => return Err(Halt::OutOfMemory),
+        Err(_) => return Err(CourseHalt::OutOfMemory),
     }
     let mut generator = match Generator::new(alloc, seed, nodes) {
         Ok(generator) => generator,
-        Err(_) => return Err(Halt::OutOfMemory),
+        Err(_) => return Err(CourseHalt::OutOfMemory),
     };
     let mut moves = match opening_moves(alloc, nodes) {
         Ok(moves) => moves,
-        Err(_) => return Err(Halt::OutOfMemory),
+        Err(_) => return Err(CourseHalt::OutOfMemory),
     };
     match generator.take_all(&moves, listener, text) {
         Ok(()) => {}
@@ -117,14 +125,14 @@ fn make<L: Listener, K: Sink>(
     }
     match listener.end(&generator.world, text) {
         Ok(()) => Ok(()),
-        Err(_) => Err(Halt::OutOfMemory),
+        Err(_) => Err(CourseHalt::OutOfMemory),
     }
 }
 
-/// Makes the schedule of a seed, so many nodes and so many rounds, and writes what the listener writes of it: all of it, or
-/// the lines before the line that is too large, and its fault. At `OutOfMemory` and `WriteFault` the sink has a front of
-/// it; `WriteFault` comes only where the sink's count of faults rose.
-pub fn write_schedule<L: Listener, K: Sink>(
+/// Makes the schedule of a seed, so many nodes and so many rounds, and writes what the listener writes of it: all of
+/// it, or the lines before the line that is too large, and its fault. At `OutOfMemory` and `WriteFault` the sink has a
+/// front of it; `WriteFault` comes only where the sink's count of faults rose.
+pub fn write_schedule<L: CourseObserver, K: Sink>(
     alloc: Global,
     seed: u64,
     nodes: u16,
@@ -135,14 +143,17 @@ pub fn write_schedule<L: Listener, K: Sink>(
     requires known { L.knows listener.old nodes [] }
     requires some { 1 ≤ nodes }
     requires few { nodes ≤ 16 }
-    ensures judged { IsSettled result → judge (gen_text seed nodes count) ≡ judged_of nodes (generated seed nodes count) }
-    ensures wrote { Wrote (ended (generated seed nodes count)) (all_written (L.writing nodes) (generated seed nodes count)) result (K.held sink.old) (K.held sink.new) (K.faults sink.old) (K.faults sink.new) }
+    ensures judged { IsSettled result → judge (gen_text seed nodes count) ≡ judged_of nodes (generated seed nodes count)
+        }
+    ensures wrote { Wrote (ended (generated seed nodes count))
+        (all_written (L.writing nodes) (generated seed nodes count)) result (K.held sink.old) (K.held sink.new)
+        (K.faults sink.old) (K.faults sink.new) }
 {
     let mut text = Vec::new(alloc);
     match make(alloc, seed, nodes, count, listener, &mut text, sink) {
         Ok(()) => write_last(sink, &text, Status::Ok),
-        Err(Halt::TooLarge(line)) => { write_fault(alloc, sink, &mut text, Status::TooLarge(line)) }
-        Err(Halt::OutOfMemory) => Status::OutOfMemory,
-        Err(Halt::SinkFailed) => Status::WriteFault,
+        Err(CourseHalt::TooLarge(line)) => { write_fault(alloc, sink, &mut text, Status::TooLarge(line)) }
+        Err(CourseHalt::OutOfMemory) => Status::OutOfMemory,
+        Err(CourseHalt::SinkFailed) => Status::WriteFault,
     }
 }

@@ -4,7 +4,7 @@ use Rattle.fabric_terms.specs.declared.config.FabricConfig.{FabricConfig}
 use Rattle.fabric_terms.specs.declared.event.Event.{Event}
 use Rattle.fabric_status.specs.declared.status.Refusal.{Refusal}
 use Rattle.ring_world.specs.Answers.{Accepts, Refuses, Takes, ruled}
-use Rattle.ring_world.specs.Room.{has_room}
+use Rattle.ring_world.specs.EventLimits.{has_room}
 use Rattle.ring_world.specs.declared.world.Acted.{Acted}
 use Rattle.ring_world.specs.declared.world.EventRefusal.{EventRefusal}
 use Rattle.ring_world.specs.declared.world.EventRefusal.TheVariants.{NoSuch, DriftBroken, TooLarge, OutOfMemory}

@@ -1,11 +1,11 @@
 // Lines of a number alone, read without the room that the largest event takes.
 ghost use Rattle.schedule_replay.specs.Brief.{ReadsBrief};
 
-use drift_clock::MAX_READING;
+use ring_points::MAX_READING;
 use text_fields::{after_word, last_node, last_number};
 
-/// An event that a number tells: most lines of a schedule are such. An `Event` has room for the largest kind, more than a
-/// kilobyte, which would be cleared and moved for each of them.
+/// An event that a number tells: most lines of a schedule are such. An `Event` has room for the largest kind, more than
+/// a kilobyte, which would be cleared and moved for each of them.
 pub(crate) enum Brief {
     /// The node whose timer fires.
     Fire(u16),

@@ -1,4 +1,3 @@
-// The line of the clocks behind an event.
 ghost use Rattle.std.specs.Prelude.{◌≡◌, ◌++◌, OnOk};
 ghost use Rattle.schedule_rules.specs.Traces.{clock_words, clocks_line};
 ghost use Rattle.text_fields.specs.Texts.{Keeps};
@@ -22,8 +21,8 @@ fn push_clock_words(text: &mut Vec<u8>, clocks: &[(Who, u64)]) -> Result<(), Out
     Ok(())
 }
 
-/// Appends the running instances, rising by node, with their readings in ticks, behind the number of the event's line. At
-/// want of memory a front of it may be written.
+/// Appends the running instances, rising by node, with their readings in ticks, behind the number of the event's line.
+/// At want of memory a front of it may be written.
 pub fn push_clocks(text: &mut Vec<u8>, line: u64, clocks: &[(Who, u64)]) -> Result<(), OutOfMemory>
     ensures ok { OnOk result (text.new.items ≡ text.old.items ++ clocks_line line clocks.now) }
     ensures kept { Keeps text.old.items text.new.items }

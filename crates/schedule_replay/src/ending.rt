@@ -21,7 +21,8 @@ pub fn push_end(text: &mut Vec<u8>, counts: (u64, u32)) -> Result<(), OutOfMemor
 
 /// Appends where the points are that nobody holds, and the end. At want of memory a front of it may be written.
 pub fn push_ending(text: &mut Vec<u8>, world: &World) -> Result<(), OutOfMemory>
-    ensures ok { (c : Configuration) (h : History) → StandsFor world.now c h → OnOk result ((ending : List ℕ) × IsEnding c h ending × (text.new.items ≡ text.old.items ++ ending)) }
+    ensures ok { (c : Configuration) (h : History) → StandsFor world.now c h →
+        OnOk result ((ending : List ℕ) × IsEnding c h ending × (text.new.items ≡ text.old.items ++ ending)) }
     ensures kept { (c : Configuration) (h : History) → StandsFor world.now c h → Keeps text.old.items text.new.items }
 {
     world.place_lines(text)?;

@@ -13,7 +13,7 @@ ghost use Rattle.schedule_rules.specs.Telling.{IsTold, lines_judged};
 ghost use Rattle.world_rules.specs.Runs.{History};
 
 use crate::schedule::take_line;
-use crate::teller::Teller;
+use crate::run_observer::RunObserver;
 use edge_io::{EdgeRefusal, Sink, Source};
 use fabric_config::{ConfigError, read_config};
 use fabric_status::{Refusal, Status, write_last};
@@ -21,11 +21,11 @@ use fabric_terms::FabricConfig;
 use ring_world::World;
 use sched_text::TickReadings;
 use schedule_rules::{Halt, send_full, write_fault};
-use source_lines::{LineReader, MOST_FIRST_LINE, MOST_LINE, Taken};
+use source_lines::{LineReader, MAX_FIRST_LINE, MAX_LINE, NextLine};
 use std::alloc::Global;
 
 /// Takes the next line of the source, and says whether there was one.
-fn take_next<T: Teller, S: Source>(
+fn take_next<T: RunObserver, S: Source>(
     world: &mut World,
     teller: &mut T,
     reader: &mut LineReader,
@@ -35,16 +35,18 @@ fn take_next<T: Teller, S: Source>(
     text: &mut Vec<u8>,
 ) -> Result<bool, Halt>
     requires { IsWorld world.old }
-    ensures next { (c : Configuration) (h : History) → At world.old (T.knows teller.old) c h → TakesNext T.telling c h number result world.new (T.knows teller.new) text.old.items text.new.items reader.old.waiting (S.left source.old) reader.new.waiting (S.left source.new) }
+    ensures next { (c : Configuration) (h : History) → At world.old (T.knows teller.old) c h →
+        TakesNext T.telling c h number result world.new (T.knows teller.new)
+        text.old.items text.new.items reader.old.waiting (S.left source.old) reader.new.waiting (S.left source.new) }
     ensures failed { result ≡ Err Halt.SourceFailed → HasRisen (S.faults source.old) (S.faults source.new) }
     ensures later { S.faults source.old ≤ S.faults source.new }
     ensures sink { result ≢ Err Halt.SinkFailed }
 {
-    match reader.next(source, MOST_LINE) {
+    match reader.next(source, MAX_LINE) {
         Err(_) => Err(Halt::SourceFailed),
-        Ok(Taken::End) => Ok(false),
-        Ok(Taken::TooLong) => Err(Halt::Refused(Refusal::TooLarge(number))),
-        Ok(Taken::Line) => match take_line(world, teller, number, reader.line(), readings, text) {
+        Ok(NextLine::End) => Ok(false),
+        Ok(NextLine::TooLong) => Err(Halt::Refused(Refusal::TooLarge(number))),
+        Ok(NextLine::Line) => match take_line(world, teller, number, reader.line(), readings, text) {
             Ok(None) => Ok(true),
             Ok(Some(refusal)) => Err(Halt::Refused(refusal)),
             Err(_) => Err(Halt::OutOfMemory),
@@ -53,8 +55,9 @@ fn take_next<T: Teller, S: Source>(
 }
 
 /// Appends the ending.
-fn end_lines<T: Teller>(teller: &T, world: &World, text: &mut Vec<u8>) -> Result<(), Halt>
-    ensures { (c : Configuration) (h : History) → At world.now (T.knows teller.now) c h → EndsLines result T.telling c h text.old.items text.new.items }
+fn end_lines<T: RunObserver>(teller: &T, world: &World, text: &mut Vec<u8>) -> Result<(), Halt>
+    ensures { (c : Configuration) (h : History) → At world.now (T.knows teller.now) c h →
+        EndsLines result T.telling c h text.old.items text.new.items }
 {
     match teller.end(world, text) {
         Ok(()) => Ok(()),
@@ -63,7 +66,7 @@ fn end_lines<T: Teller>(teller: &T, world: &World, text: &mut Vec<u8>) -> Result
 }
 
 /// Takes the lines behind line 1 in a world that has taken none, and writes what is told of them.
-fn take_rest<T: Teller, S: Source, K: Sink>(
+fn take_rest<T: RunObserver, S: Source, K: Sink>(
     world: &mut World,
     teller: &mut T,
     reader: &mut LineReader,
@@ -73,7 +76,10 @@ fn take_rest<T: Teller, S: Source, K: Sink>(
 ) -> Result<(), Halt>
     requires first { (c : Configuration) × At world.old (T.knows teller.old) c [] }
     requires heading { text.old.items ≡ T.telling.heading }
-    ensures halts { (c : Configuration) (bytes : List ℕ) → At world.old (T.knows teller.old) c [] → S.left source.old ≡ Some bytes → HaltsAt T.telling result (judge_from c [] 2 (lines_of (reader.old.waiting ++ bytes))) (S.left source.new) (K.held sink.old) (K.held sink.new) text.new.items }
+    ensures halts { (c : Configuration) (bytes : List ℕ) → At world.old (T.knows teller.old) c [] →
+        S.left source.old ≡ Some bytes → HaltsAt T.telling result
+        (judge_from c [] 2 (lines_of (reader.old.waiting ++ bytes))) (S.left source.new) (K.held sink.old)
+        (K.held sink.new) text.new.items }
     ensures source_failed { result ≡ Err Halt.SourceFailed → HasRisen (S.faults source.old) (S.faults source.new) }
     ensures sink_failed { result ≡ Err Halt.SinkFailed → HasRisen (K.faults sink.old) (K.faults sink.new) }
     ensures later { K.faults sink.old ≤ K.faults sink.new }
@@ -94,7 +100,7 @@ fn take_rest<T: Teller, S: Source, K: Sink>(
 }
 
 /// Takes the lines behind line 1, and writes what is told of them.
-fn take_lines<T: Teller, S: Source, K: Sink>(
+fn take_lines<T: RunObserver, S: Source, K: Sink>(
     alloc: Global,
     config: FabricConfig,
     teller: &mut T,
@@ -106,7 +112,9 @@ fn take_lines<T: Teller, S: Source, K: Sink>(
     requires sound { IsSound config }
     requires knows { (c : Configuration) → T.knows teller.old c [] }
     requires heading { text.old.items ≡ T.telling.heading }
-    ensures halts { (bytes : List ℕ) → S.left source.old ≡ Some bytes → HaltsAt T.telling result (judge_from config [] 2 (lines_of (reader.old.waiting ++ bytes))) (S.left source.new) (K.held sink.old) (K.held sink.new) text.new.items }
+    ensures halts { (bytes : List ℕ) → S.left source.old ≡ Some bytes →
+        HaltsAt T.telling result (judge_from config [] 2 (lines_of (reader.old.waiting ++ bytes))) (S.left source.new)
+        (K.held sink.old) (K.held sink.new) text.new.items }
     ensures source_failed { result ≡ Err Halt.SourceFailed → HasRisen (S.faults source.old) (S.faults source.new) }
     ensures sink_failed { result ≡ Err Halt.SinkFailed → HasRisen (K.faults sink.old) (K.faults sink.new) }
     ensures later { K.faults sink.old ≤ K.faults sink.new }
@@ -118,7 +126,7 @@ fn take_lines<T: Teller, S: Source, K: Sink>(
 }
 
 /// Takes all lines, and writes what is told of them.
-fn take_all<T: Teller, S: Source, K: Sink>(
+fn take_all<T: RunObserver, S: Source, K: Sink>(
     alloc: Global,
     teller: &mut T,
     source: &mut S,
@@ -127,7 +135,8 @@ fn take_all<T: Teller, S: Source, K: Sink>(
 ) -> Result<(), Halt>
     requires knows { (c : Configuration) → T.knows teller.old c [] }
     requires heading { text.old.items ≡ T.telling.heading }
-    ensures halts { (bytes : List ℕ) → S.left source.old ≡ Some bytes → HaltsAt T.telling result (judge bytes) (S.left source.new) (K.held sink.old) (K.held sink.new) text.new.items }
+    ensures halts { (bytes : List ℕ) → S.left source.old ≡ Some bytes →
+        HaltsAt T.telling result (judge bytes) (S.left source.new) (K.held sink.old) (K.held sink.new) text.new.items }
     ensures source_failed { result ≡ Err Halt.SourceFailed → HasRisen (S.faults source.old) (S.faults source.new) }
     ensures sink_failed { result ≡ Err Halt.SinkFailed → HasRisen (K.faults sink.old) (K.faults sink.new) }
     ensures later { K.faults sink.old ≤ K.faults sink.new }
@@ -136,11 +145,11 @@ fn take_all<T: Teller, S: Source, K: Sink>(
         Ok(reader) => reader,
         Err(_) => return Err(Halt::OutOfMemory),
     };
-    match reader.next(source, MOST_FIRST_LINE) {
+    match reader.next(source, MAX_FIRST_LINE) {
         Err(_) => Err(Halt::SourceFailed),
-        Ok(Taken::End) => Err(Halt::Refused(Refusal::BadConfig(ConfigError::NotJson))),
-        Ok(Taken::TooLong) => Err(Halt::Refused(Refusal::TooLarge(1))),
-        Ok(Taken::Line) => match read_config(alloc, reader.line()) {
+        Ok(NextLine::End) => Err(Halt::Refused(Refusal::BadConfig(ConfigError::NotJson))),
+        Ok(NextLine::TooLong) => Err(Halt::Refused(Refusal::TooLarge(1))),
+        Ok(NextLine::Line) => match read_config(alloc, reader.line()) {
             Ok(config) => take_lines(alloc, config, teller, &mut reader, source, text, sink),
             Err(ConfigError::OutOfMemory) => Err(Halt::OutOfMemory),
             Err(error) => Err(Halt::Refused(Refusal::BadConfig(error))),
@@ -148,12 +157,12 @@ fn take_all<T: Teller, S: Source, K: Sink>(
     }
 }
 
-/// Reads a schedule to its end, line by line, and writes what the teller tells of it: the heading, the lines of each event,
-/// and the ending; or the lines before the refused line, and its fault; or those before a failing read, and that it
-/// failed. The memory is that of the world, of a line, and of a text of fixed room. `ReadFault` and `WriteFault` come only
-/// where that device's count of faults rose; at `OutOfMemory` and `WriteFault` the sink has a front of what would have
-/// been written.
-pub fn run_schedule<T: Teller, S: Source, K: Sink>(
+/// Reads a schedule to its end, line by line, and writes what the teller tells of it: the heading, the lines of each
+/// event, and the ending; or the lines before the refused line, and its fault; or those before a failing read, and that
+/// it failed. The memory is that of the world, of a line, and of a text of fixed room. `ReadFault` and `WriteFault`
+/// come only where that device's count of faults rose; at `OutOfMemory` and `WriteFault` the sink has a front of what
+/// would have been written.
+pub fn run_schedule<T: RunObserver, S: Source, K: Sink>(
     alloc: Global,
     teller: &mut T,
     source: &mut S,
@@ -161,8 +170,11 @@ pub fn run_schedule<T: Teller, S: Source, K: Sink>(
 ) -> Status
     requires { (c : Configuration) → T.knows teller.old c [] }
     ensures usage { result ≢ Status.Usage }
-    ensures read { result ≡ Status.Ok → (bytes : List ℕ) → S.left source.old ≡ Some bytes → S.left source.new ≡ Some [] }
-    ensures written { (bytes : List ℕ) → S.left source.old ≡ Some bytes → EndsSo (IsTold T.telling) (lines_judged T.telling) result (judge bytes) (S.left source.new) (HasRisen (S.faults source.old) (S.faults source.new)) (K.held sink.old) (K.held sink.new) }
+    ensures read { result ≡ Status.Ok → (bytes : List ℕ) → S.left source.old ≡ Some bytes →
+        S.left source.new ≡ Some [] }
+    ensures written { (bytes : List ℕ) → S.left source.old ≡ Some bytes →
+        EndsSo (IsTold T.telling) (lines_judged T.telling) result (judge bytes) (S.left source.new)
+        (HasRisen (S.faults source.old) (S.faults source.new)) (K.held sink.old) (K.held sink.new) }
     ensures read_fault { result ≡ Status.ReadFault → HasRisen (S.faults source.old) (S.faults source.new) }
     ensures write_fault { result ≡ Status.WriteFault → HasRisen (K.faults sink.old) (K.faults sink.new) }
 {

@@ -9,12 +9,12 @@ ghost use Rattle.schedule_rules.specs.Follows.{At, Follows};
 ghost use Rattle.schedule_rules.specs.Schedule.{line_verdict, event_verdict, run_verdict, refusal_at};
 
 use crate::brief::{Brief, read_brief};
-use crate::teller::Teller;
+use crate::run_observer::RunObserver;
 use fabric_status::Refusal;
 use fabric_terms::{Event, OutOfMemory};
 use ring_world::{EventRefusal, World};
 use sched_text::{TickReadings, read_event, read_tick};
-use source_lines::{MOST_LINE, MOST_LINES, is_ignored};
+use source_lines::{MAX_LINE, MAX_LINES, is_ignored};
 
 /// How an event at this line is refused, or that memory was short.
 fn refusal_of(refusal: EventRefusal, number: u64) -> Result<Refusal, OutOfMemory>
@@ -30,7 +30,7 @@ fn refusal_of(refusal: EventRefusal, number: u64) -> Result<Refusal, OutOfMemory
 }
 
 /// Takes an event, and writes what is told of it. Gives how it is refused, if it is.
-fn take_event<T: Teller>(
+fn take_event<T: RunObserver>(
     world: &mut World,
     teller: &mut T,
     number: u64,
@@ -39,7 +39,9 @@ fn take_event<T: Teller>(
 ) -> Result<Option<Refusal>, OutOfMemory>
     requires world { IsWorld world.old }
     requires fits { Fits event.now }
-    ensures { (c : Configuration) (h : History) → At world.old (T.knows teller.old) c h → IfOk result (λ refused. Follows T.telling c h number (run_verdict c (ruled c h) (length h) number event.now) refused world.new (T.knows teller.new) text.old.items text.new.items) }
+    ensures { (c : Configuration) (h : History) → At world.old (T.knows teller.old) c h →
+        IfOk result (λ refused. Follows T.telling c h number (run_verdict c (ruled c h) (length h) number event.now)
+        refused world.new (T.knows teller.new) text.old.items text.new.items) }
 {
     match world.apply(number, event) {
         Ok(acted) => {
@@ -51,7 +53,7 @@ fn take_event<T: Teller>(
 }
 
 /// Takes a tick. Gives how it is refused, if it is.
-fn take_tick<T: Teller>(
+fn take_tick<T: RunObserver>(
     world: &mut World,
     teller: &mut T,
     number: u64,
@@ -61,7 +63,10 @@ fn take_tick<T: Teller>(
 ) -> Result<Option<Refusal>, OutOfMemory>
     requires world { IsWorld world.old }
     requires fits { Fits (Event.Tick advance readings.now) }
-    ensures { (c : Configuration) (h : History) → At world.old (T.knows teller.old) c h → IfOk result (λ refused. Follows T.telling c h number (run_verdict c (ruled c h) (length h) number (Event.Tick advance readings.now)) refused world.new (T.knows teller.new) text.old.items text.new.items) }
+    ensures { (c : Configuration) (h : History) → At world.old (T.knows teller.old) c h →
+        IfOk result (λ refused. Follows T.telling c h number
+        (run_verdict c (ruled c h) (length h) number (Event.Tick advance readings.now)) refused world.new
+        (T.knows teller.new) text.old.items text.new.items) }
 {
     match world.tick(number, advance, readings) {
         Ok(()) => {
@@ -73,7 +78,7 @@ fn take_tick<T: Teller>(
 }
 
 /// Takes a line of an event of any kind but a tick.
-fn take_any<T: Teller>(
+fn take_any<T: RunObserver>(
     world: &mut World,
     teller: &mut T,
     number: u64,
@@ -81,7 +86,10 @@ fn take_any<T: Teller>(
     text: &mut Vec<u8>,
 ) -> Result<Option<Refusal>, OutOfMemory>
     requires { IsWorld world.old }
-    ensures { (c : Configuration) (h : History) → At world.old (T.knows teller.old) c h → IfOk result (λ refused. Follows T.telling c h number (event_verdict c (ruled c h) (length h) number (event_of line.now)) refused world.new (T.knows teller.new) text.old.items text.new.items) }
+    ensures { (c : Configuration) (h : History) → At world.old (T.knows teller.old) c h →
+        IfOk result (λ refused. Follows T.telling c h number
+        (event_verdict c (ruled c h) (length h) number (event_of line.now)) refused world.new (T.knows teller.new)
+        text.old.items text.new.items) }
 {
     match read_event(line) {
         Err(_) => Ok(Some(Refusal::BadLine(number))),
@@ -89,9 +97,9 @@ fn take_any<T: Teller>(
     }
 }
 
-/// Takes a line of a tick, or of another event that takes room. The list of readings serves each line, so that a tick is
-/// taken in place.
-fn take_longer<T: Teller>(
+/// Takes a line of a tick, or of another event that takes room. The list of readings serves each line, so that a tick
+/// is taken in place.
+fn take_longer<T: RunObserver>(
     world: &mut World,
     teller: &mut T,
     number: u64,
@@ -100,7 +108,10 @@ fn take_longer<T: Teller>(
     text: &mut Vec<u8>,
 ) -> Result<Option<Refusal>, OutOfMemory>
     requires { IsWorld world.old }
-    ensures { (c : Configuration) (h : History) → At world.old (T.knows teller.old) c h → IfOk result (λ refused. Follows T.telling c h number (event_verdict c (ruled c h) (length h) number (event_of line.now)) refused world.new (T.knows teller.new) text.old.items text.new.items) }
+    ensures { (c : Configuration) (h : History) → At world.old (T.knows teller.old) c h →
+        IfOk result (λ refused. Follows T.telling c h number
+        (event_verdict c (ruled c h) (length h) number (event_of line.now)) refused world.new (T.knows teller.new)
+        text.old.items text.new.items) }
 {
     match read_tick(line, readings) {
         Err(_) => Ok(Some(Refusal::BadLine(number))),
@@ -110,7 +121,7 @@ fn take_longer<T: Teller>(
 }
 
 /// Takes a line of an event. Firings and frames, which most lines are, are looked for first.
-fn take_words<T: Teller>(
+fn take_words<T: RunObserver>(
     world: &mut World,
     teller: &mut T,
     number: u64,
@@ -119,7 +130,10 @@ fn take_words<T: Teller>(
     text: &mut Vec<u8>,
 ) -> Result<Option<Refusal>, OutOfMemory>
     requires { IsWorld world.old }
-    ensures { (c : Configuration) (h : History) → At world.old (T.knows teller.old) c h → IfOk result (λ refused. Follows T.telling c h number (event_verdict c (ruled c h) (length h) number (event_of line.now)) refused world.new (T.knows teller.new) text.old.items text.new.items) }
+    ensures { (c : Configuration) (h : History) → At world.old (T.knows teller.old) c h →
+        IfOk result (λ refused. Follows T.telling c h number
+        (event_verdict c (ruled c h) (length h) number (event_of line.now)) refused world.new (T.knows teller.new)
+        text.old.items text.new.items) }
 {
     match read_brief(line) {
         Some(Brief::Fire(node)) => take_event(world, teller, number, &Event::Fire { node }, text),
@@ -130,7 +144,7 @@ fn take_words<T: Teller>(
 
 /// Takes a line, and writes what is told of it. Gives how it is refused, if it is.
 #[tactic(auto, unfolding(schedule_rules::specs::Schedule::line_verdict))]
-pub fn take_line<T: Teller>(
+pub fn take_line<T: RunObserver>(
     world: &mut World,
     teller: &mut T,
     number: u64,
@@ -139,9 +153,11 @@ pub fn take_line<T: Teller>(
     text: &mut Vec<u8>,
 ) -> Result<Option<Refusal>, OutOfMemory>
     requires { IsWorld world.old }
-    ensures { (c : Configuration) (h : History) → At world.old (T.knows teller.old) c h → IfOk result (λ refused. Follows T.telling c h number (line_verdict c (ruled c h) (length h) number line.now) refused world.new (T.knows teller.new) text.old.items text.new.items) }
+    ensures { (c : Configuration) (h : History) → At world.old (T.knows teller.old) c h →
+        IfOk result (λ refused. Follows T.telling c h number (line_verdict c (ruled c h) (length h) number line.now)
+        refused world.new (T.knows teller.new) text.old.items text.new.items) }
 {
-    if line.len() > MOST_LINE || number > MOST_LINES {
+    if line.len() > MAX_LINE || number > MAX_LINES {
         return Ok(Some(Refusal::TooLarge(number)));
     }
     if is_ignored(line) {

@@ -9,17 +9,17 @@ use Rattle.fabric_terms.specs.declared.config.FabricConfig.{FabricConfig}
 use Rattle.fabric_terms.specs.declared.event.Event.{Event}
 use Rattle.fabric_terms.specs.Sound.{IsSound}
 use Rattle.ring_world.specs.Answers.{is_frame, ruled}
-use Rattle.ring_world.specs.Room.{has_room}
+use Rattle.ring_world.specs.EventLimits.{has_room}
 use Rattle.fabric_terms.specs.Ranges.{Fits}
 use Rattle.line_format.specs.Lines.{event_of, lines_of}
 use Rattle.line_format.proofs.LineLaws.{read_is_spelled}
-use Rattle.fabric_above.specs.Fabric.{fabric}
+use Rattle.unit_rules.specs.Fabric.{fabric}
 use Rattle.world_rules.specs.Runs.{History}
 use Rattle.world_rules.specs.Schedules.{MayCome, is_there, keeps_bound}
 use Rattle.world_rules.specs.Worlds.{World}
 use Rattle.schedule_rules.specs.Laws.{IsValidHistory, AcceptedIsValid}
 use Rattle.source_lines.specs.Lines.{is_ignored, most_line, most_lines, most_first_line}
-use Rattle.schedule_rules.specs.Schedule.{Verdict, Ignored, Accepted, Refused, Judged, unless_room, unless_within, unless_there, run_verdict, event_verdict, unless_ignored, unless_large, line_verdict, judge_from, judge_rest, judge_first, judge_lines, judge}
+use Rattle.schedule_rules.specs.Schedule.{LineVerdict, Ignored, Accepted, Refused, Judged, unless_room, unless_within, unless_there, run_verdict, event_verdict, unless_ignored, unless_large, line_verdict, judge_from, judge_rest, judge_first, judge_lines, judge}
 use Rattle.schedule_rules.proofs.Judging.{judge_on, judge_line}
 
 room_accepted : (n : ℕ) (e d : Event) (room : Bool) → unless_room n e room ≡ Accepted d → (e ≡ d) × (room ≡ true)
@@ -74,7 +74,7 @@ module _ (Before : FabricConfig → ℕ → History → Type 0) (Whole : FabricC
   abbrev IsSo : FabricConfig → Judged → Type 0
   IsSo c j = (j.config ≡ Some c) × Whole c j.history
 
-  so_on : (c : FabricConfig) (h : History) (n : ℕ) (l : List ℕ) (ls : List (List ℕ)) (v : Verdict) → Before c n h → ((k : History) → Before c (n + 1) k → IsSo c (judge_from c k (n + 1) ls)) → line_verdict c (ruled c h) (length h) n l ≡ v → IsSo c (judge_on c h n ls v)
+  so_on : (c : FabricConfig) (h : History) (n : ℕ) (l : List ℕ) (ls : List (List ℕ)) (v : LineVerdict) → Before c n h → ((k : History) → Before c (n + 1) k → IsSo c (judge_from c k (n + 1) ls)) → line_verdict c (ruled c h) (length h) n l ≡ v → IsSo c (judge_on c h n ls v)
   so_on c h n l ls Ignored before rest is = rest h (passed c n h before)
   so_on c h n l ls (Accepted e) before rest is =
       let line = line_accepted c (ruled c h) (length h) n l e is in

@@ -12,9 +12,9 @@ use Rattle.source_lines.specs.Lines.{most_line}
 use Rattle.source_lines.specs.Reading.{BeginsLonger}
 use Rattle.world_rules.specs.Runs.{History}
 use Rattle.world_rules.specs.Worlds.{World as RuledWorld}
-use Rattle.fabric_above.specs.Fabric.{fabric}
+use Rattle.unit_rules.specs.Fabric.{fabric}
 use Rattle.schedule_rules.specs.Follows.{Known, At, Follows}
-use Rattle.schedule_rules.specs.Schedule.{Verdict, Ignored, Accepted, Refused, judge_from, judged_at, line_verdict}
+use Rattle.schedule_rules.specs.Schedule.{LineVerdict, Ignored, Accepted, Refused, judge_from, judged_at, line_verdict}
 use Rattle.schedule_rules.specs.Telling.{Telling, lines_told, lines_judged}
 use Rattle.schedule_rules.proofs.Judging.{judge_on, judge_line}
 
@@ -30,7 +30,7 @@ pub record Took (t : Telling) (c : FabricConfig) (h : History) (n : ℕ) (line :
 not_none : (refusal : Refusal) → None ≡ Some refusal → ⊥
 not_none refusal e = cc
 
-took_by : (t : Telling) (c : FabricConfig) (h : History) (n : ℕ) (line : List ℕ) (a : World) (knows : Known) (old new : List ℕ) (v : Verdict) → Follows t c h n v None a knows old new → ((ls : List (List ℕ)) → judge_from c h n (line ∷ ls) ≡ judge_on c h n ls v) → Took t c h n line a knows old new
+took_by : (t : Telling) (c : FabricConfig) (h : History) (n : ℕ) (line : List ℕ) (a : World) (knows : Known) (old new : List ℕ) (v : LineVerdict) → Follows t c h n v None a knows old new → ((ls : List (List ℕ)) → judge_from c h n (line ∷ ls) ≡ judge_on c h n ls v) → Took t c h n line a knows old new
 took_by t c h n line a knows old new Ignored f j = record { history = h; at = f.1; more = []; text = f.2 ∙ sym (append-nil old); lines = sym (append-nil (lines_told t c h)); judged = λ ls. sym (j ls) }
 took_by t c h n line a knows old new (Accepted e) f j = record { history = (n, e) ∷ h; at = f.1; more = t.told c ((n, e) ∷ h); text = f.2; lines = refl; judged = λ ls. sym (j ls) }
 took_by t c h n line a knows old new (Refused refusal) f j = absurd (not_none refusal f.0)
@@ -42,7 +42,7 @@ took t c h n line a knows old new follows = took_by t c h n line a knows old new
 pub refused : (t : Telling) (c : FabricConfig) (h : History) (n : ℕ) (line : List ℕ) (refusal : Refusal) (a : World) (knows : Known) (old new : List ℕ) → Follows t c h n (line_verdict c (ruled c h) (length h) n line) (Some refusal) a knows old new → (new ≡ old) × ((ls : List (List ℕ)) → judge_from c h n (line ∷ ls) ≡ judged_at c h (Some refusal))
 refused t c h n line refusal a knows old new follows = by_verdict (line_verdict c (ruled c h) (length h) n line) follows (judge_line c h n line)
   where
-    by_verdict : (v : Verdict) → Follows t c h n v (Some refusal) a knows old new → ((ls : List (List ℕ)) → judge_from c h n (line ∷ ls) ≡ judge_on c h n ls v) → (new ≡ old) × ((ls : List (List ℕ)) → judge_from c h n (line ∷ ls) ≡ judged_at c h (Some refusal))
+    by_verdict : (v : LineVerdict) → Follows t c h n v (Some refusal) a knows old new → ((ls : List (List ℕ)) → judge_from c h n (line ∷ ls) ≡ judge_on c h n ls v) → (new ≡ old) × ((ls : List (List ℕ)) → judge_from c h n (line ∷ ls) ≡ judged_at c h (Some refusal))
     by_verdict Ignored f j = let z : Some refusal ≡ None = f.0 in cc
     by_verdict (Accepted e) f j = let z : Some refusal ≡ None = f.0 in cc
     by_verdict (Refused other) f j = let same : other ≡ refusal = cc in (f.2, λ ls. j ls ∙ ap (λ r. judged_at c h (Some r)) same)
@@ -61,7 +61,7 @@ long_refused c h n bytes begins =
     ∙ ap (judge_on c h n begins.others) (long_line c (ruled c h) (length h) n begins.line begins.longer))
 
 -- what is told of a history is a front of what is told of all that is accepted
-reach_on : (t : Telling) (c : FabricConfig) (h : History) (n : ℕ) (ls : List (List ℕ)) (v : Verdict) → ((k : History) → (more : List ℕ) × (lines_told t c k ++ more ≡ lines_judged t (judge_from c k (n + 1) ls).config (judge_from c k (n + 1) ls).history)) → (more : List ℕ) × (lines_told t c h ++ more ≡ lines_judged t (judge_on c h n ls v).config (judge_on c h n ls v).history)
+reach_on : (t : Telling) (c : FabricConfig) (h : History) (n : ℕ) (ls : List (List ℕ)) (v : LineVerdict) → ((k : History) → (more : List ℕ) × (lines_told t c k ++ more ≡ lines_judged t (judge_from c k (n + 1) ls).config (judge_from c k (n + 1) ls).history)) → (more : List ℕ) × (lines_told t c h ++ more ≡ lines_judged t (judge_on c h n ls v).config (judge_on c h n ls v).history)
 reach_on t c h n ls Ignored rest = rest h
 reach_on t c h n ls (Accepted e) rest =
     let on = rest ((n, e) ∷ h) in

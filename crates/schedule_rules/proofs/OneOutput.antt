@@ -7,7 +7,7 @@ use Rattle.point_places.proofs.OneText.{one_text}
 use Rattle.ring_points.specs.Whos.{node_instance}
 use Rattle.ring_world.specs.Answers.{ruled}
 use Rattle.ring_world.specs.Holders.{holds_in}
-use Rattle.fabric_above.specs.Fabric.{fabric}
+use Rattle.unit_rules.specs.Fabric.{fabric}
 use Rattle.world_rules.specs.Runs.{History, run_of}
 use Rattle.schedule_rules.specs.Laws.{OneOutput}
 use Rattle.schedule_rules.specs.Output.{IsReport, IsWhole, IsOutputAt, end_line, lines_of_run}

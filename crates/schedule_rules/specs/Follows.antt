@@ -7,7 +7,7 @@ use Rattle.line_format.specs.Lines.{lines_of}
 use Rattle.source_lines.specs.Feeds.{HasNoFeed}
 use Rattle.world_rules.specs.Runs.{History}
 use Rattle.fabric_status.specs.declared.status.Refusal.{Refusal}
-use Rattle.schedule_rules.specs.Schedule.{Verdict, Ignored, Accepted, Refused, judge_from, judged_at}
+use Rattle.schedule_rules.specs.Schedule.{LineVerdict, Ignored, Accepted, Refused, judge_from, judged_at}
 use Rattle.schedule_rules.specs.Telling.{Telling, lines_told}
 use Rattle.schedule_rules.specs.declared.halt.Halt.{Halt}
 use Rattle.schedule_rules.specs.declared.halt.Halt.TheVariants as halt
@@ -21,7 +21,7 @@ abbrev pub At : World → Known → FabricConfig → History → Type 0
 At a knows c h = StandsFor a c h × knows c h
 
 -- a line of this verdict was done, and the text has what is told of it; one that is refused changes nothing
-abbrev pub Follows : Telling → FabricConfig → History → ℕ → Verdict → Option Refusal → World → Known → List ℕ → List ℕ → Type 0
+abbrev pub Follows : Telling → FabricConfig → History → ℕ → LineVerdict → Option Refusal → World → Known → List ℕ → List ℕ → Type 0
 Follows t c h n Ignored refused a knows old new = (refused ≡ None) × At a knows c h × (new ≡ old)
 Follows t c h n (Accepted e) refused a knows old new = (refused ≡ None) × At a knows c ((n, e) ∷ h) × (new ≡ old ++ t.told c ((n, e) ∷ h))
 Follows t c h n (Refused refusal) refused a knows old new = (refused ≡ Some refusal) × At a knows c h × (new ≡ old)

@@ -4,7 +4,7 @@ use Rattle.fabric_terms.specs.Sound.{IsSound}
 use Rattle.fabric_terms.specs.declared.config.FabricConfig.{FabricConfig}
 use Rattle.ring_world.specs.Answers.{is_frame}
 use Rattle.fabric_terms.specs.Ranges.{Fits}
-use Rattle.fabric_above.specs.Fabric.{fabric}
+use Rattle.unit_rules.specs.Fabric.{fabric}
 use Rattle.world_rules.specs.Runs.{History}
 use Rattle.world_rules.specs.Schedules.{Valid}
 use Rattle.schedule_rules.specs.Output.{IsOutput}

@@ -11,7 +11,7 @@ use Rattle.ring_world.specs.Answers.{ruled}
 use Rattle.ring_world.specs.Holders.{holds_in}
 use Rattle.line_format.specs.Reports.{lines_of_reports, sent_line}
 use Rattle.text_fields.specs.Texts.{spaced}
-use Rattle.fabric_above.specs.Fabric.{fabric}
+use Rattle.unit_rules.specs.Fabric.{fabric}
 use Rattle.world_rules.specs.Runs.{History, run_of}
 use Rattle.fabric_status.specs.Codes.{status_of}
 use Rattle.fabric_status.specs.Faults.{fault_line}

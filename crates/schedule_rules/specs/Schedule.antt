@@ -6,21 +6,21 @@ use Rattle.fabric_config.specs.declared.error.ConfigError.TheVariants.{NotJson}
 use Rattle.fabric_terms.specs.declared.config.FabricConfig.{FabricConfig}
 use Rattle.fabric_terms.specs.declared.event.Event.{Event}
 use Rattle.ring_world.specs.Answers.{is_frame, ruled}
-use Rattle.ring_world.specs.Room.{has_room}
+use Rattle.ring_world.specs.EventLimits.{has_room}
 use Rattle.ring_world.specs.declared.world.EventRefusal.{EventRefusal}
 use Rattle.line_format.specs.Lines.{lines_of, event_of}
 use Rattle.source_lines.specs.Lines.{is_ignored, most_line, most_first_line, most_lines}
-use Rattle.fabric_above.specs.Fabric.{fabric}
+use Rattle.unit_rules.specs.Fabric.{fabric}
 use Rattle.world_rules.specs.Runs.{History}
 use Rattle.world_rules.specs.Schedules.{is_there, keeps_bound}
 use Rattle.world_rules.specs.Worlds.{World}
 use Rattle.fabric_status.specs.declared.status.Refusal.{Refusal}
 use Rattle.fabric_status.specs.declared.status.Refusal.TheVariants.{BadConfig, BadLine, DriftBroken, NoSuch, TooLarge}
 
-pub data Verdict : Type 0 where
-  Ignored : Verdict
-  Accepted : (event : Event) → Verdict
-  Refused : (refusal : Refusal) → Verdict
+pub data LineVerdict : Type 0 where
+  Ignored : LineVerdict
+  Accepted : (event : Event) → LineVerdict
+  Refused : (refusal : Refusal) → LineVerdict
 
 -- how an event at line n is refused, but for want of memory
 abbrev pub refusal_at : EventRefusal → ℕ → Option Refusal
@@ -30,36 +30,36 @@ refusal_at EventRefusal.TooLarge n = Some (TooLarge n)
 refusal_at EventRefusal.OutOfMemory n = None
 
 -- the first of these refusals whose test fails, and else the event
-abbrev pub unless_room : ℕ → Event → Bool → Verdict
+abbrev pub unless_room : ℕ → Event → Bool → LineVerdict
 unless_room n e true = Accepted e
 unless_room n e false = Refused (TooLarge n)
 
-abbrev pub unless_within : ℕ → Event → Bool → Bool → Verdict
+abbrev pub unless_within : ℕ → Event → Bool → Bool → LineVerdict
 unless_within n e true room = unless_room n e room
 unless_within n e false room = Refused (DriftBroken n)
 
-abbrev pub unless_there : ℕ → Event → Bool → Bool → Bool → Verdict
+abbrev pub unless_there : ℕ → Event → Bool → Bool → Bool → LineVerdict
 unless_there n e true within room = unless_within n e within room
 unless_there n e false within room = Refused (NoSuch n)
 
 -- an event at line n
-abbrev pub run_verdict : FabricConfig → World fabric → ℕ → ℕ → Event → Verdict
+abbrev pub run_verdict : FabricConfig → World fabric → ℕ → ℕ → Event → LineVerdict
 run_verdict c w events n e = unless_there n e (is_there is_frame c w e) (keeps_bound c w e) (has_room w events e)
 
-abbrev pub event_verdict : FabricConfig → World fabric → ℕ → ℕ → Option Event → Verdict
+abbrev pub event_verdict : FabricConfig → World fabric → ℕ → ℕ → Option Event → LineVerdict
 event_verdict c w events n None = Refused (BadLine n)
 event_verdict c w events n (Some e) = run_verdict c w events n e
 
-abbrev pub unless_ignored : FabricConfig → World fabric → ℕ → ℕ → List ℕ → Bool → Verdict
+abbrev pub unless_ignored : FabricConfig → World fabric → ℕ → ℕ → List ℕ → Bool → LineVerdict
 unless_ignored c w events n line true = Ignored
 unless_ignored c w events n line false = event_verdict c w events n (event_of line)
 
-abbrev pub unless_large : FabricConfig → World fabric → ℕ → ℕ → List ℕ → Bool → Verdict
+abbrev pub unless_large : FabricConfig → World fabric → ℕ → ℕ → List ℕ → Bool → LineVerdict
 unless_large c w events n line true = Refused (TooLarge n)
 unless_large c w events n line false = unless_ignored c w events n line (is_ignored line)
 
 -- line n, after so many events that made this world
-unfoldable pub line_verdict : FabricConfig → World fabric → ℕ → ℕ → List ℕ → Verdict
+unfoldable pub line_verdict : FabricConfig → World fabric → ℕ → ℕ → List ℕ → LineVerdict
 line_verdict c w events n line = unless_large c w events n line (nat_lt most_line (length line) || nat_lt most_lines n)
 
 -- what is accepted of a schedule, and how it is refused, if it is

@@ -2,7 +2,7 @@
 use Rattle.std.specs.Prelude.{◌≡◌, ℕ, List, [], ◌∷◌, ◌++◌, length}
 use Rattle.fabric_terms.specs.Runs.{Moment, Run}
 use Rattle.fabric_terms.specs.declared.config.FabricConfig.{FabricConfig}
-use Rattle.fabric_above.specs.Fabric.{fabric}
+use Rattle.unit_rules.specs.Fabric.{fabric}
 use Rattle.fabric_terms.specs.Ranges.{IsWord}
 use Rattle.ring_world.specs.Answers.{ruled}
 use Rattle.world_rules.specs.Runs.{History, run_of}

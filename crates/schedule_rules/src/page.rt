@@ -10,8 +10,9 @@ use std::alloc::Global;
 /// With so many bytes or more the text is written to the sink.
 const FULL: usize = 65_536;
 
-/// Writes the text to the sink and empties it where it is full, with 65,536 bytes or more, so that its room does not grow
-/// with the run; a shorter one waits on. Of a text that a sink refuses a front may be written, and the text is left as it was.
+/// Writes the text to the sink and empties it where it is full, with 65,536 bytes or more, so that its room does not
+/// grow with the run; a shorter one waits on. Of a text that a sink refuses a front may be written, and the text is
+/// left as it was.
 pub fn send_full<K: Sink>(sink: &mut K, text: &mut Vec<u8>) -> Result<(), EdgeRefusal>
     ensures sent { Sends result (K.held sink.old) (K.held sink.new) text.old.items text.new.items }
     ensures rest { text.new.items ≡ rest_after result text.old.items }
@@ -34,7 +35,8 @@ pub fn write_fault<K: Sink>(
     text: &mut Vec<u8>,
     status: Status,
 ) -> Status
-    ensures { WroteFault status text.old.items result (K.held sink.old) (K.held sink.new) (K.faults sink.old) (K.faults sink.new) }
+    ensures { WroteFault status text.old.items result (K.held sink.old) (K.held sink.new) (K.faults sink.old)
+        (K.faults sink.new) }
 {
     match push_fault(alloc, text, status) {
         Ok(()) => write_last(sink, text, status),

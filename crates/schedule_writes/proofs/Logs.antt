@@ -4,14 +4,14 @@ use Rattle.std.specs.Prelude.{unwrap_or}
 use Rattle.std.proofs.lemmas.Bool.Decides.{nat_tests}
 use Rattle.std.proofs.Math.Seq.{take-nil}
 use Rattle.fabric_lemmas.specs.Maps.{at}
-use Rattle.fabric_above.specs.Fabric.{fabric}
+use Rattle.unit_rules.specs.Fabric.{fabric}
 use Rattle.fabric_terms.specs.declared.config.FabricConfig.{FabricConfig}
 use Rattle.replica_core.specs.Replicas.{Replica}
 use Rattle.replica_core.specs.declared.entry.Entry.{Entry}
 use Rattle.ring_world.specs.Answers.{ruled}
 use Rattle.ring_world.specs.Replicas.{replica_in, replica_of_running}
-use Rattle.unit_replica.specs.Tables.{replica_seated}
-use Rattle.unit_rules.specs.Seats.{Seat, first_seat}
+use Rattle.unit_replica.specs.Tables.{replica_of_state}
+use Rattle.unit_rules.specs.ReplicaStates.{ReplicaState, first_state}
 use Rattle.world_rules.specs.Runs.{History}
 use Rattle.world_rules.specs.Worlds.{Running}
 use Rattle.write_safety.specs.Beside.{log_of_running}
@@ -23,13 +23,13 @@ log_of_replica None = []
 log_of_replica (Some r) = r.log
 
 -- a replica that is not there is as good as one with no entries
-log_seated : (partition : ℕ) (o : Option Seat) → (unwrap_or o (first_seat partition)).replica.log ≡ log_of_replica (replica_seated o)
-log_seated partition None = refl
-log_seated partition (Some seat) = refl
+log_of_state : (partition : ℕ) (o : Option ReplicaState) → (unwrap_or o (first_state partition)).replica.log ≡ log_of_replica (replica_of_state o)
+log_of_state partition None = refl
+log_of_state partition (Some state) = refl
 
 log_running : (partition : ℕ) (o : Option (Running fabric)) → log_of_running partition o ≡ log_of_replica (replica_of_running partition o)
 log_running partition None = refl
-log_running partition (Some s) = log_seated partition (at partition s.node.above.seats)
+log_running partition (Some s) = log_of_state partition (at partition s.node.above.states)
 
 pub log_is : (c : FabricConfig) (h : History) (node partition : ℕ) (o : Option Replica) → o ≡ replica_in (ruled c h) node partition → running_logs c h node partition ≡ log_of_replica o
 log_is c h node partition o here = log_running partition (at node (ruled c h).nodes) ∙ ap log_of_replica (sym here)

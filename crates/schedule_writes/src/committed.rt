@@ -1,4 +1,3 @@
-// The command `writes`: a schedule is read, and its committed writes are written.
 ghost use Rattle.std.specs.Prelude.{◌≡◌, ◌≢◌, ℕ, List, [], Some, None};
 ghost use Rattle.edge_io.specs.Edge.{HasRisen};
 ghost use Rattle.schedule_rules.specs.Replays.{IsDone};
@@ -11,7 +10,7 @@ use edge_io::{Sink, Source};
 use fabric_status::Status;
 use fabric_terms::OutOfMemory;
 use ring_world::{Acted, World};
-use schedule_replay::{Teller, push_end, run_schedule};
+use schedule_replay::{RunObserver, push_end, run_schedule};
 use std::alloc::Global;
 use write_safety::WriteBook;
 
@@ -21,7 +20,7 @@ struct Committed {
     book: WriteBook,
 }
 
-impl Teller for Committed {
+impl RunObserver for Committed {
     ghost telling = { writes_telling };
 
     ghost knows = { λ a c h. HasCommitted c h a.book };
@@ -49,18 +48,23 @@ impl Teller for Committed {
     }
 }
 
-/// Reads a schedule to its end and writes the committed log of each partition under each data loss number, a line for each
-/// entry, rising by partition, data loss number and number, and then the end; or the fault of the refused line alone; or
-/// alone that the source failed. `ReadFault` and `WriteFault` come only where that device's count of faults rose; at
-/// `OutOfMemory` and `WriteFault` the sink has a front of what would have been written. An entry is kept once, however many
-/// reports are about it.
+/// Reads a schedule to its end and writes the committed log of each partition under each data loss number, a line for
+/// each entry, rising by partition, data loss number and number, and then the end; or the fault of the refused line
+/// alone; or alone that the source failed. `ReadFault` and `WriteFault` come only where that device's count of faults
+/// rose; at `OutOfMemory` and `WriteFault` the sink has a front of what would have been written. An entry is kept once,
+/// however many reports are about it.
 pub fn writes<S: Source, K: Sink>(alloc: Global, source: &mut S, sink: &mut K) -> Status
     ensures usage { result ≢ Status.Usage }
-    ensures read { result ≡ Status.Ok → (bytes : List ℕ) → S.left source.old ≡ Some bytes → S.left source.new ≡ Some [] }
-    ensures written { (bytes : List ℕ) → S.left source.old ≡ Some bytes → Writes result (judge bytes) (S.left source.new) (HasRisen (S.faults source.old) (S.faults source.new)) (K.held sink.old) (K.held sink.new) }
+    ensures read { result ≡ Status.Ok → (bytes : List ℕ) → S.left source.old ≡ Some bytes →
+        S.left source.new ≡ Some [] }
+    ensures written { (bytes : List ℕ) → S.left source.old ≡ Some bytes →
+        Writes result (judge bytes) (S.left source.new) (HasRisen (S.faults source.old) (S.faults source.new))
+        (K.held sink.old) (K.held sink.new) }
     ensures read_fault { result ≡ Status.ReadFault → HasRisen (S.faults source.old) (S.faults source.new) }
     ensures write_fault { result ≡ Status.WriteFault → HasRisen (K.faults sink.old) (K.faults sink.new) }
-    ensures complete { (bytes : List ℕ) → S.left source.old ≡ Some bytes → (judge bytes).refused ≡ None → ¬ HasRisen (S.faults source.old) (S.faults source.new) → ¬ HasRisen (K.faults sink.old) (K.faults sink.new) → IsDone result }
+    ensures complete { (bytes : List ℕ) → S.left source.old ≡ Some bytes → (judge bytes).refused ≡ None →
+        ¬ HasRisen (S.faults source.old) (S.faults source.new) → ¬ HasRisen (K.faults sink.old) (K.faults sink.new) →
+        IsDone result }
 {
     let mut teller = Committed {
         book: WriteBook::new(alloc),

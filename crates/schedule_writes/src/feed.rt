@@ -1,5 +1,4 @@
-// A book that is fed with what an actor did.
-ghost use Rattle.std.specs.Prelude.{◌≡◌, ℕ, List, OnOk};
+ghost use Rattle.std.specs.Prelude.{OnOk};
 ghost use Rattle.fabric_terms.specs.declared.config.FabricConfig.{FabricConfig as Configuration};
 ghost use Rattle.ring_world.specs.Answers.{StandsFor};
 ghost use Rattle.world_rules.specs.Runs.{History};

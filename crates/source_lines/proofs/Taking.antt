@@ -6,14 +6,14 @@ use Rattle.line_format.specs.Lines.{lines_of}
 use Rattle.source_lines.specs.Feeds.{HasNoFeed}
 use Rattle.source_lines.specs.Reading.{IsLineOf, Reading, Takes}
 use Rattle.source_lines.specs.Stops.{TakesTo, TakesLast}
-use Rattle.source_lines.specs.declared.taken.Taken.{Taken}
-use Rattle.source_lines.specs.declared.taken.Taken.TheVariants.{Line, TooLong, End}
+use Rattle.source_lines.specs.declared.next_line.NextLine.{NextLine}
+use Rattle.source_lines.specs.declared.next_line.NextLine.TheVariants.{Line, TooLong, End}
 use Rattle.source_lines.proofs.Cuts.{is_feed}
 use Rattle.source_lines.proofs.Feeds.{found_front, none_before, none_front, none_last}
 use Rattle.source_lines.proofs.Positions.{position_some}
 
 -- up to a feed that waits
-pub taken_to : (t : Taken) (feed most : ℕ) (left : List ℕ) (old new : Reading) (rest : List ℕ) → position is_feed old.waiting ≡ Some feed → TakesTo t feed most old new → old.waiting ++ rest ≡ left → Takes (Ok t) most left new (new.waiting ++ rest)
+pub taken_to : (t : NextLine) (feed most : ℕ) (left : List ℕ) (old new : Reading) (rest : List ℕ) → position is_feed old.waiting ≡ Some feed → TakesTo t feed most old new → old.waiting ++ rest ≡ left → Takes (Ok t) most left new (new.waiting ++ rest)
 taken_to Line feed most left old new rest found to same = (
   ap lines_of (sym same)
       ∙ (found_front old.waiting rest feed found
@@ -28,7 +28,7 @@ taken_to TooLong feed most left old new rest found to same =
 taken_to End feed most left old new rest found to same = absurd to
 
 -- the last line, which has no feed
-pub taken_last : (t : Taken) (most : ℕ) (left : List ℕ) (old new : Reading) (rest : List ℕ) → HasNoFeed old.waiting → length old.waiting ≤ most → rest ≡ [] → TakesLast t old new → old.waiting ++ rest ≡ left → Takes (Ok t) most left new (new.waiting ++ rest)
+pub taken_last : (t : NextLine) (most : ℕ) (left : List ℕ) (old new : Reading) (rest : List ℕ) → HasNoFeed old.waiting → length old.waiting ≤ most → rest ≡ [] → TakesLast t old new → old.waiting ++ rest ≡ left → Takes (Ok t) most left new (new.waiting ++ rest)
 taken_last Line most left old new rest none short ended last same = (
   ap lines_of (sym same ∙ (ap (λ r. old.waiting ++ r) ended ∙ append-nil old.waiting))
       ∙ (none_last old.waiting last.0 none
@@ -51,7 +51,7 @@ taken_none most left old rest none long same =
 
 -- what was taken is a line
 
-pub line_to : (t : Taken) (feed most : ℕ) (old new : Reading) → position is_feed old.waiting ≡ Some feed → TakesTo t feed most old new → IsLineOf (Ok t) most new.line
+pub line_to : (t : NextLine) (feed most : ℕ) (old new : Reading) → position is_feed old.waiting ≡ Some feed → TakesTo t feed most old new → IsLineOf (Ok t) most new.line
 line_to Line feed most old new found to = (
   subst HasNoFeed (sym to.1) (none_before old.waiting feed found),
   (let long : length new.line ≡ length (take feed old.waiting) = ap length to.1 in omega (arith, to.0, length-take {A = ℕ})),
@@ -59,7 +59,7 @@ line_to Line feed most old new found to = (
 line_to TooLong feed most old new found to = tt
 line_to End feed most old new found to = tt
 
-pub line_last : (t : Taken) (most : ℕ) (old new : Reading) → HasNoFeed old.waiting → length old.waiting ≤ most → TakesLast t old new → IsLineOf (Ok t) most new.line
+pub line_last : (t : NextLine) (most : ℕ) (old new : Reading) → HasNoFeed old.waiting → length old.waiting ≤ most → TakesLast t old new → IsLineOf (Ok t) most new.line
 line_last Line most old new none short last = (
   subst HasNoFeed (sym last.1) none,
   (let long : length new.line ≡ length old.waiting = ap length last.1 in omega (arith, short)),

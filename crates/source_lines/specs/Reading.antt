@@ -3,8 +3,8 @@ use Rattle.std.specs.Prelude.{◌≡◌, ℕ, ◌<◌, ◌≤◌, List, [], ◌�
 use Rattle.edge_io.specs.declared.refusal.Failed.{Failed}
 use Rattle.line_format.specs.Lines.{lines_of}
 use Rattle.source_lines.specs.Feeds.{HasNoFeed}
-use Rattle.source_lines.specs.declared.taken.Taken.{Taken}
-use Rattle.source_lines.specs.declared.taken.Taken.TheVariants.{Line, TooLong, End}
+use Rattle.source_lines.specs.declared.next_line.NextLine.{NextLine}
+use Rattle.source_lines.specs.declared.next_line.NextLine.TheVariants.{Line, TooLong, End}
 
 -- the bytes that were read and not yet taken, and the line that was taken last
 pub record Reading : Type 0 where
@@ -20,19 +20,19 @@ pub record BeginsLonger (most : ℕ) (bytes : List ℕ) : Type 0 where
 
 -- What is taken of the bytes that were left, and what is left then: the first line, if it is no longer than so much; else
 -- nothing. The end is where nothing was left. A source that failed cost nothing: all whole lines had been taken before.
-abbrev pub Takes : Result Taken Failed → ℕ → List ℕ → Reading → List ℕ → Type 0
+abbrev pub Takes : Result NextLine Failed → ℕ → List ℕ → Reading → List ℕ → Type 0
 Takes (Ok Line) most left new rest = (lines_of left ≡ new.line ∷ lines_of rest) × (length new.line ≤ most)
 Takes (Ok TooLong) most left new rest = BeginsLonger most left × (rest ≡ left)
 Takes (Ok End) most left new rest = (left ≡ []) × (rest ≡ [])
 Takes (Err failed) most left new rest = HasNoFeed new.waiting × (rest ≡ left)
 
 -- a line that is taken has no line feed and no more bytes than so many, whether or not the source tells
-abbrev pub IsLineOf : Result Taken Failed → ℕ → List ℕ → Type 0
+abbrev pub IsLineOf : Result NextLine Failed → ℕ → List ℕ → Type 0
 IsLineOf (Ok Line) most line = HasNoFeed line × (length line ≤ most)
 IsLineOf (Ok TooLong) most line = Unit {0}
 IsLineOf (Ok End) most line = Unit {0}
 IsLineOf (Err failed) most line = Unit {0}
 
 -- where the source tells: what was left is what waits and what the source has left
-abbrev pub TakesOf : Result Taken Failed → ℕ → Reading → Option (List ℕ) → Reading → Option (List ℕ) → Type 0
+abbrev pub TakesOf : Result NextLine Failed → ℕ → Reading → Option (List ℕ) → Reading → Option (List ℕ) → Type 0
 TakesOf result most old before new after = (bytes : List ℕ) → before ≡ Some bytes → (rest : List ℕ) × (after ≡ Some rest) × Takes result most (old.waiting ++ bytes) new (new.waiting ++ rest)

@@ -1,4 +1,3 @@
-// Lines, cut from the front.
 ghost use Rattle.std.specs.Prelude.{◌≡◌, ◌+◌, ◌<◌, ◌∷◌, drop, length};
 ghost use Rattle.line_format.specs.Lines.{lines_of};
 

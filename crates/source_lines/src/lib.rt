@@ -1,7 +1,8 @@
 //! The lines of a source: how they are cut, which are ignored, and how long and how many they may be.
 //!
 //! Every command that reads a source takes it line by line. A line ends with a line feed, and the last may end with the
-//! source. The crate stands on the devices' traits and on the definition of lines; it decides nothing about what a line says.
+//! source. The crate stands on the devices' traits and on the definition of lines; it decides nothing about what a line
+//! says.
 #![tactic(auto)]
 
 mod cut;
@@ -10,11 +11,11 @@ mod limits;
 mod piece;
 mod read;
 mod reader;
-mod taken;
+mod next_line;
 
 pub use cut::cut_line;
 pub use ignored::is_ignored;
-pub use limits::{MOST_FIRST_LINE, MOST_LINE, MOST_LINES};
+pub use limits::{MAX_FIRST_LINE, MAX_LINE, MAX_LINES};
 pub use read::read_all;
 pub use reader::LineReader;
-pub use taken::Taken;
+pub use next_line::NextLine;

@@ -1,5 +1,6 @@
 // A piece of a source, read behind what stands in the room.
-ghost use Rattle.std.specs.Prelude.{◌≡◌, ◌+◌, ◌-◌, ◌≤◌, ◌<◌, ◌==◌, ◌++◌, ℕ, List, [], Some, Ok, IfOk, OnErr, length, take, drop, position};
+ghost use Rattle.std.specs.Prelude.{◌≡◌, ◌+◌, ◌-◌, ◌≤◌, ◌<◌, ◌==◌, ◌++◌, ℕ, List, [], Some, Ok, IfOk, OnErr, length};
+ghost use Rattle.std.specs.Prelude.{take, drop, position};
 ghost use Rattle.edge_io.specs.Edge.{HasCause};
 ghost use Rattle.source_lines.specs.Feeds.{HasNoFeed};
 ghost use Rattle.source_lines.specs.Stops.{StopsAt};
@@ -20,7 +21,9 @@ pub fn read_behind<S: Source>(source: &mut S, room: &mut [u8], end: usize) -> Re
     requires { end < length room.old }
     ensures count { IfOk result (λ n. end + n ≤ length room.old) }
     ensures front { take end room.new ≡ take end room.old }
-    ensures bytes { (bytes : List ℕ) → S.left source.old ≡ Some bytes → IfOk result (λ n. (take (end + n) room.new ≡ take end room.old ++ take n bytes) × (S.left source.new ≡ Some (drop n bytes)) × (n ≡ 0 → bytes ≡ [])) }
+    ensures bytes { (bytes : List ℕ) → S.left source.old ≡ Some bytes →
+        IfOk result (λ n. (take (end + n) room.new ≡ take end room.old ++ take n bytes) ×
+        (S.left source.new ≡ Some (drop n bytes)) × (n ≡ 0 → bytes ≡ [])) }
     ensures err { OnErr result (S.left source.new ≡ S.left source.old) }
     ensures cause { HasCause (S.faults source.old) (S.faults source.new) result }
 {
@@ -39,7 +42,7 @@ pub fn move_to_front(room: &mut [u8], next: usize, end: usize)
 
 /// Why no more pieces are read.
 #[derive(Clone, Copy)]
-pub enum Stop {
+pub enum PieceEnd {
     /// There is a line feed at this place.
     Feed(usize),
     /// The source has ended.
@@ -55,26 +58,28 @@ pub fn read_on<S: Source>(
     room: &mut [u8],
     end: &mut usize,
     most: usize,
-) -> Result<Stop, Failed>
+) -> Result<PieceEnd, Failed>
     requires most { most < length room.old }
     requires within { end.old ≤ length room.old }
     requires no_feed { HasNoFeed (take end.old room.old) }
     ensures within { end.new ≤ length room.old }
-    ensures bytes { (bytes : List ℕ) → S.left source.old ≡ Some bytes → (rest : List ℕ) × (S.left source.new ≡ Some rest) × (take end.new room.new ++ rest ≡ take end.old room.old ++ bytes) × (result ≡ Ok Stop.Ended → rest ≡ []) }
+    ensures bytes { (bytes : List ℕ) → S.left source.old ≡ Some bytes → (rest : List ℕ) ×
+        (S.left source.new ≡ Some rest) × (take end.new room.new ++ rest ≡ take end.old room.old ++ bytes) ×
+        (result ≡ Ok PieceEnd.Ended → rest ≡ []) }
     ensures stop { StopsAt result most (take end.new room.new) }
     ensures cause { HasCause (S.faults source.old) (S.faults source.new) result }
 {
     while *end <= most {
         let count = read_behind(source, room, *end)?;
         if count == 0 {
-            return Ok(Stop::Ended);
+            return Ok(PieceEnd::Ended);
         }
         let read = *end;
         *end += count;
         match first_feed(&room[read..*end]) {
-            Some(i) => return Ok(Stop::Feed(read + i)),
+            Some(i) => return Ok(PieceEnd::Feed(read + i)),
             None => {}
         }
     }
-    Ok(Stop::Full)
+    Ok(PieceEnd::Full)
 }

@@ -1,4 +1,3 @@
-// A source, read whole.
 ghost use Rattle.std.specs.Prelude.{◌≡◌, ℕ, List, [], Some, IfOk};
 ghost use Rattle.edge_io.specs.Edge.{HasCauseOf};
 
@@ -10,7 +9,8 @@ const PIECE: usize = 16_384;
 
 /// Reads all that is left. `Failed` comes only where the source's count of faults rose.
 pub fn read_all<S: Source>(alloc: Global, source: &mut S) -> Result<Vec<u8>, EdgeRefusal>
-    ensures bytes { IfOk result (λ v. (bytes : List ℕ) → S.left source.old ≡ Some bytes → (v.items ≡ bytes) × (S.left source.new ≡ Some [])) }
+    ensures bytes { IfOk result (λ v. (bytes : List ℕ) → S.left source.old ≡ Some bytes → (v.items ≡ bytes) ×
+        (S.left source.new ≡ Some [])) }
     ensures cause { HasCauseOf EdgeRefusal.Failed (S.faults source.old) (S.faults source.new) result }
 {
     let mut bytes = Vec::new(alloc);

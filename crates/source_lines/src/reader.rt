@@ -1,12 +1,11 @@
-// Lines, cut from the pieces of a source.
 ghost use Rattle.std.specs.Prelude.{◌≡◌, ◌≤◌, ◌==◌, ◌++◌, ℕ, List, [], Some, Ok, IfOk, length, position};
 ghost use Rattle.edge_io.specs.Edge.{HasCause};
 ghost use Rattle.source_lines.specs.Feeds.{HasNoFeed};
 ghost use Rattle.source_lines.specs.Reading.{IsLineOf, TakesOf};
 ghost use Rattle.source_lines.specs.Stops.{StopsAt, TakesTo, TakesLast};
 
-use crate::piece::{Stop, first_feed, move_to_front, read_on};
-use crate::taken::Taken;
+use crate::piece::{PieceEnd, first_feed, move_to_front, read_on};
+use crate::next_line::NextLine;
 use edge_io::{Failed, Source};
 use std::alloc::{AllocError, Global};
 use std::marker::Model;
@@ -32,9 +31,11 @@ impl Model for LineReader {
 
     ghost Value = { Reading };
 
-    ghost view = { λ r. record { waiting = drop r.next (take r.end r.room.items); line = drop r.from (take r.to r.room.items) } };
+    ghost view = { λ r. record { waiting = drop r.next (take r.end r.room.items);
+        line = drop r.from (take r.to r.room.items) } };
 
-    ghost invariant = { λ r. (length r.room.items ≡ 81920) × (r.from ≤ r.to) × (r.to ≤ r.end) × (r.next ≤ r.end) × (r.end ≤ 81920) };
+    ghost invariant = { λ r. (length r.room.items ≡ 81920) × (r.from ≤ r.to) × (r.to ≤ r.end) × (r.next ≤ r.end) ×
+        (r.end ≤ 81920) };
 }
 
 impl LineReader {
@@ -51,8 +52,8 @@ impl LineReader {
         })
     }
 
-    /// The line that was taken last, without its line feed. Where the last `next` took none (`End`, `TooLong` or `Failed`) it
-    /// is no line, and may be empty.
+    /// The line that was taken last, without its line feed. Where the last `next` took none (`End`, `TooLong` or
+    /// `Failed`) it is no line, and may be empty.
     pub fn line(&self) -> &[u8]
         ensures { result.now ≡ self.now.line }
     {
@@ -68,8 +69,8 @@ impl LineReader {
 
     /// Takes the next line: it is `line` then, unless it has more bytes than `most`. Pieces of the source are read as
     /// they are wanted. `Failed` comes only where the source's count of faults rose; what was read is not lost.
-    pub fn next<S: Source>(&mut self, source: &mut S, most: usize) -> Result<Taken, Failed>
-        requires { most ≤ 65536 }
+    pub fn next<S: Source>(&mut self, source: &mut S, most: usize) -> Result<NextLine, Failed>
+        requires { most ≤ MAX_FIRST_LINE }
         ensures taken { TakesOf result most self.old (S.left source.old) self.new (S.left source.new) }
         ensures line { IsLineOf result most self.new.line }
         ensures cause { HasCause (S.faults source.old) (S.faults source.new) result }
@@ -81,52 +82,54 @@ impl LineReader {
     }
 
     /// Takes the line up to the first line feed.
-    fn take_to(&mut self, feed: usize, most: usize) -> Taken
+    fn take_to(&mut self, feed: usize, most: usize) -> NextLine
         requires { position (λ b. b == 10) self.old.waiting ≡ Some feed }
         ensures { TakesTo result feed most self.old self.new }
     {
         if feed > most {
-            return Taken::TooLong;
+            return NextLine::TooLong;
         }
         self.from = self.next;
         self.to = self.next + feed;
         self.next = self.to + 1;
-        Taken::Line
+        NextLine::Line
     }
 
     /// Takes all that waits as the last line.
-    fn take_last(&mut self) -> Taken
+    fn take_last(&mut self) -> NextLine
         ensures { TakesLast result self.old self.new }
     {
         if self.next == self.end {
-            return Taken::End;
+            return NextLine::End;
         }
         self.from = self.next;
         self.to = self.end;
         self.next = self.end;
-        Taken::Line
+        NextLine::Line
     }
 
     /// Takes the next line where no whole line waits.
-    fn read_next<S: Source>(&mut self, source: &mut S, most: usize) -> Result<Taken, Failed>
-        requires most { most ≤ 65536 }
+    fn read_next<S: Source>(&mut self, source: &mut S, most: usize) -> Result<NextLine, Failed>
+        requires most { most ≤ MAX_FIRST_LINE }
         requires no_feed { HasNoFeed self.old.waiting }
         ensures taken { TakesOf result most self.old (S.left source.old) self.new (S.left source.new) }
         ensures line { IsLineOf result most self.new.line }
         ensures cause { HasCause (S.faults source.old) (S.faults source.new) result }
     {
         match self.read_pieces(source, most)? {
-            Stop::Feed(i) => Ok(self.take_to(i, most)),
-            Stop::Ended => Ok(self.take_last()),
-            Stop::Full => Ok(Taken::TooLong),
+            PieceEnd::Feed(i) => Ok(self.take_to(i, most)),
+            PieceEnd::Ended => Ok(self.take_last()),
+            PieceEnd::Full => Ok(NextLine::TooLong),
         }
     }
 
     /// Reads pieces behind what waits, which has no line feed.
-    fn read_pieces<S: Source>(&mut self, source: &mut S, most: usize) -> Result<Stop, Failed>
-        requires most { most ≤ 65536 }
+    fn read_pieces<S: Source>(&mut self, source: &mut S, most: usize) -> Result<PieceEnd, Failed>
+        requires most { most ≤ MAX_FIRST_LINE }
         requires no_feed { HasNoFeed self.old.waiting }
-        ensures bytes { (bytes : List ℕ) → S.left source.old ≡ Some bytes → (rest : List ℕ) × (S.left source.new ≡ Some rest) × (self.new.waiting ++ rest ≡ self.old.waiting ++ bytes) × (result ≡ Ok Stop.Ended → rest ≡ []) }
+        ensures bytes { (bytes : List ℕ) → S.left source.old ≡ Some bytes → (rest : List ℕ) ×
+            (S.left source.new ≡ Some rest) × (self.new.waiting ++ rest ≡ self.old.waiting ++ bytes) ×
+            (result ≡ Ok PieceEnd.Ended → rest ≡ []) }
         ensures stop { StopsAt result most self.new.waiting }
         ensures cause { HasCause (S.faults source.old) (S.faults source.new) result }
     {

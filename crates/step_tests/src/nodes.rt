@@ -1,4 +1,4 @@
-ghost use Rattle.std.specs.Prelude.{◌≡◌, IsTrue};
+ghost use Rattle.std.specs.Prelude.{IsTrue};
 ghost use Rattle.ring_node.specs.Steps.{is_sound_input};
 
 use crate::ring::{HIGH, LOWER, from, instance, started};

@@ -1,5 +1,5 @@
-// Answers that end a reconfiguration: an arbitrator that keeps an epoch which is not below its own, and votes of which none
-// can get a majority.
+// Answers that end a reconfiguration: an arbitrator that keeps an epoch which is not below its own, and votes of which
+// none can get a majority.
 use fabric_terms::{Body, Message, Outbox};
 use reconfig_phases::{Progress, Reconfig, Step};
 use replica_place::NodeLoad;
@@ -8,7 +8,7 @@ use unit_rules::Kind;
 
 /// What an arbitrator answers to 1.1 about epoch 0.5 of partition 1.
 #[derive(Clone, Copy)]
-enum Answer {
+enum ArbiterAnswer {
     Prepared,
     /// It has prepared this configuration number.
     NoPrepare(u32),
@@ -34,19 +34,19 @@ fn alone(node: u16) -> Config {
     }
 }
 
-fn body(answer: Answer) -> Body {
+fn body(answer: ArbiterAnswer) -> Body {
     match answer {
-        Answer::Prepared => Body::Prepared {
+        ArbiterAnswer::Prepared => Body::Prepared {
             partition: 1,
             epoch: epoch(5),
             done: None,
         },
-        Answer::NoPrepare(kept) => Body::NoPrepare {
+        ArbiterAnswer::NoPrepare(kept) => Body::NoPrepare {
             partition: 1,
             epoch: epoch(5),
             kept: epoch(kept),
         },
-        Answer::Voted(node) => Body::Voted {
+        ArbiterAnswer::Voted(node) => Body::Voted {
             partition: 1,
             epoch: epoch(5),
             kept: alone(node),
@@ -63,7 +63,7 @@ const NODES: [NodeLoad; 1] = [NodeLoad {
 }];
 
 /// The configuration number that ends the reconfiguration, if one does.
-fn answered(reconfig: &mut Reconfig, arbitrator: u16, answer: Answer) -> Option<u32> {
+fn answered(reconfig: &mut Reconfig, arbitrator: u16, answer: ArbiterAnswer) -> Option<u32> {
     let message = Message {
         from: Who {
             actor: arbitrator,
@@ -91,7 +91,7 @@ fn begun() -> Reconfig {
 }
 
 /// Which configuration number ends it after these answers, if one does.
-fn ended(answers: &[(u16, Answer)]) -> Option<u32> {
+fn ended(answers: &[(u16, ArbiterAnswer)]) -> Option<u32> {
     let mut reconfig = begun();
     let mut last = None;
     for (arbitrator, answer) in answers {
@@ -101,38 +101,38 @@ fn ended(answers: &[(u16, Answer)]) -> Option<u32> {
 }
 
 /// The answers, each with its arbitrator, and the configuration number that ends the reconfiguration.
-type Row = (&'static [(u16, Answer)], Option<u32>);
+type Row = (&'static [(u16, ArbiterAnswer)], Option<u32>);
 
 const ROWS: [Row; 6] = [
-    (&[(32769, Answer::NoPrepare(4))], None),
-    (&[(32769, Answer::NoPrepare(5))], Some(5)),
-    (&[(32769, Answer::NoPrepare(6))], Some(6)),
+    (&[(32769, ArbiterAnswer::NoPrepare(4))], None),
+    (&[(32769, ArbiterAnswer::NoPrepare(5))], Some(5)),
+    (&[(32769, ArbiterAnswer::NoPrepare(6))], Some(6)),
     (
         &[
-            (32769, Answer::Prepared),
-            (32770, Answer::Prepared),
-            (32769, Answer::Voted(1)),
-            (32770, Answer::Voted(2)),
+            (32769, ArbiterAnswer::Prepared),
+            (32770, ArbiterAnswer::Prepared),
+            (32769, ArbiterAnswer::Voted(1)),
+            (32770, ArbiterAnswer::Voted(2)),
         ],
         None,
     ),
     (
         &[
-            (32769, Answer::Prepared),
-            (32770, Answer::Prepared),
-            (32769, Answer::Voted(1)),
-            (32770, Answer::Voted(2)),
-            (32770, Answer::Voted(3)),
+            (32769, ArbiterAnswer::Prepared),
+            (32770, ArbiterAnswer::Prepared),
+            (32769, ArbiterAnswer::Voted(1)),
+            (32770, ArbiterAnswer::Voted(2)),
+            (32770, ArbiterAnswer::Voted(3)),
         ],
         None,
     ),
     (
         &[
-            (32769, Answer::Prepared),
-            (32770, Answer::Prepared),
-            (32769, Answer::Voted(1)),
-            (32770, Answer::Voted(2)),
-            (32771, Answer::Voted(3)),
+            (32769, ArbiterAnswer::Prepared),
+            (32770, ArbiterAnswer::Prepared),
+            (32769, ArbiterAnswer::Voted(1)),
+            (32770, ArbiterAnswer::Voted(2)),
+            (32771, ArbiterAnswer::Voted(3)),
         ],
         Some(5),
     ),
@@ -157,7 +157,7 @@ fn the_own_epoch_supersedes(rt: HostRuntime) {
             actor: 1,
             instance: 1,
         },
-        body: body(Answer::NoPrepare(5)),
+        body: body(ArbiterAnswer::NoPrepare(5)),
     };
     let step = begun().on(&kept, &NODES, &mut Outbox::new());
     assert!(rt;

@@ -1,4 +1,4 @@
-ghost use Rattle.std.specs.Prelude.{◌≡◌, ◌<◌, ◌^◌, [], true, IfOk};
+ghost use Rattle.std.specs.Prelude.{◌≡◌, ◌<◌, [], true, IfOk};
 ghost use Rattle.fabric_terms.specs.Sound.{IsSound};
 ghost use Rattle.world_rules.specs.Schedules.{is_configured_node};
 

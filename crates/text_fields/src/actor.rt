@@ -6,19 +6,13 @@ ghost use Rattle.fabric_terms.specs.Ranges.{IsActor};
 use crate::bad_field::BadField;
 use crate::number::{last_number, number_in, number_word};
 use crate::word::after_word;
-use ring_points::ARBITRATORS;
-
-/// The greatest number of a node.
-const LAST_NODE: u64 = 999;
-
-/// The greatest number of an arbitrator.
-const LAST_ARBITER: u64 = 9;
+use ring_points::{ARBITRATORS, MAX_ARBITRATORS, MAX_NODE_NUMBER};
 
 /// A node, and what follows it.
 pub fn node_at(bytes: &[u8]) -> Result<(u16, &[u8]), BadField>
     ensures { Gives (λ x. (x.0, x.1.now)) result (node_at bytes.now) }
 {
-    let (node, rest) = number_in(1, LAST_NODE, bytes)?;
+    let (node, rest) = number_in(1, u64::from(MAX_NODE_NUMBER), bytes)?;
     Ok((node as u16, rest))
 }
 
@@ -26,7 +20,7 @@ pub fn node_at(bytes: &[u8]) -> Result<(u16, &[u8]), BadField>
 pub fn node_word(bytes: &[u8]) -> Result<(u16, &[u8]), BadField>
     ensures { Gives (λ x. (x.0, x.1.now)) result (word_of node_at bytes.now) }
 {
-    let (node, rest) = number_word(1, LAST_NODE, bytes)?;
+    let (node, rest) = number_word(1, u64::from(MAX_NODE_NUMBER), bytes)?;
     Ok((node as u16, rest))
 }
 
@@ -34,14 +28,14 @@ pub fn node_word(bytes: &[u8]) -> Result<(u16, &[u8]), BadField>
 pub fn last_node(bytes: &[u8]) -> Result<u16, BadField>
     ensures { Gives (λ x. x) result (last node_at bytes.now) }
 {
-    Ok(last_number(1, LAST_NODE, bytes)? as u16)
+    Ok(last_number(1, u64::from(MAX_NODE_NUMBER), bytes)? as u16)
 }
 
 /// The number of an arbitrator, without its letter, as an actor, and what follows it.
 pub fn arbiter_at(bytes: &[u8]) -> Result<(u16, &[u8]), BadField>
     ensures { Gives (λ x. (x.0, x.1.now)) result (arbiter_at bytes.now) }
 {
-    let (arbiter, rest) = number_in(1, LAST_ARBITER, bytes)?;
+    let (arbiter, rest) = number_in(1, MAX_ARBITRATORS as u64, bytes)?;
     Ok((ARBITRATORS + arbiter as u16, rest))
 }
 

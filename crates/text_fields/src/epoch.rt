@@ -8,18 +8,15 @@ ghost use Rattle.fabric_terms.specs.Ranges.{IsEpoch};
 use crate::bad_field::BadField;
 use crate::number::{number_in, push_number};
 use crate::word::{after_word, push_bytes};
+use ring_points::{Epoch, MAX_COUNTER};
 use fabric_terms::OutOfMemory;
-use ring_points::Epoch;
-
-/// The greatest number of data losses, and of configurations.
-const LAST_COUNT: u64 = 4_294_967_295;
 
 // An epoch, and what follows it.
 fn epoch_at(bytes: &[u8]) -> Result<(Epoch, &[u8]), BadField>
     ensures { Gives (λ x. (x.0, x.1.now)) result (epoch_at bytes.now) }
 {
-    let (data_loss, rest) = number_in(0, LAST_COUNT, bytes)?;
-    let (configuration, rest) = number_in(0, LAST_COUNT, after_word(b".", rest)?)?;
+    let (data_loss, rest) = number_in(0, MAX_COUNTER, bytes)?;
+    let (configuration, rest) = number_in(0, MAX_COUNTER, after_word(b".", rest)?)?;
     let epoch = Epoch {
         data_loss: data_loss as u32,
         configuration: configuration as u32,

@@ -9,18 +9,15 @@ use crate::actor::{arbiter_at, node_at};
 use crate::bad_field::BadField;
 use crate::number::{number_in, push_number};
 use crate::word::{after_word, push_bytes};
+use ring_points::{ARBITRATORS, MAX_COUNTER, Who};
 use fabric_terms::OutOfMemory;
-use ring_points::{ARBITRATORS, Who};
-
-/// The greatest number of a node's start.
-const LAST_INSTANCE: u64 = 4_294_967_295;
 
 /// An instance of a node, as a node, a point and the number of its start, and what follows it.
 pub fn instance_at(bytes: &[u8]) -> Result<(Who, &[u8]), BadField>
     ensures { Gives (λ x. (x.0, x.1.now)) result (instance_at bytes.now) }
 {
     let (actor, rest) = node_at(bytes)?;
-    let (instance, rest) = number_in(1, LAST_INSTANCE, after_word(b".", rest)?)?;
+    let (instance, rest) = number_in(1, MAX_COUNTER, after_word(b".", rest)?)?;
     let instance = instance as u32;
     Ok((Who { actor, instance }, rest))
 }

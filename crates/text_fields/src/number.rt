@@ -2,7 +2,7 @@ ghost use Rattle.std.specs.Prelude.{◌≡◌, ℕ, ◌^◌, ◌≤◌, ◌<◌,
 ghost use Rattle.text_fields.specs.Fields.{Gives, last, word_of};
 ghost use Rattle.fabric_terms.specs.Ranges.{IsOptional};
 ghost use Rattle.text_fields.specs.Inverses.{IsField, EndsNumber};
-ghost use Rattle.text_fields.specs.Numbers.{IsIn, more_digits, number_at, number_in, long_at, optional_at, optional_text};
+ghost use Rattle.text_fields.specs.Numbers.{IsIn, more_digits, number_at, number_in, optional_at, optional_text};
 ghost use Rattle.text_fields.specs.Texts.{Keeps};
 
 use crate::bad_field::BadField;

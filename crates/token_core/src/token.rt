@@ -1,7 +1,8 @@
 ghost use Rattle.std.specs.Prelude.{◌≤◌, ◌≡◌, ◌+◌, [], IfOk, IfErr, OnErr, is_err, nat_le};
 ghost use Rattle.std.specs.Option.{option_map, option_copied};
 ghost use Rattle.token_core.specs.Tokens.{first_token, announced, frozen_part, is_ready, inherited, last_number};
-ghost use Rattle.token_core.specs.Calls.{outcome, freeze_call, undo_call, give_call, take_call, inherit_call, flight_points};
+ghost use Rattle.token_core.specs.Calls.{outcome, freeze_call, undo_call, give_call, take_call, inherit_call};
+ghost use Rattle.token_core.specs.Calls.{flight_points};
 
 use crate::freeze::Freeze;
 use crate::refusal::TokenRefusal;
@@ -27,7 +28,8 @@ impl Model for Token {
 
     ghost Value = { Token };
 
-    ghost view = { λ t. record { ranges = t.ranges; freeze = t.freeze; version = t.version; next_flight = t.last_flight + 1 } };
+    ghost view = { λ t. record { ranges = t.ranges; freeze = t.freeze; version = t.version;
+        next_flight = t.last_flight + 1 } };
 
     ghost invariant = { λ t. t.announced ≡ minus_of t.ranges (frozen_part t.freeze) };
 }
@@ -144,7 +146,8 @@ impl Token {
     /// left.
     pub fn give(&mut self, _routing: &Routing, least_acked: u32) -> Result<Flight, TokenRefusal>
         ensures outcome { outcome result self.new ≡ give_call self.old least_acked }
-        ensures flight { IfOk result (λ f. f ≡ record { number = self.old.next_flight; part = frozen_part self.old.freeze }) }
+        ensures flight { IfOk result (λ f. f
+            ≡ record { number = self.old.next_flight; part = frozen_part self.old.freeze }) }
         ensures err { OnErr result (self.new ≡ self.old) }
     {
         let part = match &self.freeze {
@@ -185,8 +188,10 @@ impl Token {
         held: &RangeSet,
         flight: Option<&RangeSet>,
     ) -> Result<RangeSet, TokenRefusal>
-        ensures outcome { outcome result self.new ≡ inherit_call self.old held.now (flight_points (option_copied flight.entry)) }
-        ensures added { IfOk result (λ r. r ≡ inherited self.old held.now (flight_points (option_copied flight.entry))) }
+        ensures outcome { outcome result self.new ≡ inherit_call self.old held.now
+            (flight_points (option_copied flight.entry)) }
+        ensures added { IfOk result (λ r. r ≡ inherited self.old held.now (flight_points (option_copied flight.entry)))
+            }
         ensures err { OnErr result (self.new ≡ self.old) }
     {
         let none = RangeSet::new();

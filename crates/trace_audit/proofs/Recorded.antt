@@ -5,7 +5,7 @@ use Rattle.std.specs.List.{list_any}
 use Rattle.std.proofs.lemmas.Bool.{and_parts, leb-true, lt-ltb}
 use Rattle.std.proofs.lemmas.List.{length-map}
 use Rattle.std.proofs.lemmas.List.Elements.{All-cons, All-head, All-nil, All-tail, All-weaker}
-use Rattle.fabric_above.specs.Fabric.{fabric}
+use Rattle.unit_rules.specs.Fabric.{fabric}
 use Rattle.fabric_fit.proofs.Units.{units_send, units_tell_in_range}
 use Rattle.fabric_lemmas.specs.Maps.{rises_from}
 use Rattle.fabric_terms.specs.declared.config.FabricConfig.{FabricConfig}
@@ -18,7 +18,7 @@ use Rattle.frames_fit.proofs.Valid.{world_in_range}
 use Rattle.frames_fit.proofs.Worlds.{RunningInRange}
 use Rattle.ring_points.specs.declared.who.Who.{Who}
 use Rattle.ring_world.specs.Answers.{is_frame, ruled}
-use Rattle.ring_world.specs.Room.{has_room, is_room, acts, most_time, time_after}
+use Rattle.ring_world.specs.EventLimits.{has_room, is_room, acts, most_time, time_after}
 use Rattle.run_audit.specs.Breaches.{is_below}
 use Rattle.run_audit.specs.Clocks.{comes_after}
 use Rattle.run_facts.proofs.Clocks.{rising}

@@ -3,7 +3,7 @@ use Rattle.std.proofs.Common.{◌≡◌, ℕ, ◌+◌, ◌≤◌, Bool, true, fa
 use Rattle.std.specs.Prelude.{◌==◌, All, nat_le, nat_lt}
 use Rattle.std.proofs.lemmas.Bool.{and_parts, eqb-true, leb-false, leb-true, ltb-true}
 use Rattle.std.proofs.lemmas.List.Elements.{All-filter, All-head, All-map, All-nil, All-tail, All-weaker}
-use Rattle.fabric_above.specs.Fabric.{fabric, fabric_stays}
+use Rattle.unit_rules.specs.Fabric.{fabric, fabric_stays}
 use Rattle.fabric_fit.proofs.Tables.{put_all}
 use Rattle.fabric_lemmas.specs.Maps.{at}
 use Rattle.fabric_terms.specs.declared.config.FabricConfig.{FabricConfig}

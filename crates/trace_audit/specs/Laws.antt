@@ -1,6 +1,6 @@
 -- What the laws of this crate say.
 use Rattle.std.specs.Prelude.{◌≡◌, ℕ, List, length, Some, None, Ok}
-use Rattle.fabric_above.specs.Fabric.{fabric}
+use Rattle.unit_rules.specs.Fabric.{fabric}
 use Rattle.fabric_terms.specs.declared.config.FabricConfig.{FabricConfig}
 use Rattle.fabric_terms.specs.Primaries.{Safe}
 use Rattle.fabric_terms.specs.Runs.{Run}

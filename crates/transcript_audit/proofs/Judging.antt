@@ -18,7 +18,7 @@ use Rattle.run_audit.specs.Auditing.{StandsFor, Judges, seen}
 use Rattle.fabric_status.specs.declared.status.Refusal.{Refusal}
 use Rattle.transcript_audit.specs.declared.transcript.Transcript.TheVariants.{Good, Refused}
 use Rattle.line_format.specs.Lines.{lines_of}
-use Rattle.transcript_audit.specs.declared.places.Places.{Places}
+use Rattle.transcript_audit.specs.declared.group_index.GroupIndex.{GroupIndex}
 use Rattle.transcript_audit.specs.Audits.{IsJudged}
 use Rattle.transcript_audit.specs.Groups.{Group, AreLines, Rise, group_at, moment_of, onto, run_along}
 use Rattle.transcript_audit.specs.Places.{Finds, IsSeen, IsTranscript, Stand, group_behind, group_in, lines_in, place_of}
@@ -42,7 +42,7 @@ looked_there (e ∷ es) line at h = by (nat_eq line e.0) refl (looked_there es l
     by true t rest = subst (λ n. Contains (e.0 ∷ map (λ x. x.0) es) n) (sym (eqb-true line e.0 t)) (Contains-first e.0 (map (λ x. x.0) es))
     by false t rest = Contains-rest e.0 line (map (λ x. x.0) es) (rest (rw t at h))
 
-module _ (bytes : List ℕ) (t : Places) (groups : List Group) (finds : Finds bytes t groups) where
+module _ (bytes : List ℕ) (t : GroupIndex) (groups : List Group) (finds : Finds bytes t groups) where
   pub found : (line at : ℕ) → place_of line t ≡ Some at → (g : Group) × (group_at line groups ≡ Some g) × (group_behind bytes at ≡ Some g)
   found line at e = by (group_at line groups) refl
     where
@@ -114,7 +114,7 @@ line_at (x ∷ es) zero e h = let same : x ≡ e = cc (h) in (omega arith, ap (�
 line_at (x ∷ es) (suc i) e h = let more = line_at es i e h in (omega (arith, more.0), more.1)
 
 -- the auditor with the group at a place of the order
-pub judged_one : (bytes : List ℕ) (t : Places) (groups : List Group) (i line at : ℕ) (old new : Auditor) (m : Moment) (b : Option Breach) → Finds bytes t groups
+pub judged_one : (bytes : List ℕ) (t : GroupIndex) (groups : List Group) (i line at : ℕ) (old new : Auditor) (m : Moment) (b : Option Breach) → Finds bytes t groups
     → slice_get t.table.entries i ≡ Some (line, at) → place_of line t ≡ Some at
     → ((g : Group) → group_in (lines_of (take (length bytes - at) (drop at bytes))) ≡ Some g → IsSeen g m) → Judges old m new (Ok b)
     → StandsFor old (run_along groups (reverse (take i (lines_in t))))
@@ -133,7 +133,7 @@ judged_one bytes t groups i line at old new m b finds entry place reads judges s
       answer.2,
     )
 
-pub judged_breach : (bytes : List ℕ) (t : Places) (groups : List Group) (i : ℕ) (o : Option Breach) → Finds bytes t groups → Rise (lines_in t)
+pub judged_breach : (bytes : List ℕ) (t : GroupIndex) (groups : List Group) (i : ℕ) (o : Option Breach) → Finds bytes t groups → Rise (lines_in t)
     → is_some o ≡ true → IsVerdict (run_along groups (reverse (take i (lines_in t)))) o → IsJudged groups (length t.table.entries) o
 judged_breach bytes t groups i None finds rise some v = absurd (cc (some))
 judged_breach bytes t groups i (Some b) finds rise some v = record {
@@ -143,7 +143,7 @@ judged_breach bytes t groups i (Some b) finds rise some v = record {
   count = length-map t.table.entries (λ (e : ℕ × ℕ). e.0);
 }
 
-pub judged_safe : (bytes : List ℕ) (t : Places) (groups : List Group) (i : ℕ) (a : Auditor) → Finds bytes t groups → Rise (lines_in t) → length t.table.entries ≤ i
+pub judged_safe : (bytes : List ℕ) (t : GroupIndex) (groups : List Group) (i : ℕ) (a : Auditor) → Finds bytes t groups → Rise (lines_in t) → length t.table.entries ≤ i
     → a.breach ≡ None → StandsFor a (run_along groups (reverse (take i (lines_in t)))) → IsJudged groups (length t.table.entries) None
 judged_safe bytes t groups i a finds rise done none stands = record {
   lines = lines_in t;
@@ -167,7 +167,7 @@ entry_there (x ∷ es) zero e h = cc (e)
 entry_there (x ∷ es) (suc i) e h = entry_there es i e (omega arith)
 
 -- a transcript that was read, and one that is refused
-pub good_is : (bytes : List ℕ) (t : Places) (o : Result (List Group) Refusal) → IsTranscript bytes (Good t) o → (groups : List Group) × (o ≡ Ok groups) × Finds bytes t groups
+pub good_is : (bytes : List ℕ) (t : GroupIndex) (o : Result (List Group) Refusal) → IsTranscript bytes (Good t) o → (groups : List Group) × (o ≡ Ok groups) × Finds bytes t groups
 good_is bytes t (Ok groups) is = (groups, refl, is)
 good_is bytes t (Err e) is = absurd is
 

@@ -9,7 +9,7 @@ use Rattle.fabric_terms.specs.declared.report.Report.{Report}
 use Rattle.fabric_terms.specs.Runs.{Clocks}
 use Rattle.line_format.specs.Lines.{lines_of}
 use Rattle.source_lines.specs.Lines.{is_ignored}
-use Rattle.transcript_audit.specs.declared.places.Places.{Places}
+use Rattle.transcript_audit.specs.declared.group_index.GroupIndex.{GroupIndex}
 use Rattle.transcript_audit.specs.declared.said.Said.{Said as Summary}
 use Rattle.transcript_audit.specs.declared.said.Said.TheVariants as summary
 use Rattle.transcript_audit.specs.Groups.{Group, group_from, grown, may_tell, group_at, onto}
@@ -19,12 +19,12 @@ use Rattle.transcript_audit.specs.Transcript.{Reading, groups_of, rises_over, ma
 use Rattle.transcript_audit.proofs.SaidSteps.{Is_opens, Is_shows}
 use Rattle.transcript_audit.proofs.Growing.{goes_tells, goes_quiet, grows_on, grows_line, begins_with, with_ignored, with_stop}
 
-module _ (bytes l : List ℕ) (ls : List (List ℕ)) (r : Reading) (old : Places) where
+module _ (bytes l : List ℕ) (ls : List (List ℕ)) (r : Reading) (old : GroupIndex) where
   pub keeps_ignored : is_ignored l ≡ true → Keeps bytes (l ∷ ls) old r → Keeps bytes ls old r
   keeps_ignored i k = record { opened = k.opened; now = k.now; places = λ line. k.places line ∙ ap (λ gs. option_map Some (group_at line gs)) (with_ignored l ls r i) }
 
   -- a section opens
-  pub keeps_opens : (new : Places) → is_ignored l ≡ false → said_of l ≡ Some Opens → Keeps bytes (l ∷ ls) old r
+  pub keeps_opens : (new : GroupIndex) → is_ignored l ≡ false → said_of l ≡ Some Opens → Keeps bytes (l ∷ ls) old r
       → new.opened ≡ true → new.last ≡ None → new.table ≡ old.table → Keeps bytes ls new (record { opened = true; now = None; before = groups_of r })
   keeps_opens new i said k opened now table = record {
     opened = opened;
@@ -57,7 +57,7 @@ module _ (bytes l : List ℕ) (ls : List (List ℕ)) (r : Reading) (old : Places
       by true e = grind (arith, nat_tests)
       by false e = grind (arith, nat_tests)
 
-  keeps_begun : (at line : ℕ) (cs : Clocks) (new : Places) → is_ignored l ≡ false → said_of l ≡ Some (Shows line cs) → lines_of (drop at bytes) ≡ l ∷ ls
+  keeps_begun : (at line : ℕ) (cs : Clocks) (new : GroupIndex) → is_ignored l ≡ false → said_of l ≡ Some (Shows line cs) → lines_of (drop at bytes) ≡ l ∷ ls
       → Keeps bytes (l ∷ ls) old r → HasBegun line at old new → Keeps bytes ls new (record { opened = true; now = Some (group_from line cs); before = groups_of r })
   keeps_begun at line cs new i said here k begun = record {
     opened = begun.opened;
@@ -80,7 +80,7 @@ module _ (bytes l : List ℕ) (ls : List (List ℕ)) (r : Reading) (old : Places
           let no : nat_eq n (grows ls (group_from line cs)).line ≡ false = test n ∙ e in
           rw no (k.places n ∙ ap (λ gs. option_map Some (group_at n gs)) (with_stop l ls r (goes_quiet l i (Is_shows line cs said))))
 
-  pub placed_shows : (at line : ℕ) (cs : Clocks) (new : Places) (ok : Bool) → is_ignored l ≡ false → said_of l ≡ Some (Shows line cs) → lines_of (drop at bytes) ≡ l ∷ ls
+  pub placed_shows : (at line : ℕ) (cs : Clocks) (new : GroupIndex) (ok : Bool) → is_ignored l ≡ false → said_of l ≡ Some (Shows line cs) → lines_of (drop at bytes) ≡ l ∷ ls
       → Keeps bytes (l ∷ ls) old r → Begins line at old new ok → IsPlaced bytes ls new ok (placed (Shows line cs) r)
   placed_shows at line cs new ok i said here k begins = by ok (may_begin line r) refl (begins.0 ∙ begin_same line cs i said k) begins.1
     where
@@ -90,7 +90,7 @@ module _ (bytes l : List ℕ) (ls : List (List ℕ)) (r : Reading) (old : Places
       by true false e f begun = absurd (cc (f))
       by false true e f begun = absurd (cc (f))
 
-  keeps_told : (line : ℕ) (w : Who) (report : Option Report) (new : Places) (g : Group) → r.now ≡ Some g → nat_eq g.line line ≡ true
+  keeps_told : (line : ℕ) (w : Who) (report : Option Report) (new : GroupIndex) (g : Group) → r.now ≡ Some g → nat_eq g.line line ≡ true
       → is_ignored l ≡ false → said_of l ≡ Some (Tells line w report) → Keeps bytes (l ∷ ls) old r → HasTold line w old new
       → Keeps bytes ls new (record r { now = Some (grown w report g) })
   keeps_told line w report new g is here i said k told = record {
@@ -102,7 +102,7 @@ module _ (bytes l : List ℕ) (ls : List (List ℕ)) (r : Reading) (old : Places
         ∙ ap (λ x. option_map Some (group_at n (x ∷ r.before))) (grows_on l ls g (Some (w, report)) (goes_tells l line w report i said));
   }
 
-  pub placed_tells : (line : ℕ) (w : Who) (report : Option Report) (new : Places) (ok : Bool) → is_ignored l ≡ false → said_of l ≡ Some (Tells line w report)
+  pub placed_tells : (line : ℕ) (w : Who) (report : Option Report) (new : GroupIndex) (ok : Bool) → is_ignored l ≡ false → said_of l ≡ Some (Tells line w report)
       → Keeps bytes (l ∷ ls) old r → TellsIn line w old new ok → IsPlaced bytes ls new ok (placed (Tells line w report) r)
   placed_tells line w report new ok i said k tells = by r.now refl
     where

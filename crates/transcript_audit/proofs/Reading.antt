@@ -6,7 +6,7 @@ use Rattle.fabric_status.specs.declared.status.Refusal.{Refusal}
 use Rattle.fabric_status.specs.declared.status.Refusal.TheVariants.{BadLine, TooLarge}
 use Rattle.line_format.specs.Lines.{lines_of}
 use Rattle.source_lines.specs.Lines.{is_ignored}
-use Rattle.transcript_audit.specs.declared.places.Places.{Places}
+use Rattle.transcript_audit.specs.declared.group_index.GroupIndex.{GroupIndex}
 use Rattle.transcript_audit.specs.declared.transcript.Transcript.TheVariants.{Good, Refused}
 use Rattle.transcript_audit.specs.Groups.{group_at}
 use Rattle.transcript_audit.specs.Places.{Keeps, Finds, IsPlaced, IsRead, IsTranscript}
@@ -16,7 +16,7 @@ use Rattle.transcript_audit.proofs.Growing.{with_none}
 use Rattle.transcript_audit.proofs.Placing.{keeps_ignored}
 
 -- a line, by its tests
-module _ (bytes l : List ℕ) (ls : List (List ℕ)) (r : Reading) (t : Places) (n end : ℕ) where
+module _ (bytes l : List ℕ) (ls : List (List ℕ)) (r : Reading) (t : GroupIndex) (n end : ℕ) where
   same : {a b : Bool} → is_large n end l ≡ a → is_ignored l ≡ b → (f : Option Refusal) → IsRead bytes ls t f (read_unless a b n (placed_if (said_of l) r) r)
       → IsRead bytes ls t f (line_read n end l r)
   same {a} {b} e i f p = subst (λ o. IsRead bytes ls t f o) (λ j. read_unless (sym e j) (sym i j) n (placed_if (said_of l) r) r) p
@@ -42,14 +42,14 @@ module _ (bytes l : List ℕ) (ls : List (List ℕ)) (r : Reading) (t : Places) 
       by (Some s) q = q
 
 -- so much was read, and what is left leads to the same end as all lines
-pub record Along (bytes : List ℕ) (t : Places) (number at : ℕ) : Type 0 where
+pub record Along (bytes : List ℕ) (t : GroupIndex) (number at : ℕ) : Type 0 where
   pub within : at ≤ length bytes
   pub bounded : number ≤ at + 1
   pub reading : Reading
   pub keeps : Keeps bytes (lines_of (drop at bytes)) t reading
   pub reads : read_from (length bytes) number at reading (lines_of (drop at bytes)) ≡ read_from (length bytes) 1 0 nothing_read (lines_of bytes)
 
-pub along_start : (bytes : List ℕ) (t : Places) → Keeps bytes (lines_of bytes) t nothing_read → Along bytes t 1 0
+pub along_start : (bytes : List ℕ) (t : GroupIndex) → Keeps bytes (lines_of bytes) t nothing_read → Along bytes t 1 0
 along_start bytes t k = record { within = omega arith; bounded = omega arith; reading = nothing_read; keeps = k; reads = refl }
 
 module _ (bytes : List ℕ) (at : ℕ) (line after : List ℕ) (within : at ≤ length bytes)
@@ -82,7 +82,7 @@ read_step total n at r l ls s e = ap (λ o. read_on o (λ x. read_from total (n 
 read_stop : (total n at : ℕ) (r : Reading) (l : List ℕ) (ls : List (List ℕ)) (f : Refusal) → line_read n (end_of total at l) l r ≡ Err f → read_from total n at r (l ∷ ls) ≡ Err f
 read_stop total n at r l ls f e = ap (λ o. read_on o (λ x. read_from total (n + 1) (end_of total at l) x ls)) e
 
-module _ (bytes : List ℕ) (old new : Places) (number at end : ℕ) (line after : List ℕ) (along : Along bytes old number at)
+module _ (bytes : List ℕ) (old new : GroupIndex) (number at end : ℕ) (line after : List ℕ) (along : Along bytes old number at)
     (lines : lines_of (drop at bytes) ≡ line ∷ lines_of after) (is_end : end ≡ end_of (length bytes) at line) (rest : drop end bytes ≡ after)
     (less : at < end) (within : end ≤ length bytes) where
   pub along_next : IsRead bytes (lines_of after) new None (line_read number end line along.reading) → Along bytes new (number + 1) end
@@ -115,7 +115,7 @@ module _ (bytes : List ℕ) (old new : Places) (number at end : ℕ) (line after
           ∙ read_stop (length bytes) number at along.reading line (lines_of after) g (subst (λ m. line_read number m line along.reading ≡ Err g) is_end e) in
           subst (λ o. IsTranscript bytes (Refused f) (groups_if o)) (sym stops) p
 
-pub along_end : (bytes : List ℕ) (t : Places) (number at : ℕ) → Along bytes t number at → length bytes ≤ at → IsTranscript bytes (Good t) (transcript_of bytes)
+pub along_end : (bytes : List ℕ) (t : GroupIndex) (number at : ℕ) → Along bytes t number at → length bytes ≤ at → IsTranscript bytes (Good t) (transcript_of bytes)
 unfolding transcript_of
 along_end bytes t number at along done = subst (λ o. IsTranscript bytes (Good t) (groups_if o)) ends finds
   where

@@ -11,7 +11,7 @@ use Rattle.run_audit.specs.Auditing.{seen, entry_of as audited_entry}
 use Rattle.line_format.specs.Lines.{lines_of}
 use Rattle.source_lines.specs.Lines.{is_ignored}
 use Rattle.transcript_audit.specs.declared.group.Told.{Told}
-use Rattle.transcript_audit.specs.declared.places.Places.{Places}
+use Rattle.transcript_audit.specs.declared.group_index.GroupIndex.{GroupIndex}
 use Rattle.transcript_audit.specs.declared.transcript.Transcript.{Transcript}
 use Rattle.transcript_audit.specs.declared.transcript.Transcript.TheVariants.{Good, Refused}
 use Rattle.transcript_audit.specs.declared.said.Said.{Said as Summary}
@@ -68,11 +68,11 @@ group_behind bytes at = group_in (lines_of (drop at bytes))
 abbrev pub groups_with : List (List ℕ) → Reading → List Group
 groups_with ls r = onto (option_map (grows ls) r.now) r.before
 
-abbrev pub place_of : ℕ → Places → Option ℕ
+abbrev pub place_of : ℕ → GroupIndex → Option ℕ
 place_of line t = lookup (nat_eq line) t.table.entries
 
 -- the table has of each group its LINE, and the byte with which it begins; these lines are still to be read
-pub record Keeps (bytes : List ℕ) (ls : List (List ℕ)) (t : Places) (r : Reading) : Type 0 where
+pub record Keeps (bytes : List ℕ) (ls : List (List ℕ)) (t : GroupIndex) (r : Reading) : Type 0 where
   pub opened : t.opened ≡ r.opened
   pub now : t.last ≡ option_map (λ g. (g.line, g.who)) r.now
   pub places : (line : ℕ) → option_map (group_behind bytes) (place_of line t) ≡ option_map Some (group_at line (groups_with ls r))
@@ -82,16 +82,16 @@ abbrev pub is_over : Option (ℕ × Option Who) → ℕ → Bool
 is_over None line = true
 is_over (Some now) line = nat_lt now.0 line
 
-abbrev pub may_begin_in : ℕ → Places → Bool
+abbrev pub may_begin_in : ℕ → GroupIndex → Bool
 may_begin_in line t = t.opened && (is_over t.last line && not (is_some (place_of line t)))
 
 -- with a group that begins with this byte
-pub record HasBegun (line at : ℕ) (old new : Places) : Type 0 where
+pub record HasBegun (line at : ℕ) (old new : GroupIndex) : Type 0 where
   pub opened : new.opened ≡ true
   pub now : new.last ≡ Some (line, None)
   pub places : (n : ℕ) → place_of n new ≡ (if nat_eq line n then Some at else place_of n old)
 
-abbrev pub Begins : ℕ → ℕ → Places → Places → Bool → Type 0
+abbrev pub Begins : ℕ → ℕ → GroupIndex → GroupIndex → Bool → Type 0
 Begins line at old new ok = (ok ≡ may_begin_in line old) × (ok ≡ true → HasBegun line at old new)
 
 abbrev pub may_tell_in : ℕ → Who → Option (ℕ × Option Who) → Bool
@@ -99,30 +99,30 @@ may_tell_in line w None = false
 may_tell_in line w (Some now) = nat_eq now.0 line && may_tell w now.1
 
 -- with an instance that tells something in the last group
-pub record HasTold (line : ℕ) (w : Who) (old new : Places) : Type 0 where
+pub record HasTold (line : ℕ) (w : Who) (old new : GroupIndex) : Type 0 where
   pub opened : new.opened ≡ old.opened
   pub now : new.last ≡ Some (line, Some w)
   pub table : new.table ≡ old.table
 
-abbrev pub TellsIn : ℕ → Who → Places → Places → Bool → Type 0
+abbrev pub TellsIn : ℕ → Who → GroupIndex → GroupIndex → Bool → Type 0
 TellsIn line w old new ok = (ok ≡ may_tell_in line w old.last) × (ok ≡ true → HasTold line w old new)
 
 -- what was said is in its place exactly where this is so, and then the table keeps what is read with it
-abbrev pub IsPlaced : List ℕ → List (List ℕ) → Places → Bool → Option Reading → Type 0
+abbrev pub IsPlaced : List ℕ → List (List ℕ) → GroupIndex → Bool → Option Reading → Type 0
 IsPlaced bytes ls t true (Some r) = Keeps bytes ls t r
 IsPlaced bytes ls t false None = Unit {0}
 IsPlaced bytes ls t true None = ⊥
 IsPlaced bytes ls t false (Some r) = ⊥
 
 -- a line is refused so, or the table keeps what is read with it
-abbrev pub IsRead : List ℕ → List (List ℕ) → Places → Option Refusal → Result Reading Refusal → Type 0
+abbrev pub IsRead : List ℕ → List (List ℕ) → GroupIndex → Option Refusal → Result Reading Refusal → Type 0
 IsRead bytes ls t None (Ok r) = Keeps bytes ls t r
 IsRead bytes ls t (Some refusal) (Err e) = refusal ≡ e
 IsRead bytes ls t None (Err e) = ⊥
 IsRead bytes ls t (Some refusal) (Ok r) = ⊥
 
 -- the table has of each group its LINE, and the byte with which it begins
-abbrev pub Finds : List ℕ → Places → List Group → Type 0
+abbrev pub Finds : List ℕ → GroupIndex → List Group → Type 0
 Finds bytes t groups = (line : ℕ) → option_map (group_behind bytes) (place_of line t) ≡ option_map Some (group_at line groups)
 
 abbrev pub IsTranscript : List ℕ → Transcript → Result (List Group) Refusal → Type 0
@@ -132,7 +132,7 @@ IsTranscript bytes (Good t) (Err e) = ⊥
 IsTranscript bytes (Refused refusal) (Ok groups) = ⊥
 
 -- the LINEs of the table, in its order
-abbrev pub lines_in : Places → List ℕ
+abbrev pub lines_in : GroupIndex → List ℕ
 lines_in t = keys t.table
 
 -- the moment is the group's
@@ -156,5 +156,5 @@ pub record IsEntry (g : Group) (told : Option (Who × Vec Report)) : Type 0 wher
   pub is : audited_entry told ≡ entry_of g.who g.reports
 
 -- each group of the table begins within the bytes
-abbrev pub Stand : List ℕ → Places → Type 0
+abbrev pub Stand : List ℕ → GroupIndex → Type 0
 Stand bytes t = (line at : ℕ) → place_of line t ≡ Some at → at ≤ length bytes

@@ -46,7 +46,8 @@ fn take_line(alloc: Global, told: &mut Told, line: &[u8]) -> Result<bool, OutOfM
 
 /// What is told in the lines up to the first that does not go on with the group.
 fn read_told(alloc: Global, bytes: &[u8]) -> Result<Told, OutOfMemory>
-    ensures { (g : Group) → g.who ≡ None → g.reports ≡ [] → IfOk result (λ t. TellsAs t (grows (lines_of bytes.now) g)) }
+    ensures { (g : Group) → g.who ≡ None → g.reports ≡ [] →
+        IfOk result (λ t. TellsAs t (grows (lines_of bytes.now) g)) }
 {
     let mut told = Told {
         who: None,

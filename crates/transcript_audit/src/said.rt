@@ -1,25 +1,18 @@
-// What a line of a transcript says.
-ghost use Rattle.std.specs.Prelude.{◌≡◌, [], None, option_map};
-ghost use Rattle.text_fields.specs.Fields.{Gives, last};
+ghost use Rattle.std.specs.Prelude.{[], None, option_map};
+ghost use Rattle.text_fields.specs.Fields.{Gives};
 ghost use Rattle.line_format.specs.Readers.{Reads};
 ghost use Rattle.transcript_audit.specs.Places.{summary_of};
 ghost use Rattle.transcript_audit.specs.Said.{clock_at, clocks_on, shown_of, sent_of, section_at, span_of, said_of};
 
+use ring_points::{MAX_COUNTER, MAX_NODES, Who};
 use line_format::{BadLine, LineRefusal};
 use report_lines::{head_at, read_report};
-use ring_points::Who;
 use run_audit::comes_after;
 use std::alloc::Global;
 use text_fields::{after_word, instance_at, last_number, number_in, number_word};
 
-/// The greatest number of a frame.
-const LAST_NUMBER: u64 = 4_294_967_295;
-
 /// The greatest number of a section.
-const LAST_SECTION: u64 = 999;
-
-/// How many clocks a group may have.
-const MOST_CLOCKS: usize = 64;
+const MAX_SECTION: u64 = 999;
 
 /// What a line says, without its clocks and its report.
 #[derive(Clone, Copy)]
@@ -37,7 +30,7 @@ fn section_at(line: &[u8]) -> Result<u64, BadLine>
     ensures { Gives (λ x. x) result (section_at line.now) }
 {
     let rest = after_word(b"transcript ", line)?;
-    Ok(last_number(0, LAST_SECTION, rest)?)
+    Ok(last_number(0, MAX_SECTION, rest)?)
 }
 
 // A clock behind a blank, and what follows it.
@@ -58,7 +51,7 @@ fn fill(bytes: &[u8], clocks: &mut Vec<(Who, u64)>) -> Result<(), LineRefusal>
     let mut rest = bytes;
     let mut above = None;
     while !rest.is_empty() {
-        if clocks.len() == MOST_CLOCKS {
+        if clocks.len() == MAX_NODES {
             return Err(LineRefusal::BadLine);
         }
         let (clock, after) = clock_at(rest)?;
@@ -88,13 +81,13 @@ pub fn read_clocks(line: &[u8], clocks: &mut Vec<(Who, u64)>) -> Result<u64, Lin
 fn span_of(bytes: &[u8]) -> Result<u64, BadLine>
     ensures { Gives (λ x. x) result (span_of bytes.now) }
 {
-    let (first, rest) = number_in(1, LAST_NUMBER, bytes)?;
+    let (first, rest) = number_in(1, MAX_COUNTER, bytes)?;
     let rest = after_word(b"-", rest)?;
-    Ok(last_number(first, LAST_NUMBER, rest)?)
+    Ok(last_number(first, MAX_COUNTER, rest)?)
 }
 
-/// The LINE and the instance of a line that tells frames that were sent. BadLine comes exactly where the bytes are no such
-/// line.
+/// The LINE and the instance of a line that tells frames that were sent. BadLine comes exactly where the bytes are no
+/// such line.
 #[tactic(auto, unfolding(crate::specs::Said::sent_of))]
 pub fn read_sent(line: &[u8]) -> Result<(u64, Who), BadLine>
     ensures { Gives (λ x. x) result (sent_of line.now) }

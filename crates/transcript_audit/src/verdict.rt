@@ -1,13 +1,13 @@
-// The verdict on a transcript, and its line.
-ghost use Rattle.std.specs.Prelude.{◌≡◌, ◌++◌, ℕ, List, [], OnOk, IfOk, codes, decimal, length};
+ghost use Rattle.std.specs.Prelude.{◌≡◌, ◌++◌, List, [], OnOk, IfOk, codes, decimal, length};
 ghost use Rattle.run_audit.specs.Auditing.{StandsFor};
 ghost use Rattle.transcript_audit.specs.Audits.{IsJudged};
 ghost use Rattle.transcript_audit.specs.Groups.{Group, Rise};
 ghost use Rattle.transcript_audit.specs.Places.{Finds, Stand, lines_in};
-ghost use Rattle.transcript_audit.specs.Verdicts.{ring_text, early_text, primary_text, older_text, breach_text, verdict_line};
+ghost use Rattle.transcript_audit.specs.Verdicts.{ring_text, early_text, primary_text, older_text, breach_text};
+ghost use Rattle.transcript_audit.specs.Verdicts.{verdict_line};
 
 use crate::group::read_group;
-use crate::places::Places;
+use crate::group_index::GroupIndex;
 use fabric_status::push_numbered;
 use fabric_terms::OutOfMemory;
 use ring_points::{Epoch, Point, Who};
@@ -150,12 +150,13 @@ pub fn push_verdict(
 fn judge_each(
     alloc: Global,
     bytes: &[u8],
-    places: &Places,
+    places: &GroupIndex,
     auditor: &mut Auditor,
     moment: &mut Moment,
 ) -> Result<Option<Breach>, OutOfMemory>
     requires { Stand bytes.now places.now }
-    ensures { (groups : List Group) → StandsFor auditor.old [] → Finds bytes.now places.now groups → Rise (lines_in places.now) → IfOk result (λ b. IsJudged groups (length places.now.table.entries) b) }
+    ensures { (groups : List Group) → StandsFor auditor.old [] → Finds bytes.now places.now groups →
+        Rise (lines_in places.now) → IfOk result (λ b. IsJudged groups (length places.now.table.entries) b) }
 {
     for index in 0..places.count() {
         let Some((_, at)) = places.entry(index) else {
@@ -171,9 +172,10 @@ fn judge_each(
 }
 
 /// The verdict on the groups of a transcript, which stand in the order of their LINEs.
-pub fn judge(alloc: Global, bytes: &[u8], places: &Places) -> Result<Option<Breach>, OutOfMemory>
+pub fn judge(alloc: Global, bytes: &[u8], places: &GroupIndex) -> Result<Option<Breach>, OutOfMemory>
     requires { Stand bytes.now places.now }
-    ensures { (groups : List Group) → Finds bytes.now places.now groups → Rise (lines_in places.now) → IfOk result (λ b. IsJudged groups (length places.now.table.entries) b) }
+    ensures { (groups : List Group) → Finds bytes.now places.now groups → Rise (lines_in places.now) →
+        IfOk result (λ b. IsJudged groups (length places.now.table.entries) b) }
 {
     let mut auditor = Auditor::new(alloc);
     let mut moment = Moment {

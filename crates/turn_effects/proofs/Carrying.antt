@@ -5,12 +5,12 @@ use Rattle.std.proofs.lemmas.Bool.Decides.{eqb_tells}
 use Rattle.std.proofs.lemmas.List.{take-map, take_all}
 use Rattle.edge_io.specs.Edge.{Grew, HasRisen}
 use Rattle.edge_io.specs.declared.datagram.Datagram.{Datagram}
-use Rattle.outside.specs.Told.{Told}
+use Rattle.edge_io.specs.Told.{Told}
 use Rattle.turn_effects.specs.Carried.{KeptMore, KeepsAll, SentMore, SendsAll, WritesAll, CarriedMore, CarriesOut}
 use Rattle.turn_rules.specs.Effects.{WroteMore, own_sends, sent_by}
 use Rattle.turn_rules.specs.Works.{Post, Work}
-use Rattle.turn_rules.specs.declared.stop.Stop.{Stop}
-use Rattle.turn_rules.specs.declared.stop.Stop.TheVariants as stop
+use Rattle.turn_rules.specs.declared.stop_cause.StopCause.{StopCause}
+use Rattle.turn_rules.specs.declared.stop_cause.StopCause.TheVariants as stop
 use Rattle.turn_effects.proofs.Growing.{grew_none}
 use Rattle.turn_effects.proofs.Sending.{nothing_sent, sent_along}
 
@@ -68,7 +68,7 @@ none_of [] = (0, refl)
 none_of (x ∷ xs) = (0, refl)
 
 -- it ended at the lines
-pub ended_writing : (s : Work) (a b c d : Told) (r : Result (Unit {0}) Stop) → KeptMore s.actor s.records a b → SentMore (own_sends s) b c → WritesAll s.lines c d r → CarriesOut s a d r
+pub ended_writing : (s : Work) (a b c d : Told) (r : Result (Unit {0}) StopCause) → KeptMore s.actor s.records a b → SentMore (own_sends s) b c → WritesAll s.lines c d r → CarriesOut s a d r
 ended_writing s a b c d (Ok done) k p w = carried s.actor s.records s.posts s.lines a b c d k p w
 ended_writing s a b c d (Err stop.OutOfMemory) k p w = (
   record { actor = s.actor; records = s.records; posts = s.posts; lines = take w.0 s.lines },
@@ -93,7 +93,7 @@ ended_writing s a b c d (Err (stop.BadKeep i)) k p w = absurd w
 ended_writing s a b c d (Err stop.TableFull) k p w = absurd w
 
 -- it ended at the datagrams
-pub ended_sending : (s : Work) (a b c : Told) (r : Stop) → KeptMore s.actor s.records a b → SendsAll (own_sends s) b c (Err r) → CarriesOut s a c (Err r)
+pub ended_sending : (s : Work) (a b c : Told) (r : StopCause) → KeptMore s.actor s.records a b → SendsAll (own_sends s) b c (Err r) → CarriesOut s a c (Err r)
 ended_sending s a b c stop.OutOfMemory k p = (
   record { actor = s.actor; records = s.records; posts = take p.0 s.posts; lines = [] },
   (
@@ -110,7 +110,7 @@ ended_sending s a b c (stop.BadKeep i) k p = absurd p
 ended_sending s a b c stop.TableFull k p = absurd p
 
 -- it ended at the records
-pub ended_keeping : (s : Work) (a b : Told) (r : Stop) → KeepsAll s.actor s.records a b (Err r) → CarriesOut s a b (Err r)
+pub ended_keeping : (s : Work) (a b : Told) (r : StopCause) → KeepsAll s.actor s.records a b (Err r) → CarriesOut s a b (Err r)
 ended_keeping s a b stop.OutOfMemory k = (
   record { actor = s.actor; records = take k.0 s.records; posts = []; lines = [] },
   (

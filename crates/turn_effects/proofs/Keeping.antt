@@ -7,10 +7,10 @@ use Rattle.edge_io.specs.declared.refusal.EdgeRefusal.{EdgeRefusal}
 use Rattle.edge_io.specs.declared.refusal.EdgeRefusal.TheVariants as refusal
 use Rattle.fabric_terms.specs.declared.record.Record.{Record}
 use Rattle.keep_log.specs.Spellings.{spelling}
-use Rattle.outside.specs.Told.{Told, Keeps}
+use Rattle.edge_io.specs.Told.{Told, Keeps}
 use Rattle.turn_effects.specs.Carried.{KeptMore, KeepsAll}
-use Rattle.turn_rules.specs.declared.stop.Stop.{Stop}
-use Rattle.turn_rules.specs.declared.stop.Stop.TheVariants as stop
+use Rattle.turn_rules.specs.declared.stop_cause.StopCause.{StopCause}
+use Rattle.turn_rules.specs.declared.stop_cause.StopCause.TheVariants as stop
 use Rattle.turn_effects.proofs.Growing.{grew_on, grew_none, grew_or_none, made_next, made_part}
 
 kept_rest : (a b c : Told) → b ≡ record a { kept = b.kept; keep_faults = b.keep_faults } → c ≡ record b { kept = c.kept; keep_faults = c.keep_faults } → c ≡ record a { kept = c.kept; keep_faults = c.keep_faults }
@@ -64,7 +64,7 @@ module _ (actor : ℕ) (xs : List Record) (i : ℕ) (x : Record) (a b c : Told) 
       (p.0, subst (λ (l : List (List ℕ)). KeptMore actor l a c) (sym p.1) (kept_then actor (map spelling (take i xs)) (take n (spelling x ∷ [])) a b c k q))
 
   -- and there it ended
-  pub kept_until : (r : Stop) → KeepsAll actor (spelling x ∷ []) b c (Err r) → KeepsAll actor (map spelling xs) a c (Err r)
+  pub kept_until : (r : StopCause) → KeepsAll actor (spelling x ∷ []) b c (Err r) → KeepsAll actor (map spelling xs) a c (Err r)
   kept_until stop.OutOfMemory q = front q.0 q.1
   kept_until stop.KeepFault q =
       let p = front q.0 q.1.0 in

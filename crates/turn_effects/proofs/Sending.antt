@@ -8,13 +8,13 @@ use Rattle.edge_io.specs.declared.refusal.EdgeRefusal.{EdgeRefusal}
 use Rattle.edge_io.specs.declared.refusal.EdgeRefusal.TheVariants as refusal
 use Rattle.fabric_terms.specs.declared.config.FabricConfig.{FabricConfig}
 use Rattle.fabric_terms.specs.declared.message.Message.{Message}
-use Rattle.outside.specs.Told.{Told, Sends}
+use Rattle.edge_io.specs.Told.{Told, Sends}
 use Rattle.turn_effects.specs.Carried.{SentMore, SendsAll}
 use Rattle.turn_rules.specs.Effects.{Try, went, lost, FailedSince, Sent, sent_by}
 use Rattle.frame_format.specs.Frames.{spelling}
 use Rattle.turn_rules.specs.Works.{Post, address_of, post_at, post_of, posts_of}
-use Rattle.turn_rules.specs.declared.stop.Stop.{Stop}
-use Rattle.turn_rules.specs.declared.stop.Stop.TheVariants as stop
+use Rattle.turn_rules.specs.declared.stop_cause.StopCause.{StopCause}
+use Rattle.turn_rules.specs.declared.stop_cause.StopCause.TheVariants as stop
 use Rattle.turn_effects.proofs.Growing.{grew_on, grew_none, made_next, made_part}
 
 went-append : (ts us : List Try) → went (ts ++ us) ≡ went ts ++ went us
@@ -131,7 +131,7 @@ module _ (c : FabricConfig) (actor : ℕ) (xs : List Message) (i : ℕ) (x : Mes
       (k.0, subst (λ (l : List Datagram). SentMore l a d) (sym k.1) (sent_then (datagrams_of c actor (take i xs)) (take n (datagrams_of c actor (x ∷ []))) a b d p one))
 
   -- and then memory was short
-  pub sent_until : (r : Stop) → SendsAll (map (sent_by actor) (post_of c x)) b d (Err r) → SendsAll (datagrams_of c actor xs) a d (Err r)
+  pub sent_until : (r : StopCause) → SendsAll (map (sent_by actor) (post_of c x)) b d (Err r) → SendsAll (datagrams_of c actor xs) a d (Err r)
   sent_until stop.OutOfMemory q = front q.0 q.1
   sent_until stop.WriteFault q = absurd q
   sent_until stop.KeepFault q = absurd q
@@ -142,7 +142,7 @@ module _ (c : FabricConfig) (actor : ℕ) (xs : List Message) (i : ℕ) (x : Mes
   sent_until stop.TableFull q = absurd q
 
 -- a frame to an actor that has an address
-pub posted_to : (c : FabricConfig) (actor : ℕ) (m : Message) (to bytes : List ℕ) (a b : Told) (r : Result (Unit {0}) Stop) → address_of c m.to.actor ≡ Some to → bytes ≡ spelling m
+pub posted_to : (c : FabricConfig) (actor : ℕ) (m : Message) (to bytes : List ℕ) (a b : Told) (r : Result (Unit {0}) StopCause) → address_of c m.to.actor ≡ Some to → bytes ≡ spelling m
     → SendsAll (record { from = actor; to = to; bytes = bytes } ∷ []) a b r → SendsAll (map (sent_by actor) (post_of c m)) a b r
 posted_to c actor m to bytes a b r e f k =
     let posts : post_of c m ≡ record { to = to; bytes = spelling m } ∷ [] = ap (post_at m) e in

@@ -2,11 +2,11 @@
 use Rattle.std.specs.Prelude.{◌≡◌, ◌≢◌, ◌≤◌, ℕ, List, [], ◌∷◌, take, Result, Ok, Err}
 use Rattle.edge_io.specs.Edge.{Grew, HasRisen}
 use Rattle.edge_io.specs.declared.datagram.Datagram.{Datagram}
-use Rattle.outside.specs.Told.{Told}
+use Rattle.edge_io.specs.Told.{Told}
 use Rattle.turn_rules.specs.Effects.{Sent, Did, Stays, IsPart, WroteMore}
 use Rattle.turn_rules.specs.Works.{Work}
-use Rattle.turn_rules.specs.declared.stop.Stop.{Stop}
-use Rattle.turn_rules.specs.declared.stop.Stop.TheVariants as stop
+use Rattle.turn_rules.specs.declared.stop_cause.StopCause.{StopCause}
+use Rattle.turn_rules.specs.declared.stop_cause.StopCause.TheVariants as stop
 
 -- the actor has these records more, and nothing else has changed
 pub record KeptMore (actor : ℕ) (records : List (List ℕ)) (a b : Told) : Type 0 where
@@ -15,7 +15,7 @@ pub record KeptMore (actor : ℕ) (records : List (List ℕ)) (a b : Told) : Typ
   pub later : a.keep_faults ≤ b.keep_faults
   pub rest : b ≡ record a { kept = b.kept; keep_faults = b.keep_faults }
 
-abbrev pub KeepsAll : ℕ → List (List ℕ) → Told → Told → Result (Unit {0}) Stop → Type 0
+abbrev pub KeepsAll : ℕ → List (List ℕ) → Told → Told → Result (Unit {0}) StopCause → Type 0
 KeepsAll actor records a b (Ok done) = KeptMore actor records a b
 KeepsAll actor records a b (Err stop.OutOfMemory) = (n : ℕ) × KeptMore actor (take n records) a b
 KeepsAll actor records a b (Err stop.KeepFault) = (n : ℕ) × (KeptMore actor (take n records) a b × HasRisen a.keep_faults b.keep_faults)
@@ -28,13 +28,13 @@ pub record SentMore (all : List Datagram) (a b : Told) : Type 0 where
   pub arrivals : (any : ℕ) → b.arrivals any ≡ a.arrivals any
   pub rest : b ≡ record a { opened = b.opened; arrivals = b.arrivals; sent = b.sent; link_faults = b.link_faults }
 
-abbrev pub SendsAll : List Datagram → Told → Told → Result (Unit {0}) Stop → Type 0
+abbrev pub SendsAll : List Datagram → Told → Told → Result (Unit {0}) StopCause → Type 0
 SendsAll all a b (Ok done) = SentMore all a b
 SendsAll all a b (Err stop.OutOfMemory) = (n : ℕ) × SentMore (take n all) a b
 SendsAll all a b _ = ⊥
 
 -- the sink has a front of this more, or all of it
-abbrev pub WritesAll : List ℕ → Told → Told → Result (Unit {0}) Stop → Type 0
+abbrev pub WritesAll : List ℕ → Told → Told → Result (Unit {0}) StopCause → Type 0
 WritesAll text a b (Ok done) = WroteMore text a b
 WritesAll text a b (Err stop.OutOfMemory) = (n : ℕ) × WroteMore (take n text) a b
 WritesAll text a b (Err stop.WriteFault) = (n : ℕ) × (WroteMore (take n text) a b × HasRisen a.sink_faults b.sink_faults)
@@ -50,7 +50,7 @@ pub record CarriedMore (s : Work) (a b : Told) : Type 0 where
   pub falls : b.falls ≡ a.falls
 
 -- a step is carried out, or a part of it
-abbrev pub CarriesOut : Work → Told → Told → Result (Unit {0}) Stop → Type 0
+abbrev pub CarriesOut : Work → Told → Told → Result (Unit {0}) StopCause → Type 0
 CarriesOut s a b (Ok done) = CarriedMore s a b
 CarriesOut s a b (Err stop.OutOfMemory) = (part : Work) × (IsPart part s × CarriedMore part a b)
 CarriesOut s a b (Err stop.WriteFault) = (part : Work) × (IsPart part s × CarriedMore part a b × HasRisen a.sink_faults b.sink_faults)

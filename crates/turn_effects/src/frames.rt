@@ -7,21 +7,22 @@ ghost use Rattle.turn_rules.specs.Effects.{sent_by};
 ghost use Rattle.turn_rules.specs.Works.{post_of, posts_of};
 
 use crate::address::address_of;
-use edge_io::EdgeRefusal;
+use edge_io::{EdgeRefusal, Outside};
+use ring_points::FRAME_LIMIT;
 use fabric_terms::{FabricConfig, Message};
-use outside::Outside;
-use ring_wire::{FRAME_LIMIT, encode};
-use turn_rules::Stop;
+use ring_wire::encode;
+use turn_rules::StopCause;
 
 /// Sends bytes to an address, where the links do not fail.
-fn try_send<O: Outside>(outside: &mut O, actor: u16, at: &str, bytes: &[u8]) -> Result<(), Stop>
+fn try_send<O: Outside>(outside: &mut O, actor: u16, at: &str, bytes: &[u8]) -> Result<(), StopCause>
     requires { IsListening actor (O.told outside.old).opened }
-    ensures { SendsAll (record { from = actor; to = at.now; bytes = bytes.now } ∷ []) (O.told outside.old) (O.told outside.new) result }
+    ensures { SendsAll (record { from = actor; to = at.now; bytes = bytes.now } ∷ []) (O.told outside.old)
+        (O.told outside.new) result }
 {
     match outside.send(actor, at, bytes) {
         Ok(()) => Ok(()),
         Err(EdgeRefusal::Failed) => Ok(()),
-        Err(EdgeRefusal::OutOfMemory) => Err(Stop::OutOfMemory),
+        Err(EdgeRefusal::OutOfMemory) => Err(StopCause::OutOfMemory),
     }
 }
 
@@ -32,10 +33,11 @@ fn send_one<O: Outside>(
     actor: u16,
     frame: &Message,
     buffer: &mut [u8; FRAME_LIMIT],
-) -> Result<(), Stop>
+) -> Result<(), StopCause>
     requires listens { IsListening actor (O.told outside.old).opened }
     requires sound { IsTrue (is_sound frame.now) }
-    ensures { SendsAll (map (sent_by actor) (post_of config.now frame.now)) (O.told outside.old) (O.told outside.new) result }
+    ensures { SendsAll (map (sent_by actor) (post_of config.now frame.now)) (O.told outside.old) (O.told outside.new)
+        result }
 {
     match address_of(config, frame.to.actor) {
         None => Ok(()),
@@ -52,10 +54,11 @@ pub(crate) fn send_all<O: Outside>(
     config: &FabricConfig,
     actor: u16,
     frames: &[Message],
-) -> Result<(), Stop>
+) -> Result<(), StopCause>
     requires listens { IsListening actor (O.told outside.old).opened }
     requires sound { All (λ m. IsTrue (is_sound m)) frames.now }
-    ensures { SendsAll (map (sent_by actor) (posts_of config.now frames.now)) (O.told outside.old) (O.told outside.new) result }
+    ensures { SendsAll (map (sent_by actor) (posts_of config.now frames.now)) (O.told outside.old) (O.told outside.new)
+        result }
 {
     let mut buffer = [0u8; FRAME_LIMIT];
     for frame in frames {

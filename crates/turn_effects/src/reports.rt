@@ -3,21 +3,20 @@ ghost use Rattle.std.specs.Prelude.{◌≡◌, IfOk};
 ghost use Rattle.turn_effects.specs.Carried.{WritesAll};
 ghost use Rattle.line_format.specs.Reports.{lines_of_reports};
 
-use edge_io::EdgeRefusal;
+use edge_io::{EdgeRefusal, Outside};
 use fabric_terms::{Head, OutOfMemory, Report};
-use outside::Outside;
 use report_lines::print_report;
 use std::alloc::Global;
-use turn_rules::Stop;
+use turn_rules::StopCause;
 
 /// Writes text.
-pub fn write_lines<O: Outside>(outside: &mut O, text: &[u8]) -> Result<(), Stop>
+pub fn write_lines<O: Outside>(outside: &mut O, text: &[u8]) -> Result<(), StopCause>
     ensures { WritesAll text.now (O.told outside.old) (O.told outside.new) result }
 {
     match outside.write_all(text) {
         Ok(()) => Ok(()),
-        Err(EdgeRefusal::Failed) => Err(Stop::WriteFault),
-        Err(EdgeRefusal::OutOfMemory) => Err(Stop::OutOfMemory),
+        Err(EdgeRefusal::Failed) => Err(StopCause::WriteFault),
+        Err(EdgeRefusal::OutOfMemory) => Err(StopCause::OutOfMemory),
     }
 }
 
@@ -38,11 +37,11 @@ pub(crate) fn write_reports<O: Outside>(
     alloc: Global,
     head: &Head,
     reports: &[Report],
-) -> Result<(), Stop>
+) -> Result<(), StopCause>
     ensures { WritesAll (lines_of_reports head.now reports.now) (O.told outside.old) (O.told outside.new) result }
 {
     match lines_of(alloc, head, reports) {
         Ok(text) => write_lines(outside, text.as_slice()),
-        Err(_) => Err(Stop::OutOfMemory),
+        Err(_) => Err(StopCause::OutOfMemory),
     }
 }

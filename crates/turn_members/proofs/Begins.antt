@@ -4,7 +4,7 @@ use Rattle.std.specs.Prelude.{Err, Ok, nat_lt}
 use Rattle.arbiter_core.specs.Arbiters.{Arbiter, entries, most_entries, restore_call, restored}
 use Rattle.arbiter_core.specs.declared.answer.ArbiterError.{ArbiterError}
 use Rattle.arbiter_core.specs.declared.answer.ArbiterError.TheVariants.{TableFull}
-use Rattle.fabric_above.specs.Fabric.{fabric}
+use Rattle.unit_rules.specs.Fabric.{fabric}
 use Rattle.fabric_terms.specs.declared.config.FabricConfig.{FabricConfig}
 use Rattle.fabric_terms.specs.declared.record.Record.{Record}
 use Rattle.fabric_terms.specs.declared.command.Command.{Command}

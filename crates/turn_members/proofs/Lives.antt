@@ -4,7 +4,7 @@ use Rattle.arbiter_core.specs.declared.answer.ArbiterError.{ArbiterError}
 use Rattle.std.specs.Prelude.{All, Err, IfOk, Ok, OnErr, Result, nat_lt}
 use Rattle.std.proofs.lemmas.Bool.Decides.{nat_tests}
 use Rattle.std.proofs.lemmas.List.Elements.{All-cons, All-head, All-nil, All-tail}
-use Rattle.fabric_above.specs.Fabric.{fabric}
+use Rattle.unit_rules.specs.Fabric.{fabric}
 use Rattle.fabric_terms.specs.Messages.{is_sound as is_sound_frame}
 use Rattle.fabric_terms.specs.Ranges.{IsNumber}
 use Rattle.fabric_terms.specs.Sent.{from_all}

@@ -2,7 +2,7 @@
 use Rattle.std.proofs.Common.{◌≡◌, ℕ, ◌+◌, Bool, true, false, List, [], ◌∷◌, ◌++◌, Option, None, Some, Ok, Err, refl, sym, ap, subst}
 use Rattle.std.specs.Prelude.{◌==◌, ◌||◌, if◌then◌else◌, map, not, ◌&&◌}
 use Rattle.std.specs.List.{list_any}
-use Rattle.fabric_above.specs.Fabric.{fabric}
+use Rattle.unit_rules.specs.Fabric.{fabric}
 use Rattle.fabric_lemmas.specs.Maps.{at}
 use Rattle.fabric_terms.specs.declared.command.Command.{Command}
 use Rattle.fabric_terms.specs.declared.command.Command.TheVariants as command
@@ -39,15 +39,15 @@ use Rattle.unit_rules.specs.Activations.{activate_answered, activate_received, r
 use Rattle.unit_rules.specs.Answers.{OnlyAnswers, names_commanded, resolve_commanded}
 use Rattle.unit_rules.specs.Copies.{adoption, copy_begun, entry_given, fetch_next, fetch_received, is_wanted, log_adopted, log_taken, nothing_adopted, own_adopted, piece_collected, piece_for, piece_received, sync_answered, sync_received, sync_taken}
 use Rattle.unit_rules.specs.Deeds.{Acted, Deed, Send, acted, records_of, refuse, still}
-use Rattle.unit_rules.specs.Leads.{confirmed_by, lead_of}
+use Rattle.unit_rules.specs.Progress.{confirmed_by, progress_of}
 use Rattle.unit_rules.specs.Loads.{Site, loads, site_of}
 use Rattle.unit_rules.specs.Promises.{promise_answered, promise_received, say_older}
-use Rattle.unit_rules.specs.Seats.{Lead, Seat, entry_at, last_of, seated}
+use Rattle.unit_rules.specs.ReplicaStates.{ReplicationProgress, ReplicaState, entry_at, last_of, replica_put}
 use Rattle.unit_rules.specs.Steps.{Failover, answer, at_found, at_standing, command_row, failover_step, fired, frame_row, manage}
 use Rattle.unit_rules.specs.Writes.{append_answered, append_received, append_to, appended_received, appended_to, committed, say_appended, write_answered, write_commanded, write_to}
 use Rattle.unit_rules.proofs.Answered.{names_only_answer, resolve_only_answers}
-use Rattle.unit_rules.specs.declared.lead.Peer.{Peer}
-use Rattle.unit_rules.specs.declared.lead.Taking.{Taking}
+use Rattle.unit_rules.specs.declared.progress.PeerProgress.{PeerProgress}
+use Rattle.unit_rules.specs.declared.progress.CatchUp.{CatchUp}
 use Rattle.unit_rules.specs.declared.reconfig.Kind.{Kind}
 use Rattle.unit_rules.specs.declared.reconfig.Kind.TheVariants.{Create, Swap, Heal, Lose}
 use Rattle.world_rules.specs.Nodes.{NodeState, above_if, comes_above, node_step}
@@ -71,7 +71,7 @@ older_own asker q e OutOfMemory = refl
 
 -- The rows of a replica.
 
-module _ (s : Seat) where
+module _ (s : ReplicaState) where
   promise_own : (from : Who) (e : Epoch) → Own (promise_received from e s).deeds
   unfolding promise_received
   promise_own from e = by (promise_call e s.replica)
@@ -89,31 +89,31 @@ module _ (s : Seat) where
       given None = refl
       given (Some entry) = refl
 
-      by : (b : Bool) → Own (let a : Acted Seat = if b then entry_given from e s (entry_at lsn s.replica.log) else still s in a).deeds
+      by : (b : Bool) → Own (let a : Acted ReplicaState = if b then entry_given from e s (entry_at lsn s.replica.log) else still s in a).deeds
       by true = given (entry_at lsn s.replica.log)
       by false = refl
 
   piece_own : (e : Epoch) (x : Entry) → Own (piece_received e x s).deeds
   unfolding piece_received
-  piece_own e x = go s.taking
+  piece_own e x = go s.catch_up
     where
-      adopted : (t : Taking) (r : Replica) (none : Bool) → Own (if none then nothing_adopted r.partition t else log_adopted r.partition t false)
+      adopted : (t : CatchUp) (r : Replica) (none : Bool) → Own (if none then nothing_adopted r.partition t else log_adopted r.partition t false)
       adopted t r true = refl
       adopted t r false = refl
 
-      on : (t : Taking) (r : Replica) (last : Bool) → Own (if last then adoption r.partition t false else fetch_next t r ∷ [])
+      on : (t : CatchUp) (r : Replica) (last : Bool) → Own (if last then adoption r.partition t false else fetch_next t r ∷ [])
       on t r true = adopted t r (t.last == 0)
       on t r false = refl
 
-      collected : (t : Taking) (o : Outcome Done) → Own (piece_collected t x s o).deeds
+      collected : (t : CatchUp) (o : Outcome Done) → Own (piece_collected t x s o).deeds
       collected t (Err why, r) = refl
       collected t (Ok d, r) = on t r (x.lsn == t.last)
 
-      by : (t : Taking) (b : Bool) → Own (let a : Acted Seat = if b then piece_collected t x s (adopt_call t.epoch x t.last s.replica) else still s in a).deeds
+      by : (t : CatchUp) (b : Bool) → Own (let a : Acted ReplicaState = if b then piece_collected t x s (adopt_call t.epoch x t.last s.replica) else still s in a).deeds
       by t true = collected t (adopt_call t.epoch x t.last s.replica)
       by t false = refl
 
-      go : (o : Option Taking) → Own (piece_for e x s o).deeds
+      go : (o : Option CatchUp) → Own (piece_for e x s o).deeds
       go None = refl
       go (Some t) = by t (is_wanted t e x.lsn s.replica)
 
@@ -121,7 +121,7 @@ module _ (s : Seat) where
   unfolding activate_received
   activate_own me from config = go (activate_call me config s.replica)
     where
-      takes : (b : Bool) (role : Role) (r : Replica) → Own (let a : Acted Seat = if b then acted s (say_activated from config ∷ []) else role_begun me from config s r role in a).deeds
+      takes : (b : Bool) (role : Role) (r : Replica) → Own (let a : Acted ReplicaState = if b then acted s (say_activated from config ∷ []) else role_begun me from config s r role in a).deeds
       takes true role r = refl
       takes false NoRole r = refl
       takes false IdleSecondary r = refl
@@ -136,7 +136,7 @@ module _ (s : Seat) where
   unfolding append_received
   append_own from e lsn text = go (append_call e lsn text s.replica)
     where
-      gap : (b : Bool) (r : Replica) → Own (let a : Acted Seat = if b then acted s (say_appended from e r ∷ []) else still s in a).deeds
+      gap : (b : Bool) (r : Replica) → Own (let a : Acted ReplicaState = if b then acted s (say_appended from e r ∷ []) else still s in a).deeds
       gap true r = refl
       gap false r = refl
 
@@ -151,25 +151,25 @@ module _ (s : Seat) where
 
   appended_own : (node : ℕ) (e : Epoch) (last : ℕ) → Own (appended_received node e last s).deeds
   unfolding appended_received
-  appended_own node e last = go (lead_of s)
+  appended_own node e last = go (progress_of s)
     where
-      by : (l : Lead) (b : Bool) → Own (let a : Acted Seat = if b then committed l s else still s in a).deeds
+      by : (l : ReplicationProgress) (b : Bool) → Own (let a : Acted ReplicaState = if b then committed l s else still s in a).deeds
       by l true = silent_own (committed l s).deeds (committed_noted l s).silent
       by l false = refl
 
-      go : (o : Option Lead) → Own (appended_to node e last s o).deeds
+      go : (o : Option ReplicationProgress) → Own (appended_to node e last s o).deeds
       go None = refl
       go (Some l) = by (confirmed_by node last (last_of s.replica) l) (same_epoch s.replica.at e)
 
   write_own : (text : List ℕ) → Own (write_commanded text s).deeds
   unfolding write_commanded
-  write_own text = go (lead_of s)
+  write_own text = go (progress_of s)
     where
-      sent : (l : Lead) (r : Replica) (peers : List Peer) → Own (map (append_to r.at r (last_of r) text) peers ++ (committed l (seated s r)).deeds)
-      sent l r [] = silent_own (committed l (seated s r)).deeds (committed_noted l (seated s r)).silent
+      sent : (l : ReplicationProgress) (r : Replica) (peers : List PeerProgress) → Own (map (append_to r.at r (last_of r) text) peers ++ (committed l (replica_put s r)).deeds)
+      sent l r [] = silent_own (committed l (replica_put s r)).deeds (committed_noted l (replica_put s r)).silent
       sent l r (p ∷ ps) = sent l r ps
 
-      by : (l : Lead) (o : Outcome Done) → Own (write_answered text l s o).deeds
+      by : (l : ReplicationProgress) (o : Outcome Done) → Own (write_answered text l s o).deeds
       by l (Err (Older x), r) = refl
       by l (Err NotMember, r) = refl
       by l (Err (Gap last), r) = refl
@@ -177,18 +177,18 @@ module _ (s : Seat) where
       by l (Err OutOfMemory, r) = refl
       by l (Ok d, r) = sent l r l.peers
 
-      go : (o : Option Lead) → Own (write_to text s o).deeds
+      go : (o : Option ReplicationProgress) → Own (write_to text s o).deeds
       go None = refl
       go (Some l) = by l (append_call s.replica.at (last_of s.replica + 1) text s.replica)
 
 -- an answer about names records nothing
-answer_own : (s : Seat) (a : Acted Seat) → OnlyAnswers s a → Own a.deeds
-answer_own s a h = subst (λ (b : Acted Seat). Own b.deeds) (sym h.is) refl
+answer_own : (s : ReplicaState) (a : Acted ReplicaState) → OnlyAnswers s a → Own a.deeds
+answer_own s a h = subst (λ (b : Acted ReplicaState). Own b.deeds) (sym h.is) refl
 
 -- a Sync, by what the promise answers
 
-module _ (me : ℕ) (t : Taking) where
-  log_own : (s : Seat) → Own (log_taken me t s).deeds
+module _ (me : ℕ) (t : CatchUp) where
+  log_own : (s : ReplicaState) → Own (log_taken me t s).deeds
   log_own s = go (t.last == 0 || t.origin == me)
     where
       adopted : (r : Replica) (none : Bool) → Own (if none then nothing_adopted r.partition t else log_adopted r.partition t true)
@@ -199,36 +199,36 @@ module _ (me : ℕ) (t : Taking) where
       by (Err why, r) = refl
       by (Ok d, r) = adopted r (t.last == 0)
 
-      go : (b : Bool) → Own (let a : Acted Seat = if b then own_adopted t s (adopt_own_call t.epoch t.last s.replica) else acted s (fetch_next t s.replica ∷ []) in a).deeds
+      go : (b : Bool) → Own (let a : Acted ReplicaState = if b then own_adopted t s (adopt_own_call t.epoch t.last s.replica) else acted s (fetch_next t s.replica ∷ []) in a).deeds
       go true = by (adopt_own_call t.epoch t.last s.replica)
       go false = refl
 
-  taken_own : (s : Seat) → Own (sync_taken me t s).deeds
+  taken_own : (s : ReplicaState) → Own (sync_taken me t s).deeds
   taken_own s = go (same_epoch s.replica.at t.epoch)
     where
       said : Deed
       said = Send t.asker (body.Adopted s.replica.partition t.epoch (last_of s.replica))
 
-      go : (b : Bool) → Own (let a : Acted Seat = if b then acted s (said ∷ []) else copy_begun me t s in a).deeds
+      go : (b : Bool) → Own (let a : Acted ReplicaState = if b then acted s (said ∷ []) else copy_begun me t s in a).deeds
       go true = refl
-      go false = log_own (record s { replica = (idle_call t.epoch s.replica).1; taking = Some t })
+      go false = log_own (record s { replica = (idle_call t.epoch s.replica).1; catch_up = Some t })
 
-  sync_own : (s : Seat) → Own (sync_received me t s).deeds
+  sync_own : (s : ReplicaState) → Own (sync_received me t s).deeds
   unfolding sync_received
   sync_own s = go (promise_call t.epoch s.replica)
     where
       go : (o : Outcome Done) → Own (sync_answered me t s o).deeds
       go (Err why, r) = older_own t.asker r.partition t.epoch why
-      go (Ok New, r) = taken_own (seated s r)
-      go (Ok Held, r) = taken_own (seated s r)
+      go (Ok New, r) = taken_own (replica_put s r)
+      go (Ok Held, r) = taken_own (replica_put s r)
 
 -- The rows of a node.
 
 module _ (c : Site) (now : ℕ) (r : Ring) (s : Failover) where
-  standing_own : (q : ℕ) (row : Seat → Acted Seat) (none : Acted Failover) → Own none.deeds → ((t : Seat) → Own (row t).deeds) → Own (at_standing q row none s).deeds
-  standing_own q row none otherwise each = go (at q s.seats)
+  standing_own : (q : ℕ) (row : ReplicaState → Acted ReplicaState) (none : Acted Failover) → Own none.deeds → ((t : ReplicaState) → Own (row t).deeds) → Own (at_standing q row none s).deeds
+  standing_own q row none otherwise each = go (at q s.states)
     where
-      go : (o : Option Seat) → Own (at_found q row none s o).deeds
+      go : (o : Option ReplicaState) → Own (at_found q row none s o).deeds
       go None = otherwise
       go (Some t) = each t
 

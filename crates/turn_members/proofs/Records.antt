@@ -5,7 +5,7 @@ use Rattle.std.specs.List.{list_any}
 use Rattle.std.proofs.lemmas.Bool.{and_from, and_parts, ltb-false, not-true, or_parts}
 use Rattle.std.proofs.lemmas.Bool.Decides.{nat_tests}
 use Rattle.std.proofs.lemmas.List.Elements.{All-cons, All-head, All-nil, All-tail}
-use Rattle.fabric_above.specs.Fabric.{fabric}
+use Rattle.unit_rules.specs.Fabric.{fabric}
 use Rattle.fabric_fit.specs.Records.{KeptRecord}
 use Rattle.fabric_terms.specs.Fields.{is_config, is_round, is_unit, is_who}
 use Rattle.fabric_terms.specs.Messages.{is_sound as is_sound_frame, is_sound_body}

@@ -5,7 +5,7 @@ use Rattle.std.specs.Option.{option_to_list}
 use Rattle.arbiter_core.specs.Arbiters.{Arbiter, Outcome, frame_call, is_full_for, taken}
 use Rattle.arbiter_core.specs.declared.answer.Answer.{Answer}
 use Rattle.arbiter_core.specs.declared.answer.Answer.TheVariants.{Reply, Nothing}
-use Rattle.fabric_above.specs.Fabric.{fabric}
+use Rattle.unit_rules.specs.Fabric.{fabric}
 use Rattle.fabric_terms.specs.declared.config.FabricConfig.{FabricConfig}
 use Rattle.fabric_terms.specs.declared.message.Body.{Body}
 use Rattle.fabric_terms.specs.declared.message.Body.TheVariants as body

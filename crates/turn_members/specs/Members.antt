@@ -2,7 +2,7 @@
 use Rattle.std.specs.Prelude.{◌≡◌, ℕ, true, false, List, [], All, IsTrue}
 use Rattle.arbiter_core.specs.Arbiters.{Arbiter as ArbiterCore}
 use Rattle.arbiter_tables.specs.Registers.{are_placed}
-use Rattle.fabric_above.specs.Fabric.{fabric}
+use Rattle.unit_rules.specs.Fabric.{fabric}
 use Rattle.fabric_terms.specs.Messages.{is_sound as is_sound_frame}
 use Rattle.fabric_terms.specs.Sent.{from_all}
 use Rattle.fabric_terms.specs.Sound.{IsSound}

@@ -9,12 +9,11 @@ ghost use Rattle.ring_points.specs.Whos.{arbiter_actor};
 use crate::answer::Room;
 use crate::deed::Deed;
 use arbiter_core::{Arbiter, ArbiterError};
-use drift_clock::MAX_READING;
+use ring_points::{MAX_READING, Who};
 use fabric_terms::{Head, Message, OutOfMemory, Why};
 use join_phases::Phase;
 use node_core::{Batch, NodeCore, Outcome};
 use ring_node::Input;
-use ring_points::Who;
 use std::alloc::Global;
 
 /// An actor that runs.
@@ -53,7 +52,8 @@ pub(crate) fn node_head(turn: u64, who: Who, now: u64) -> Head
 
 /// The head of an arbitrator's reports.
 pub(crate) fn arbiter_head(turn: u64, actor: u16) -> Head
-    ensures { result ≡ record { line = turn; time = None; who = record { actor = actor; instance = 0 }; reading = None } }
+    ensures { result ≡ record { line = turn; time = None; who = record { actor = actor; instance = 0 };
+        reading = None } }
 {
     Head {
         line: turn,
@@ -68,7 +68,8 @@ pub(crate) fn arbiter_head(turn: u64, actor: u16) -> Head
 fn node_step(core: &mut NodeCore, turn: u64, now: u64, input: &Input) -> Result<Deed, OutOfMemory>
     requires now { now ≤ MAX_READING }
     requires input { FitsInput input.now }
-    ensures does { IfOk result (λ deed. (c : Configuration) (last : Option ℕ) → GoesBy c core.old → present last ≡ now → Does (stepped c turn last input.now (Node core.old.state)) (Node core.new.state) deed) }
+    ensures does { IfOk result (λ deed. (c : Configuration) (last : Option ℕ) → GoesBy c core.old → present last ≡ now →
+        Does (stepped c turn last input.now (Node core.old.state)) (Node core.new.state) deed) }
     ensures goes_by { (c : Configuration) → GoesBy c core.old → GoesBy c core.new }
     ensures refused { OnErr result (core.new ≡ core.old) }
 {
@@ -87,8 +88,12 @@ fn arbiter_hear(
 ) -> Result<Deed, ArbiterError>
     requires named { actor ≡ arbiter_actor arbiter.old.number }
     requires room { exceeds (Arbitrator arbiter.old.number (state_of arbiter.old)) ≡ false }
-    ensures does { IfOk result (λ deed. (c : Configuration) (last : Option ℕ) → Does (stepped c turn last (Input.Frame message.now) (Arbitrator arbiter.old.number (state_of arbiter.old))) (Arbitrator arbiter.new.number (state_of arbiter.new)) deed) }
-    ensures full { IsErrOf result ArbiterError.TableFull → (c : Configuration) (last : Option ℕ) → exceeds (stepped c turn last (Input.Frame message.now) (Arbitrator arbiter.old.number (state_of arbiter.old))).member ≡ true }
+    ensures does { IfOk result (λ deed. (c : Configuration) (last : Option ℕ) →
+        Does (stepped c turn last (Input.Frame message.now) (Arbitrator arbiter.old.number (state_of arbiter.old)))
+        (Arbitrator arbiter.new.number (state_of arbiter.new)) deed) }
+    ensures full { IsErrOf result ArbiterError.TableFull → (c : Configuration) (last : Option ℕ) →
+        exceeds (stepped c turn last (Input.Frame message.now)
+        (Arbitrator arbiter.old.number (state_of arbiter.old))).member ≡ true }
     ensures number { (c : Configuration) → arbiter.new.number ≡ arbiter.old.number }
     ensures refused { OnErr result (arbiter.new ≡ arbiter.old) }
 {
@@ -101,7 +106,8 @@ fn arbiter_hear(
 
 /// An arbitrator does nothing but hear.
 fn arbiter_idle(actor: u16, alloc: Global, turn: u64) -> Deed
-    ensures head { result.head ≡ record { line = turn; time = None; who = record { actor = actor; instance = 0 }; reading = None } }
+    ensures head { result.head ≡ record { line = turn; time = None; who = record { actor = actor; instance = 0 };
+        reading = None } }
     ensures records { result.outcome.records ≡ [] }
     ensures frames { result.outcome.frames ≡ [] }
     ensures reports { result.outcome.reports ≡ [] }
@@ -122,8 +128,11 @@ fn arbiter_step(
 ) -> Result<Deed, ArbiterError>
     requires named { actor ≡ arbiter_actor arbiter.old.number }
     requires room { exceeds (Arbitrator arbiter.old.number (state_of arbiter.old)) ≡ false }
-    ensures does { IfOk result (λ deed. (c : Configuration) (last : Option ℕ) → Does (stepped c turn last input.now (Arbitrator arbiter.old.number (state_of arbiter.old))) (Arbitrator arbiter.new.number (state_of arbiter.new)) deed) }
-    ensures full { IsErrOf result ArbiterError.TableFull → (c : Configuration) (last : Option ℕ) → exceeds (stepped c turn last input.now (Arbitrator arbiter.old.number (state_of arbiter.old))).member ≡ true }
+    ensures does { IfOk result (λ deed. (c : Configuration) (last : Option ℕ) →
+        Does (stepped c turn last input.now (Arbitrator arbiter.old.number (state_of arbiter.old)))
+        (Arbitrator arbiter.new.number (state_of arbiter.new)) deed) }
+    ensures full { IsErrOf result ArbiterError.TableFull → (c : Configuration) (last : Option ℕ) →
+        exceeds (stepped c turn last input.now (Arbitrator arbiter.old.number (state_of arbiter.old))).member ≡ true }
     ensures number { (c : Configuration) → arbiter.new.number ≡ arbiter.old.number }
     ensures refused { OnErr result (arbiter.new ≡ arbiter.old) }
 {
@@ -147,9 +156,11 @@ impl Member {
         requires input { FitsInput input.now }
         requires goes_on { (c : Configuration) × GoesOn c self.old }
         requires room { exceeds (seen self.old) ≡ false }
-        ensures does { IfOk result (λ deed. (c : Configuration) (last : Option ℕ) → GoesOn c self.old → present last ≡ now → Does (stepped c turn last input.now (seen self.old)) (seen self.new) deed) }
+        ensures does { IfOk result (λ deed. (c : Configuration) (last : Option ℕ) → GoesOn c self.old →
+            present last ≡ now → Does (stepped c turn last input.now (seen self.old)) (seen self.new) deed) }
         ensures goes_on { (c : Configuration) → GoesOn c self.old → GoesOn c self.new }
-        ensures full { IsErrOf result ArbiterError.TableFull → (c : Configuration) (last : Option ℕ) → exceeds (stepped c turn last input.now (seen self.old)).member ≡ true }
+        ensures full { IsErrOf result ArbiterError.TableFull → (c : Configuration) (last : Option ℕ) →
+            exceeds (stepped c turn last input.now (seen self.old)).member ≡ true }
         ensures refused { OnErr result (self.new ≡ self.old) }
     {
         match self {
@@ -161,8 +172,8 @@ impl Member {
         }
     }
 
-    /// The actor's step when this comes in this turn, at this reading of the clock, in ticks. `TableFull` comes exactly where
-    /// an arbitrator would make its 1,000,001st entry. Where a step is refused, nothing is changed.
+    /// The actor's step when this comes in this turn, at this reading of the clock, in ticks. `TableFull` comes exactly
+    /// where an arbitrator would make its 1,000,001st entry. Where a step is refused, nothing is changed.
     pub fn step(
         &mut self,
         alloc: Global,
@@ -173,10 +184,13 @@ impl Member {
         requires now { now ≤ MAX_READING }
         requires input { FitsInput input.now }
         requires runs { (c : Configuration) × (actor : ℕ) × IsOf c actor self.old }
-        ensures does { IfOk result (λ deed. (c : Configuration) (last : Option ℕ) → GoesOn c self.old → present last ≡ now → Does (stepped c turn last input.now (seen self.old)) (seen self.new) deed) }
-        ensures deed { IfOk result (λ deed. (c : Configuration) (actor : ℕ) → IsOf c actor self.old → IsDeedOf actor deed) }
+        ensures does { IfOk result (λ deed. (c : Configuration) (last : Option ℕ) → GoesOn c self.old →
+            present last ≡ now → Does (stepped c turn last input.now (seen self.old)) (seen self.new) deed) }
+        ensures deed { IfOk result (λ deed. (c : Configuration) (actor : ℕ) → IsOf c actor self.old →
+            IsDeedOf actor deed) }
         ensures runs { (c : Configuration) (actor : ℕ) → IsOf c actor self.old → IsOf c actor self.new }
-        ensures full { IsErrOf result ArbiterError.TableFull → (c : Configuration) (last : Option ℕ) → exceeds (stepped c turn last input.now (seen self.old)).member ≡ true }
+        ensures full { IsErrOf result ArbiterError.TableFull → (c : Configuration) (last : Option ℕ) →
+            exceeds (stepped c turn last input.now (seen self.old)).member ≡ true }
         ensures refused { OnErr result (self.new ≡ self.old) }
     {
         self.act(alloc, turn, now, input)

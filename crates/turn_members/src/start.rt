@@ -12,17 +12,16 @@ ghost use Rattle.turn_members.specs.Members.{Does, GoesOn, IsDeedOf, IsKept, IsO
 ghost use Rattle.turn_rules.specs.Plans.{IsConfigured};
 ghost use Rattle.turn_rules.specs.Recalled.{AreOf};
 ghost use Rattle.turn_rules.specs.Steps.{begun, begun_as, exceeds, present};
-ghost use Rattle.unit_replica.specs.Starts.{seats_of};
+ghost use Rattle.unit_replica.specs.Starts.{states_of};
 ghost use Rattle.world_rules.specs.Schedules.{is_configured_node};
 
 use crate::deed::Deed;
 use crate::member::{Member, arbiter_head, node_head, nothing};
 use arbiter_core::{Arbiter, ArbiterError};
-use drift_clock::MAX_READING;
+use ring_points::{ARBITRATORS, MAX_READING};
 use fabric_terms::{FabricConfig, OutOfMemory};
 use keep_log::Kept;
 use node_core::NodeCore;
-use ring_points::ARBITRATORS;
 use std::alloc::Global;
 
 /// Starts a node.
@@ -37,8 +36,9 @@ fn begin_node(
     requires sound { IsSound config.now }
     requires node { is_configured_node config.now actor ≡ true }
     requires now { now ≤ MAX_READING }
-    requires replicas { IsTrue (rises (seats_of kept.replicas)) }
-    ensures does { IfOk result (λ r. (records : List Record) (last : Option ℕ) → Holds records kept → present last ≡ now → Does (begun_as config.now 0 last actor records false) (seen r.0) r.1) }
+    requires replicas { IsTrue (rises (states_of kept.replicas)) }
+    ensures does { IfOk result (λ r. (records : List Record) (last : Option ℕ) → Holds records kept →
+        present last ≡ now → Does (begun_as config.now 0 last actor records false) (seen r.0) r.1) }
     ensures goes_on { IfOk result (λ r. GoesOn config.now r.0) }
 {
     let (core, outcome) = NodeCore::start(alloc, config, actor, kept, now)?;
@@ -52,9 +52,12 @@ fn begin_arbiter(alloc: Global, actor: u16, kept: Kept) -> Result<(Member, Deed)
     requires arbiter { arbiter_actor 0 < actor }
     requires once { is_once no_table kept.arbiter ≡ true }
     requires placed { are_placed [] kept.arbiter ≡ true }
-    ensures does { IfOk result (λ r. (c : Configuration) (records : List Record) (last : Option ℕ) → AreOf true records → Holds records kept → Does (begun_as c 0 last actor records true) (seen r.0) r.1) }
+    ensures does { IfOk result (λ r. (c : Configuration) (records : List Record) (last : Option ℕ) →
+        AreOf true records → Holds records kept → Does (begun_as c 0 last actor records true) (seen r.0) r.1) }
     ensures goes_on { IfOk result (λ r. (c : Configuration) → GoesOn c r.0) }
-    ensures full { IsErrOf result ArbiterError.TableFull → (c : Configuration) (records : List Record) (last : Option ℕ) → AreOf true records → Holds records kept → exceeds (begun_as c 0 last actor records true).member ≡ true }
+    ensures full { IsErrOf result ArbiterError.TableFull →
+        (c : Configuration) (records : List Record) (last : Option ℕ) → AreOf true records → Holds records kept →
+        exceeds (begun_as c 0 last actor records true).member ≡ true }
 {
     let arbiter = Arbiter::restore(alloc, actor - ARBITRATORS, kept.arbiter.as_slice())?;
     let deed = Deed {
@@ -77,10 +80,12 @@ fn begin_any(
     requires now { now ≤ MAX_READING }
     requires once { is_once no_table kept.arbiter ≡ true }
     requires placed { are_placed [] kept.arbiter ≡ true }
-    requires replicas { IsTrue (rises (seats_of kept.replicas)) }
-    ensures does { IfOk result (λ r. (records : List Record) (last : Option ℕ) → IsKept actor records kept → present last ≡ now → Does (begun config.now 0 last actor records) (seen r.0) r.1) }
+    requires replicas { IsTrue (rises (states_of kept.replicas)) }
+    ensures does { IfOk result (λ r. (records : List Record) (last : Option ℕ) → IsKept actor records kept →
+        present last ≡ now → Does (begun config.now 0 last actor records) (seen r.0) r.1) }
     ensures goes_on { IfOk result (λ r. GoesOn config.now r.0) }
-    ensures full { IsErrOf result ArbiterError.TableFull → (records : List Record) (last : Option ℕ) → IsKept actor records kept → exceeds (begun config.now 0 last actor records).member ≡ true }
+    ensures full { IsErrOf result ArbiterError.TableFull → (records : List Record) (last : Option ℕ) →
+        IsKept actor records kept → exceeds (begun config.now 0 last actor records).member ≡ true }
 {
     if actor > ARBITRATORS {
         begin_arbiter(alloc, actor, kept)
@@ -93,8 +98,8 @@ fn begin_any(
 }
 
 impl Member {
-    /// Starts an actor from what is kept of it, at this reading of the clock, in ticks; for an arbitrator the reading does
-    /// not matter. `TableFull` comes exactly where an arbitrator's records make more than 1,000,000 entries.
+    /// Starts an actor from what is kept of it, at this reading of the clock, in ticks; for an arbitrator the reading
+    /// does not matter. `TableFull` comes exactly where an arbitrator's records make more than 1,000,000 entries.
     pub fn begin(
         alloc: Global,
         config: &FabricConfig,
@@ -106,10 +111,12 @@ impl Member {
         requires configured { IsConfigured config.now actor }
         requires now { now ≤ MAX_READING }
         requires kept { (records : List Record) × IsKept actor records kept }
-        ensures does { IfOk result (λ r. (records : List Record) (last : Option ℕ) → IsKept actor records kept → present last ≡ now → Does (begun config.now 0 last actor records) (seen r.0) r.1) }
+        ensures does { IfOk result (λ r. (records : List Record) (last : Option ℕ) → IsKept actor records kept →
+            present last ≡ now → Does (begun config.now 0 last actor records) (seen r.0) r.1) }
         ensures deed { IfOk result (λ r. IsDeedOf actor r.1) }
         ensures runs { IfOk result (λ r. IsOf config.now actor r.0) }
-        ensures full { IsErrOf result ArbiterError.TableFull → (records : List Record) (last : Option ℕ) → IsKept actor records kept → exceeds (begun config.now 0 last actor records).member ≡ true }
+        ensures full { IsErrOf result ArbiterError.TableFull → (records : List Record) (last : Option ℕ) →
+            IsKept actor records kept → exceeds (begun config.now 0 last actor records).member ≡ true }
     {
         begin_any(alloc, config, actor, kept, now)
     }

@@ -9,7 +9,7 @@ use Rattle.line_format.specs.Lines.{lines_of}
 use Rattle.source_lines.specs.Feeds.{HasNoFeed}
 use Rattle.source_lines.specs.Lines.{most_line}
 use Rattle.source_lines.specs.Reading.{BeginsLonger, Reading, TakesOf}
-use Rattle.source_lines.specs.declared.taken.Taken.TheVariants.{Line, TooLong, End}
+use Rattle.source_lines.specs.declared.next_line.NextLine.TheVariants.{Line, TooLong, End}
 use Rattle.source_lines.proofs.Feeds.{behind_none}
 use Rattle.turn_rules.specs.declared.order.Order.{Order}
 use Rattle.turn_plans.specs.Reading.{AreJudged, IsAtEnd}

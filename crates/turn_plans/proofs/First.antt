@@ -11,7 +11,7 @@ use Rattle.line_format.specs.Lines.{lines_of}
 use Rattle.source_lines.specs.Feeds.{HasNoFeed}
 use Rattle.source_lines.specs.Lines.{most_first_line}
 use Rattle.source_lines.specs.Reading.{BeginsLonger, Reading, TakesOf}
-use Rattle.source_lines.specs.declared.taken.Taken.TheVariants.{Line, TooLong, End}
+use Rattle.source_lines.specs.declared.next_line.NextLine.TheVariants.{Line, TooLong, End}
 use Rattle.source_lines.proofs.Feeds.{line_and_feed}
 use Rattle.turn_rules.specs.Plans.{Plan}
 use Rattle.turn_plans.specs.Plans.{Judges, config_for, judge_first, judge_lines, judge_plan, judge_rest, plan_of}

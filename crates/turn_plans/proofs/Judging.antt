@@ -9,10 +9,10 @@ use Rattle.fabric_terms.specs.declared.config.FabricConfig.{FabricConfig}
 use Rattle.source_lines.specs.Lines.{most_line, most_lines}
 use Rattle.turn_rules.specs.declared.order.Order.{Order}
 use Rattle.turn_plans.specs.Plans.{judge_from}
-use Rattle.turn_plans.specs.Verdicts.{line_verdict, unless_large}
+use Rattle.turn_plans.specs.PlanVerdicts.{line_verdict, unless_large}
 use Rattle.turn_plans.specs.declared.crew.Crew.{Crew}
-use Rattle.turn_plans.specs.declared.verdict.Verdict.{Verdict}
-use Rattle.turn_plans.specs.declared.verdict.Verdict.TheVariants.{Ignored, Ordered, Refused}
+use Rattle.turn_plans.specs.declared.plan_verdict.PlanVerdict.{PlanVerdict}
+use Rattle.turn_plans.specs.declared.plan_verdict.PlanVerdict.TheVariants.{Ignored, Ordered, Refused}
 
 -- what lines are judged for
 pub record Given : Type 0 where
@@ -24,10 +24,10 @@ pub record Given : Type 0 where
 abbrev pub judge : Given → List Order → ℕ → ℕ → List (List ℕ) → Result (List Order) Refusal
 judge g = judge_from g.crew g.config g.actors g.turns
 
-abbrev pub verdict : Given → ℕ → ℕ → List ℕ → Verdict
+abbrev pub verdict : Given → ℕ → ℕ → List ℕ → PlanVerdict
 verdict g = line_verdict g.crew g.config g.actors g.turns
 
-abbrev pub judge_on : Given → List Order → ℕ → ℕ → List (List ℕ) → Verdict → Result (List Order) Refusal
+abbrev pub judge_on : Given → List Order → ℕ → ℕ → List (List ℕ) → PlanVerdict → Result (List Order) Refusal
 judge_on g orders least n ls Ignored = judge g orders least (n + 1) ls
 judge_on g orders least n ls (Ordered o) = judge g (orders ++ o ∷ []) o.turn (n + 1) ls
 judge_on g orders least n ls (Refused refusal) = Err refusal
@@ -35,13 +35,13 @@ judge_on g orders least n ls (Refused refusal) = Err refusal
 pub judge_line : (g : Given) (orders : List Order) (least n : ℕ) (l : List ℕ) (ls : List (List ℕ)) → judge g orders least n (l ∷ ls) ≡ judge_on g orders least n ls (verdict g least n l)
 judge_line g orders least n l ls = by_verdict (verdict g least n l)
   where
-    by_verdict : (v : Verdict) → (elim v [ Ignored ↦ judge g orders least (n + 1) ls | Ordered o ↦ judge g (orders ++ o ∷ []) o.turn (n + 1) ls | Refused refusal ↦ Err refusal ]) ≡ judge_on g orders least n ls v
+    by_verdict : (v : PlanVerdict) → (elim v [ Ignored ↦ judge g orders least (n + 1) ls | Ordered o ↦ judge g (orders ++ o ∷ []) o.turn (n + 1) ls | Refused refusal ↦ Err refusal ]) ≡ judge_on g orders least n ls v
     by_verdict Ignored = refl
     by_verdict (Ordered o) = refl
     by_verdict (Refused refusal) = refl
 
 -- a line with this verdict
-pub judged_so : (g : Given) (orders : List Order) (least n : ℕ) (l : List ℕ) (ls : List (List ℕ)) (v : Verdict) → verdict g least n l ≡ v → judge g orders least n (l ∷ ls) ≡ judge_on g orders least n ls v
+pub judged_so : (g : Given) (orders : List Order) (least n : ℕ) (l : List ℕ) (ls : List (List ℕ)) (v : PlanVerdict) → verdict g least n l ≡ v → judge g orders least n (l ∷ ls) ≡ judge_on g orders least n ls v
 judged_so g orders least n l ls v is = judge_line g orders least n l ls ∙ ap (judge_on g orders least n ls) is
 
 large : (g : Given) (least n : ℕ) (l : List ℕ) → most_line < length l → verdict g least n l ≡ Refused (TooLarge n)
@@ -55,7 +55,7 @@ pub long_line : (g : Given) (orders : List Order) (least n : ℕ) (l : List ℕ)
 long_line g orders least n l ls long = judged_so g orders least n l ls (Refused (TooLarge n)) (large g least n l long)
 
 -- a line that is not refused is one of those that there may be
-pub within : (g : Given) (least n : ℕ) (l : List ℕ) (v : Verdict) → verdict g least n l ≡ v → ((refusal : Refusal) → v ≡ Refused refusal → ⊥) → n ≤ most_lines
+pub within : (g : Given) (least n : ℕ) (l : List ℕ) (v : PlanVerdict) → verdict g least n l ≡ v → ((refusal : Refusal) → v ≡ Refused refusal → ⊥) → n ≤ most_lines
 unfolding line_verdict
 within g least n l v is good = by_tests (nat_lt most_line (length l)) (nat_lt most_lines n) refl is
   where

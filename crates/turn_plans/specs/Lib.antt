@@ -1,5 +1,5 @@
 pub mod Crews
 pub mod Bids
-pub mod Verdicts
+pub mod PlanVerdicts
 pub mod Plans
 pub mod Reading

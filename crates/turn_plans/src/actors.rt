@@ -4,13 +4,10 @@ ghost use Rattle.turn_plans.specs.Crews.{arbiter_at, arbiters_to, endpoints_of, 
 
 use crate::crew::Crew;
 use edge_io::{Endpoint, SocketAddress};
+use ring_points::{ARBITRATORS, MAX_ARBITRATORS, MAX_NODE_NUMBER};
 use fabric_terms::{FabricConfig, OutOfMemory};
-use ring_points::{ARBITRATORS, LAST_NODE};
 use std::alloc::Global;
 use turn_rules::{arbiter_address, node_address};
-
-/// The greatest number of an arbitrator.
-const LAST_ARBITER: u16 = 9;
 
 /// Adds an actor, and where it listens.
 fn push_endpoint(
@@ -79,7 +76,7 @@ fn push_nodes(
 ) -> Result<(), OutOfMemory>
     ensures { OnOk result (into.new.items ≡ into.old.items ++ nodes_to config.now 999) }
 {
-    for number in 0..LAST_NODE {
+    for number in 0..MAX_NODE_NUMBER {
         push_node(alloc, config, number + 1, into)?;
     }
     Ok(())
@@ -93,7 +90,7 @@ fn push_arbiters(
 ) -> Result<(), OutOfMemory>
     ensures { OnOk result (into.new.items ≡ into.old.items ++ arbiters_to config.now 9) }
 {
-    for number in 0..LAST_ARBITER {
+    for number in 0..MAX_ARBITRATORS as u16 {
         push_arbiter(alloc, config, number + 1, into)?;
     }
     Ok(())

@@ -1,4 +1,3 @@
-// The lines of a source: which node is commanded what, in which turn.
 ghost use Rattle.std.specs.Prelude.{IfOk};
 ghost use Rattle.fabric_terms.specs.Ranges.{FitsCommand};
 ghost use Rattle.line_format.specs.Commands.{command_of};

@@ -2,7 +2,7 @@ ghost use Rattle.std.specs.Prelude.{◌≡◌};
 ghost use Rattle.turn_plans.specs.Crews.{is_configured_arbitrator, is_crew};
 
 use fabric_terms::FabricConfig;
-use source_commands::is_configured_node;
+use world_rules::is_configured_node;
 
 /// Whose turns a command takes: those of one node, of one arbitrator, or of every configured actor.
 #[derive(Clone, Copy, Debug, PartialEq, Eq)]

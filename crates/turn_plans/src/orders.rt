@@ -1,4 +1,3 @@
-// The lines behind the configuration.
 ghost use Rattle.std.specs.Prelude.{[], All, IfOk, OnOk, ℕ, List, ◌∷◌, ◌+◌};
 ghost use Rattle.edge_io.specs.Edge.{HasCauseOf};
 ghost use Rattle.fabric_terms.specs.Ranges.{FitsCommand};
@@ -7,16 +6,16 @@ ghost use Rattle.turn_plans.specs.Reading.{AreJudged, Reads, TakesLine};
 
 use crate::crew::Crew;
 use crate::error::PlanError;
-use crate::verdict::{Verdict, line_verdict};
+use crate::plan_verdict::{PlanVerdict, line_verdict};
 use edge_io::{Endpoint, Source};
 use fabric_status::Refusal;
 use fabric_terms::{FabricConfig, OutOfMemory};
-use source_lines::{LineReader, MOST_LINE, Taken};
+use source_lines::{LineReader, MAX_LINE, NextLine};
 use std::alloc::Global;
 use turn_rules::Order;
 
-/// Takes the line of this number behind the commands of the lines before. Gives how it is refused, if it is. No turn is below
-/// `least`.
+/// Takes the line of this number behind the commands of the lines before. Gives how it is refused, if it is. No turn is
+/// below `least`.
 fn take_line(
     crew: Crew,
     config: &FabricConfig,
@@ -28,19 +27,22 @@ fn take_line(
     orders: &mut Vec<Order>,
 ) -> Result<Option<Refusal>, OutOfMemory>
     requires { All (λ o. FitsCommand o.command) orders.old.items }
-    ensures judged { (ls : List (List ℕ)) → IfOk result (λ refused. TakesLine number (judge_from crew config.now actors.now turns orders.old.items least.old number (line.now ∷ ls)) (judge_from crew config.now actors.now turns orders.new.items least.new (number + 1) ls) refused) }
+    ensures judged { (ls : List (List ℕ)) →
+        IfOk result (λ refused. TakesLine number
+        (judge_from crew config.now actors.now turns orders.old.items least.old number (line.now ∷ ls))
+        (judge_from crew config.now actors.now turns orders.new.items least.new (number + 1) ls) refused) }
     ensures fits { OnOk result (All (λ o. FitsCommand o.command) orders.new.items) }
 {
     match line_verdict(crew, config, actors, turns, *least, number, line) {
-        Verdict::Ignored => Ok(None),
-        Verdict::Ordered(order) => {
+        PlanVerdict::Ignored => Ok(None),
+        PlanVerdict::Ordered(order) => {
             *least = order.turn;
             match orders.push(order) {
                 Ok(()) => Ok(None),
                 Err(_) => Err(OutOfMemory),
             }
         }
-        Verdict::Refused(refusal) => Ok(Some(refusal)),
+        PlanVerdict::Refused(refusal) => Ok(Some(refusal)),
     }
 }
 
@@ -54,7 +56,9 @@ pub(crate) fn take_lines<S: Source>(
     reader: &mut LineReader,
     source: &mut S,
 ) -> Result<Vec<Order>, PlanError>
-    ensures read { Reads (λ orders. orders.items) (AreJudged (judge_from crew config.now actors.now turns [] 1 2) reader.old.waiting (S.left source.old)) (S.left source.old) result (S.left source.new) }
+    ensures read { Reads (λ orders. orders.items)
+        (AreJudged (judge_from crew config.now actors.now turns [] 1 2) reader.old.waiting (S.left source.old))
+        (S.left source.old) result (S.left source.new) }
     ensures fits { IfOk result (λ orders. All (λ o. FitsCommand o.command) orders.items) }
     ensures cause { HasCauseOf PlanError.SourceFailed (S.faults source.old) (S.faults source.new) result }
 {
@@ -62,11 +66,11 @@ pub(crate) fn take_lines<S: Source>(
     let mut least: u64 = 1;
     let mut number: u64 = 2;
     'lines: loop {
-        match reader.next(source, MOST_LINE) {
+        match reader.next(source, MAX_LINE) {
             Err(_) => return Err(PlanError::SourceFailed),
-            Ok(Taken::End) => return Ok(orders),
-            Ok(Taken::TooLong) => return Err(PlanError::Refused(Refusal::TooLarge(number))),
-            Ok(Taken::Line) => {
+            Ok(NextLine::End) => return Ok(orders),
+            Ok(NextLine::TooLong) => return Err(PlanError::Refused(Refusal::TooLarge(number))),
+            Ok(NextLine::Line) => {
                 let line = reader.line();
                 match take_line(
                     crew,

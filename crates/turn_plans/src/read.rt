@@ -1,4 +1,3 @@
-// A plan, read from a source.
 ghost use Rattle.std.specs.Prelude.{◌≡◌, IfOk, true};
 ghost use Rattle.edge_io.specs.Edge.{HasCauseOf};
 ghost use Rattle.fabric_terms.specs.Sound.{IsSound};
@@ -15,7 +14,7 @@ use edge_io::Source;
 use fabric_config::{ConfigError, need_endpoints, read_config};
 use fabric_status::Refusal;
 use fabric_terms::FabricConfig;
-use source_lines::{LineReader, MOST_FIRST_LINE, Taken};
+use source_lines::{LineReader, MAX_FIRST_LINE, NextLine};
 use std::alloc::Global;
 use turn_rules::Plan;
 
@@ -51,7 +50,8 @@ fn plan_of<S: Source>(
 ) -> Result<Plan, PlanError>
     requires sound { IsSound config }
     requires crew { is_crew config crew ≡ true }
-    ensures plan { Reads (λ p. p) (AreJudged (plan_of crew turns config) reader.old.waiting (S.left source.old)) (S.left source.old) result (S.left source.new) }
+    ensures plan { Reads (λ p. p) (AreJudged (plan_of crew turns config) reader.old.waiting (S.left source.old))
+        (S.left source.old) result (S.left source.new) }
     ensures runs { IfOk result IsPlan }
     ensures cause { HasCauseOf PlanError.SourceFailed (S.faults source.old) (S.faults source.new) result }
 {
@@ -70,17 +70,18 @@ fn plan_of<S: Source>(
     }
 }
 
-/// Reads the plan that a source defines for a crew and so many turns, line by line. Reading ends at the first line that is
-/// refused: line 1 is absent, too long, no configuration, one without an address, or one without whom the words name; or
-/// a later line is too long or one too many, is no command in its turn, or names who is not there. `SourceFailed` comes
-/// only where the source's count of faults rose.
+/// Reads the plan that a source defines for a crew and so many turns, line by line. Reading ends at the first line that
+/// is refused: line 1 is absent, too long, no configuration, one without an address, or one without whom the words
+/// name; or a later line is too long or one too many, is no command in its turn, or names who is not there.
+/// `SourceFailed` comes only where the source's count of faults rose.
 pub fn read_plan<S: Source>(
     alloc: Global,
     crew: Crew,
     turns: u64,
     source: &mut S,
 ) -> Result<Plan, PlanError>
-    ensures plan { Reads (λ p. p) (Defines crew turns (S.left source.old)) (S.left source.old) result (S.left source.new) }
+    ensures plan { Reads (λ p. p) (Defines crew turns (S.left source.old)) (S.left source.old) result
+        (S.left source.new) }
     ensures runs { IfOk result IsPlan }
     ensures cause { HasCauseOf PlanError.SourceFailed (S.faults source.old) (S.faults source.new) result }
 {
@@ -88,11 +89,11 @@ pub fn read_plan<S: Source>(
         Ok(reader) => reader,
         Err(_) => return Err(PlanError::OutOfMemory),
     };
-    match reader.next(source, MOST_FIRST_LINE) {
+    match reader.next(source, MAX_FIRST_LINE) {
         Err(_) => Err(PlanError::SourceFailed),
-        Ok(Taken::End) => Err(PlanError::Refused(Refusal::BadConfig(ConfigError::NotJson))),
-        Ok(Taken::TooLong) => Err(PlanError::Refused(Refusal::TooLarge(1))),
-        Ok(Taken::Line) => match config_for(alloc, crew, reader.line()) {
+        Ok(NextLine::End) => Err(PlanError::Refused(Refusal::BadConfig(ConfigError::NotJson))),
+        Ok(NextLine::TooLong) => Err(PlanError::Refused(Refusal::TooLarge(1))),
+        Ok(NextLine::Line) => match config_for(alloc, crew, reader.line()) {
             Ok(config) => plan_of(alloc, crew, turns, config, &mut reader, source),
             Err(error) => Err(error),
         },

@@ -13,13 +13,13 @@ use Rattle.keep_log.specs.Places.{Follows, IsBadAfter, Stands}
 use Rattle.keep_log.specs.Spellings.{spelling}
 use Rattle.keep_log.proofs.Lists.{all_decided}
 use Rattle.keep_log.proofs.Spelled.{one_spelling}
-use Rattle.outside.specs.Told.{Told}
+use Rattle.edge_io.specs.Told.{Told}
 use Rattle.turn_rules.specs.Laws.{BadRecordsBar}
 use Rattle.turn_rules.specs.Plans.{Plan}
 use Rattle.turn_rules.specs.Recalled.{AreOf, IsBadFor, IsBadKeep, IsGoodFor, Recalled, TellsKept}
 use Rattle.turn_rules.specs.Whole.{Bars, Ends, Finishes, IsBadEnd, OpenedOnly, Opening, StoppedRun, status_of}
-use Rattle.turn_rules.specs.declared.stop.Stop.{Stop}
-use Rattle.turn_rules.specs.declared.stop.Stop.TheVariants as stop
+use Rattle.turn_rules.specs.declared.stop_cause.StopCause.{StopCause}
+use Rattle.turn_rules.specs.declared.stop_cause.StopCause.TheVariants as stop
 use Rattle.world_rules.specs.Events.{is_arbiter_actor}
 
 -- A list is good or bad, and its first bad record is one.
@@ -92,14 +92,14 @@ module _ (plan : Plan) (a : Told) (tells : TellsKept plan.actors a) where
     none_opened : (b : Told) → OpenedOnly plan 0 a b → b.opened ≡ a.opened
     none_opened b o = o.opened ∙ append-nil a.opened
 
-    no_run : (b : Told) (r : Stop) → StoppedRun plan a b r → ⊥
+    no_run : (b : Told) (r : StopCause) → StoppedRun plan a b r → ⊥
     no_run b r s = not_all i k s.0 s.1.0 s.1.1
 
     no_opening : (b : Told) (n : ℕ) → Opening plan n a b → ⊥
     no_opening b n o = not_all i k o.kept o.recalled o.all
 
     -- how the run ends before its last line
-    ends : (b : Told) (r : Result (Unit {0}) Stop) → Ends plan a r b → IsBadEnd i (status_of r) × (b.opened ≡ a.opened)
+    ends : (b : Told) (r : Result (Unit {0}) StopCause) → Ends plan a r b → IsBadEnd i (status_of r) × (b.opened ≡ a.opened)
     ends b (Ok done) e = absurd (not_all i k e.0 e.1.0 e.1.1)
     ends b (Err stop.OutOfMemory) (inl o) = (tt, none_opened b o)
     ends b (Err stop.OutOfMemory) (inr (inl o)) = absurd (no_opening b o.0 o.1)
@@ -114,7 +114,7 @@ module _ (plan : Plan) (a : Told) (tells : TellsKept plan.actors a) where
     ends b (Err stop.TableFull) s = absurd (no_run b stop.TableFull s)
 
     -- and with it
-    finishes : (b : Told) (r : Result (Unit {0}) Stop) (ended : Status) (c : Told) → Ends plan a r b → Finishes plan.turns r b ended c → IsBadEnd i ended × (c.opened ≡ a.opened)
+    finishes : (b : Told) (r : Result (Unit {0}) StopCause) (ended : Status) (c : Told) → Ends plan a r b → Finishes plan.turns r b ended c → IsBadEnd i ended × (c.opened ≡ a.opened)
     finishes b r ended c e (inl whole) =
         (subst (IsBadEnd i) (sym whole.0) (ends b r e).0, ap (λ (t : Told). t.opened) whole.1.rest ∙ (ends b r e).1)
     finishes b r ended c e (inr (inl memory)) =
@@ -123,7 +123,7 @@ module _ (plan : Plan) (a : Told) (tells : TellsKept plan.actors a) where
         (subst (IsBadEnd i) (sym failed.0) tt, ap (λ (t : Told). t.opened) failed.1.1.0.rest ∙ (ends b r e).1)
 
 -- what is said of a bad record holds of every run
-pub barred : (plan : Plan) (a b : Told) (r : Result (Unit {0}) Stop) (ended : Status) (c : Told) → Ends plan a r b → Finishes plan.turns r b ended c → Bars plan a ended c
+pub barred : (plan : Plan) (a b : Told) (r : Result (Unit {0}) StopCause) (ended : Status) (c : Told) → Ends plan a r b → Finishes plan.turns r b ended c → Bars plan a ended c
 barred plan a b r ended c e f = λ tells i k. finishes plan a tells i k b r ended c e f
 
 pub bad_records_bar : BadRecordsBar

@@ -1,10 +1,10 @@
 -- The place after what has come is one.
 use Rattle.std.proofs.Common.{◌≡◌, ℕ, [], ◌∷◌, Some, None, sym, subst, ◌∙◌}
 use Rattle.turn_rules.specs.Happenings.{Datagram, Absent, Failed, Comes, Begins, Turns, Bids, Hears, Fires, History}
-use Rattle.turn_rules.specs.Order.{Doing, Starting, Turning, Busy, Firing, Goes, IsInOrder, IsNext, Place}
+use Rattle.turn_rules.specs.Order.{Doing, Starting, Turning, Busy, Firing, Goes, IsInOrder, IsNext, TurnPosition}
 use Rattle.turn_rules.specs.Plans.{Plan}
 
-goes_once : (plan : Plan) (turn at : ℕ) (doing : Doing) (x : Comes) (p q : Place) → Goes plan turn at doing x p → Goes plan turn at doing x q → p ≡ q
+goes_once : (plan : Plan) (turn at : ℕ) (doing : Doing) (x : Comes) (p q : TurnPosition) → Goes plan turn at doing x p → Goes plan turn at doing x q → p ≡ q
 goes_once plan turn at Starting (Begins None) p q g h = g.1 ∙ sym h.1
 goes_once plan turn at Starting (Begins (Some reading)) p q g h = g.1 ∙ sym h.1
 goes_once plan turn at Starting (Turns reading) p q g h = absurd g
@@ -34,10 +34,10 @@ goes_once plan turn at Firing (Bids command) p q g h = absurd g
 goes_once plan turn at Firing (Hears answer) p q g h = absurd g
 goes_once plan turn at Firing Fires p q g h = g ∙ sym h
 
-pub one_place : (plan : Plan) (h : History) (p q : Place) → IsInOrder plan h p → IsInOrder plan h q → p ≡ q
+pub one_place : (plan : Plan) (h : History) (p q : TurnPosition) → IsInOrder plan h p → IsInOrder plan h q → p ≡ q
 one_place plan [] p q a b = a ∙ sym b
 one_place plan (x ∷ h) p q a b =
     let same : a.0 ≡ b.0 = one_place plan h a.0 b.0 a.1.0 b.1.0 in
-    let P : Place → Type 0 = λ r. IsNext plan r x p in
+    let P : TurnPosition → Type 0 = λ r. IsNext plan r x p in
     let next : IsNext plan b.0 x p = subst P same a.1.1 in
     goes_once plan b.0.turn b.0.at b.0.doing x.comes p q next.goes b.1.1.goes

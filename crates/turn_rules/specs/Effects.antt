@@ -2,7 +2,7 @@
 use Rattle.std.specs.Prelude.{◌≡◌, ◌≤◌, ◌+◌, ◌^◌, ◌⊎◌, ℕ, Bool, List, [], ◌∷◌, ◌++◌, ◌==◌, if◌then◌else◌, map, take}
 use Rattle.edge_io.specs.Edge.{Grew}
 use Rattle.edge_io.specs.declared.datagram.Datagram.{Datagram}
-use Rattle.outside.specs.Told.{Told}
+use Rattle.edge_io.specs.Told.{Told}
 use Rattle.turn_rules.specs.Works.{Post, Work}
 
 -- What steps do, the newest of them first: the records of an actor, the datagrams and the lines, the oldest first.

@@ -1,22 +1,22 @@
 -- How a run ends.
 use Rattle.std.specs.Prelude.{◌≡◌, ◌<◌, ◌⊎◌, [], ◌∷◌, Some, None}
 use Rattle.edge_io.specs.Edge.{HasRisen}
-use Rattle.outside.specs.Told.{Told}
+use Rattle.edge_io.specs.Told.{Told}
 use Rattle.turn_rules.specs.Happenings.{Happening, History}
 use Rattle.turn_rules.specs.Plans.{Setting}
 use Rattle.turn_rules.specs.Steps.{Step}
 use Rattle.turn_rules.specs.Process.{End, Back, Left, Full, after}
-use Rattle.turn_rules.specs.Order.{Place, IsInOrder}
+use Rattle.turn_rules.specs.Order.{TurnPosition, IsInOrder}
 use Rattle.turn_rules.specs.Effects.{Did, Stays, IsPart}
 use Rattle.turn_rules.specs.Handed.{Handed, failures_of}
 use Rattle.turn_rules.specs.Works.{Work, work_of, works_of}
-use Rattle.turn_rules.specs.declared.stop.Stop.{Stop}
-use Rattle.turn_rules.specs.declared.stop.Stop.TheVariants as stop
+use Rattle.turn_rules.specs.declared.stop_cause.StopCause.{StopCause}
+use Rattle.turn_rules.specs.declared.stop_cause.StopCause.TheVariants as stop
 
 -- The run has ended so, by what came last, and all of its steps are done.
 pub record Ended (s : Setting) (a b : Told) (end : End) : Type 0 where
   pub history : History
-  pub place : Place
+  pub place : TurnPosition
   pub order : IsInOrder s.plan history place
   pub ended : (after s history).end ≡ Some end
   pub did : Did (works_of s.plan.config (after s history).steps) (failures_of history) a b
@@ -37,7 +37,7 @@ pub record IsPartOfNext (s : Setting) (h : Happening) (before : History) (part :
 pub record Broken (s : Setting) (a b : Told) (part : Work) : Type 0 where
   pub before : History
   pub last : Happening
-  pub place : Place
+  pub place : TurnPosition
   pub order : IsInOrder s.plan (last ∷ before) place
   pub on : (after s before).end ≡ None
   pub of : IsNothing part ⊎ IsPartOfNext s last before part
@@ -46,7 +46,7 @@ pub record Broken (s : Setting) (a b : Told) (part : Work) : Type 0 where
   pub stays : Stays a b
 
 -- Why a call ended before its last turn, and what is then done.
-abbrev pub Stopped : Setting → Told → Told → Stop → Type 0
+abbrev pub Stopped : Setting → Told → Told → StopCause → Type 0
 Stopped s a b stop.OutOfMemory = (part : Work) × Broken s a b part
 Stopped s a b stop.WriteFault = (part : Work) × (Broken s a b part × HasRisen a.sink_faults b.sink_faults)
 Stopped s a b stop.KeepFault = (part : Work) × (Broken s a b part × (part.lines ≡ []) × (part.posts ≡ []) × HasRisen a.keep_faults b.keep_faults)

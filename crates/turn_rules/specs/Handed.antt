@@ -3,8 +3,8 @@ use Rattle.std.specs.Prelude.{◌≡◌, ℕ, ◌+◌, Bool, true, false, List, 
 use Rattle.edge_io.specs.Arrivals.{next_arrival}
 use Rattle.edge_io.specs.Readings.{next_reading, readings_after}
 use Rattle.edge_io.specs.declared.endpoint.Endpoint.{Endpoint}
-use Rattle.outside.specs.Told.{Told}
-use Rattle.turn_rules.specs.Happenings.{Answer, Datagram, Absent, Failed, Comes, Begins, Turns, Hears, History}
+use Rattle.edge_io.specs.Told.{Told}
+use Rattle.turn_rules.specs.Happenings.{LinkAnswer, Datagram, Absent, Failed, Comes, Begins, Turns, Hears, History}
 use Rattle.turn_rules.specs.Plans.{Plan}
 
 -- the readings of a history, the newest first
@@ -27,11 +27,11 @@ abbrev pub is_at : Plan → ℕ → ℕ → Bool
 is_at plan place actor = is_endpoint_of actor (slice_get plan.actors place)
 
 -- the answers that an actor got, the newest first
-abbrev pub answer_in : Comes → Bool → List Answer → List Answer
+abbrev pub answer_in : Comes → Bool → List LinkAnswer → List LinkAnswer
 answer_in (Hears answer) true rest = answer ∷ rest
 answer_in _ _ rest = rest
 
-abbrev pub answers_at : Plan → ℕ → History → List Answer
+abbrev pub answers_at : Plan → ℕ → History → List LinkAnswer
 answers_at plan actor [] = []
 answers_at plan actor (h ∷ hs) = answer_in h.comes (is_at plan h.place actor) (answers_at plan actor hs)
 
@@ -53,7 +53,7 @@ abbrev pub Arrival : Type 0
 Arrival = Option (List ℕ)
 
 -- from these arrivals, these answers were given, the newest first, and those are left
-abbrev pub Answered : List Arrival → List Answer → Option (List Arrival) → Type 0
+abbrev pub Answered : List Arrival → List LinkAnswer → Option (List Arrival) → Type 0
 Answered all [] left = left ≡ Some all
 Answered all (Failed ∷ rest) left = Answered all rest left
 Answered all (Absent ∷ rest) left = (before : List Arrival) × (Answered all rest (Some before) × (next_arrival before ≡ None) × (left ≡ Some (drop 1 before)))

@@ -3,10 +3,10 @@ use Rattle.std.specs.Prelude.{ℕ, List, Option}
 use Rattle.fabric_terms.specs.declared.command.Command.{Command}
 
 -- what the links answer when they are asked what has arrived
-pub data Answer : Type 0 where
-  Datagram : (bytes : List ℕ) → Answer
-  Absent : Answer
-  Failed : Answer
+pub data LinkAnswer : Type 0 where
+  Datagram : (bytes : List ℕ) → LinkAnswer
+  Absent : LinkAnswer
+  Failed : LinkAnswer
 
 -- What comes to an actor: its start, a node's with a reading; a node's turn, with a reading; a command; an answer of the
 -- links; a firing.
@@ -14,7 +14,7 @@ pub data Comes : Type 0 where
   Begins : (reading : Option ℕ) → Comes
   Turns : (reading : ℕ) → Comes
   Bids : (command : Command) → Comes
-  Hears : (answer : Answer) → Comes
+  Hears : (answer : LinkAnswer) → Comes
   Fires : Comes
 
 -- in which turn it comes, and to whom: the actor's place in the order of turns

@@ -4,9 +4,9 @@ use Rattle.fabric_status.specs.declared.status.Status.{Status}
 use Rattle.fabric_terms.specs.declared.command.Command.TheVariants.{Join}
 use Rattle.fabric_terms.specs.declared.config.FabricConfig.{FabricConfig}
 use Rattle.fabric_terms.specs.declared.message.Message.{Message}
-use Rattle.outside.specs.Told.{Told}
+use Rattle.edge_io.specs.Told.{Told}
 use Rattle.turn_rules.specs.Happenings.{Absent, Begins, Bids, Datagram, Fires, Happening, Hears, History, Turns, Comes}
-use Rattle.turn_rules.specs.Order.{IsInOrder, Place, arrive}
+use Rattle.turn_rules.specs.Order.{IsInOrder, TurnPosition, arrive}
 use Rattle.turn_rules.specs.Plans.{Plan, Setting}
 use Rattle.turn_rules.specs.Process.{End, after}
 use Rattle.turn_rules.specs.Whole.{Bars, Runs}
@@ -14,7 +14,7 @@ use Rattle.turn_rules.specs.Works.{posts_of}
 
 -- what has come in order leads to one place
 abbrev pub OnePlace : Type 0
-OnePlace = (plan : Plan) (h : History) (p q : Place) → IsInOrder plan h p → IsInOrder plan h q → p ≡ q
+OnePlace = (plan : Plan) (h : History) (p q : TurnPosition) → IsInOrder plan h p → IsInOrder plan h q → p ≡ q
 
 -- what has ended goes on no more
 abbrev pub NothingAfterEnd : Type 0

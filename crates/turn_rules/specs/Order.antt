@@ -13,7 +13,7 @@ pub data Doing : Type 0 where
   Firing : Doing
 
 -- the starts are turn 0
-pub record Place : Type 0 where
+pub record TurnPosition : Type 0 where
   pub turn : ℕ
   pub at : ℕ
   pub doing : Doing
@@ -26,27 +26,27 @@ most_heard = 64
 abbrev pub entering : Plan → ℕ → ℕ → Doing
 entering plan turn at = if turn == 0 then Starting else if is_node_at plan at then Turning else Busy [] 0
 
-abbrev pub arrive : Plan → ℕ → ℕ → Place
+abbrev pub arrive : Plan → ℕ → ℕ → TurnPosition
 arrive plan turn at = record { turn = turn; at = at; doing = entering plan turn at }
 
 -- the turn of the actor at this place, or behind the last place the next turn
-abbrev pub coming : Plan → ℕ → ℕ → Place
+abbrev pub coming : Plan → ℕ → ℕ → TurnPosition
 coming plan turn at = if nat_lt at (length plan.actors) then arrive plan turn at else arrive plan (turn + 1) 0
 
 -- the next actor's turn
-abbrev pub onward : Plan → ℕ → ℕ → Place
+abbrev pub onward : Plan → ℕ → ℕ → TurnPosition
 onward plan turn at = coming plan turn (at + 1)
 
 -- a node fires once it has heard all
-abbrev pub rests : Plan → ℕ → ℕ → Place
+abbrev pub rests : Plan → ℕ → ℕ → TurnPosition
 rests plan turn at = if is_node_at plan at then record { turn = turn; at = at; doing = Firing } else onward plan turn at
 
 -- after so many datagrams
-abbrev pub hearing : Plan → ℕ → ℕ → ℕ → Place
+abbrev pub hearing : Plan → ℕ → ℕ → ℕ → TurnPosition
 hearing plan turn at n = if nat_lt n most_heard then record { turn = turn; at = at; doing = Busy [] n } else rests plan turn at
 
 -- what may come next, and what is then the place
-abbrev pub Goes : Plan → ℕ → ℕ → Doing → Comes → Place → Type 0
+abbrev pub Goes : Plan → ℕ → ℕ → Doing → Comes → TurnPosition → Type 0
 Goes plan turn at Starting (Begins None) next = (is_node_at plan at ≡ false) × (next ≡ onward plan turn at)
 Goes plan turn at Starting (Begins (Some reading)) next = (is_node_at plan at ≡ true) × (next ≡ onward plan turn at)
 Goes plan turn at Turning (Turns reading) next = next ≡ record { turn = turn; at = at; doing = Busy (orders_at plan turn at) 0 }
@@ -57,12 +57,12 @@ Goes plan turn at (Busy [] n) (Hears Failed) next = next ≡ rests plan turn at
 Goes plan turn at Firing Fires next = next ≡ onward plan turn at
 Goes plan turn at _ _ next = ⊥
 
-pub record IsNext (plan : Plan) (p : Place) (h : Happening) (next : Place) : Type 0 where
+pub record IsNext (plan : Plan) (p : TurnPosition) (h : Happening) (next : TurnPosition) : Type 0 where
   pub turn : h.turn ≡ p.turn
   pub place : h.place ≡ p.at
   pub goes : Goes plan p.turn p.at p.doing h.comes next
 
 -- all of this has come in order, and this is the place after it
-abbrev pub IsInOrder : Plan → History → Place → Type 0
+abbrev pub IsInOrder : Plan → History → TurnPosition → Type 0
 IsInOrder plan [] p = p ≡ arrive plan 0 0
-IsInOrder plan (h ∷ hs) p = (before : Place) × (IsInOrder plan hs before × IsNext plan before h p)
+IsInOrder plan (h ∷ hs) p = (before : TurnPosition) × (IsInOrder plan hs before × IsNext plan before h p)

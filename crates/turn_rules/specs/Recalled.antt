@@ -6,7 +6,7 @@ use Rattle.fabric_terms.specs.declared.record.Record.{Record}
 use Rattle.keep_log.specs.Amounts.{is_arbiters, nothing}
 use Rattle.keep_log.specs.Places.{Follows, IsBadAfter, stand_in_place}
 use Rattle.keep_log.specs.Spellings.{spelling}
-use Rattle.outside.specs.Told.{Told}
+use Rattle.edge_io.specs.Told.{Told}
 use Rattle.turn_rules.specs.Plans.{Plan}
 use Rattle.world_rules.specs.Events.{is_arbiter_actor}
 

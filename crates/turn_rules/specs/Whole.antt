@@ -8,7 +8,7 @@ use Rattle.fabric_status.specs.Faults.{fault_line}
 use Rattle.fabric_status.specs.declared.status.Status.{Status}
 use Rattle.fabric_status.specs.declared.status.Status.TheVariants as status
 use Rattle.fabric_terms.specs.declared.record.Record.{Record}
-use Rattle.outside.specs.Told.{Told, Loans}
+use Rattle.edge_io.specs.Told.{Told, Loans}
 use Rattle.text_fields.specs.Texts.{spaced}
 use Rattle.turn_rules.specs.Effects.{Did, Stays, WroteMore}
 use Rattle.turn_rules.specs.Ends.{Stopped}
@@ -19,8 +19,8 @@ use Rattle.turn_rules.specs.Plans.{Plan, Setting}
 use Rattle.turn_rules.specs.Process.{after}
 use Rattle.turn_rules.specs.Recalled.{Recalled, IsBadKeep, TellsKept}
 use Rattle.turn_rules.specs.Works.{works_of}
-use Rattle.turn_rules.specs.declared.stop.Stop.{Stop}
-use Rattle.turn_rules.specs.declared.stop.Stop.TheVariants as stop
+use Rattle.turn_rules.specs.declared.stop_cause.StopCause.{StopCause}
+use Rattle.turn_rules.specs.declared.stop_cause.StopCause.TheVariants as stop
 
 -- a run of this plan, with these records kept before it
 abbrev pub setting : Plan → List (List Record) → Setting
@@ -66,11 +66,11 @@ pub record Whole (plan : Plan) (kept : List (List Record)) (a b : Told) : Type 0
   pub stays : Stays (with_endpoints plan a) b
 
 -- the run has stopped so, some actor having been started
-abbrev pub StoppedRun : Plan → Told → Told → Stop → Type 0
+abbrev pub StoppedRun : Plan → Told → Told → StopCause → Type 0
 StoppedRun plan a b stopped = (kept : List (List Record)) × (Recalled plan.actors a kept × (length kept ≡ length plan.actors) × Stopped (setting plan kept) (with_endpoints plan a) b stopped)
 
 -- How the run of a plan ends.
-abbrev pub Ends : Plan → Told → Result (Unit {0}) Stop → Told → Type 0
+abbrev pub Ends : Plan → Told → Result (Unit {0}) StopCause → Told → Type 0
 Ends plan a (Ok done) b = (kept : List (List Record)) × (Recalled plan.actors a kept × (length kept ≡ length plan.actors) × Whole plan kept a b)
 Ends plan a (Err stop.OutOfMemory) b = OpenedOnly plan 0 a b ⊎ (((n : ℕ) × Opening plan n a b) ⊎ StoppedRun plan a b stop.OutOfMemory)
 Ends plan a (Err stop.KeepFault) b = (OpenedOnly plan 0 a b × HasRisen a.keep_faults b.keep_faults) ⊎ StoppedRun plan a b stop.KeepFault
@@ -78,7 +78,7 @@ Ends plan a (Err stop.LinkFault) b = (n : ℕ) × ((n < length plan.actors) × O
 Ends plan a (Err (stop.BadKeep i)) b = IsBadKeep plan a i × OpenedOnly plan 0 a b
 Ends plan a (Err stopped) b = StoppedRun plan a b stopped
 
-abbrev pub status_of : Result (Unit {0}) Stop → Status
+abbrev pub status_of : Result (Unit {0}) StopCause → Status
 status_of (Ok done) = status.Ok
 status_of (Err stop.OutOfMemory) = status.OutOfMemory
 status_of (Err stop.WriteFault) = status.WriteFault
@@ -90,12 +90,12 @@ status_of (Err (stop.BadKeep i)) = status.BadKeep i
 status_of (Err stop.TableFull) = status.TableFull
 
 -- the last line: where all turns are taken it says how many, and else it names the fault, where there is one
-abbrev pub last_line : ℕ → Result (Unit {0}) Stop → List ℕ
+abbrev pub last_line : ℕ → Result (Unit {0}) StopCause → List ℕ
 last_line turns (Ok done) = spaced (codes "end" ∷ decimal turns ∷ []) ++ codes "\n"
 last_line turns (Err stopped) = fault_line (status_of (Err stopped))
 
 -- The last line was written, and the status is that of the run; or a front of it, and memory was short or the sink failed.
-abbrev pub Finishes : ℕ → Result (Unit {0}) Stop → Told → Status → Told → Type 0
+abbrev pub Finishes : ℕ → Result (Unit {0}) StopCause → Told → Status → Told → Type 0
 Finishes turns r b ended c =
     ((ended ≡ status_of r) × WroteMore (last_line turns r) b c)
     ⊎ (((ended ≡ status.OutOfMemory) × ((n : ℕ) × WroteMore (take n (last_line turns r)) b c))
@@ -103,7 +103,7 @@ Finishes turns r b ended c =
 
 -- The whole call: the run ends, and then the last line is written.
 pub record Runs (plan : Plan) (a : Told) (ended : Status) (c : Told) : Type 0 where
-  pub result : Result (Unit {0}) Stop
+  pub result : Result (Unit {0}) StopCause
   pub before_last : Told
   pub ends : Ends plan a result before_last
   pub finishes : Finishes plan.turns result before_last ended c

@@ -15,8 +15,8 @@ pub fn a_frame_to_nobody_makes_no_datagram()
     ensures { NoneToStrangers }
 {}
 
-/// Where the keeper tells and a record is bad, no endpoint is opened, and a run ends with that record, or before it was told:
-/// the keeper or the sink failed, or memory was short.
+/// Where the keeper tells and a record is bad, no endpoint is opened, and a run ends with that record, or before it was
+/// told: the keeper or the sink failed, or memory was short.
 pub fn a_bad_record_bars_a_run()
     ensures { BadRecordsBar }
 {}

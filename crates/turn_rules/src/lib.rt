@@ -1,18 +1,19 @@
 //! The rules of a running program: `node`, `arbiter` and `cluster`.
 //!
-//! A running program has some of the configuration's actors, which take turns. What comes to them, one thing after another,
-//! is a history; the rules of the world say what each actor does then, and so what is kept, sent and written. This crate
-//! defines the order in which things come, what a history amounts to, that the devices handed it in, what its steps do to
-//! the devices, and how a run ends at each status: `IsRun` is the promise of whoever runs a plan. One definition serves all
-//! three words, since they differ only in which actors run. Its code is a plan, and where an actor of a configuration listens.
-//! It stands on the rules of the world, on the formats, and on what the devices tell; it decides nothing and calls no device.
+//! A running program has some of the configuration's actors, which take turns. What comes to them, one thing after
+//! another, is a history; the rules of the world say what each actor does then, and so what is kept, sent and written.
+//! This crate defines the order in which things come, what a history amounts to, that the devices handed it in, what
+//! its steps do to the devices, and how a run ends at each status: `IsRun` is the promise of whoever runs a plan. One
+//! definition serves all three words, since they differ only in which actors run. Its code is a plan, and where an
+//! actor of a configuration listens. It stands on the rules of the world, on the formats, and on what the devices tell;
+//! it decides nothing and calls no device.
 #![tactic(auto)]
 
 mod address;
 mod laws;
 mod order;
 mod plan;
-mod stop;
+mod stop_cause;
 
 pub use address::{arbiter_address, node_address};
 pub use laws::{
@@ -21,4 +22,4 @@ pub use laws::{
 };
 pub use order::Order;
 pub use plan::Plan;
-pub use stop::Stop;
+pub use stop_cause::StopCause;

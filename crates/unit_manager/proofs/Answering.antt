@@ -13,8 +13,8 @@ use Rattle.unit_rules.specs.declared.reconfig.Task.{Task}
 use Rattle.unit_rules.specs.Manager.{Managed, table_or}
 use Rattle.unit_rules.specs.Reconfigs as rules
 use Rattle.unit_rules.specs.Reconfigs.{task_of}
-use Rattle.unit_desk.specs.declared.desk.Desk.{Desk}
-use Rattle.unit_desk.specs.Desks.{Does}
+use Rattle.unit_desk.specs.declared.unit_effects.UnitEffects.{UnitEffects}
+use Rattle.unit_desk.specs.UnitEffects.{Does}
 use Rattle.reconfig_phases.specs.Answers.{answered_unit, received}
 use Rattle.reconfig_phases.specs.Views.{step_with, reconfig_of}
 use Rattle.reconfig_phases.specs.declared.reconfig.Reconfig.{Reconfig}
@@ -84,7 +84,7 @@ module _ (units : Table) (es : List (ℕ × Reconfig)) (k i : ℕ) (e : ℕ × R
       over_there t next (table_or units (changed t.partition (seen_at epoch) units)) own (over_managed k t.partition (seen_at epoch) (managed units es) whole)
   concluded_there t next (Refused refusal) own task ends = over_there t next units own (refused_managed k (managed units es) whole)
 
-  pub whole_after : (t : Task) (next : Reconfig) (p : Progress) (new : Managed) (before after : Desk) → t.partition ≡ k → task_of (reconfig_of next) ≡ task_of (reconfig_of e.1) → EndsOwn k (step_with next p)
+  pub whole_after : (t : Task) (next : Reconfig) (p : Progress) (new : Managed) (before after : UnitEffects) → t.partition ≡ k → task_of (reconfig_of next) ≡ task_of (reconfig_of e.1) → EndsOwn k (step_with next p)
       → Does (concluded t (managed units (written next)) p) new before after → IsManaged new
   whole_after t next p new before after own task ends does = subst IsManaged (sym does.state) (concluded_there t next p own task ends)
 
@@ -109,7 +109,7 @@ module _ (units : Table) (es : List (ℕ × Reconfig)) (k i : ℕ) (e : ℕ × R
       ap (λ (x : ℕ × Reconfig). place k (set es i (x.0, next))) there_is ∙ ap (λ n. place k (set es n ((get_or es n e).0, next))) is in
       is ∙ sym (here ∙ same_place k es e next first)
 
-  pub does_there : (nodes : List NodeLoad) (m : Message) (t : Task) (next : Reconfig) (p : Progress) (s2 : Managed) (d0 d1 d2 : Desk)
+  pub does_there : (nodes : List NodeLoad) (m : Message) (t : Task) (next : Reconfig) (p : Progress) (s2 : Managed) (d0 d1 d2 : UnitEffects)
       → t ≡ task_of (reconfig_of e.1) → (received nodes m (reconfig_of e.1)).state ≡ step_with next p
       → Sent (received nodes m (reconfig_of e.1)).deeds d0 d1
       → Does (concluded t (managed units (written next)) p) s2 d1 d2

@@ -10,9 +10,8 @@ use Rattle.unit_rules.specs.declared.reconfig.Task.{Task}
 use Rattle.unit_rules.specs.Deeds.{Deed, Acted, records_of, frames_of, reports_of}
 use Rattle.unit_rules.specs.Manager.{Managed, manager_answered, stands, stands_after, table_or}
 use Rattle.unit_rules.specs.Reconfigs as rules
-use Rattle.unit_rules.specs.Reconfigs.{task_of}
-use Rattle.unit_desk.specs.declared.desk.Desk.{Desk}
-use Rattle.unit_desk.specs.Desks.{Does, Left}
+use Rattle.unit_desk.specs.declared.unit_effects.UnitEffects.{UnitEffects}
+use Rattle.unit_desk.specs.UnitEffects.{Does, Left}
 use Rattle.reconfig_phases.specs.Answers.{answered_unit}
 use Rattle.reconfig_phases.specs.Views.{step_with, reconfig_of}
 use Rattle.reconfig_phases.specs.declared.reconfig.Reconfig.{Reconfig}
@@ -33,24 +32,24 @@ pub received_is : (nodes : List NodeLoad) (m : Message) (s : Managed) (u : ℕ �
     → answer_taken nodes m s (at u.0 s.reconfigs) ≡ manager_received nodes m s
 received_is nodes m s u is = sym (received_at nodes m s u is (at u.0 s.reconfigs) refl)
 
-pub received_does : (nodes : List NodeLoad) (m : Message) (s s2 : Managed) (u : ℕ × Epoch) (d0 d2 : Desk)
+pub received_does : (nodes : List NodeLoad) (m : Message) (s s2 : Managed) (u : ℕ × Epoch) (d0 d2 : UnitEffects)
     → answered_unit m.body ≡ Some u → Does (answer_taken nodes m s (at u.0 s.reconfigs)) s2 d0 d2 → Does (manager_received nodes m s) s2 d0 d2
 received_does nodes m s s2 u d0 d2 is does = subst (λ (a : Acted Managed). Does a s2 d0 d2) (received_is nodes m s u is) does
 
 -- what was sent before
-pub record Sent (deeds : List Deed) (before after : Desk) : Type 0 where
+pub record Sent (deeds : List Deed) (before after : UnitEffects) : Type 0 where
   pub records : after.records ≡ before.records
   pub sent : after.out ≡ before.out ++ frames_of deeds
   pub told : after.told ≡ before.told
 
-left_behind : (deeds : List Deed) (d0 d1 d2 : Desk) → Sent deeds d0 d1 → (records_of deeds ≡ []) × (reports_of deeds ≡ []) → Left [] d1 d2 → Left deeds d0 d2
+left_behind : (deeds : List Deed) (d0 d1 d2 : UnitEffects) → Sent deeds d0 d1 → (records_of deeds ≡ []) × (reports_of deeds ≡ []) → Left [] d1 d2 → Left deeds d0 d2
 left_behind deeds d0 d1 d2 m own l = record {
   records = l.records ∙ ap (λ xs. xs ++ []) m.records ∙ ap (λ xs. d0.records ++ xs) (sym own.0);
   sent = l.sent ∙ append-nil d1.out ∙ m.sent;
   told = l.told ∙ ap (λ xs. xs ++ []) m.told ∙ ap (λ xs. d0.told ++ xs) (sym own.1);
 }
 
-left_over : (none deeds : List Deed) (d0 d1 d2 : Desk) → Sent none d0 d1 → none ≡ [] → Left deeds d1 d2 → Left deeds d0 d2
+left_over : (none deeds : List Deed) (d0 d1 d2 : UnitEffects) → Sent none d0 d1 → none ≡ [] → Left deeds d1 d2 → Left deeds d0 d2
 left_over none deeds d0 d1 d2 m is l = record {
   records = l.records ∙ ap (λ xs. xs ++ records_of deeds) m.records;
   sent = l.sent ∙ ap (λ xs. xs ++ frames_of deeds) (m.sent ∙ ap (λ ds. d0.out ++ frames_of ds) is ∙ append-nil d0.out);
@@ -58,7 +57,7 @@ left_over none deeds d0 d1 d2 m is l = record {
 }
 
 -- what was concluded is what becomes of it
-stands_so : (t : Task) (r : Reconfig) (p : Progress) (s s2 : Managed) (deeds : List Deed) (d0 d1 d2 : Desk) → rises s.reconfigs ≡ true
+stands_so : (t : Task) (r : Reconfig) (p : Progress) (s s2 : Managed) (deeds : List Deed) (d0 d1 d2 : UnitEffects) → rises s.reconfigs ≡ true
     → OnlyAsks (step_with r p) deeds → Sent deeds d0 d1
     → Does (concluded t (record s { reconfigs = put t.partition (reconfig_of r) s.reconfigs }) p) s2 d1 d2
     → Does (stands t s (step_with r p) deeds) s2 d0 d2
@@ -76,7 +75,7 @@ stands_so t r (Refused refusal) s s2 deeds d0 d1 d2 up own sent does = record {
   left = left_over deeds _ d0 d1 d2 sent own does.left;
 }
 
-pub taken : (t : Task) (r : Reconfig) (p : Progress) (s s2 : Managed) (a : Acted rules.Step) (d0 d1 d2 : Desk) → rises s.reconfigs ≡ true
+pub taken : (t : Task) (r : Reconfig) (p : Progress) (s s2 : Managed) (a : Acted rules.Step) (d0 d1 d2 : UnitEffects) → rises s.reconfigs ≡ true
     → a.state ≡ step_with r p → Asks a → Sent a.deeds d0 d1
     → Does (concluded t (record s { reconfigs = put t.partition (reconfig_of r) s.reconfigs }) p) s2 d1 d2
     → Does (stands_after t s a) s2 d0 d2

@@ -20,7 +20,7 @@ use Rattle.unit_rules.specs.Manager.{Managed, manager_answered, over, reason_of,
 use Rattle.unit_rules.specs.Questions.{reconfig_fired}
 use Rattle.unit_rules.specs.Reconfigs as rules
 use Rattle.unit_rules.specs.Reconfigs.{task_of}
-use Rattle.unit_desk.specs.declared.desk.Desk.{Desk}
+use Rattle.unit_desk.specs.declared.unit_effects.UnitEffects.{UnitEffects}
 use Rattle.reconfig_phases.specs.Answers.{answered_unit, received}
 use Rattle.reconfig_phases.specs.Views.{reconfig_of}
 use Rattle.reconfig_phases.specs.declared.reconfig.Reconfig.{Reconfig}
@@ -75,7 +75,7 @@ abbrev pub managed_fired : List (ℕ × rules.Reconfig) → List Deed
 managed_fired es = flat_map (λ e. reconfig_fired e.1) es
 
 -- a row leaves at most nine messages and one report behind what was there, and records nothing
-pub record Few (before after : Desk) : Type 0 where
+pub record Few (before after : UnitEffects) : Type 0 where
   pub records : after.records ≡ before.records
   pub sent : length after.out ≤ length before.out + 9
   pub told : length after.told ≤ length before.told + 1

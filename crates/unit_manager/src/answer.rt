@@ -6,20 +6,21 @@ ghost use Rattle.ring_points.specs.declared.unit.Epoch.{Epoch as UnitEpoch};
 ghost use Rattle.reconfig_phases.specs.Answers.{answered_unit, received};
 ghost use Rattle.reconfig_phases.specs.Views.{IfFinished, reconfig_of, step_with};
 ghost use Rattle.reconfig_phases.specs.Views as phases;
-ghost use Rattle.unit_desk.specs.Desks.{Does, HasRoom};
+ghost use Rattle.unit_desk.specs.UnitEffects.{Does, HasRoom};
 ghost use Rattle.unit_rules.specs.Manager.{reason_of, table_or, verb_of};
 ghost use Rattle.unit_rules.specs.Reconfigs.{task_of};
-ghost use Rattle.unit_manager.specs.Managers.{Few, IsManaged, IsOwnEnd, answer_taken, concluded, loaded, managed, manager_received, place, reconfigs_of};
+ghost use Rattle.unit_manager.specs.Managers.{Few, IsManaged, IsOwnEnd, answer_taken, concluded, loaded, managed};
+ghost use Rattle.unit_manager.specs.Managers.{manager_received, place, reconfigs_of};
 
 use crate::entries::{find, take_out};
 use crate::loads::fill;
 use crate::manager::Manager;
+use ring_points::{Config, Epoch, OUTBOX_LIMIT};
 use fabric_terms::{Message, Outbox, Reason, Report, Verb};
 use failover_units::{UnitRefusal, Units};
 use reconfig_phases::{Progress, Reconfig, answered_unit};
 use replica_place::NodeLoad;
-use ring_points::{Config, Epoch};
-use unit_desk::Desk;
+use unit_desk::UnitEffects;
 use unit_rules::{Kind, Task};
 
 /// The first word of the command that began a reconfiguration.
@@ -79,8 +80,9 @@ fn go_on(
     nodes: &mut [NodeLoad],
     out: &mut Outbox,
 ) -> Progress
-    requires { length out.old + 9 ≤ 192 }
-    ensures does { phases.Does (received (loaded units.now nodes.old) answer.now (reconfig_of reconfig.old)) (step_with reconfig.new result) out.old out.new }
+    requires { length out.old + 9 ≤ OUTBOX_LIMIT }
+    ensures does { phases.Does (received (loaded units.now nodes.old) answer.now (reconfig_of reconfig.old))
+        (step_with reconfig.new result) out.old out.new }
     ensures task { task_of (reconfig_of reconfig.new) ≡ task_of (reconfig_of reconfig.old) }
     ensures nodes { loaded units.now nodes.new ≡ loaded units.now nodes.old }
     ensures finished { IfFinished result ((reconfig.new ≡ reconfig.old) × (out.new ≡ out.old)) }
@@ -98,34 +100,35 @@ fn conclude(
     i: usize,
     task: Task,
     progress: Progress,
-    desk: &mut Desk,
+    effects: &mut UnitEffects,
 )
-    requires room { length desk.old.told + 2 ≤ 4 }
+    requires room { length effects.old.told + 2 ≤ 4 }
     requires place { i ≡ place task.partition reconfigs.old.items }
     requires inside { i < length reconfigs.old.items }
     requires rise { rises (reconfigs_of reconfigs.old.items) ≡ true }
     requires known { is_some (at task.partition units.old) ≡ true }
     requires own { IsOwnEnd task progress }
-    ensures does { Does (concluded task (managed units.old reconfigs.old.items) progress) (managed units.new reconfigs.new.items) desk.old desk.new }
-    ensures few { Few desk.old desk.new }
-    ensures sent { desk.new.out ≡ desk.old.out }
+    ensures does { Does (concluded task (managed units.old reconfigs.old.items) progress)
+        (managed units.new reconfigs.new.items) effects.old effects.new }
+    ensures few { Few effects.old effects.new }
+    ensures sent { effects.new.out ≡ effects.old.out }
 {
     match progress {
         Progress::Stays => {}
         Progress::Finished(config) => {
             note(units, &config);
             take_out(reconfigs, i, task.partition);
-            desk.told
+            effects.told
                 .tell(Report::Configured(task.partition, config.epoch));
         }
         Progress::Superseded(epoch) => {
             see(units, task.partition, epoch);
             take_out(reconfigs, i, task.partition);
-            desk.told.tell(Report::Superseded(task.partition, epoch));
+            effects.told.tell(Report::Superseded(task.partition, epoch));
         }
         Progress::Refused(refusal) => {
             take_out(reconfigs, i, task.partition);
-            desk.told
+            effects.told
                 .tell(Report::Refused(verb_of(task.kind), reason_of(refusal)));
         }
     }
@@ -138,38 +141,41 @@ fn answered_by(
     partition: u16,
     answer: &Message,
     nodes: &mut [NodeLoad],
-    desk: &mut Desk,
+    effects: &mut UnitEffects,
 )
     requires sound { IsTrue (is_sound_body answer.now.body) }
     requires unit { (epoch : UnitEpoch) × (answered_unit answer.now.body ≡ Some (partition, epoch)) }
-    requires room { HasRoom desk.old }
+    requires room { HasRoom effects.old }
     requires whole { IsManaged (managed units.old reconfigs.old.items) }
-    ensures does { Does (answer_taken (loaded units.old nodes.old) answer.now (managed units.old reconfigs.old.items) (at partition (reconfigs_of reconfigs.old.items))) (managed units.new reconfigs.new.items) desk.old desk.new }
+    ensures does { Does (answer_taken (loaded units.old nodes.old) answer.now (managed units.old reconfigs.old.items)
+        (at partition (reconfigs_of reconfigs.old.items))) (managed units.new reconfigs.new.items)
+        effects.old effects.new }
     ensures whole { IsManaged (managed units.new reconfigs.new.items) }
     ensures nodes { loaded units.old nodes.new ≡ loaded units.old nodes.old }
-    ensures few { Few desk.old desk.new }
+    ensures few { Few effects.old effects.new }
 {
     let Some(i) = find(reconfigs, partition) else {
         return;
     };
     let reconfig = &mut reconfigs[i].1;
     let task = reconfig.task();
-    let progress = go_on(units, reconfig, answer, nodes, &mut desk.out);
-    conclude(units, reconfigs, i, task, progress, desk);
+    let progress = go_on(units, reconfig, answer, nodes, &mut effects.out);
+    conclude(units, reconfigs, i, task, progress, effects);
 }
 
 impl Manager {
-    /// Takes a message: an answer goes to the reconfiguration of its partition and epoch, and every other message changes
-    /// nothing. The nodes are all that are configured, as placement sees them, but for their loads, which are filled in
-    /// here where they are needed. At most nine messages are sent, and one report is told. It takes no memory: each
-    /// configuration that it comes to is of a partition that stands.
+    /// Takes a message: an answer goes to the reconfiguration of its partition and epoch, and every other message
+    /// changes nothing. The nodes are all that are configured, as placement sees them, but for their loads, which are
+    /// filled in here where they are needed. At most nine messages are sent, and one report is told. It takes no
+    /// memory: each configuration that it comes to is of a partition that stands.
     #[tactic(auto, using(crate::proofs::Taking::received_is))]
-    pub fn answered(&mut self, answer: &Message, nodes: &mut [NodeLoad], desk: &mut Desk)
+    pub fn answered(&mut self, answer: &Message, nodes: &mut [NodeLoad], effects: &mut UnitEffects)
         requires sound { IsTrue (is_sound_body answer.now.body) }
-        requires room { HasRoom desk.old }
-        ensures does { Does (manager_received (loaded self.old.units nodes.old) answer.now self.old) self.new desk.old desk.new }
+        requires room { HasRoom effects.old }
+        ensures does { Does (manager_received (loaded self.old.units nodes.old) answer.now self.old)
+            self.new effects.old effects.new }
         ensures nodes { loaded self.old.units nodes.new ≡ loaded self.old.units nodes.old }
-        ensures few { Few desk.old desk.new }
+        ensures few { Few effects.old effects.new }
     {
         if let Some((partition, _)) = answered_unit(&answer.body) {
             answered_by(
@@ -178,7 +184,7 @@ impl Manager {
                 partition,
                 answer,
                 nodes,
-                desk,
+                effects,
             );
         }
     }

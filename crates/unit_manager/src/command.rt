@@ -3,7 +3,7 @@ ghost use Rattle.fabric_lemmas.specs.Maps.{at};
 ghost use Rattle.failover_units.specs.Units.{Answers, unit_of};
 ghost use Rattle.fabric_terms.specs.declared.report.Report.TheVariants.{Refused};
 ghost use Rattle.reconfig_phases.specs.Tasks.{replicas_of};
-ghost use Rattle.unit_desk.specs.Desks.{Does, HasRoom, HasRoomFor, Left};
+ghost use Rattle.unit_desk.specs.UnitEffects.{Does, HasRoom, HasRoomFor, Left};
 ghost use Rattle.unit_rules.specs.Deeds.{Tell};
 ghost use Rattle.unit_rules.specs.Manager.{begins_in, entered, reconfig_commanded, task_commanded, verb_of};
 ghost use Rattle.unit_manager.specs.Managers.{Begins, Few, IsManaged, managed, reason_at_end, reconfigs_of};
@@ -12,11 +12,11 @@ use crate::answer::{reason_of, verb_of};
 use crate::entries::{enter, find};
 use crate::epoch::epoch_after;
 use crate::manager::Manager;
+use ring_points::{Epoch, MAX_ARBITRATORS, MAX_MEMBERS, MAX_PARTITIONS, OUTBOX_LIMIT, Who};
 use fabric_terms::{OutOfMemory, Outbox, Reason, Report};
 use failover_units::{UnitRefusal, Units};
 use reconfig_phases::Reconfig;
-use ring_points::{Epoch, Who};
-use unit_desk::Desk;
+use unit_desk::UnitEffects;
 use unit_rules::Kind;
 
 /// The epoch that every partition has seen.
@@ -24,9 +24,6 @@ const FIRST_EPOCH: Epoch = Epoch {
     data_loss: 0,
     configuration: 0,
 };
-
-/// How many reconfigurations can stand: one of each partition. So there is always place for one more where none stands.
-const MOST_RECONFIGS: usize = 65_536;
 
 /// The partition enters the units; a create finds no known configuration there.
 fn enter_units(units: &mut Units, partition: u16, kind: Kind) -> Result<(), UnitRefusal>
@@ -51,8 +48,8 @@ fn reason_at_end(units: &Units, partition: u16, kind: Kind) -> Reason
     }
 }
 
-/// Begins what is commanded of a partition of which no reconfiguration stands, or gives the reason why it is refused, and
-/// then changes nothing. It is an error where memory is short, and then nothing is changed either.
+/// Begins what is commanded of a partition of which no reconfiguration stands, or gives the reason why it is refused,
+/// and then changes nothing. It is an error where memory is short, and then nothing is changed either.
 #[tactic(auto, using(crate::proofs::Beginning::refused_at_end))]
 fn begin(
     units: &mut Units,
@@ -63,20 +60,25 @@ fn begin(
     me: Who,
     out: &mut Outbox,
 ) -> Result<Option<Reason>, OutOfMemory>
-    requires arbitrators { arbitrators ≤ 9 }
-    requires replicas { replicas_of kind ≤ 7 }
-    requires room { length out.old + 9 ≤ 192 }
+    requires arbitrators { arbitrators ≤ MAX_ARBITRATORS }
+    requires replicas { replicas_of kind ≤ MAX_MEMBERS }
+    requires room { length out.old + 9 ≤ OUTBOX_LIMIT }
     requires none { at partition (reconfigs_of reconfigs.old.items) ≡ None }
     requires whole { IsManaged (managed units.old reconfigs.old.items) }
-    ensures begins { IfOk result (λ reason. Begins kind (begins_in (task_commanded arbitrators partition kind units.old) (managed units.old reconfigs.old.items) (entered kind partition units.old)) (managed units.old reconfigs.old.items) (managed units.new reconfigs.new.items) out.old out.new reason) }
+    ensures begins { IfOk result (λ reason. Begins kind
+        (begins_in (task_commanded arbitrators partition kind units.old) (managed units.old reconfigs.old.items)
+        (entered kind partition units.old)) (managed units.old reconfigs.old.items)
+        (managed units.new reconfigs.new.items) out.old out.new reason) }
     ensures whole { IsManaged (managed units.new reconfigs.new.items) }
-    ensures refused { OnErr result ((units.new ≡ units.old) × (reconfigs.new.items ≡ reconfigs.old.items) × (out.new ≡ out.old)) }
+    ensures refused { OnErr result ((units.new ≡ units.old) × (reconfigs.new.items ≡ reconfigs.old.items) ×
+        (out.new ≡ out.old)) }
     ensures few { length out.new ≤ length out.old + 9 }
 {
     let Some(epoch) = epoch_after(kind, units.highest(partition)) else {
         return Ok(Some(reason_at_end(units, partition, kind)));
     };
-    if reconfigs.len() >= MOST_RECONFIGS {
+    // Where none of this partition stands, there is room for one more.
+    if reconfigs.len() >= MAX_PARTITIONS {
         return Err(OutOfMemory);
     }
     reconfigs.reserve(1)?;
@@ -92,19 +94,20 @@ fn begin(
 }
 
 /// A command is refused for this reason.
-fn refuse(kind: Kind, reason: Reason, desk: &mut Desk)
-    requires { HasRoomFor 0 0 1 desk.old }
-    ensures { Left (Tell (Refused (verb_of kind) reason) ∷ []) desk.old desk.new }
+fn refuse(kind: Kind, reason: Reason, effects: &mut UnitEffects)
+    requires { HasRoomFor 0 0 1 effects.old }
+    ensures { Left (Tell (Refused (verb_of kind) reason) ∷ []) effects.old effects.new }
 {
-    desk.told.tell(Report::Refused(verb_of(kind), reason));
+    effects.told.tell(Report::Refused(verb_of(kind), reason));
 }
 
 impl Manager {
-    /// A command to the manager: a new reconfiguration of the partition begins, and all arbitrators are asked to prepare
-    /// its epoch, in the name of `me`. It is refused, which is told and changes nothing else, where the node is not the
-    /// manager; where a reconfiguration of the partition stands; where a create finds a known configuration; where a new
-    /// partition finds no place; or where the epoch would have a number past its end; in this order. At most nine messages
-    /// are sent, and one report is told. It is an error where memory is short, and then nothing is changed.
+    /// A command to the manager: a new reconfiguration of the partition begins, and all arbitrators are asked to
+    /// prepare its epoch, in the name of `me`. It is refused, which is told and changes nothing else, where the node is
+    /// not the manager; where a reconfiguration of the partition stands; where a create finds a known configuration;
+    /// where a new partition finds no place; or where the epoch would have a number past its end; in this order. At
+    /// most nine messages are sent, and one report is told. It is an error where memory is short, and then nothing is
+    /// changed.
     #[tactic(auto, unfolding(unit_rules::specs::Manager::reconfig_commanded))]
     pub fn commanded(
         &mut self,
@@ -113,21 +116,22 @@ impl Manager {
         partition: u16,
         kind: Kind,
         me: Who,
-        desk: &mut Desk,
+        effects: &mut UnitEffects,
     ) -> Result<(), OutOfMemory>
-        requires arbitrators { arbitrators ≤ 9 }
-        requires replicas { replicas_of kind ≤ 7 }
-        requires room { HasRoom desk.old }
-        ensures does { IfOk result (λ _. Does (reconfig_commanded is_manager arbitrators partition kind self.old) self.new desk.old desk.new) }
-        ensures refused { OnErr result ((self.new ≡ self.old) × (desk.new ≡ desk.old)) }
-        ensures few { Few desk.old desk.new }
+        requires arbitrators { arbitrators ≤ MAX_ARBITRATORS }
+        requires replicas { replicas_of kind ≤ MAX_MEMBERS }
+        requires room { HasRoom effects.old }
+        ensures does { IfOk result (λ _. Does (reconfig_commanded is_manager arbitrators partition kind self.old)
+            self.new effects.old effects.new) }
+        ensures refused { OnErr result ((self.new ≡ self.old) × (effects.new ≡ effects.old)) }
+        ensures few { Few effects.old effects.new }
     {
         if !is_manager {
-            refuse(kind, Reason::NotManager, desk);
+            refuse(kind, Reason::NotManager, effects);
             return Ok(());
         }
         if find(&self.reconfigs, partition).is_some() {
-            refuse(kind, Reason::Busy, desk);
+            refuse(kind, Reason::Busy, effects);
             return Ok(());
         }
         let begun = begin(
@@ -137,10 +141,10 @@ impl Manager {
             partition,
             kind,
             me,
-            &mut desk.out,
+            &mut effects.out,
         )?;
         if let Some(reason) = begun {
-            refuse(kind, reason, desk);
+            refuse(kind, reason, effects);
         }
         Ok(())
     }

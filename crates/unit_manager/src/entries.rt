@@ -1,4 +1,5 @@
-ghost use Rattle.std.specs.Prelude.{◌≡◌, ◌≤◌, ◌<◌, ◌==◌, true, length, is_some, nat_lt, IfSome, IfNone, None, vec_len, vec_capacity};
+ghost use Rattle.std.specs.Prelude.{◌≡◌, ◌≤◌, ◌<◌, ◌==◌, true, length, is_some, nat_lt, IfSome, IfNone, None, vec_len};
+ghost use Rattle.std.specs.Prelude.{vec_capacity};
 ghost use Rattle.std.specs.List.{position_from, position_or_len};
 ghost use Rattle.fabric_lemmas.specs.Maps.{at, put, rises, without};
 ghost use Rattle.reconfig_phases.specs.Views.{reconfig_of};
@@ -52,7 +53,8 @@ fn place_above(reconfigs: &[(u16, Reconfig)], partition: u16) -> usize
 pub(crate) fn enter(reconfigs: &mut Vec<(u16, Reconfig)>, partition: u16, reconfig: Reconfig)
     requires room { vec_len reconfigs.old < vec_capacity reconfigs.old }
     requires new { at partition (reconfigs_of reconfigs.old.items) ≡ None }
-    ensures { reconfigs_of reconfigs.new.items ≡ put partition (reconfig_of reconfig) (reconfigs_of reconfigs.old.items) }
+    ensures { reconfigs_of reconfigs.new.items ≡ put partition (reconfig_of reconfig) (reconfigs_of reconfigs.old.items)
+        }
 {
     let i = place_above(reconfigs, partition);
     match reconfigs.insert(i, (partition, reconfig)) {

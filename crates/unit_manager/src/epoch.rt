@@ -35,8 +35,8 @@ fn after_loss(highest: Epoch) -> Option<Epoch>
     })
 }
 
-/// The epoch of what is commanded, after the highest one that is known. There is none where a number of it would be past
-/// the last one.
+/// The epoch of what is commanded, after the highest one that is known. There is none where a number of it would be
+/// past the last one.
 pub(crate) fn epoch_after(kind: Kind, highest: Epoch) -> Option<Epoch>
     ensures next { IfSome result (λ epoch. (epoch ≡ epoch_of kind highest) × (is_past_end epoch ≡ false)) }
     ensures end { IfNone result (is_past_end (epoch_of kind highest) ≡ true) }

@@ -3,16 +3,16 @@
 //! The node that holds ring point 0 is the manager. It knows configurations of partitions, and has at most one
 //! reconfiguration of each partition on its way. A command begins one, an answer takes it on and at last ends it, and a
 //! firing asks those again that have not answered. Each row of the rules of partitions is a call here that changes the
-//! manager, and leaves on a desk what it sends and tells. This crate promises that a call does exactly what its rule says,
-//! and that want of memory changes nothing. It does not know the ring: whether the node is the manager, and which nodes
-//! are up, is handed in.
+//! manager, and leaves in effects what it sends and reports. This crate promises that a call does exactly what its rule
+//! says, and that want of memory changes nothing. It does not know the ring: whether the node is the manager, and which
+//! nodes are up, is handed in.
 #![tactic(auto)]
 
 mod answer;
 mod command;
 mod entries;
 mod epoch;
-mod fire;
+mod manager_firing;
 mod laws;
 mod list;
 mod loads;

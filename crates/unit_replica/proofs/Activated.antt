@@ -14,11 +14,11 @@ use Rattle.replica_core.specs.Replicas.{Replica, IsSound, collected_in, raised}
 use Rattle.replica_core.specs.Roles.{is_member, role_of}
 use Rattle.replica_core.specs.Calls.{Outcome, unless, activate_call}
 use Rattle.replica_core.proofs.Orders.{is_between, same_is}
-use Rattle.unit_rules.specs.Seats.{Seat, seated}
+use Rattle.unit_rules.specs.ReplicaStates.{ReplicaState, replica_put}
 use Rattle.unit_rules.specs.Promises.{say_older}
 use Rattle.unit_rules.specs.Activations.{activate_answered, activate_received, same_role, say_activated}
-use Rattle.unit_desk.specs.declared.desk.Desk.{Desk}
-use Rattle.unit_desk.specs.Desks.{Does, Left}
+use Rattle.unit_desk.specs.declared.unit_effects.UnitEffects.{UnitEffects}
+use Rattle.unit_desk.specs.UnitEffects.{Does, Left}
 use Rattle.unit_replica.proofs.Calls.{activate_refused}
 
 itself : (a : Role) → same_role a a ≡ true
@@ -55,22 +55,22 @@ activate_again me config s sound = by (is_older config.epoch s.promised) refl (i
         let kept : collected_in config.epoch s ≡ s.collected = rw above refl in
         same_replica s config.epoch (role_of me config) (collected_in config.epoch s) (sym promised_is) (same_ok (role_of me config) s.role e) kept
 
-pub does_refused : (me : ℕ) (asker : Who) (config : Config) (s : Seat) (t : Replica) (y : ReplicaRefusal) (before after : Desk)
+pub does_refused : (me : ℕ) (asker : Who) (config : Config) (s : ReplicaState) (t : Replica) (y : ReplicaRefusal) (before after : UnitEffects)
     → ◌≡◌ {A = Outcome Role} (Err y, t) (activate_call me config s.replica) → Left (say_older asker config.partition config.epoch y) before after
-    → Does (activate_received me asker config s) (seated s t) before after
+    → Does (activate_received me asker config s) (replica_put s t) before after
 unfolding activate_received
 does_refused me asker config s t y before after e l =
     let same : t ≡ s.replica = ap (λ (o : Outcome Role). o.1) e ∙ activate_refused me config s.replica y (sym (ap (λ (o : Outcome Role). o.0) e)) in
-    subst (λ (o : Outcome Role). Does (activate_answered me asker config s o) (seated s t) before after) e
-    (record { state = ap (λ (r : Replica). seated s r) same; left = l })
+    subst (λ (o : Outcome Role). Does (activate_answered me asker config s o) (replica_put s t) before after) e
+    (record { state = ap (λ (r : Replica). replica_put s r) same; left = l })
 
-pub does_again : (me : ℕ) (asker : Who) (config : Config) (s : Seat) (t : Replica) (role : Role) (before after : Desk) → IsSound s.replica
+pub does_again : (me : ℕ) (asker : Who) (config : Config) (s : ReplicaState) (t : Replica) (role : Role) (before after : UnitEffects) → IsSound s.replica
     → ◌≡◌ {A = Outcome Role} (Ok role, t) (activate_call me config s.replica) → role ≡ s.replica.role → Left (say_activated asker config ∷ []) before after
-    → Does (activate_received me asker config s) (seated s t) before after
+    → Does (activate_received me asker config s) (replica_put s t) before after
 unfolding activate_received
 does_again me asker config s t role before after sound e again l =
     let told : (activate_call me config s.replica).0 ≡ Ok s.replica.role = sym (ap (λ (o : Outcome Role). o.0) e) ∙ ap (λ (r : Role). Ok r) again in
     let same : t ≡ s.replica = ap (λ (o : Outcome Role). o.1) e ∙ activate_again me config s.replica sound told in
     let stands : same_role s.replica.role role ≡ true = subst (λ (r : Role). same_role s.replica.role r ≡ true) (sym again) (itself s.replica.role) in
-    subst (λ (o : Outcome Role). Does (activate_answered me asker config s o) (seated s t) before after) e
-    (rw stands (record { state = ap (λ (r : Replica). seated s r) same; left = l }))
+    subst (λ (o : Outcome Role). Does (activate_answered me asker config s o) (replica_put s t) before after) e
+    (rw stands (record { state = ap (λ (r : Replica). replica_put s r) same; left = l }))

@@ -13,32 +13,32 @@ use Rattle.ring_points.specs.Epochs.{is_older, same_epoch}
 use Rattle.replica_core.specs.declared.refusal.Done.{Done}
 use Rattle.replica_core.specs.Replicas.{Replica}
 use Rattle.replica_core.specs.Calls.{Outcome, append_call}
-use Rattle.unit_rules.specs.declared.lead.Peer.{Peer}
+use Rattle.unit_rules.specs.declared.progress.PeerProgress.{PeerProgress}
 use Rattle.unit_rules.specs.Deeds.{Deed, Acted, after_deeds, still, records_of, frames_of, reports_of}
-use Rattle.unit_rules.specs.Leads.{confirmed_by, is_primary, lead_of}
-use Rattle.unit_rules.specs.Seats.{Lead, Seat, last_of, seated}
+use Rattle.unit_rules.specs.Progress.{confirmed_by, is_primary, progress_of}
+use Rattle.unit_rules.specs.ReplicaStates.{ReplicationProgress, ReplicaState, last_of, replica_put}
 use Rattle.unit_rules.specs.Writes.{accepted, append_to, appended_received, appended_to, committed, write_answered, write_commanded, write_to}
-use Rattle.unit_desk.specs.declared.desk.Desk.{Desk}
-use Rattle.unit_desk.specs.Desks.{Does, HasRoom, HasRoomFor, Left}
+use Rattle.unit_desk.specs.declared.unit_effects.UnitEffects.{UnitEffects}
+use Rattle.unit_desk.specs.UnitEffects.{Does, HasRoom, HasRoomFor, Left}
 use Rattle.unit_desk.proofs.Deeds.{records_of-append, frames_of-append, reports_of-append}
 use Rattle.unit_replica.specs.Rows.{spread}
 
 -- what is sent to each member is neither recorded nor told
 
-records_of-appends : (epoch : Epoch) (r : Replica) (lsn : ℕ) (text : List ℕ) (peers : List Peer) → records_of (map (append_to epoch r lsn text) peers) ≡ []
+records_of-appends : (epoch : Epoch) (r : Replica) (lsn : ℕ) (text : List ℕ) (peers : List PeerProgress) → records_of (map (append_to epoch r lsn text) peers) ≡ []
 records_of-appends epoch r lsn text [] = refl
 records_of-appends epoch r lsn text (p ∷ peers) = records_of-appends epoch r lsn text peers
 
-reports_of-appends : (epoch : Epoch) (r : Replica) (lsn : ℕ) (text : List ℕ) (peers : List Peer) → reports_of (map (append_to epoch r lsn text) peers) ≡ []
+reports_of-appends : (epoch : Epoch) (r : Replica) (lsn : ℕ) (text : List ℕ) (peers : List PeerProgress) → reports_of (map (append_to epoch r lsn text) peers) ≡ []
 reports_of-appends epoch r lsn text [] = refl
 reports_of-appends epoch r lsn text (p ∷ peers) = reports_of-appends epoch r lsn text peers
 
-sent_length : (epoch : Epoch) (r : Replica) (lsn : ℕ) (text : List ℕ) (peers : List Peer) → length (frames_of (map (append_to epoch r lsn text) peers)) ≡ length peers
+sent_length : (epoch : Epoch) (r : Replica) (lsn : ℕ) (text : List ℕ) (peers : List PeerProgress) → length (frames_of (map (append_to epoch r lsn text) peers)) ≡ length peers
 sent_length epoch r lsn text [] = refl
 sent_length epoch r lsn text (p ∷ peers) = ap (λ (n : ℕ). suc n) (sent_length epoch r lsn text peers)
 
 -- an entry that is accepted and then sent to each member
-left_written : (epoch : Epoch) (r : Replica) (lsn : ℕ) (text : List ℕ) (peers : List Peer) (before mid after : Desk)
+left_written : (epoch : Epoch) (r : Replica) (lsn : ℕ) (text : List ℕ) (peers : List PeerProgress) (before mid after : UnitEffects)
     → Left (accepted r.partition epoch lsn text) before mid → after.records ≡ mid.records → after.told ≡ mid.told
     → after.out ≡ mid.out ++ frames_of (map (append_to epoch r lsn text) peers)
     → Left (accepted r.partition epoch lsn text ++ map (append_to epoch r lsn text) peers) before after
@@ -49,7 +49,7 @@ left_written epoch r lsn text peers before mid after l records told out = record
 }
 
 -- the same, as the calls say it
-pub left_told : (p : ℕ) (e : Epoch) (n : ℕ) (bytes : List ℕ) (peers : List Peer) (r : Replica) (text : List ℕ) (l : Lead) (before mid after : Desk)
+pub left_told : (p : ℕ) (e : Epoch) (n : ℕ) (bytes : List ℕ) (peers : List PeerProgress) (r : Replica) (text : List ℕ) (l : ReplicationProgress) (before mid after : UnitEffects)
     → p ≡ r.partition → e ≡ r.at → n ≡ last_of r → bytes ≡ text → peers ≡ l.peers
     → Left (accepted p e n text) before mid → after.records ≡ mid.records → after.told ≡ mid.told
     → after.out ≡ mid.out ++ frames_of (map (append_to e r n bytes) peers)
@@ -63,7 +63,7 @@ left_told p e n bytes peers r text l before mid after hp he hn hb hq told_first 
     left_written r.at r (last_of r) text l.peers before mid after first records told sent
 
 -- there is room for one more report
-pub room_left : (p : ℕ) (e : Epoch) (n : ℕ) (text bytes : List ℕ) (r : Replica) (peers : List Peer) (before mid after : Desk)
+pub room_left : (p : ℕ) (e : Epoch) (n : ℕ) (text bytes : List ℕ) (r : Replica) (peers : List PeerProgress) (before mid after : UnitEffects)
     → HasRoom before → length peers ≤ 6 → Left (accepted p e n text) before mid → after.records ≡ mid.records → after.told ≡ mid.told
     → after.out ≡ mid.out ++ frames_of (map (append_to e r n bytes) peers) → HasRoomFor 0 0 1 after
 room_left p e n text bytes r peers before mid after room few l records told out = record {
@@ -87,7 +87,7 @@ room_left p e n text bytes r peers before mid after room few l records told out 
 }
 
 -- these deeds, and then the row
-does_after : {S : Type 0} (ds : List Deed) (a : Acted S) (new : S) (before mid after : Desk) → Left ds before mid → Does a new mid after → Does (after_deeds ds a) new before after
+does_after : {S : Type 0} (ds : List Deed) (a : Acted S) (new : S) (before mid after : UnitEffects) → Left ds before mid → Does a new mid after → Does (after_deeds ds a) new before after
 does_after ds a new before mid after l d = record {
   state = d.state;
   left = record {
@@ -101,52 +101,52 @@ does_after ds a new before mid after l d = record {
 }
 
 -- what a replica knows as a primary, where it takes writes
-pub leads : (s : Seat) (o : Option Lead) → (is_primary s.replica.role && not (is_older s.replica.at s.replica.promised)) ≡ true → s.lead ≡ o → lead_of s ≡ o
-leads s o takes there = ap (λ (b : Bool). cond b s.lead None) takes ∙ there
+pub leads : (s : ReplicaState) (o : Option ReplicationProgress) → (is_primary s.replica.role && not (is_older s.replica.at s.replica.promised)) ≡ true → s.progress ≡ o → progress_of s ≡ o
+leads s o takes there = ap (λ (b : Bool). cond b s.progress None) takes ∙ there
 
-does_confirmed : (node : ℕ) (epoch : Epoch) (last : ℕ) (s : Seat) (l : Lead) (new : Seat) (before after : Desk)
-    → (is_primary s.replica.role && not (is_older s.replica.at s.replica.promised)) ≡ true → s.lead ≡ Some l → same_epoch s.replica.at epoch ≡ true
+does_confirmed : (node : ℕ) (epoch : Epoch) (last : ℕ) (s : ReplicaState) (l : ReplicationProgress) (new : ReplicaState) (before after : UnitEffects)
+    → (is_primary s.replica.role && not (is_older s.replica.at s.replica.promised)) ≡ true → s.progress ≡ Some l → same_epoch s.replica.at epoch ≡ true
     → Does (committed (confirmed_by node last (last_of s.replica) l) s) new before after → Does (appended_received node epoch last s) new before after
 unfolding appended_received
 does_confirmed node epoch last s l new before after takes there same d =
-    subst (λ (o : Option Lead). Does (appended_to node epoch last s o) new before after) (sym (leads s (Some l) takes there))
-    (subst (λ (b : Bool). Does {S = Seat} (cond b (committed (confirmed_by node last (last_of s.replica) l) s) (still s)) new before after) (sym same) d)
+    subst (λ (o : Option ReplicationProgress). Does (appended_to node epoch last s o) new before after) (sym (leads s (Some l) takes there))
+    (subst (λ (b : Bool). Does {S = ReplicaState} (cond b (committed (confirmed_by node last (last_of s.replica) l) s) (still s)) new before after) (sym same) d)
 
-does_written : (text : List ℕ) (s : Seat) (r : Replica) (done : Done) (new : Seat) (before after : Desk)
-    → (is_primary s.replica.role && not (is_older s.replica.at s.replica.promised)) ≡ true → is_some s.lead ≡ true
+does_written : (text : List ℕ) (s : ReplicaState) (r : Replica) (done : Done) (new : ReplicaState) (before after : UnitEffects)
+    → (is_primary s.replica.role && not (is_older s.replica.at s.replica.promised)) ≡ true → is_some s.progress ≡ true
     → ◌≡◌ {A = Outcome Done} (Ok done, r) (append_call s.replica.at (last_of s.replica + 1) text s.replica)
-    → Does (spread text s.lead (seated s r)) new before after → Does (write_commanded text s) new before after
+    → Does (spread text s.progress (replica_put s r)) new before after → Does (write_commanded text s) new before after
 unfolding write_commanded
 does_written text s r done new before after takes some e d =
-    subst (λ (o : Option Lead). Does (write_to text s o) new before after) (sym (leads s s.lead takes refl)) (by s.lead some d)
+    subst (λ (o : Option ReplicationProgress). Does (write_to text s o) new before after) (sym (leads s s.progress takes refl)) (by s.progress some d)
   where
-    by : (o : Option Lead) → is_some o ≡ true → Does (spread text o (seated s r)) new before after → Does (write_to text s o) new before after
+    by : (o : Option ReplicationProgress) → is_some o ≡ true → Does (spread text o (replica_put s r)) new before after → Does (write_to text s o) new before after
     by None none d = absurd (cc)
     by (Some l) some d = subst (λ (o : Outcome Done). Does (write_answered text l s o) new before after) e d
 
 -- the parts of each row, as the calls say them
 
-pub does_spread : (text : List ℕ) (s : Seat) (l : Lead) (new : Seat) (before mid after : Desk) → s.lead ≡ Some l
+pub does_spread : (text : List ℕ) (s : ReplicaState) (l : ReplicationProgress) (new : ReplicaState) (before mid after : UnitEffects) → s.progress ≡ Some l
     → Left (accepted s.replica.partition s.replica.at (last_of s.replica) text ++ map (append_to s.replica.at s.replica (last_of s.replica) text) l.peers) before mid
-    → ((m : Lead) → s.lead ≡ Some m → Does (committed m s) new mid after) → Does (spread text s.lead s) new before after
+    → ((m : ReplicationProgress) → s.progress ≡ Some m → Does (committed m s) new mid after) → Does (spread text s.progress s) new before after
 does_spread text s l new before mid after there left more =
-    subst (λ (o : Option Lead). Does (spread text o s) new before after) (sym there)
+    subst (λ (o : Option ReplicationProgress). Does (spread text o s) new before after) (sym there)
     (does_after (accepted s.replica.partition s.replica.at (last_of s.replica) text ++ map (append_to s.replica.at s.replica (last_of s.replica) text) l.peers)
     (committed l s) new before mid after left (more l there))
 
-pub does_appended : (node : ℕ) (epoch : Epoch) (last own : ℕ) (s : Seat) (l m : Lead) (new : Seat) (before after : Desk)
-    → (is_primary s.replica.role && not (is_older s.replica.at s.replica.promised)) ≡ true → s.lead ≡ Some l → same_epoch s.replica.at epoch ≡ true
+pub does_appended : (node : ℕ) (epoch : Epoch) (last own : ℕ) (s : ReplicaState) (l m : ReplicationProgress) (new : ReplicaState) (before after : UnitEffects)
+    → (is_primary s.replica.role && not (is_older s.replica.at s.replica.promised)) ≡ true → s.progress ≡ Some l → same_epoch s.replica.at epoch ≡ true
     → own ≡ last_of s.replica → m ≡ confirmed_by node last own l
-    → ((n : Lead) → ◌≡◌ {A = Option Lead} (Some m) (Some n) → Does (committed n (record s { lead = Some m })) new before after)
+    → ((n : ReplicationProgress) → ◌≡◌ {A = Option ReplicationProgress} (Some m) (Some n) → Does (committed n (record s { progress = Some m })) new before after)
     → Does (appended_received node epoch last s) new before after
 does_appended node epoch last own s l m new before after takes there same own_is m_is more =
     let is : m ≡ confirmed_by node last (last_of s.replica) l = m_is ∙ ap (λ (n : ℕ). confirmed_by node last n l) own_is in
     let d : Does (committed m s) new before after = more m refl in
-    does_confirmed node epoch last s l new before after takes there same (subst (λ (n : Lead). Does (committed n s) new before after) is d)
+    does_confirmed node epoch last s l new before after takes there same (subst (λ (n : ReplicationProgress). Does (committed n s) new before after) is d)
 
-pub does_commanded : (text bytes : List ℕ) (e : Epoch) (n : ℕ) (s : Seat) (r : Replica) (done : Done) (new : Seat) (before after : Desk)
-    → (is_primary s.replica.role && not (is_older s.replica.at s.replica.promised)) ≡ true → is_some s.lead ≡ true
+pub does_commanded : (text bytes : List ℕ) (e : Epoch) (n : ℕ) (s : ReplicaState) (r : Replica) (done : Done) (new : ReplicaState) (before after : UnitEffects)
+    → (is_primary s.replica.role && not (is_older s.replica.at s.replica.promised)) ≡ true → is_some s.progress ≡ true
     → e ≡ s.replica.at → n ≡ last_of s.replica → bytes ≡ text → ◌≡◌ {A = Outcome Done} (append_call e (n + 1) bytes s.replica) (Ok done, r)
-    → Does (spread text s.lead (seated s r)) new before after → Does (write_commanded text s) new before after
+    → Does (spread text s.progress (replica_put s r)) new before after → Does (write_commanded text s) new before after
 does_commanded text bytes e n s r done new before after takes some he hn hb called d =
     does_written text s r done new before after takes some (sym called ∙ (λ i. append_call (he i) (hn i + 1) (hb i) s.replica)) d

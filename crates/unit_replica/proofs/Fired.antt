@@ -7,37 +7,37 @@ use Rattle.fabric_terms.specs.declared.message.Body.{Body}
 use Rattle.fabric_terms.specs.declared.message.Message.{Message}
 use Rattle.fabric_terms.specs.Sent.{from_all}
 use Rattle.unit_rules.specs.Deeds.{Deed, frames_of}
-use Rattle.unit_rules.specs.Seats.{Seat}
-use Rattle.unit_rules.specs.Writes.{seat_fired}
+use Rattle.unit_rules.specs.ReplicaStates.{ReplicaState}
+use Rattle.unit_rules.specs.Writes.{state_fired}
 use Rattle.unit_desk.proofs.Deeds.{frames_of-append}
-use Rattle.unit_replica.specs.Tables.{Seats, fired}
+use Rattle.unit_replica.specs.Tables.{ReplicaStates, fired}
 
 -- the numbers do not count
-pub fired_values : (seats : Seats) → fired seats ≡ flat_map seat_fired (values_of seats)
+pub fired_values : (states : ReplicaStates) → fired states ≡ flat_map state_fired (values_of states)
 fired_values [] = refl
-fired_values (e ∷ seats) = ap (λ (ds : List Deed). seat_fired e.1 ++ ds) (fired_values seats)
+fired_values (e ∷ states) = ap (λ (ds : List Deed). state_fired e.1 ++ ds) (fired_values states)
 
 -- one more is sent, and the others are to come
-pub one_fired : (me : Who) (s : Seat) (rest : List Seat) (before now : List Message) → now ≡ before ++ from_all me (frames_of (seat_fired s))
-    → now ++ from_all me (frames_of (flat_map seat_fired rest)) ≡ before ++ from_all me (frames_of (flat_map seat_fired (s ∷ rest)))
+pub one_fired : (me : Who) (s : ReplicaState) (rest : List ReplicaState) (before now : List Message) → now ≡ before ++ from_all me (frames_of (state_fired s))
+    → now ++ from_all me (frames_of (flat_map state_fired rest)) ≡ before ++ from_all me (frames_of (flat_map state_fired (s ∷ rest)))
 one_fired me s rest before now is =
-    let one : from_all me (frames_of (flat_map seat_fired (s ∷ rest))) ≡ from_all me (frames_of (seat_fired s)) ++ from_all me (frames_of (flat_map seat_fired rest)) =
-    ap (from_all me) (frames_of-append (seat_fired s) (flat_map seat_fired rest)) ∙ map-append _ (frames_of (seat_fired s)) (frames_of (flat_map seat_fired rest)) in
-    ap (λ (ms : List Message). ms ++ from_all me (frames_of (flat_map seat_fired rest))) is
-    ∙ (append_assoc before (from_all me (frames_of (seat_fired s))) (from_all me (frames_of (flat_map seat_fired rest)))
+    let one : from_all me (frames_of (flat_map state_fired (s ∷ rest))) ≡ from_all me (frames_of (state_fired s)) ++ from_all me (frames_of (flat_map state_fired rest)) =
+    ap (from_all me) (frames_of-append (state_fired s) (flat_map state_fired rest)) ∙ map-append _ (frames_of (state_fired s)) (frames_of (flat_map state_fired rest)) in
+    ap (λ (ms : List Message). ms ++ from_all me (frames_of (flat_map state_fired rest))) is
+    ∙ (append_assoc before (from_all me (frames_of (state_fired s))) (from_all me (frames_of (flat_map state_fired rest)))
     ∙ ap (λ (ms : List Message). before ++ ms) (sym one))
 
-pub as_many_values : (seats : Seats) → length (values_of seats) ≡ length seats
+pub as_many_values : (states : ReplicaStates) → length (values_of states) ≡ length states
 as_many_values [] = refl
-as_many_values (e ∷ seats) = ap (λ (n : ℕ). suc n) (as_many_values seats)
+as_many_values (e ∷ states) = ap (λ (n : ℕ). suc n) (as_many_values states)
 
 -- one more sends at most six
-pub few_fired : (me : Who) (s : Seat) (left rest : List Seat) (all : ℕ) (now next : List Message) (clear out : List (Who × Body)) → left ≡ s ∷ rest
+pub few_fired : (me : Who) (s : ReplicaState) (left rest : List ReplicaState) (all : ℕ) (now next : List Message) (clear out : List (Who × Body)) → left ≡ s ∷ rest
     → next ≡ now ++ from_all me out → clear ≡ [] → length out ≤ length clear + 6 → length now + 6 * length left ≤ all
     → length next + 6 * length rest ≤ all
 few_fired me s left rest all now next clear out steps behind none few so_far =
     let many : length next ≡ length now + length out =
     ap (λ (ms : List Message). length ms) behind ∙ (length-append now (from_all me out) ∙ ap (λ (n : ℕ). length now + n) (length-map {B = Message} out _)) in
     let nothing : length clear ≡ 0 = ap (λ (ms : List (Who × Body)). length ms) none in
-    let one : length left ≡ suc (length rest) = ap (λ (l : List Seat). length l) steps in
+    let one : length left ≡ suc (length rest) = ap (λ (l : List ReplicaState). length l) steps in
     omega (arith, many, nothing, few, one, so_far)

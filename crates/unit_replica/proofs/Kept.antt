@@ -17,11 +17,11 @@ use Rattle.replica_core.specs.declared.refusal.ReplicaRefusal.{ReplicaRefusal}
 use Rattle.replica_core.specs.declared.refusal.ReplicaRefusal.TheVariants.{Older, Gap, LogFull}
 use Rattle.replica_core.specs.Replicas.{Replica, collected_in, collecting, first_replica, raised, settled, uncollected, written}
 use Rattle.replica_core.specs.Calls.{Outcome, adopt_call, adopt_collected_call, adopt_own_call, append_call, collected_call, held_if, is_ahead, is_collected, is_empty, is_gap, own_adopted, promise_call, unless}
-use Rattle.unit_rules.specs.Seats.{first_seat, seated}
+use Rattle.unit_rules.specs.ReplicaStates.{first_state, replica_put}
 use Rattle.unit_rules.specs.Starts.{Replicas, adopt_kept, called, past_all, replica_of, replicas_after, replicas_after_all, without_collected}
 use Rattle.unit_replica.specs.Laws.{StartsAreOfRecords, StopsAreTaken}
-use Rattle.unit_replica.specs.Starts.{replicas_in, seat_of, seats_from, seats_of}
-use Rattle.unit_replica.specs.Tables.{Seats}
+use Rattle.unit_replica.specs.Starts.{replicas_in, bare_state, states_from, states_of}
+use Rattle.unit_replica.specs.Tables.{ReplicaStates}
 
 -- no call changes the partition
 
@@ -136,29 +136,29 @@ rises-after_all : (rs : Replicas) (records : List Record) → rises rs ≡ true 
 rises-after_all rs [] up = up
 rises-after_all rs (r ∷ records) up = rises-after_all (replicas_after rs r) records (rises-after rs r up)
 
--- so the seats of the replicas are those of the rules
+-- so the states of the replicas are those of the rules
 
-abbrev begun_with : Replicas → Seats
-begun_with rs = map (λ e. (e.0, seated (first_seat e.0) e.1)) (without_collected rs)
+abbrev begun_with : Replicas → ReplicaStates
+begun_with rs = map (λ e. (e.0, replica_put (first_state e.0) e.1)) (without_collected rs)
 
-abbrev as_they_are : Replicas → Seats
-as_they_are rs = map (λ e. (e.0, seat_of e.1)) rs
+abbrev as_they_are : Replicas → ReplicaStates
+as_they_are rs = map (λ e. (e.0, bare_state e.1)) rs
 
-begins : (rs : Replicas) → AreOwn rs → seats_from (values_of rs) ≡ begun_with rs
+begins : (rs : Replicas) → AreOwn rs → states_from (values_of rs) ≡ begun_with rs
 begins [] own = refl
-begins (e ∷ rs) own = λ i. (own.0 i, seat_of (uncollected e.1)) ∷ begins rs own.1 i
+begins (e ∷ rs) own = λ i. (own.0 i, bare_state (uncollected e.1)) ∷ begins rs own.1 i
 
-stands : (rs : Replicas) → AreOwn rs → seats_of (values_of rs) ≡ as_they_are rs
+stands : (rs : Replicas) → AreOwn rs → states_of (values_of rs) ≡ as_they_are rs
 stands [] own = refl
-stands (e ∷ rs) own = λ i. (own.0 i, seat_of e.1) ∷ stands rs own.1 i
+stands (e ∷ rs) own = λ i. (own.0 i, bare_state e.1) ∷ stands rs own.1 i
 
-begins_again : (rs : Replicas) → AreOwn rs → seats_from (replicas_in (begun_with rs)) ≡ begun_with rs
+begins_again : (rs : Replicas) → AreOwn rs → states_from (replicas_in (begun_with rs)) ≡ begun_with rs
 begins_again [] own = refl
-begins_again (e ∷ rs) own = λ i. (own.0 i, seat_of (uncollected e.1)) ∷ begins_again rs own.1 i
+begins_again (e ∷ rs) own = λ i. (own.0 i, bare_state (uncollected e.1)) ∷ begins_again rs own.1 i
 
-stands_again : (rs : Replicas) → AreOwn rs → seats_of (replicas_in (begun_with rs)) ≡ begun_with rs
+stands_again : (rs : Replicas) → AreOwn rs → states_of (replicas_in (begun_with rs)) ≡ begun_with rs
 stands_again [] own = refl
-stands_again (e ∷ rs) own = λ i. (own.0 i, seat_of (uncollected e.1)) ∷ stands_again rs own.1 i
+stands_again (e ∷ rs) own = λ i. (own.0 i, bare_state (uncollected e.1)) ∷ stands_again rs own.1 i
 
 rises-as : (low : ℕ) (rs : Replicas) → rises_from low (as_they_are rs) ≡ rises_from low rs
 rises-as low [] = refl
@@ -173,16 +173,16 @@ starts_lem records =
     let rs : Replicas = replicas_after_all [] records in
     let own : AreOwn rs = own-after_all [] records tt in
     record {
-      rises = ap (λ (s : Seats). rises s) (stands rs own) ∙ (rises-as 0 rs ∙ rises-after_all [] records refl);
+      rises = ap (λ (s : ReplicaStates). rises s) (stands rs own) ∙ (rises-as 0 rs ∙ rises-after_all [] records refl);
       begun = begins rs own;
     }
 
 pub stops_lem : StopsAreTaken
-stops_lem records seats same =
+stops_lem records states same =
     let rs : Replicas = replicas_after_all [] records in
     let own : AreOwn rs = own-after_all [] records tt in
     record {
-      rises = ap (λ (s : Seats). rises (seats_of (replicas_in s))) same
-          ∙ (ap (λ (s : Seats). rises s) (stands_again rs own) ∙ (rises-begun 0 rs ∙ rises-after_all [] records refl));
-      begun = ap (λ (s : Seats). seats_from (replicas_in s)) same ∙ begins_again rs own;
+      rises = ap (λ (s : ReplicaStates). rises (states_of (replicas_in s))) same
+          ∙ (ap (λ (s : ReplicaStates). rises s) (stands_again rs own) ∙ (rises-begun 0 rs ∙ rises-after_all [] records refl));
+      begun = ap (λ (s : ReplicaStates). states_from (replicas_in s)) same ∙ begins_again rs own;
     }

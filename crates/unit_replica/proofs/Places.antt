@@ -1,4 +1,4 @@
--- A partition's seat in the map: where it stands, and where it is made.
+-- A partition's replica in the map: where it stands, and where it is made.
 use Rattle.std.proofs.Common.{◌≡◌, ℕ, Bool, true, false, cond, List, [], ◌∷◌, Option, Some, None, Result, Ok, Err, refl, sym, subst, ap, ◌∙◌, arith}
 use Rattle.std.proofs.lemmas.Bool.Decides.{nat_tests}
 use Rattle.std.proofs.lemmas.List.{append-nil}
@@ -11,10 +11,10 @@ use Rattle.fabric_lemmas.proofs.Maps.{at-put, rises-put}
 use Rattle.fabric_lemmas.proofs.SameMaps.{same_maps}
 use Rattle.keep_log.proofs.MapEntries.{at-put_here, lookup-is, put-put, set-is}
 use Rattle.unit_rules.specs.Deeds.{Acted, still}
-use Rattle.unit_rules.specs.Seats.{Seat, first_seat}
-use Rattle.unit_desk.specs.declared.desk.Desk.{Desk}
-use Rattle.unit_desk.specs.Desks.{Does}
-use Rattle.unit_replica.specs.Tables.{Seats, at_found, at_seat, at_standing, by_seat}
+use Rattle.unit_rules.specs.ReplicaStates.{ReplicaState, first_state}
+use Rattle.unit_desk.specs.declared.unit_effects.UnitEffects.{UnitEffects}
+use Rattle.unit_desk.specs.UnitEffects.{Does}
+use Rattle.unit_replica.specs.Tables.{ReplicaStates, at_found, at_state, at_standing, by_state}
 
 same_test : (a b : Bool) → ◌≡◌ {A = Option ℕ} (cond a (Some 0) None) (cond b (Some 0) None) → a ≡ b
 same_test true true e = refl
@@ -54,45 +54,45 @@ module _ {X : Type 0} where
           let free : at k es ≡ None = rw other at none in
           rw (key_is k e.0, other) (ap (λ (l : List (ℕ × X)). e ∷ l) (rest free))
 
--- a row at the seat that stands there
-pub does_there : (k : ℕ) (row : Seat → Acted Seat) (none : Acted Seats) (old new : Seats) (x w : Seat) (before after : Desk)
+-- a row at the replica that stands there
+pub does_there : (k : ℕ) (row : ReplicaState → Acted ReplicaState) (none : Acted ReplicaStates) (old new : ReplicaStates) (x w : ReplicaState) (before after : UnitEffects)
     → rises old ≡ true → at k old ≡ Some x → new ≡ set_value (is_at (nat_cmp k)) old w → Does (row x) w before after
     → Does (at_standing k row none old) new before after
 does_there k row none old new x w before after up found is d =
-    subst (λ (o : Option Seat). Does (at_found k row none old o) new before after) (sym found)
-    (record { state = is ∙ (set-is k w old x up found ∙ ap (λ (s : Seat). put k s old) d.state); left = d.left })
+    subst (λ (o : Option ReplicaState). Does (at_found k row none old o) new before after) (sym found)
+    (record { state = is ∙ (set-is k w old x up found ∙ ap (λ (s : ReplicaState). put k s old) d.state); left = d.left })
 
-pub does_nowhere : (k : ℕ) (row : Seat → Acted Seat) (none : Acted Seats) (old new : Seats) (before after : Desk)
+pub does_nowhere : (k : ℕ) (row : ReplicaState → Acted ReplicaState) (none : Acted ReplicaStates) (old new : ReplicaStates) (before after : UnitEffects)
     → at k old ≡ None → Does none new before after → Does (at_standing k row none old) new before after
 does_nowhere k row none old new before after nothing d =
-    subst (λ (o : Option Seat). Does (at_found k row none old o) new before after) (sym nothing) d
+    subst (λ (o : Option ReplicaState). Does (at_found k row none old o) new before after) (sym nothing) d
 
--- a seat that is left as it was leaves the map so
-pub stays_there : (k : ℕ) (old new : Seats) (x w : Seat) → rises old ≡ true → at k old ≡ Some x → new ≡ set_value (is_at (nat_cmp k)) old w → w ≡ x → new ≡ old
+-- a replica that is left as it was leaves the map so
+pub stays_there : (k : ℕ) (old new : ReplicaStates) (x w : ReplicaState) → rises old ≡ true → at k old ≡ Some x → new ≡ set_value (is_at (nat_cmp k)) old w → w ≡ x → new ≡ old
 stays_there k old new x w up found is same =
-    is ∙ (set-is k w old x up found ∙ (ap (λ (s : Seat). put k s old) same ∙ put-same k x old up found))
+    is ∙ (set-is k w old x up found ∙ (ap (λ (s : ReplicaState). put k s old) same ∙ put-same k x old up found))
 
--- a seat that stands need not be made
-pub does_standing : (k : ℕ) (row : Seat → Acted Seat) (none : Acted Seats) (old new : Seats) (before after : Desk)
-    → is_some (at k old) ≡ true → Does (at_standing k row none old) new before after → Does (at_seat k row old) new before after
+-- a replica that stands need not be made
+pub does_standing : (k : ℕ) (row : ReplicaState → Acted ReplicaState) (none : Acted ReplicaStates) (old new : ReplicaStates) (before after : UnitEffects)
+    → is_some (at k old) ≡ true → Does (at_standing k row none old) new before after → Does (at_state k row old) new before after
 does_standing k row none old new before after some d = by (at k old) some d
   where
-    by : (o : Option Seat) → is_some o ≡ true → Does (at_found k row none old o) new before after
-        → Does (by_seat k old (row (unwrap_or o (first_seat k)))) new before after
+    by : (o : Option ReplicaState) → is_some o ≡ true → Does (at_found k row none old o) new before after
+        → Does (by_state k old (row (unwrap_or o (first_state k)))) new before after
     by (Some x) some d = d
     by None some d = absurd (cc)
 
--- a seat that is made takes the row as the first one
-pub does_made : (k : ℕ) (row : Seat → Acted Seat) (none : Acted Seats) (old mid new : Seats) (before after : Desk)
-    → rises old ≡ true → at k old ≡ None → mid ≡ put k (first_seat k) old → Does (at_standing k row none mid) new before after
-    → Does (at_seat k row old) new before after
+-- a replica that is made takes the row as the first one
+pub does_made : (k : ℕ) (row : ReplicaState → Acted ReplicaState) (none : Acted ReplicaStates) (old mid new : ReplicaStates) (before after : UnitEffects)
+    → rises old ≡ true → at k old ≡ None → mid ≡ put k (first_state k) old → Does (at_standing k row none mid) new before after
+    → Does (at_state k row old) new before after
 does_made k row none old mid new before after up nothing is d =
-    let first : Seat = first_seat k in
-    let found : at k mid ≡ Some first = ap (λ (s : Seats). at k s) is ∙ at-put_here k first old in
-    let inner : Does (by_seat k mid (row first)) new before after = subst (λ (o : Option Seat). Does (at_found k row none mid o) new before after) found d in
+    let first : ReplicaState = first_state k in
+    let found : at k mid ≡ Some first = ap (λ (s : ReplicaStates). at k s) is ∙ at-put_here k first old in
+    let inner : Does (by_state k mid (row first)) new before after = subst (λ (o : Option ReplicaState). Does (at_found k row none mid o) new before after) found d in
     let state : new ≡ put k (row first).state old =
-    inner.state ∙ (ap (λ (s : Seats). put k (row first).state s) is ∙ put-put k first (row first).state old up) in
-    subst (λ (o : Option Seat). Does (by_seat k old (row (unwrap_or o first))) new before after) (sym nothing)
+    inner.state ∙ (ap (λ (s : ReplicaStates). put k (row first).state s) is ∙ put-put k first (row first).state old up) in
+    subst (λ (o : Option ReplicaState). Does (by_state k old (row (unwrap_or o first))) new before after) (sym nothing)
     (record { state = state; left = inner.left })
 
 -- what follows from a clause for each end
@@ -111,7 +111,7 @@ none_of None h = refl
 
 -- nothing was done
 
-pub does_same : {S : Type 0} (s new : S) (d : Desk) → new ≡ s → Does (still s) new d d
+pub does_same : {S : Type 0} (s new : S) (d : UnitEffects) → new ≡ s → Does (still s) new d d
 does_same s new d same = record {
   state = same;
   left = record { records = sym (append-nil d.records); sent = sym (append-nil d.out); told = sym (append-nil d.told) };

@@ -6,9 +6,9 @@ use Rattle.std.specs.Prelude.{nat_le}
 use Rattle.fabric_lemmas.specs.Maps.{rises, rises_from}
 use Rattle.fabric_lemmas.proofs.Maps.{rises_from-lower}
 use Rattle.keep_log.proofs.MapEntries.{rises-mapped}
-use Rattle.unit_rules.specs.Seats.{Seat}
-use Rattle.unit_replica.specs.Starts.{is_recorded, seat_again, seats_again}
-use Rattle.unit_replica.specs.Tables.{Seats}
+use Rattle.unit_rules.specs.ReplicaStates.{ReplicaState}
+use Rattle.unit_replica.specs.Starts.{is_recorded, state_again, states_again}
+use Rattle.unit_replica.specs.Tables.{ReplicaStates}
 
 module _ {X : Type 0} where
   rises_from-filter : (low : ℕ) (test : ℕ × X → Bool) (es : List (ℕ × X)) → rises_from low es ≡ true → rises_from low (filter test es) ≡ true
@@ -21,9 +21,9 @@ module _ {X : Type 0} where
       by true here behind = and_from (nat_le low e.0) (rises_from (e.0 + 1) (filter test es)) here behind
       by false here behind = rises_from-lower (e.0 + 1) low (filter test es) (grind (arith, nat_tests, here)) behind
 
-pub rises-again : (es : Seats) → rises es ≡ true → rises (seats_again es) ≡ true
+pub rises-again : (es : ReplicaStates) → rises es ≡ true → rises (states_again es) ≡ true
 rises-again es up =
-    rises_from-filter 0 (λ e. is_recorded e.1.replica) (map (λ e. (e.0, seat_again e.1)) es) (rises-mapped seat_again 0 es ∙ up)
+    rises_from-filter 0 (λ e. is_recorded e.1.replica) (map (λ e. (e.0, state_again e.1)) es) (rises-mapped state_again 0 es ∙ up)
 
 fewer_kept : {X : Type 0} (test : X → Bool) (xs : List X) → length (filter test xs) ≤ length xs
 fewer_kept test [] = omega arith
@@ -33,16 +33,16 @@ fewer_kept test (x ∷ xs) = by (test x) (fewer_kept test xs)
     by true less = omega (arith, less)
     by false less = omega (arith, less)
 
--- each seat begins again
-abbrev all_again : Seats → Seats
-all_again es = map (λ e. (e.0, seat_again e.1)) es
+-- each replica begins again
+abbrev all_again : ReplicaStates → ReplicaStates
+all_again es = map (λ e. (e.0, state_again e.1)) es
 
-as_many_again : (es : Seats) → length (all_again es) ≡ length es
+as_many_again : (es : ReplicaStates) → length (all_again es) ≡ length es
 as_many_again [] = refl
 as_many_again (e ∷ es) = ap (λ (n : ℕ). suc n) (as_many_again es)
 
-pub fewer_again : (es : Seats) → length (seats_again es) ≤ length es
+pub fewer_again : (es : ReplicaStates) → length (states_again es) ≤ length es
 fewer_again es =
-    let less = fewer_kept (λ (e : ℕ × Seat). is_recorded e.1.replica) (all_again es) in
+    let less = fewer_kept (λ (e : ℕ × ReplicaState). is_recorded e.1.replica) (all_again es) in
     let same = as_many_again es in
     omega (arith, less, same)

@@ -3,22 +3,22 @@ use Rattle.std.specs.Prelude.{◌≡◌, true, List, []}
 use Rattle.std.specs.Map.{values_of}
 use Rattle.fabric_lemmas.specs.Maps.{rises}
 use Rattle.fabric_terms.specs.declared.record.Record.{Record}
-use Rattle.unit_rules.specs.Starts.{replicas_after_all, seats_begun}
-use Rattle.unit_replica.specs.Starts.{replicas_in, seats_again, seats_from, seats_of}
-use Rattle.unit_replica.specs.Tables.{Seats}
+use Rattle.unit_rules.specs.Starts.{replicas_after_all, states_begun}
+use Rattle.unit_replica.specs.Starts.{replicas_in, states_again, states_from, states_of}
+use Rattle.unit_replica.specs.Tables.{ReplicaStates}
 
--- a node that takes the replicas to which its records amount begins with the seats of the rules
+-- a node that takes the replicas to which its records amount begins with the replica states of the rules
 pub record BeginsAs (records : List Record) : Type 0 where
-  pub rises : rises (seats_of (values_of (replicas_after_all [] records))) ≡ true
-  pub begun : seats_from (values_of (replicas_after_all [] records)) ≡ seats_begun records
+  pub rises : rises (states_of (values_of (replicas_after_all [] records))) ≡ true
+  pub begun : states_from (values_of (replicas_after_all [] records)) ≡ states_begun records
 
 abbrev pub StartsAreOfRecords : Type 0
 StartsAreOfRecords = (records : List Record) → BeginsAs records
 
 -- so does one that takes what a stop gave, where nothing but the records is left of the instance
-pub record BeginsAgain (records : List Record) (seats : Seats) : Type 0 where
-  pub rises : rises (seats_of (replicas_in (seats_again seats))) ≡ true
-  pub begun : seats_from (replicas_in (seats_again seats)) ≡ seats_begun records
+pub record BeginsAgain (records : List Record) (states : ReplicaStates) : Type 0 where
+  pub rises : rises (states_of (replicas_in (states_again states))) ≡ true
+  pub begun : states_from (replicas_in (states_again states)) ≡ states_begun records
 
 abbrev pub StopsAreTaken : Type 0
-StopsAreTaken = (records : List Record) (seats : Seats) → seats_again seats ≡ seats_begun records → BeginsAgain records seats
+StopsAreTaken = (records : List Record) (states : ReplicaStates) → states_again states ≡ states_begun records → BeginsAgain records states

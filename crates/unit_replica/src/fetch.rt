@@ -1,14 +1,14 @@
-ghost use Rattle.std.specs.Prelude.{◌≡◌, ◌≤◌, ◌+◌, ◌∷◌, [], length};
+ghost use Rattle.std.specs.Prelude.{◌≡◌, ◌≤◌, ◌+◌, length};
 ghost use Rattle.std.specs.Option.{option_copied};
 ghost use Rattle.unit_rules.specs.Copies.{fetch_received};
-ghost use Rattle.unit_rules.specs.Seats.{entry_at};
-ghost use Rattle.unit_desk.specs.Desks.{Does, HasRoom};
+ghost use Rattle.unit_rules.specs.ReplicaStates.{entry_at};
+ghost use Rattle.unit_desk.specs.UnitEffects.{Does, HasRoom};
 
-use crate::seat::Seat;
+use crate::replica_state::ReplicaState;
 use fabric_terms::{Body, Payload};
 use replica_core::Entry;
 use ring_points::{Epoch, Who};
-use unit_desk::Desk;
+use unit_desk::UnitEffects;
 
 /// The entry of this number, which counts from 1.
 pub(crate) fn entry_at(lsn: u64, log: &[Entry]) -> Option<&Entry>
@@ -22,22 +22,22 @@ pub(crate) fn entry_at(lsn: u64, log: &[Entry]) -> Option<&Entry>
 
 /// Fetch: an entry of the log is given to who asks in the promised epoch.
 #[tactic(auto, unfolding(unit_rules::specs::Copies::fetch_received))]
-pub fn fetch_received(asker: Who, epoch: Epoch, lsn: u32, seat: &Seat, desk: &mut Desk)
-    requires { HasRoom desk.old }
-    ensures does { Does (fetch_received asker epoch lsn seat.now) seat.now desk.old desk.new }
-    ensures few { length desk.new.out ≤ length desk.old.out + 1 }
+pub fn fetch_received(asker: Who, epoch: Epoch, lsn: u32, state: &ReplicaState, effects: &mut UnitEffects)
+    requires { HasRoom effects.old }
+    ensures does { Does (fetch_received asker epoch lsn state.now) state.now effects.old effects.new }
+    ensures few { length effects.new.out ≤ length effects.old.out + 1 }
 {
-    if seat.replica.promised() != epoch {
+    if state.replica.promised() != epoch {
         return;
     }
-    if let Some(entry) = entry_at(u64::from(lsn), seat.replica.log()) {
+    if let Some(entry) = entry_at(u64::from(lsn), state.replica.log()) {
         let body = Body::Piece {
-            partition: seat.replica.partition(),
+            partition: state.replica.partition(),
             epoch,
             lsn: entry.lsn,
             entry_epoch: entry.epoch,
             text: Payload::from_slice(entry.bytes.as_slice()),
         };
-        desk.out.send(asker, body);
+        effects.out.send(asker, body);
     }
 }

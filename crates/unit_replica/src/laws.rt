@@ -1,6 +1,6 @@
 ghost use Rattle.unit_replica.specs.Laws.{StartsAreOfRecords, StopsAreTaken};
 
-/// A node that takes the replicas to which its records amount begins with the seats of the rules.
+/// A node that takes the replicas to which its records amount begins with the replica states of the rules.
 pub fn starts_are_of_records()
     ensures { StartsAreOfRecords }
 {}

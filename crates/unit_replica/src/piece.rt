@@ -3,34 +3,34 @@ ghost use Rattle.replica_core.specs.Calls.{adopt_call};
 ghost use Rattle.unit_rules.specs.Copies.{copy_goes_on, is_wanted, piece_collected, piece_received};
 ghost use Rattle.replica_core.specs.declared.entry.Entry.{Entry};
 ghost use Rattle.unit_replica.specs.Memory.{stores};
-ghost use Rattle.unit_desk.specs.Desks.{Does, HasRoom, HasRoomFor, Left};
+ghost use Rattle.unit_desk.specs.UnitEffects.{Does, HasRoom, HasRoomFor, Left};
 
-use crate::named::NamedReplica;
-use crate::seat::Seat;
+use crate::named_replica::NamedReplica;
+use crate::replica_state::ReplicaState;
 use crate::sync::{fetch_next, tell_adopted};
+use ring_points::{Epoch, MAX_LOG_ENTRIES};
 use fabric_terms::{OutOfMemory, Payload, Record};
 use replica_core::ReplicaRefusal;
-use ring_points::Epoch;
-use unit_desk::Desk;
-use unit_rules::Taking;
+use unit_desk::UnitEffects;
+use unit_rules::CatchUp;
 
 /// Whether an entry of this epoch and number is one of the Sync's log, which is not taken yet.
-fn is_wanted(taking: Taking, epoch: Epoch, lsn: u32, replica: &NamedReplica) -> bool
-    ensures { result ≡ is_wanted taking epoch lsn replica.now }
+fn is_wanted(catch_up: CatchUp, epoch: Epoch, lsn: u32, replica: &NamedReplica) -> bool
+    ensures { result ≡ is_wanted catch_up epoch lsn replica.now }
 {
-    taking.epoch == epoch && replica.at() != epoch && 1 <= lsn && lsn <= taking.last
+    catch_up.epoch == epoch && replica.at() != epoch && 1 <= lsn && lsn <= catch_up.last
 }
 
 /// What follows an entry that was collected: with the last one the log is adopted, else the next is asked for.
-fn go_on(taking: Taking, lsn: u32, replica: &NamedReplica, desk: &mut Desk)
-    requires { HasRoomFor 1 1 1 desk.old }
-    ensures left { Left (copy_goes_on taking lsn replica.now) desk.old desk.new }
-    ensures few { length desk.new.out ≤ length desk.old.out + 1 }
+fn go_on(catch_up: CatchUp, lsn: u32, replica: &NamedReplica, effects: &mut UnitEffects)
+    requires { HasRoomFor 1 1 1 effects.old }
+    ensures left { Left (copy_goes_on catch_up lsn replica.now) effects.old effects.new }
+    ensures few { length effects.new.out ≤ length effects.old.out + 1 }
 {
-    if lsn == taking.last {
-        tell_adopted(replica.partition(), taking, false, desk);
+    if lsn == catch_up.last {
+        tell_adopted(replica.partition(), catch_up, false, effects);
     } else {
-        fetch_next(taking, replica, desk);
+        fetch_next(catch_up, replica, effects);
     }
 }
 
@@ -38,39 +38,39 @@ fn go_on(taking: Taking, lsn: u32, replica: &NamedReplica, desk: &mut Desk)
 /// nothing is changed.
 #[tactic(auto, using(crate::proofs::Stored::entry_stored))]
 fn collect(
-    taking: Taking,
+    catch_up: CatchUp,
     entry_epoch: Epoch,
     lsn: u32,
     text: &Payload,
-    seat: &mut Seat,
-    desk: &mut Desk,
+    state: &mut ReplicaState,
+    effects: &mut UnitEffects,
 ) -> Result<(), OutOfMemory>
-    requires lsn { lsn ≤ 100000 }
-    requires room { HasRoomFor 2 1 1 desk.old }
+    requires lsn { lsn ≤ MAX_LOG_ENTRIES }
+    requires room { HasRoomFor 2 1 1 effects.old }
     ensures does { let entry : Entry = record { epoch = entry_epoch; lsn = lsn; bytes = text.now } in
-        IfOk result (λ _. Does (piece_collected taking entry seat.old (adopt_call taking.epoch entry taking.last seat.old.replica)) seat.new desk.old desk.new) }
-    ensures few { length desk.new.out ≤ length desk.old.out + 1 }
-    ensures refused { OnErr result ((seat.new ≡ seat.old) × (desk.new ≡ desk.old)) }
+        IfOk result (λ _. Does (piece_collected catch_up entry state.old (adopt_call catch_up.epoch entry catch_up.last state.old.replica)) state.new effects.old effects.new) }
+    ensures few { length effects.new.out ≤ length effects.old.out + 1 }
+    ensures refused { OnErr result ((state.new ≡ state.old) × (effects.new ≡ effects.old)) }
     ensures memory { let entry : Entry = record { epoch = entry_epoch; lsn = lsn; bytes = text.now } in
-        OnErr result (stores (piece_collected taking entry seat.old (adopt_call taking.epoch entry taking.last seat.old.replica)) ≡ true) }
+        OnErr result (stores (piece_collected catch_up entry state.old (adopt_call catch_up.epoch entry catch_up.last state.old.replica)) ≡ true) }
 {
-    let adopted = seat.replica.adopt_bytes(
-        taking.epoch,
+    let adopted = state.replica.adopt_bytes(
+        catch_up.epoch,
         entry_epoch,
         lsn,
         text.as_slice(),
-        taking.last,
+        catch_up.last,
     );
     match adopted {
         Ok(_) => {
-            desk.records.keep(Record::Incoming {
-                partition: seat.replica.partition(),
-                epoch: taking.epoch,
+            effects.records.keep(Record::Incoming {
+                partition: state.replica.partition(),
+                epoch: catch_up.epoch,
                 lsn,
                 entry_epoch,
                 text: text.copy(),
             });
-            go_on(taking, lsn, &seat.replica, desk);
+            go_on(catch_up, lsn, &state.replica, effects);
             Ok(())
         }
         Err(ReplicaRefusal::OutOfMemory) => Err(OutOfMemory),
@@ -86,20 +86,23 @@ pub fn piece_received(
     lsn: u32,
     entry_epoch: Epoch,
     text: &Payload,
-    seat: &mut Seat,
-    desk: &mut Desk,
+    state: &mut ReplicaState,
+    effects: &mut UnitEffects,
 ) -> Result<(), OutOfMemory>
-    requires { HasRoom desk.old }
-    ensures does { IfOk result (λ _. Does (piece_received epoch (record { epoch = entry_epoch; lsn = lsn; bytes = text.now }) seat.old) seat.new desk.old desk.new) }
-    ensures few { length desk.new.out ≤ length desk.old.out + 1 }
-    ensures refused { OnErr result ((seat.new ≡ seat.old) × (desk.new ≡ desk.old)) }
-    ensures memory { OnErr result (stores (piece_received epoch (record { epoch = entry_epoch; lsn = lsn; bytes = text.now }) seat.old) ≡ true) }
+    requires { HasRoom effects.old }
+    ensures does { IfOk result (λ _. Does
+        (piece_received epoch (record { epoch = entry_epoch; lsn = lsn; bytes = text.now }) state.old)
+        state.new effects.old effects.new) }
+    ensures few { length effects.new.out ≤ length effects.old.out + 1 }
+    ensures refused { OnErr result ((state.new ≡ state.old) × (effects.new ≡ effects.old)) }
+    ensures memory { OnErr result (stores
+        (piece_received epoch (record { epoch = entry_epoch; lsn = lsn; bytes = text.now }) state.old) ≡ true) }
 {
-    let Some(taking) = seat.taking else {
+    let Some(catch_up) = state.catch_up else {
         return Ok(());
     };
-    if !is_wanted(taking, epoch, lsn, &seat.replica) {
+    if !is_wanted(catch_up, epoch, lsn, &state.replica) {
         return Ok(());
     }
-    collect(taking, entry_epoch, lsn, text, seat, desk)
+    collect(catch_up, entry_epoch, lsn, text, state, effects)
 }

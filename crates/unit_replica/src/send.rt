@@ -1,17 +1,17 @@
 ghost use Rattle.std.specs.Prelude.{◌≡◌, ◌+◌, ◌≤◌, ◌∷◌, ◌++◌, ◌&&◌, [], flat_map, length, map, not};
 ghost use Rattle.ring_points.specs.Epochs.{is_older};
 ghost use Rattle.unit_rules.specs.Deeds.{frames_of};
-ghost use Rattle.unit_rules.specs.Leads.{is_primary};
-ghost use Rattle.unit_rules.specs.Seats.{entry_at};
-ghost use Rattle.unit_rules.specs.Writes.{append_to, entry_sent, seat_fired};
+ghost use Rattle.unit_rules.specs.Progress.{is_primary};
+ghost use Rattle.unit_rules.specs.ReplicaStates.{entry_at};
+ghost use Rattle.unit_rules.specs.Writes.{append_to, entry_sent, state_fired};
 
 use crate::fetch::entry_at;
-use crate::named::NamedReplica;
-use crate::seat::Seat;
+use crate::named_replica::NamedReplica;
+use crate::replica_state::ReplicaState;
+use ring_points::{Epoch, MAX_WRITE, OUTBOX_LIMIT, Who};
 use fabric_terms::{Body, Outbox, Payload};
 use replica_core::Role;
-use ring_points::{Epoch, Who};
-use unit_rules::Peer;
+use unit_rules::PeerProgress;
 
 /// Whether a replica takes writes: it is a primary, and has promised nothing higher than its epoch.
 pub(crate) fn takes_writes(replica: &NamedReplica) -> bool
@@ -26,11 +26,11 @@ pub(crate) fn append_to(
     replica: &NamedReplica,
     lsn: u32,
     text: &[u8],
-    peer: &Peer,
+    peer: &PeerProgress,
     out: &mut Outbox,
 )
-    requires room { length out.old + 1 ≤ 192 }
-    requires text { length text.now ≤ 512 }
+    requires room { length out.old + 1 ≤ OUTBOX_LIMIT }
+    requires text { length text.now ≤ MAX_WRITE }
     ensures { out.new ≡ out.old ++ frames_of (append_to epoch replica.now lsn text.now peer.now ∷ []) }
 {
     let to = Who {
@@ -52,11 +52,11 @@ pub(crate) fn append_to_all(
     replica: &NamedReplica,
     lsn: u32,
     text: &[u8],
-    peers: &[Peer],
+    peers: &[PeerProgress],
     out: &mut Outbox,
 )
-    requires room { length out.old + length peers.now ≤ 192 }
-    requires text { length text.now ≤ 512 }
+    requires room { length out.old + length peers.now ≤ OUTBOX_LIMIT }
+    requires text { length text.now ≤ MAX_WRITE }
     ensures sent { out.new ≡ out.old ++ frames_of (map (append_to epoch replica.now lsn text.now) peers.now) }
     ensures few { length out.new ≤ length out.old + length peers.now }
 {
@@ -66,9 +66,10 @@ pub(crate) fn append_to_all(
 }
 
 /// A member is sent the entry that is next for it, where there is one.
-fn send_next(replica: &NamedReplica, peer: &Peer, out: &mut Outbox)
-    requires room { length out.old + 1 ≤ 192 }
-    ensures sent { out.new ≡ out.old ++ frames_of (entry_sent replica.now peer.now (entry_at peer.now.next replica.now.log)) }
+fn send_next(replica: &NamedReplica, peer: &PeerProgress, out: &mut Outbox)
+    requires room { length out.old + 1 ≤ OUTBOX_LIMIT }
+    ensures sent { out.new ≡ out.old ++ frames_of
+        (entry_sent replica.now peer.now (entry_at peer.now.next replica.now.log)) }
     ensures one { length out.new ≤ length out.old + 1 }
 {
     if let Some(entry) = entry_at(peer.next, replica.log()) {
@@ -85,9 +86,10 @@ fn send_next(replica: &NamedReplica, peer: &Peer, out: &mut Outbox)
 
 /// Each of these members is sent the entry that is next for it, where there is one.
 #[tactic(auto, using(unit_desk::proofs::Deeds::deeds_append))]
-fn send_all_next(replica: &NamedReplica, peers: &[Peer], out: &mut Outbox)
-    requires { length out.old + length peers.now ≤ 192 }
-    ensures sent { out.new ≡ out.old ++ frames_of (flat_map (λ p. entry_sent replica.now p (entry_at p.next replica.now.log)) peers.now) }
+fn send_all_next(replica: &NamedReplica, peers: &[PeerProgress], out: &mut Outbox)
+    requires { length out.old + length peers.now ≤ OUTBOX_LIMIT }
+    ensures sent { out.new ≡ out.old ++ frames_of
+        (flat_map (λ p. entry_sent replica.now p (entry_at p.next replica.now.log)) peers.now) }
     ensures few { length out.new ≤ length out.old + length peers.now }
 {
     for peer in peers {
@@ -95,18 +97,18 @@ fn send_all_next(replica: &NamedReplica, peers: &[Peer], out: &mut Outbox)
     }
 }
 
-/// A firing: the primary sends each other member the entry that is next for it, where there is one. These are at most six
-/// messages.
-#[tactic(auto, unfolding(unit_rules::specs::Writes::seat_fired))]
-pub fn seat_fired(seat: &Seat, out: &mut Outbox)
-    requires { length out.old + 6 ≤ 192 }
-    ensures sent { out.new ≡ out.old ++ frames_of (seat_fired seat.now) }
+/// A firing: the primary sends each other member the entry that is next for it, where there is one. These are at most
+/// six messages.
+#[tactic(auto, unfolding(unit_rules::specs::Writes::state_fired))]
+pub fn state_fired(state: &ReplicaState, out: &mut Outbox)
+    requires { length out.old + 6 ≤ OUTBOX_LIMIT }
+    ensures sent { out.new ≡ out.old ++ frames_of (state_fired state.now) }
     ensures few { length out.new ≤ length out.old + 6 }
 {
-    if !takes_writes(&seat.replica) {
+    if !takes_writes(&state.replica) {
         return;
     }
-    if let Some(lead) = &seat.lead {
-        send_all_next(&seat.replica, lead.peers(), out);
+    if let Some(progress) = &state.progress {
+        send_all_next(&state.replica, progress.peers(), out);
     }
 }

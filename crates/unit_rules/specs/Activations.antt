@@ -9,8 +9,8 @@ use Rattle.replica_core.specs.declared.role.Role.TheVariants.{None as NoRole, Id
 use Rattle.replica_core.specs.Replicas.{Replica}
 use Rattle.replica_core.specs.Calls.{Outcome, activate_call}
 use Rattle.unit_rules.specs.Deeds.{Deed, Send, Tell, Acted, acted}
-use Rattle.unit_rules.specs.Seats.{Seat, last_of}
-use Rattle.unit_rules.specs.Leads.{first_lead}
+use Rattle.unit_rules.specs.ReplicaStates.{ReplicaState, last_of}
+use Rattle.unit_rules.specs.Progress.{first_progress}
 use Rattle.unit_rules.specs.Promises.{say_older}
 
 abbrev pub same_role : Role → Role → Bool
@@ -24,17 +24,17 @@ abbrev pub say_activated : Who → Config → Deed
 say_activated asker config = Send asker (body.Activated config.partition config.epoch)
 
 -- a new primary says so, and begins to lead
-abbrev pub role_begun : ℕ → Who → Config → Seat → Replica → Role → Acted Seat
+abbrev pub role_begun : ℕ → Who → Config → ReplicaState → Replica → Role → Acted ReplicaState
 role_begun me asker config s r Primary =
-    acted (record s { replica = r; lead = Some (first_lead me config (last_of r)) })
+    acted (record s { replica = r; progress = Some (first_progress me config (last_of r)) })
     (Tell (report.IsPrimary config.partition config.epoch) ∷ say_activated asker config ∷ [])
-role_begun me asker config s r _ = acted (record s { replica = r; lead = None }) (say_activated asker config ∷ [])
+role_begun me asker config s r _ = acted (record s { replica = r; progress = None }) (say_activated asker config ∷ [])
 
 -- a replica that has the role of this epoch already only answers; a role of a lower epoch was lost with the Sync
-abbrev pub activate_answered : ℕ → Who → Config → Seat → Outcome Role → Acted Seat
+abbrev pub activate_answered : ℕ → Who → Config → ReplicaState → Outcome Role → Acted ReplicaState
 activate_answered me asker config s (Err refusal, r) = acted s (say_older asker config.partition config.epoch refusal)
 activate_answered me asker config s (Ok role, r) =
     if same_role s.replica.role role then acted s (say_activated asker config ∷ []) else role_begun me asker config s r role
 
-unfoldable pub activate_received : ℕ → Who → Config → Seat → Acted Seat
+unfoldable pub activate_received : ℕ → Who → Config → ReplicaState → Acted ReplicaState
 activate_received me asker config s = activate_answered me asker config s (activate_call me config s.replica)

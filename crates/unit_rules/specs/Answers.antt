@@ -10,17 +10,17 @@ use Rattle.fabric_terms.specs.declared.report.Verb.{Verb}
 use Rattle.fabric_terms.specs.declared.report.Verb.TheVariants as verb
 use Rattle.name_rules.specs.Names.{NameMap, names_of, name_list}
 use Rattle.unit_rules.specs.Deeds.{Tell, Acted, acted, refuse}
-use Rattle.unit_rules.specs.Seats.{Lead, Seat}
-use Rattle.unit_rules.specs.Leads.{lead_of, reported_of}
+use Rattle.unit_rules.specs.ReplicaStates.{ReplicationProgress, ReplicaState}
+use Rattle.unit_rules.specs.Progress.{progress_of, reported_of}
 
 -- how many entries of the log an answer rests on, or why there is none: only the primary answers, and only once it has reported
 -- a commit since its activation
-abbrev pub ready : Option Lead → Result ℕ Reason
+abbrev pub ready : Option ReplicationProgress → Result ℕ Reason
 ready None = Err reason.NotPrimary
 ready (Some l) = if reported_of l == 0 then Err reason.NotReady else Ok (reported_of l)
 
 -- a question about the names that these entries leave
-abbrev pub answered : Verb → (NameMap → Report) → Seat → Result ℕ Reason → Acted Seat
+abbrev pub answered : Verb → (NameMap → Report) → ReplicaState → Result ℕ Reason → Acted ReplicaState
 answered question answer s (Err why) = refuse question why s
 answered question answer s (Ok count) = acted s (Tell (answer (names_of (take count s.replica.log))) ∷ [])
 
@@ -33,16 +33,16 @@ resolved partition name (Some value) = report.Resolved partition name value
 abbrev pub resolution : ℕ → List ℕ → NameMap → Report
 resolution partition name names = resolved partition name (get names name)
 
-unfoldable pub resolve_commanded : List ℕ → Seat → Acted Seat
-resolve_commanded name s = answered verb.Resolve (resolution s.replica.partition name) s (ready (lead_of s))
+unfoldable pub resolve_commanded : List ℕ → ReplicaState → Acted ReplicaState
+resolve_commanded name s = answered verb.Resolve (resolution s.replica.partition name) s (ready (progress_of s))
 
 -- Names: the first names with a point in the range.
 
 abbrev pub listing : ℕ → Interval → NameMap → Report
 listing partition range names = report.NameList partition (name_list names range)
 
-unfoldable pub names_commanded : Interval → Seat → Acted Seat
-names_commanded range s = answered verb.Names (listing s.replica.partition range) s (ready (lead_of s))
+unfoldable pub names_commanded : Interval → ReplicaState → Acted ReplicaState
+names_commanded range s = answered verb.Names (listing s.replica.partition range) s (ready (progress_of s))
 
 -- Either command tells one report and does nothing else: it moves no replica, and records and sends nothing.
 
@@ -53,7 +53,7 @@ is_answer (report.NameList partition names) = true
 is_answer (report.Refused question why) = true
 is_answer _ = false
 
-pub record OnlyAnswers (s : Seat) (a : Acted Seat) : Type 0 where
+pub record OnlyAnswers (s : ReplicaState) (a : Acted ReplicaState) : Type 0 where
   pub told : Report
   pub is : a ≡ acted s (Tell told ∷ [])
   pub answers : is_answer told ≡ true

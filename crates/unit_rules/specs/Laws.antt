@@ -6,7 +6,7 @@ use Rattle.fabric_terms.specs.declared.message.Body.{Body}
 use Rattle.unit_rules.specs.Answers.{OnlyAnswers, resolve_commanded, names_commanded}
 use Rattle.unit_rules.specs.Deeds.{records_of}
 use Rattle.unit_rules.specs.Registers.{Registers, registers_after, question_received}
-use Rattle.unit_rules.specs.Seats.{Seat}
+use Rattle.unit_rules.specs.ReplicaStates.{ReplicaState}
 
 -- whatever an arbitrator is asked, its registers change by what it records, and by nothing else
 abbrev pub RegisterIsRecorded : Type 0
@@ -17,4 +17,4 @@ RegisterIsRecorded =
 -- whoever asks about names is told one report, and nothing else is done
 abbrev pub QuestionsOnlyTell : Type 0
 QuestionsOnlyTell =
-    (s : Seat) → ((name : List ℕ) → OnlyAnswers s (resolve_commanded name s)) × ((range : Interval) → OnlyAnswers s (names_commanded range s))
+    (s : ReplicaState) → ((name : List ℕ) → OnlyAnswers s (resolve_commanded name s)) × ((range : Interval) → OnlyAnswers s (names_commanded range s))

@@ -1,8 +1,8 @@
 pub mod Deeds
 pub mod Epochs
 pub mod Registers
-pub mod Seats
-pub mod Leads
+pub mod ReplicaStates
+pub mod Progress
 pub mod Promises
 pub mod Copies
 pub mod Activations
@@ -21,3 +21,4 @@ pub mod Steps
 pub mod Units
 pub mod Stays
 pub mod Laws
+pub mod Fabric

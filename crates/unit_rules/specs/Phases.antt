@@ -13,7 +13,7 @@ use Rattle.unit_rules.specs.declared.reconfig.Next.{Next}
 use Rattle.unit_rules.specs.declared.reconfig.Next.TheVariants.{Prepared, Moved, Chosen, Decided, Split, Copied, Stored, Activated}
 use Rattle.unit_rules.specs.declared.reconfig.Standing.{Standing}
 use Rattle.unit_rules.specs.declared.reconfig.Task.{Task}
-use Rattle.unit_rules.specs.Reconfigs.{Source, PreparePhase, SwapPhase, PromisePhase, VotePhase, CopyPhase, DonePhase, ActivatePhase}
+use Rattle.unit_rules.specs.Reconfigs.{OriginLog, PreparePhase, SwapPhase, PromisePhase, VotePhase, CopyPhase, DonePhase, ActivatePhase}
 use Rattle.unit_rules.specs.Polls.{Poll, answered, answers_in, has_answered, is_carried}
 use Rattle.unit_rules.specs.Choices.{is_among, highest_done, furthest}
 
@@ -67,7 +67,7 @@ config_of t primary members = record { partition = t.partition; epoch = t.epoch;
 -- what is proposed, and with whose log
 pub record Choice : Type 0 where
   pub config : Config
-  pub source : Source
+  pub source : OriginLog
 
 abbrev pub chosen_from : PromisePhase → Option (ℕ × Standing) → Result Choice PromisePhase
 chosen_from p None = Err p

@@ -11,7 +11,7 @@ use Rattle.replica_core.specs.declared.refusal.ReplicaRefusal.{ReplicaRefusal}
 use Rattle.replica_core.specs.declared.refusal.ReplicaRefusal.TheVariants.{Older}
 use Rattle.replica_core.specs.Calls.{Outcome, promise_call}
 use Rattle.unit_rules.specs.Deeds.{Deed, Keep, Send, Tell, Acted, acted}
-use Rattle.unit_rules.specs.Seats.{Seat, seated, last_of}
+use Rattle.unit_rules.specs.ReplicaStates.{ReplicaState, replica_put, last_of}
 
 -- a replica that has promised a greater epoch says so; no other refusal is answered
 abbrev pub say_older : Who → ℕ → Epoch → ReplicaRefusal → List Deed
@@ -24,10 +24,10 @@ raise_told partition epoch New = Keep (kept.PromisedAt partition epoch) ∷ Tell
 raise_told partition epoch Held = []
 
 -- the promise is answered with the epoch of the log and its last entry
-abbrev pub promise_answered : Who → Epoch → Seat → Outcome Done → Acted Seat
+abbrev pub promise_answered : Who → Epoch → ReplicaState → Outcome Done → Acted ReplicaState
 promise_answered asker epoch s (Err refusal, r) = acted s (say_older asker r.partition epoch refusal)
 promise_answered asker epoch s (Ok done, r) =
-    acted (seated s r) (raise_told r.partition epoch done ++ Send asker (body.Promised r.partition epoch r.at (last_of r)) ∷ [])
+    acted (replica_put s r) (raise_told r.partition epoch done ++ Send asker (body.Promised r.partition epoch r.at (last_of r)) ∷ [])
 
-unfoldable pub promise_received : Who → Epoch → Seat → Acted Seat
+unfoldable pub promise_received : Who → Epoch → ReplicaState → Acted ReplicaState
 promise_received asker epoch s = promise_answered asker epoch s (promise_call epoch s.replica)

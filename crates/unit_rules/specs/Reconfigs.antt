@@ -9,7 +9,7 @@ use Rattle.unit_rules.specs.declared.reconfig.Standing.{Standing}
 use Rattle.unit_rules.specs.declared.reconfig.Task.{Task}
 
 -- the log that the members are to have: that of the origin, up to its last entry
-pub record Source : Type 0 where
+pub record OriginLog : Type 0 where
   pub origin : ℕ
   pub last : ℕ
 
@@ -37,14 +37,14 @@ pub record PromisePhase : Type 0 where
 pub record VotePhase : Type 0 where
   pub task : Task
   pub config : Config
-  pub source : Source
+  pub source : OriginLog
   pub votes : VoteTally
 
 -- phase 2: the members take the log
 pub record CopyPhase : Type 0 where
   pub task : Task
   pub config : Config
-  pub source : Source
+  pub source : OriginLog
   pub poll : Poll (Unit {0})
 
 -- phase 3: the arbitrators keep the configuration as done

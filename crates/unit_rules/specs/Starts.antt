@@ -7,7 +7,7 @@ use Rattle.fabric_terms.specs.declared.record.Record.TheVariants.{Boot, Promised
 use Rattle.replica_core.specs.declared.refusal.Done.{Done}
 use Rattle.replica_core.specs.Replicas.{Replica, first_replica, uncollected}
 use Rattle.replica_core.specs.Calls.{Outcome, promise_call, append_call, adopt_own_call, adopt_call, adopt_collected_call}
-use Rattle.unit_rules.specs.Seats.{Seat, first_seat, seated}
+use Rattle.unit_rules.specs.ReplicaStates.{ReplicaState, first_state, replica_put}
 
 -- by partition
 abbrev pub Replicas : Type 0
@@ -47,5 +47,5 @@ replicas_after_all rs [] = rs
 replicas_after_all rs (r ∷ more) = replicas_after_all (replicas_after rs r) more
 
 -- the replicas that the records name; none has a role, or collects anything
-abbrev pub seats_begun : List Record → List (ℕ × Seat)
-seats_begun records = map (λ e. (e.0, seated (first_seat e.0) e.1)) (without_collected (replicas_after_all [] records))
+abbrev pub states_begun : List Record → List (ℕ × ReplicaState)
+states_begun records = map (λ e. (e.0, replica_put (first_state e.0) e.1)) (without_collected (replicas_after_all [] records))

@@ -23,22 +23,22 @@ use Rattle.unit_rules.specs.declared.reconfig.Kind.{Kind}
 use Rattle.unit_rules.specs.declared.reconfig.Kind.TheVariants.{Create, Swap, Heal, Lose}
 use Rattle.unit_rules.specs.Questions.{reconfig_fired}
 use Rattle.unit_rules.specs.Manager.{Managed, reconfig_commanded, manager_answered}
-use Rattle.unit_rules.specs.Seats.{Seat, first_seat}
+use Rattle.unit_rules.specs.ReplicaStates.{ReplicaState, first_state}
 use Rattle.unit_rules.specs.Promises.{promise_received}
 use Rattle.unit_rules.specs.Copies.{sync_received, fetch_received, piece_received}
 use Rattle.unit_rules.specs.Activations.{activate_received}
-use Rattle.unit_rules.specs.Writes.{append_received, appended_received, write_commanded, seat_fired}
+use Rattle.unit_rules.specs.Writes.{append_received, appended_received, write_commanded, state_fired}
 use Rattle.unit_rules.specs.Answers.{resolve_commanded, names_commanded}
-use Rattle.unit_rules.specs.Starts.{seats_begun}
+use Rattle.unit_rules.specs.Starts.{states_begun}
 
 -- the manager, and the replicas by partition
 pub record Failover : Type 0 where
   pub managed : Managed
-  pub seats : List (ℕ × Seat)
+  pub states : List (ℕ × ReplicaState)
 
 -- the start of an instance: its replicas are those of its records, and it knows of no unit
 abbrev pub failover_begun : List Record → Failover
-failover_begun records = record { managed = record { units = []; reconfigs = [] }; seats = seats_begun records }
+failover_begun records = record { managed = record { units = []; reconfigs = [] }; states = states_begun records }
 
 -- what was done at the manager
 
@@ -47,20 +47,20 @@ by_manager s a = acted (record s { managed = a.state }) a.deeds
 
 -- what was done at the replica of a partition
 
-abbrev pub by_seat : ℕ → Failover → Acted Seat → Acted Failover
-by_seat partition s a = acted (record s { seats = put partition a.state s.seats }) a.deeds
+abbrev pub by_state : ℕ → Failover → Acted ReplicaState → Acted Failover
+by_state partition s a = acted (record s { states = put partition a.state s.states }) a.deeds
 
 -- a row of the partition's replica, which begins with the first such row
-abbrev pub at_seat : ℕ → (Seat → Acted Seat) → Failover → Acted Failover
-at_seat partition row s = by_seat partition s (row (unwrap_or (at partition s.seats) (first_seat partition)))
+abbrev pub at_state : ℕ → (ReplicaState → Acted ReplicaState) → Failover → Acted Failover
+at_state partition row s = by_state partition s (row (unwrap_or (at partition s.states) (first_state partition)))
 
 -- a row of the replica that was found, or else this
-abbrev pub at_found : ℕ → (Seat → Acted Seat) → Acted Failover → Failover → Option Seat → Acted Failover
+abbrev pub at_found : ℕ → (ReplicaState → Acted ReplicaState) → Acted Failover → Failover → Option ReplicaState → Acted Failover
 at_found partition row none s None = none
-at_found partition row none s (Some seat) = by_seat partition s (row seat)
+at_found partition row none s (Some state) = by_state partition s (row state)
 
-abbrev pub at_standing : ℕ → (Seat → Acted Seat) → Acted Failover → Failover → Acted Failover
-at_standing partition row none s = at_found partition row none s (at partition s.seats)
+abbrev pub at_standing : ℕ → (ReplicaState → Acted ReplicaState) → Acted Failover → Failover → Acted Failover
+at_standing partition row none s = at_found partition row none s (at partition s.states)
 
 -- an answer to the manager, which places by what is known and up at this reading
 abbrev pub answer : Site → ℕ → Ring → ℕ → ℕ → Epoch → Body → Failover → Acted Failover
@@ -78,14 +78,14 @@ frame_row c now r x (body.Promised partition epoch at last) s = answer c now r x
 frame_row c now r x (body.Adopted partition epoch last) s = answer c now r x.actor partition epoch (body.Adopted partition epoch last) s
 frame_row c now r x (body.Activated partition epoch) s = answer c now r x.actor partition epoch (body.Activated partition epoch) s
 frame_row c now r x (body.Older partition epoch kept) s = answer c now r x.actor partition epoch (body.Older partition epoch kept) s
-frame_row c now r x (body.Promise partition epoch) s = at_seat partition (promise_received x epoch) s
+frame_row c now r x (body.Promise partition epoch) s = at_state partition (promise_received x epoch) s
 frame_row c now r x (body.Sync partition epoch origin last) s =
-    at_seat partition (sync_received r.me.actor (record { epoch = epoch; origin = origin; last = last; asker = x })) s
+    at_state partition (sync_received r.me.actor (record { epoch = epoch; origin = origin; last = last; asker = x })) s
 frame_row c now r x (body.Fetch partition epoch lsn) s = at_standing partition (fetch_received x epoch lsn) (still s) s
 frame_row c now r x (body.Piece partition epoch lsn entry_epoch text) s =
     at_standing partition (piece_received epoch (record { epoch = entry_epoch; lsn = lsn; bytes = text })) (still s) s
-frame_row c now r x (body.Activate config) s = at_seat config.partition (activate_received r.me.actor x config) s
-frame_row c now r x (body.Append partition epoch lsn text) s = at_seat partition (append_received x epoch lsn text) s
+frame_row c now r x (body.Activate config) s = at_state config.partition (activate_received r.me.actor x config) s
+frame_row c now r x (body.Append partition epoch lsn text) s = at_state partition (append_received x epoch lsn text) s
 frame_row c now r x (body.Appended partition epoch last) s = at_standing partition (appended_received x.actor epoch last) (still s) s
 frame_row c now r x _ s = still s
 
@@ -123,7 +123,7 @@ command_row c now r _ s = still s
 
 -- a firing: the reconfigurations, then the replicas, each by rising partition
 abbrev pub fired : Failover → List Deed
-fired s = flat_map (λ e. reconfig_fired e.1) s.managed.reconfigs ++ flat_map (λ e. seat_fired e.1) s.seats
+fired s = flat_map (λ e. reconfig_fired e.1) s.managed.reconfigs ++ flat_map (λ e. state_fired e.1) s.states
 
 abbrev pub input_row : Site → ℕ → Ring → Input → Failover → Acted Failover
 input_row c now r input.Fire s = acted s (fired s)

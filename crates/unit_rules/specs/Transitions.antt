@@ -17,7 +17,7 @@ use Rattle.unit_rules.specs.declared.reconfig.Kind.{Kind}
 use Rattle.unit_rules.specs.declared.reconfig.Kind.TheVariants.{Create, Swap, Heal, Lose}
 use Rattle.unit_rules.specs.declared.reconfig.Standing.{Standing}
 use Rattle.unit_rules.specs.declared.reconfig.Task.{Task}
-use Rattle.unit_rules.specs.Reconfigs.{Source, PreparePhase, SwapPhase, PromisePhase, VotePhase, CopyPhase, DonePhase, ActivatePhase, Reconfig, Prepare, Phase0, Phase1, Decide, Phase2, Phase3, Phase4, Step, Stay, Finished, Superseded, Refused, task_of}
+use Rattle.unit_rules.specs.Reconfigs.{OriginLog, PreparePhase, SwapPhase, PromisePhase, VotePhase, CopyPhase, DonePhase, ActivatePhase, Reconfig, Prepare, Phase0, Phase1, Decide, Phase2, Phase3, Phase4, Step, Stay, Finished, Superseded, Refused, task_of}
 use Rattle.unit_rules.specs.Polls.{poll_of, arbiters_to}
 use Rattle.unit_rules.specs.Questions.{asks}
 use Rattle.unit_rules.specs.Choices.{is_among}
@@ -42,7 +42,7 @@ begun t = Prepare (record { task = t; poll = poll_of (arbiters_to t.arbitrators)
 -- The phases that more than one command enters.
 
 -- the arbitrators are asked to vote for this, with the log of the source
-abbrev pub proposes : Task → Config → Source → Acted Step
+abbrev pub proposes : Task → Config → OriginLog → Acted Step
 proposes t config source =
     enters (Decide (record { task = t; config = config; source = source; votes = no_votes t.arbitrators })) (arbiters_to t.arbitrators)
 
@@ -105,11 +105,11 @@ after_swap p (Err same) = stays (Phase0 same)
 
 -- After the votes the members of the decided configuration take the log: of a new partition none, from the primary.
 
-abbrev pub source_by : Kind → Config → Source → Source
+abbrev pub source_by : Kind → Config → OriginLog → OriginLog
 source_by (Create count) config source = record { origin = config.primary; last = 0 }
 source_by _ config source = source
 
-abbrev pub copies : Task → Config → Source → Acted Step
+abbrev pub copies : Task → Config → OriginLog → Acted Step
 copies t config source = enters (Phase2 (record { task = t; config = config; source = source; poll = poll_of config.members })) config.members
 
 abbrev pub after_vote : VotePhase → Result (Option Config) VotePhase → Acted Step

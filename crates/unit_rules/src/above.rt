@@ -1,13 +1,12 @@
-ghost use Rattle.unit_rules.specs.Stays.{units_stay};
-ghost use Rattle.unit_rules.specs.Units.{units};
+ghost use Rattle.unit_rules.specs.Fabric.{fabric, fabric_stays};
 
 use world_rules::Above;
 
-/// Managers and replicas run above the ring, registers beside the accusations.
-pub struct Failover;
+/// What runs above the ring in this fabric: managers and replicas at nodes, registers at arbitrators.
+pub struct Fabric;
 
-impl Above for Failover {
-    ghost upper = { units };
+impl Above for Fabric {
+    ghost upper = { fabric };
 
-    ghost stays = { units_stay };
+    ghost stays = { fabric_stays };
 }

@@ -10,12 +10,12 @@
 
 mod above;
 mod laws;
-mod lead;
+mod progress;
 mod reconfig;
 mod register;
 
-pub use above::Failover;
+pub use above::Fabric;
 pub use laws::{questions_only_tell, registers_are_recorded};
-pub use lead::{Peer, Taking};
+pub use progress::{PeerProgress, CatchUp};
 pub use reconfig::{Kind, Next, Standing, Task};
 pub use register::{Preparation, is_above, is_newer};

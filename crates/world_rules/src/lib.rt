@@ -8,5 +8,7 @@
 #![tactic(auto)]
 
 mod above;
+mod nodes;
 
 pub use above::{Above, Nothing};
+pub use nodes::{is_configured_node, is_named};

@@ -14,7 +14,7 @@ use Rattle.unit_rules.specs.Units.{units}
 use Rattle.world_rules.specs.Events.{world_step}
 use Rattle.world_rules.specs.Runs.{History, run_of, world_after}
 use Rattle.world_rules.specs.Worlds.{World, Stepped}
-use Rattle.run_promises.specs.Reports.{IsAmong, Reports, log_after, log_in}
+use Rattle.run_promises.specs.Reports.{IsAmong, HasReported, log_after, log_in}
 use Rattle.write_safety.specs.Greatest.{Commit}
 use Rattle.write_safety.specs.Committed.{commit_of, commits_among, commits_in, commits_of}
 
@@ -75,7 +75,7 @@ pub record IsReported (c : FabricConfig) (h : History) (p d : ℕ) (k : Commit) 
   pub since : ℕ
   pub who : Who
   pub epoch : Epoch
-  pub reported : Reports (run_of units c (drop since h)) who (report.Committed p epoch k.last)
+  pub reported : HasReported (run_of units c (drop since h)) who (report.Committed p epoch k.last)
   pub log_is : k.log ≡ log_after c (drop since h) who.actor p
   pub loss : epoch.data_loss ≡ d
 

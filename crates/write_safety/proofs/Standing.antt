@@ -35,9 +35,9 @@ use Rattle.world_rules.specs.Worlds.{World, Running, Stepped, kept_of, node_acte
 use Rattle.world_rules.proofs.Rows.{node_begun-is, node_step-is}
 use Rattle.run_facts.proofs.Happens.{Cases, by_cases}
 use Rattle.run_facts.proofs.Orderly.{orderly}
-use Rattle.replica_records.specs.Seats.{seat_at}
+use Rattle.replica_records.specs.ReplicaStates.{state_at}
 use Rattle.epoch_refinement.specs.Nodes.{Machines}
-use Rattle.run_promises.specs.Reports.{IsAmong, Reports, log_after}
+use Rattle.run_promises.specs.Reports.{IsAmong, HasReported, log_after}
 use Rattle.epoch_safety.proofs.ActFollows.{Numbered, actor, commit_above}
 use Rattle.epoch_safety.proofs.Entries.{no_commit}
 use Rattle.epoch_safety.proofs.Followed.{followed}
@@ -131,7 +131,7 @@ module _ (c : FabricConfig) (w : World units) (t : Tellings) (m : Machines) (n :
 
 -- who reports a commit in the last event of a valid run
 stands_after : (is_frame : List ℕ → Bool) (c : FabricConfig) (h : History) → IsSound c → Valid units is_frame c h → (x : Who) (p : ℕ) (e : Epoch) (last : ℕ) →
-    Reports (run_of units c h) x (Committed p e last) → StandsIn (world_after units c h) x
+    HasReported (run_of units c h) x (Committed p e last) → StandsIn (world_after units c h) x
 stands_after is_frame c [] sound valid x p e last a = absurd a
 stands_after is_frame c (now ∷ h) sound valid x p e last a =
     let before = followed is_frame c sound h valid.0 in
@@ -141,7 +141,7 @@ stands_after is_frame c (now ∷ h) sound valid x p e last a =
 
 -- the log of a running node that has not left is what its records amount to
 pub log_stands : (is_frame : List ℕ → Bool) (c : FabricConfig) (h : History) → IsSound c → Valid units is_frame c h → (node p : ℕ) (s : Running units) →
-    at node (world_after units c h).nodes ≡ Some s → is_left s.node.ring.phase ≡ false → log_after c h node p ≡ (seat_at p s.node.above).replica.log
+    at node (world_after units c h).nodes ≡ Some s → is_left s.node.ring.phase ≡ false → log_after c h node p ≡ (state_at p s.node.above).replica.log
 log_stands is_frame c h sound valid node p s there stay =
     let at_now = followed is_frame c sound h valid in
     ap (λ (r : Replica). r.log) ((at_now.follows.acts node s there stay).kept p)

@@ -12,7 +12,7 @@ use Rattle.unit_rules.specs.Units.{units}
 use Rattle.world_rules.specs.Events.{world_step}
 use Rattle.world_rules.specs.Runs.{History, run_of, world_after}
 use Rattle.epoch_safety.specs.Laws.{OverValidRuns}
-use Rattle.run_promises.specs.Reports.{Reports, log_after, log_in}
+use Rattle.run_promises.specs.Reports.{HasReported, log_after, log_in}
 use Rattle.run_promises.specs.Writes.{CommitsAgree}
 use Rattle.write_safety.specs.Beside.{running_log}
 use Rattle.write_safety.specs.Books.{KeptLog}
@@ -42,5 +42,5 @@ ReportsFeedBooks = OverValidRuns FedReportByReport
 -- who reports that entries are committed has them in the log of its replica, as long as it runs
 abbrev pub LogsStandBeside : Type 0
 LogsStandBeside = OverValidRuns (λ c h. (x : Who) (partition : ℕ) (e : Epoch) (last : ℕ) →
-    Reports (run_of units c h) x (Committed partition e last) →
+    HasReported (run_of units c h) x (Committed partition e last) →
     log_after c h x.actor partition ≡ running_log (world_after units c h) x.actor partition)

@@ -11,8 +11,8 @@ use ring_points::Epoch;
 use std::alloc::Global;
 use std::marker::Model;
 
-/// The committed entries of every partition under each data loss number. Contracts see it as the list of what is kept of
-/// each, which rises by partition and data loss number.
+/// The committed entries of every partition under each data loss number. Contracts see it as the list of what is kept
+/// of each, which rises by partition and data loss number.
 #[derive(Drop)]
 pub struct WriteBook {
     alloc: Global,
@@ -73,8 +73,8 @@ impl WriteBook {
     }
 
     /// The first entries of a log, so many, are committed in this epoch. The longer of them and of what is kept of the
-    /// partition and the epoch's data loss number is kept from then on; the two agree up to the shorter one's end. It is
-    /// an error where memory is short, and then nothing is changed.
+    /// partition and the epoch's data loss number is kept from then on; the two agree up to the shorter one's end. It
+    /// is an error where memory is short, and then nothing is changed.
     pub fn commit(
         &mut self,
         partition: u16,
@@ -90,8 +90,8 @@ impl WriteBook {
         self.offer(partition, epoch, lsn, log)
     }
 
-    /// The same for a caller that knows of no agreement: what `commit` promises holds where the two agree. What is kept of
-    /// other partitions and data loss numbers stays in any case.
+    /// The same for a caller that knows of no agreement: what `commit` promises holds where the two agree. What is kept
+    /// of other partitions and data loss numbers stays in any case.
     pub fn offer(
         &mut self,
         partition: u16,
@@ -99,8 +99,10 @@ impl WriteBook {
         lsn: u32,
         log: &[Entry],
     ) -> Result<(), OutOfMemory>
-        ensures ok { Agree (take lsn log.now) (entries_of partition epoch.data_loss self.old) → OnOk result (Commits partition epoch.data_loss (take lsn log.now) self.old self.new) }
-        ensures others { (p d : ℕ) → (p == partition && d == epoch.data_loss) ≡ false → entries_of p d self.new ≡ entries_of p d self.old }
+        ensures ok { Agree (take lsn log.now) (entries_of partition epoch.data_loss self.old) →
+            OnOk result (Commits partition epoch.data_loss (take lsn log.now) self.old self.new) }
+        ensures others { (p d : ℕ) → (p == partition && d == epoch.data_loss) ≡ false →
+            entries_of p d self.new ≡ entries_of p d self.old }
         ensures refused { OnErr result (self.new ≡ self.old) }
     {
         let committed = front_of(log, lsn);
@@ -137,8 +139,8 @@ impl WriteBook {
         }
     }
 
-    /// Appends a line for each entry that is kept, rising by partition, data loss number and number. It is an error where
-    /// memory is short, and then nothing is appended.
+    /// Appends a line for each entry that is kept, rising by partition, data loss number and number. It is an error
+    /// where memory is short, and then nothing is appended.
     pub fn print(&self, into: &mut Vec<u8>) -> Result<(), OutOfMemory>
         ensures ok { OnOk result (into.new.items ≡ into.old.items ++ kept_lines self.now) }
         ensures refused { OnErr result (into.new.items ≡ into.old.items) }

@@ -1,4 +1,4 @@
-ghost use Rattle.std.specs.Prelude.{◌≡◌, ◌++◌, [], length, take, IfOk, OnOk, OnErr};
+ghost use Rattle.std.specs.Prelude.{◌≡◌, ◌++◌, length, take, IfOk, OnOk, OnErr};
 ghost use Rattle.write_safety.specs.Books.{Agree, comes_before, is_of, longer, with_entries};
 
 use fabric_terms::OutOfMemory;
@@ -41,7 +41,8 @@ impl KeptLog {
         data_loss: u32,
         committed: &[Entry],
     ) -> Result<KeptLog, OutOfMemory>
-        ensures { IfOk result (λ log. log ≡ record { partition = partition; data_loss = data_loss; entries = committed.now }) }
+        ensures { IfOk result (λ log. log
+            ≡ record { partition = partition; data_loss = data_loss; entries = committed.now }) }
     {
         let mut entries = Vec::new(alloc);
         push_copies(alloc, &mut entries, committed)?;
@@ -88,10 +89,11 @@ impl KeptLog {
     }
 
     /// Keeps these entries where they are more than the kept ones: what is kept already stays where it is, and only the
-    /// further entries are copied, so that all are kept where the two agree. It is an error where memory is short, and then
-    /// nothing is changed.
+    /// further entries are copied, so that all are kept where the two agree. It is an error where memory is short, and
+    /// then nothing is changed.
     pub(crate) fn lengthen(&mut self, alloc: Global, committed: &[Entry]) -> Result<(), OutOfMemory>
-        ensures ok { Agree committed.now self.old.entries → OnOk result (self.new ≡ with_entries (longer committed.now self.old.entries) self.old) }
+        ensures ok { Agree committed.now self.old.entries →
+            OnOk result (self.new ≡ with_entries (longer committed.now self.old.entries) self.old) }
         ensures partition { self.new.partition ≡ self.old.partition }
         ensures data_loss { self.new.data_loss ≡ self.old.data_loss }
         ensures refused { OnErr result (self.new ≡ self.old) }

@@ -1,7 +1,7 @@
 ghost use Rattle.write_safety.specs.Laws.{CommitsAgreeAlways, FedBooksHaveCommitted, LogsStandBeside, ReportsFeedBooks};
 
-/// Two reports that entries are committed, of one partition and data loss number, say the same entries up to the smaller of
-/// their numbers, whichever nodes made them, in whichever epochs, and whichever was the earlier one.
+/// Two reports that entries are committed, of one partition and data loss number, say the same entries up to the
+/// smaller of their numbers, whichever nodes made them, in whichever epochs, and whichever was the earlier one.
 pub fn commits_agree()
     ensures { CommitsAgreeAlways }
 {}

@@ -1,9 +1,9 @@
 //! Committed writes: the book of them, and the law that they survive.
 //!
-//! A book keeps the committed entries of each partition under each data loss number. Of two reports about the same ones it
-//! keeps the longer list, which begins with the shorter one. That two such lists always agree is a law of every valid run,
-//! which stands here on the laws of epochs; so a book that is fed with every report of a run has exactly its committed
-//! logs. It promises that a refused call changes nothing. Its code copies of each list only what is new.
+//! A book keeps the committed entries of each partition under each data loss number. Of two reports about the same ones
+//! it keeps the longer list, which begins with the shorter one. That two such lists always agree is a law of every
+//! valid run, which stands here on the laws of epochs; so a book that is fed with every report of a run has exactly its
+//! committed logs. It promises that a refused call changes nothing. Its code copies of each list only what is new.
 #![tactic(auto)]
 
 mod book;

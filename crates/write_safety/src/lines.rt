@@ -5,20 +5,21 @@ ghost use Rattle.text_fields.specs.Texts.{Keeps};
 ghost use Rattle.write_safety.specs.Lines.{entry_text, head_text, kept_line, kept_lines, log_lines};
 
 use crate::kept::KeptLog;
+use ring_points::MAX_WRITE;
 use fabric_terms::OutOfMemory;
 use hex::encode_to_slice;
 use replica_core::Entry;
 use text_fields::{push_bytes, push_epoch, push_number};
 
 /// Two for each byte of an entry.
-const MOST_DIGITS: usize = 1024;
+const MAX_DIGITS: usize = 2 * MAX_WRITE;
 
 fn push_hex(into: &mut Vec<u8>, bytes: &[u8]) -> Result<(), OutOfMemory>
-    requires { length bytes.now ≤ 512 }
+    requires { length bytes.now ≤ MAX_WRITE }
     ensures ok { OnOk result (into.new.items ≡ into.old.items ++ encode_lower bytes.now) }
     ensures kept { Keeps into.old.items into.new.items }
 {
-    let mut room = [0u8; MOST_DIGITS];
+    let mut room = [0u8; MAX_DIGITS];
     let digits = &mut room[..2 * bytes.len()];
     match encode_to_slice(bytes, digits) {
         Ok(()) => push_bytes(into, digits),

@@ -1,7 +1,8 @@
 //! The questions about a partition: its register answers them.
 
 ghost use Rattle.std.specs.Prelude.{◌≡◌};
-ghost use Rattle.unit_rules.specs.Registers.{done_received, is_below, is_prepared_for, prepare_received, prepared_epoch, register_of, vote_in, vote_received};
+ghost use Rattle.unit_rules.specs.Registers.{done_received, is_below, is_prepared_for, prepare_received};
+ghost use Rattle.unit_rules.specs.Registers.{prepared_epoch, register_of, vote_in, vote_received};
 ghost use Rattle.arbiter_core.specs.Arbiters.{Answers, reply_call};
 ghost use Rattle.arbiter_core.specs.Memory.{KeepsIfShort};
 
@@ -68,8 +69,11 @@ impl Arbiter {
         partition: u16,
         epoch: Epoch,
     ) -> Result<Answer, ArbiterError>
-        ensures answers { Answers (reply_call asker (prepare_received partition epoch asker (register_of partition self.old.registers)) self.old) self.old self.new result }
-        ensures memory { KeepsIfShort (reply_call asker (prepare_received partition epoch asker (register_of partition self.old.registers)) self.old) result }
+        ensures answers { Answers (reply_call asker
+            (prepare_received partition epoch asker (register_of partition self.old.registers)) self.old)
+            self.old self.new result }
+        ensures memory { KeepsIfShort (reply_call asker
+            (prepare_received partition epoch asker (register_of partition self.old.registers)) self.old) result }
     {
         let prepared = self.registers.prepared(partition);
         let done = self.done(partition);
@@ -109,8 +113,11 @@ impl Arbiter {
     /// is voted for.
     #[tactic(auto, unfolding(unit_rules::specs::Registers::vote_received))]
     pub(super) fn vote(&mut self, asker: Who, config: &Config) -> Result<Answer, ArbiterError>
-        ensures answers { Answers (reply_call asker (vote_received config.now (register_of config.now.partition self.old.registers)) self.old) self.old self.new result }
-        ensures memory { KeepsIfShort (reply_call asker (vote_received config.now (register_of config.now.partition self.old.registers)) self.old) result }
+        ensures answers { Answers (reply_call asker
+            (vote_received config.now (register_of config.now.partition self.old.registers)) self.old)
+            self.old self.new result }
+        ensures memory { KeepsIfShort (reply_call asker
+            (vote_received config.now (register_of config.now.partition self.old.registers)) self.old) result }
     {
         let (partition, epoch) = (config.partition, config.epoch);
         let prepared = self.registers.prepared(partition);
@@ -151,8 +158,11 @@ impl Arbiter {
     /// Answers a DoneAsk: a configuration above the done one is kept. Nothing below the prepared epoch is.
     #[tactic(auto, unfolding(unit_rules::specs::Registers::done_received))]
     pub(super) fn finish(&mut self, asker: Who, config: &Config) -> Result<Answer, ArbiterError>
-        ensures answers { Answers (reply_call asker (done_received config.now (register_of config.now.partition self.old.registers)) self.old) self.old self.new result }
-        ensures memory { KeepsIfShort (reply_call asker (done_received config.now (register_of config.now.partition self.old.registers)) self.old) result }
+        ensures answers { Answers (reply_call asker
+            (done_received config.now (register_of config.now.partition self.old.registers)) self.old)
+            self.old self.new result }
+        ensures memory { KeepsIfShort (reply_call asker
+            (done_received config.now (register_of config.now.partition self.old.registers)) self.old) result }
     {
         let (partition, epoch) = (config.partition, config.epoch);
         let prepared = self.registers.prepared(partition);

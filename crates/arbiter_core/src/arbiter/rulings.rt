@@ -73,8 +73,8 @@ impl Arbiter {
         })
     }
 
-    /// Answers a claim of a round, and keeps the first claimer of a later one. Where nobody has accused the victim here,
-    /// nobody is kept of its rounds.
+    /// Answers a claim of a round, and keeps the first claimer of a later one. Where nobody has accused the victim
+    /// here, nobody is kept of its rounds.
     #[tactic(auto, unfolding(ring_rules::specs::Arbiters::claim_settled, ring_rules::specs::Arbiters::claim_kept))]
     pub(super) fn settle(
         &mut self,

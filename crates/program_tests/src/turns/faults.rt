@@ -35,8 +35,8 @@ const NODE: Call = Call {
     readings: &[0],
 };
 
-/// What a node is met with: which call fails, the status, what is written, how many records are kept. A failing append keeps
-/// its record where the call's number is even.
+/// What a node is met with: which call fails, the status, what is written, how many records are kept. A failing append
+/// keeps its record where the call's number is even.
 type NodeFault = (Device, u64, u8, &'static [&'static str], usize);
 
 const NODE_FAULTS: [NodeFault; 8] = [
@@ -172,8 +172,8 @@ fn a_cluster_whose_source_fails_does_nothing(rt: HostRuntime) -> Result<(), Fail
     Ok(())
 }
 
-/// What a cluster of two writes at each call of its keeper, and how many records its nodes have then: five lists are read,
-/// then each node starts.
+/// What a cluster of two writes at each call of its keeper, and how many records its nodes have then: five lists are
+/// read, then each node starts.
 type KeeperFault = (u64, &'static [&'static str], usize, usize);
 
 const KEEPER_FAULTS: [KeeperFault; 7] = [
@@ -207,9 +207,9 @@ fn a_cluster_at_each_fault_of_its_keeper_and_after_it(rt: HostRuntime) -> Result
     Ok(())
 }
 
-/// What a cluster of two does at each call of its links: five endpoints are opened; in turn 1 node 1 hears nothing, node 2
-/// says Hello, hears nothing and says it again, and the arbitrators hear nothing; in turn 2 node 1 hears the Hello, offers,
-/// hears nothing more and offers again, and node 2 hears nothing and says Hello once more.
+/// What a cluster of two does at each call of its links: five endpoints are opened; in turn 1 node 1 hears nothing,
+/// node 2 says Hello, hears nothing and says it again, and the arbitrators hear nothing; in turn 2 node 1 hears the
+/// Hello, offers, hears nothing more and offers again, and node 2 hears nothing and says Hello once more.
 const LINK_FAULTS: [(u64, bool, usize); 16] = [
     (6, false, 3),
     (7, true, 4),
@@ -268,8 +268,8 @@ fn a_cluster_goes_on_at_each_fault_of_its_links(rt: HostRuntime) -> Result<(), F
     Ok(())
 }
 
-/// What a cluster of two writes before each failing call of its sink, how many records node 2 has then, and how many datagrams
-/// are sent.
+/// What a cluster of two writes before each failing call of its sink, how many records node 2 has then, and how many
+/// datagrams are sent.
 type SinkFault = (u64, &'static [&'static str], usize, usize);
 
 const SINK_FAULTS: [SinkFault; 4] = [

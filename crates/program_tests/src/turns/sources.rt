@@ -5,7 +5,7 @@ use std::process::Abort;
 use std::test::Fail;
 
 /// The words, a line behind the configuration of two nodes, the next line, the status and what is written.
-type Source = (
+type SourceCase = (
     &'static [&'static str],
     &'static str,
     &'static str,
@@ -13,7 +13,7 @@ type Source = (
     &'static str,
 );
 
-const SOURCES: [Source; 12] = [
+const SOURCES: [SourceCase; 12] = [
     (&["node", "3", "1"], "x", "", 8, "fault nosuch 1"),
     (&["arbiter", "4", "1"], "x", "", 8, "fault nosuch 1"),
     (&["arbiter", "1", "1"], "#", "1 link 2", 6, "fault line 3"),
@@ -47,7 +47,7 @@ const SOURCES: [Source; 12] = [
 ];
 
 /// Expects that the call is refused so, and that nothing is kept.
-fn expect_refused(rt: &impl Abort, alloc: Global, source: &Source) -> Result<(), Fail> {
+fn expect_refused(rt: &impl Abort, alloc: Global, source: &SourceCase) -> Result<(), Fail> {
     let mut keeps = keeper(alloc, NONE)?;
     let refused = Call {
         words: source.0,

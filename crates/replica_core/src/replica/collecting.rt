@@ -8,7 +8,7 @@ ghost use Rattle.replica_core.specs.Memory.{StoresIfShort};
 use crate::entry::{Entry, EntryBytes};
 use crate::refusal::{Done, ReplicaRefusal};
 use crate::replica::Replica;
-use ring_points::Epoch;
+use ring_points::{Epoch, MAX_LOG_ENTRIES, MAX_WRITE};
 use std::mem;
 
 impl Replica {
@@ -53,9 +53,10 @@ impl Replica {
     ) -> Result<(), ReplicaRefusal>
         requires not_older { is_older e self.old.promised ≡ false }
         requires next { is_gap e lsn self.old ≡ false }
-        requires room { lsn ≤ 100000 }
-        requires short { length bytes.now ≤ 512 }
-        ensures { Answers (Ok tt, collecting e (record { epoch = epoch; lsn = lsn; bytes = bytes.now }) self.old) self.old self.new result }
+        requires room { lsn ≤ MAX_LOG_ENTRIES }
+        requires short { length bytes.now ≤ MAX_WRITE }
+        ensures { Answers (Ok tt, collecting e (record { epoch = epoch; lsn = lsn; bytes = bytes.now }) self.old)
+            self.old self.new result }
     {
         let entry = Entry {
             epoch,
@@ -83,12 +84,12 @@ impl Replica {
         self.at = self.promised;
     }
 
-    /// Collects an entry of the log that is to be adopted for the epoch; the one of number `last` makes what is collected
-    /// the log. It is `Older` where a greater epoch is promised; `Held` where the log is of the epoch already, or this is
-    /// the one entry that is collected; else `Gap` with the number of those collected in the epoch where the entry is
-    /// neither number 1, which begins anew, nor the next.
+    /// Collects an entry of the log that is to be adopted for the epoch; the one of number `last` makes what is
+    /// collected the log. It is `Older` where a greater epoch is promised; `Held` where the log is of the epoch
+    /// already, or this is the one entry that is collected; else `Gap` with the number of those collected in the epoch
+    /// where the entry is neither number 1, which begins anew, nor the next.
     pub fn adopt(&mut self, e: Epoch, entry: &Entry, last: u32) -> Result<Done, ReplicaRefusal>
-        requires { entry.now.lsn ≤ 100000 }
+        requires { entry.now.lsn ≤ MAX_LOG_ENTRIES }
         ensures answers { Answers (adopt_call e entry.now last self.old) self.old self.new result }
         ensures memory { StoresIfShort (adopt_call e entry.now last self.old) result }
     {
@@ -96,7 +97,8 @@ impl Replica {
         self.adopt_bytes(e, entry.epoch, entry.lsn, bytes, last)
     }
 
-    /// `adopt` of the entry of these parts: its epoch, its number and its bytes. Only an entry that is stored is copied.
+    /// `adopt` of the entry of these parts: its epoch, its number and its bytes. Only an entry that is stored is
+    /// copied.
     pub fn adopt_bytes(
         &mut self,
         e: Epoch,
@@ -105,10 +107,12 @@ impl Replica {
         bytes: &[u8],
         last: u32,
     ) -> Result<Done, ReplicaRefusal>
-        requires room { lsn ≤ 100000 }
-        requires short { length bytes.now ≤ 512 }
-        ensures answers { Answers (adopt_call e (record { epoch = epoch; lsn = lsn; bytes = bytes.now }) last self.old) self.old self.new result }
-        ensures memory { StoresIfShort (adopt_call e (record { epoch = epoch; lsn = lsn; bytes = bytes.now }) last self.old) result }
+        requires room { lsn ≤ MAX_LOG_ENTRIES }
+        requires short { length bytes.now ≤ MAX_WRITE }
+        ensures answers { Answers (adopt_call e (record { epoch = epoch; lsn = lsn; bytes = bytes.now }) last self.old)
+            self.old self.new result }
+        ensures memory { StoresIfShort (adopt_call e (record { epoch = epoch; lsn = lsn; bytes = bytes.now })
+            last self.old) result }
     {
         self.admit(e)?;
         if self.at == e {

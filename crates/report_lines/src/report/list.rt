@@ -11,16 +11,11 @@ ghost use Rattle.line_format.specs.Readers.{Reads, value_of, named_of, resolved_
 use super::pair::{push_behind, push_number_behind};
 use crate::field::{partition_at, partition_word, text_of};
 use crate::name::{last_name, name_at, name_word};
+use ring_points::{MAX_LISTED_NAMES, MAX_NAME_VALUE};
 use fabric_terms::{NameText, NameTexts, NameValue, OutOfMemory, Partitions, Report};
 use line_format::{BadLine, LineRefusal};
 use std::alloc::Global;
 use text_fields::{after_word, push_bytes, push_number};
-
-/// How many bytes the value of a name may have at most.
-const MOST_VALUE: usize = 400;
-
-/// How many names a report tells at most.
-const MOST_NAMES: usize = 64;
 
 // Partitions in any order, joined by commas, or a dash where there are none, and what follows them.
 fn partitions_at(alloc: Global, words: &[u8]) -> Result<(Vec<u16>, &[u8]), LineRefusal>
@@ -82,7 +77,7 @@ pub fn push_units(into: &mut Vec<u8>, partitions: &[u16]) -> Result<(), OutOfMem
 fn value_of(alloc: Global, words: &[u8]) -> Result<NameValue, LineRefusal>
     ensures { Reads (λ x. x) result (value_of words.now) }
 {
-    let value = text_of(MOST_VALUE, words)?;
+    let value = text_of(MAX_NAME_VALUE, words)?;
     Ok(NameValue::new(Vec::from_slice(alloc, value)?))
 }
 
@@ -104,7 +99,8 @@ fn push_named(
     partition: u16,
     name: &NameText,
 ) -> Result<(), OutOfMemory>
-    ensures ok { OnOk result (into.new.items ≡ into.old.items ++ (word.now ++ spaced (decimal partition ∷ name.now ∷ []))) }
+    ensures ok { OnOk result (into.new.items ≡ into.old.items ++
+        (word.now ++ spaced (decimal partition ∷ name.now ∷ []))) }
     ensures kept { Keeps into.old.items into.new.items }
 {
     push_number_behind(into, word, u64::from(partition))?;
@@ -156,7 +152,7 @@ fn some_names_at(alloc: Global, words: &[u8]) -> Result<(Vec<NameText>, &[u8]), 
     let (first, mut rest) = name_at(words)?;
     names.push(first)?;
     while let Ok(more) = after_word(b",", rest) {
-        if names.len() == MOST_NAMES {
+        if names.len() == MAX_LISTED_NAMES {
             return Err(LineRefusal::BadLine);
         }
         let (next, after) = name_at(more)?;

@@ -3,7 +3,8 @@ ghost use Rattle.std.specs.Prelude.{◌≡◌, [], ◌∷◌, ◌++◌, codes, O
 ghost use Rattle.text_fields.specs.Fields.{Gives, first_of};
 ghost use Rattle.text_fields.specs.Texts.{Keeps, spaced};
 ghost use Rattle.line_format.specs.Readers.{refused_of};
-ghost use Rattle.line_format.specs.Refusals.{why_text, all_whys, why_of, verb_text, verb_at, reason_word, reason_text, plain_reasons, reason_of};
+ghost use Rattle.line_format.specs.Refusals.{why_text, all_whys, why_of, verb_text, verb_at, reason_word, reason_text};
+ghost use Rattle.line_format.specs.Refusals.{plain_reasons, reason_of};
 
 use super::pair::{push_behind, push_number_behind};
 use fabric_terms::{OutOfMemory, Reason, Report, Verb, Why};
@@ -11,7 +12,7 @@ use line_format::BadLine;
 use text_fields::{after_word, last_number, push_bytes};
 
 /// The greatest number of fault domains that a reason tells.
-const MOST_DOMAINS: u64 = 255;
+const MAX_DOMAIN_COUNT: u64 = 255;
 
 const WHYS: [Why; 4] = [Why::Fence, Why::Lost, Why::Counters, Why::AccusedFull];
 
@@ -156,7 +157,7 @@ fn reason_of(words: &[u8]) -> Result<Reason, BadLine>
     ensures { Gives (λ x. x) result (reason_of words.now) }
 {
     if let Ok(rest) = after_word(b"toofew ", words) {
-        return Ok(Reason::TooFew(last_number(0, MOST_DOMAINS, rest)? as u8));
+        return Ok(Reason::TooFew(last_number(0, MAX_DOMAIN_COUNT, rest)? as u8));
     }
     match plain_reason_at(words)? {
         (reason, []) => Ok(reason),

@@ -7,23 +7,21 @@ ghost use Rattle.text_fields.specs.Intervals.{ranges_text};
 ghost use Rattle.text_fields.specs.Numbers.{optional_text};
 ghost use Rattle.text_fields.specs.Points.{point_text};
 ghost use Rattle.text_fields.specs.Texts.{Keeps, spaced};
-ghost use Rattle.line_format.specs.Readers.{flight_of, tookover_of, move_of, accused_of, discharged_of, heir_of, peer_report_of, own_of, found_of, ring_report_of};
+ghost use Rattle.line_format.specs.Readers.{flight_of, tookover_of, move_of, accused_of, discharged_of, heir_of};
+ghost use Rattle.line_format.specs.Readers.{peer_report_of, own_of, found_of, ring_report_of};
 
 use super::pair::{
     push_number_behind, push_optional_behind, push_point_behind, push_ranges_behind,
     push_who_behind,
 };
 use super::refused::why_of;
+use ring_points::{MAX_COUNTER, Point, RangeSet, Who};
 use fabric_terms::{OutOfMemory, Report};
 use line_format::BadLine;
-use ring_points::{Point, RangeSet, Who};
 use text_fields::{
     BadField, after_word, last_number, last_optional, last_point, last_ranges, last_who,
     number_word, point_word, ranges_word, who_word,
 };
-
-/// The greatest number of a flight.
-const LAST_FLIGHT: u64 = 4_294_967_295;
 
 #[tactic(auto, unfolding(line_format::specs::Readers::own_of))]
 fn own_of(words: &[u8]) -> Result<Report, BadField>
@@ -62,7 +60,7 @@ fn flight_of(words: &[u8]) -> Result<(Who, u32, RangeSet), BadField>
     ensures { Gives (λ x. (x.0, (x.1, x.2))) result (flight_of words.now) }
 {
     let (who, rest) = who_word(words)?;
-    let (flight, rest) = number_word(0, LAST_FLIGHT, rest)?;
+    let (flight, rest) = number_word(0, MAX_COUNTER, rest)?;
     Ok((who, flight as u32, last_ranges(rest)?))
 }
 

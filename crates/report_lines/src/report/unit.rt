@@ -8,15 +8,12 @@ ghost use Rattle.line_format.specs.Readers.{in_epoch, entry_of, entry_report_of,
 use super::pair::push_number_behind;
 use super::ring::ring_report_of;
 use crate::field::partition_word;
+use ring_points::{Epoch, MAX_COUNTER};
 use fabric_terms::{OutOfMemory, Report};
 use line_format::BadLine;
-use ring_points::Epoch;
 use text_fields::{
     BadField, after_word, epoch_word, last_epoch, last_number, push_bytes, push_epoch,
 };
-
-/// The greatest number of an entry.
-const LAST_ENTRY: u64 = 4_294_967_295;
 
 #[tactic(auto, unfolding(line_format::specs::Readers::in_epoch))]
 fn in_epoch(words: &[u8]) -> Result<(u16, Epoch), BadField>
@@ -32,7 +29,7 @@ fn entry_of(words: &[u8]) -> Result<(u16, Epoch, u32), BadField>
 {
     let (partition, rest) = partition_word(words)?;
     let (epoch, rest) = epoch_word(rest)?;
-    Ok((partition, epoch, last_number(0, LAST_ENTRY, rest)? as u32))
+    Ok((partition, epoch, last_number(0, MAX_COUNTER, rest)? as u32))
 }
 
 // What a replica tells of its log, or else a report of the ring.

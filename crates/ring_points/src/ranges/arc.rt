@@ -1,14 +1,11 @@
-ghost use Rattle.std.specs.Prelude.{◌≡◌, ◌≢◌, ◌≤◌, ◌<◌, IsTrue};
+ghost use Rattle.std.specs.Prelude.{◌≡◌, ◌≢◌, ◌<◌, IsTrue};
 ghost use Rattle.ring_points.specs.Ranges.{rises_from};
 ghost use Rattle.ring_points.specs.Sets.{arc, nearer_arc};
 
 use super::RangeSet;
 use crate::interval::Interval;
-use crate::point::Point;
+use crate::point::{HALF_RING, Point};
 use arrayvec::ArrayVec;
-
-/// Half of the ring, in points.
-const HALF_RING: u64 = 1 << 63;
 
 /// The points from `lo` upwards to `hi`, maybe across 0.
 fn arc(lo: u64, hi: u64) -> RangeSet

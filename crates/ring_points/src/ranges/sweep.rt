@@ -1,12 +1,13 @@
-ghost use Rattle.std.specs.Prelude.{◌≡◌, ℕ, ◌+◌, ◌<◌, ◌≤◌, ◌^◌, Bool, not, List, IsTrue, OnOk, OnErr, IsSome, MatchResult, length};
+ghost use Rattle.std.specs.Prelude.{◌≡◌, ℕ, ◌+◌, ◌<◌, ◌≤◌, ◌^◌, Bool, IsTrue, OnOk, OnErr, IsSome, MatchResult, length};
 ghost use Rattle.ring_points.specs.declared.interval.Interval.{Interval};
 ghost use Rattle.ring_points.specs.Ranges.{in_ranges, rises_from, fits};
 ghost use Rattle.ring_points.specs.Kept.{intervals_of, IsSwept, IsAnswer};
 ghost use Rattle.ring_points.specs.Sweeps.{holds, is_kept, is_ahead};
 
-use super::{MAX_INTERVALS, RangeSet, TooMany};
+use super::{RangeSet, TooMany};
 use crate::interval::Interval;
 use arrayvec::ArrayVec;
+use crate::limits::MAX_INTERVALS;
 
 /// Which points of its first two sets a sweep keeps.
 #[derive(Clone, Copy)]
@@ -122,16 +123,16 @@ impl<'a> Sets<'a> {
 
 /// What a sweep has kept: whole intervals, and behind them one that may still grow.
 #[derive(Drop)]
-pub struct Kept {
+pub struct Swept {
     pub intervals: ArrayVec<Interval, MAX_INTERVALS>,
     pub growing: Option<Interval>,
 }
 
-impl Kept {
+impl Swept {
     fn new() -> Self
         ensures { (keep : ℕ → Bool) → IsSwept keep result 0 }
     {
-        Kept {
+        Swept {
             intervals: ArrayVec::new(),
             growing: None,
         }
@@ -190,10 +191,11 @@ pub fn sweep(sets: Sets) -> Result<RangeSet, TooMany>
     requires first { IsTrue (rises_from 0 sets.first.now) }
     requires second { IsTrue (rises_from 0 sets.second.now) }
     requires without { IsTrue (rises_from 0 sets.without.now) }
-    ensures { IsAnswer (is_kept sets.entry.rule sets.entry.first.now sets.entry.second.now sets.entry.without.now) result }
+    ensures { IsAnswer (is_kept sets.entry.rule sets.entry.first.now sets.entry.second.now sets.entry.without.now)
+        result }
 {
     let mut rest = sets;
-    let mut kept = Kept::new();
+    let mut kept = Swept::new();
     let mut at = 0;
     loop {
         let stretch = rest.stretch_from(at);

@@ -1,12 +1,13 @@
 // The sessions of links: the bodies of each kind, read to the end of the bytes. A refusal may leave any body.
 
 ghost use Rattle.wire_fields.specs.Readers.{Fills};
-ghost use Rattle.frame_format.specs.Links.{hello_of, hello_for_of, offer_of, offer_for_of, take_of, renew_of, renew_ack_of, transfer_of, gone_of, links_of, leases_of};
+ghost use Rattle.frame_format.specs.Links.{hello_of, hello_for_of, offer_of, offer_for_of, take_of, renew_of};
+ghost use Rattle.frame_format.specs.Links.{renew_ack_of, transfer_of, gone_of, links_of, leases_of};
 
 use crate::not_frame::NotFrame;
 use crate::read::searches::read_search;
-use fabric_terms::Body;
 use ring_points::{Interval, MAX_INTERVALS, RangeSet};
+use fabric_terms::Body;
 use wire_fields::read::{
     counted_at, end, flag_at, intervals_at, lease_at, session_at, stamp_at, u32_at,
 };

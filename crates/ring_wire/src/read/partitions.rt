@@ -1,7 +1,9 @@
-// Epochs and configurations of partitions, which nodes and arbitrators send each other: the bodies of each kind, read to the end of the bytes. A refusal may leave any body.
+// Epochs and configurations of partitions, which nodes and arbitrators send each other: the bodies of each kind, read
+// to the end of the bytes. A refusal may leave any body.
 
 ghost use Rattle.wire_fields.specs.Readers.{Fills};
-ghost use Rattle.frame_format.specs.Partitions.{prepare_of, prepared_of, no_prepare_of, vote_of, voted_of, no_vote_of, done_ask_of, done_kept_of, no_done_of, partitions_of};
+ghost use Rattle.frame_format.specs.Partitions.{prepare_of, prepared_of, no_prepare_of, vote_of, voted_of, no_vote_of};
+ghost use Rattle.frame_format.specs.Partitions.{done_ask_of, done_kept_of, no_done_of, partitions_of};
 
 use crate::not_frame::NotFrame;
 use crate::read::replicas::read_replica;

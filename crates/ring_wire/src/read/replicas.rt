@@ -1,7 +1,8 @@
 // Replicas: the bodies of each kind, read to the end of the bytes. A refusal may leave any body.
 
 ghost use Rattle.wire_fields.specs.Readers.{Fills};
-ghost use Rattle.frame_format.specs.Replicas.{promise_of, promised_of, sync_of, fetch_of, piece_of, adopted_of, activate_of, activated_of, append_of, appended_of, older_of, replicas_of};
+ghost use Rattle.frame_format.specs.Replicas.{promise_of, promised_of, sync_of, fetch_of, piece_of, adopted_of};
+ghost use Rattle.frame_format.specs.Replicas.{activate_of, activated_of, append_of, appended_of, older_of, replicas_of};
 
 use crate::not_frame::NotFrame;
 use fabric_terms::Body;

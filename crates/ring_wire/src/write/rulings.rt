@@ -1,17 +1,17 @@
 // Accusations, rulings and claims: the fields of the bodies, written from a place on.
 
-ghost use Rattle.std.specs.Prelude.{◌≡◌, ◌≤◌, ◌+◌, IsTrue};
+ghost use Rattle.std.specs.Prelude.{◌≤◌, ◌+◌, IsTrue};
 ghost use Rattle.fabric_terms.specs.Messages.{is_sound_body};
 ghost use Rattle.frame_format.specs.Frames.{kind_of, body_bytes};
 ghost use Rattle.wire_fields.specs.Writers.{Puts};
 
-use crate::write::FRAME_LIMIT;
+use ring_points::FRAME_LIMIT;
 use fabric_terms::Body;
 use wire_fields::write::{put_ruling, put_u8, put_who};
 
 /// A body of a kind from 16 to 19. Gives the place after it.
 pub fn put_ruling_body(into: &mut [u8; FRAME_LIMIT], at: usize, body: &Body) -> usize
-    requires room { at + 600 ≤ 1200 }
+    requires room { at + 600 ≤ FRAME_LIMIT }
     requires sound { IsTrue (is_sound_body body.now) }
     requires low { 16 ≤ kind_of body.now }
     requires high { kind_of body.now ≤ 31 }

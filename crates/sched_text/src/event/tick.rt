@@ -5,15 +5,13 @@ ghost use Rattle.line_format.specs.Lines.{reading_at, readings_of, tick_of, Read
 
 use super::count::count_at;
 use arrayvec::ArrayVec;
+use ring_points::MAX_NODES;
 use fabric_terms::Readings;
 use line_format::BadLine;
 use text_fields::{BadField, after_word, node_at};
 
-/// How many readings a tick may have.
-const MOST_READINGS: usize = 64;
-
 /// Nodes, each with the reading of its clock, in a list that is used for many ticks.
-pub type TickReadings = ArrayVec<(u16, u64), MOST_READINGS>;
+pub type TickReadings = ArrayVec<(u16, u64), MAX_NODES>;
 
 // A node and the reading of its clock, behind a blank, and what follows them.
 #[tactic(auto, unfolding(line_format::specs::Lines::reading_at))]
@@ -28,11 +26,11 @@ fn reading_at(bytes: &[u8]) -> Result<(u16, u64, &[u8]), BadField>
 // Fills an empty list with the readings to the end of the line. A refusal leaves a front of them.
 fn fill(bytes: &[u8], readings: &mut TickReadings) -> Result<(), BadLine>
     requires { readings.old.items ≡ [] }
-    ensures { Gives (λ _. readings.new.items) result (readings_of 64 bytes.now) }
+    ensures { Gives (λ _. readings.new.items) result (readings_of MAX_NODES bytes.now) }
 {
     let mut rest = bytes;
     while !rest.is_empty() {
-        if readings.len() == MOST_READINGS {
+        if readings.len() == MAX_NODES {
             return Err(BadLine);
         }
         let (node, reading, after) = reading_at(rest)?;
@@ -43,7 +41,7 @@ fn fill(bytes: &[u8], readings: &mut TickReadings) -> Result<(), BadLine>
 }
 
 fn copy_of(pairs: &[(u16, u64)]) -> Readings
-    requires { length pairs.now ≤ 64 }
+    requires { length pairs.now ≤ MAX_NODES }
     ensures { result ≡ pairs.now }
 {
     let mut readings = Readings::new();
@@ -55,7 +53,7 @@ fn copy_of(pairs: &[(u16, u64)]) -> Readings
 
 /// The readings to the end of the line.
 pub fn readings_of(bytes: &[u8]) -> Result<Readings, BadLine>
-    ensures { Gives (λ x. x) result (readings_of 64 bytes.now) }
+    ensures { Gives (λ x. x) result (readings_of MAX_NODES bytes.now) }
 {
     let mut readings = TickReadings::new();
     fill(bytes, &mut readings)?;

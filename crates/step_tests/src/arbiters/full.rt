@@ -1,5 +1,5 @@
 use crate::arbiters::questions::{accusation, arbitrator, node};
-use arbiter_core::{Answer, Arbiter, ArbiterError, MOST_ENTRIES};
+use arbiter_core::{Answer, Arbiter, ArbiterError, MAX_ARBITER_ENTRIES};
 use ring_points::Who;
 use std::process::Abort;
 
@@ -27,5 +27,5 @@ fn fill(rt: &impl Abort, arbiter: &mut Arbiter, most: u32) {
 #[test]
 fn is_full_at_its_last_entry(rt: HostRuntime) {
     let mut arbiter = Arbiter::new(rt.alloc(), 1);
-    fill(&rt, &mut arbiter, MOST_ENTRIES as u32);
+    fill(&rt, &mut arbiter, MAX_ARBITER_ENTRIES as u32);
 }

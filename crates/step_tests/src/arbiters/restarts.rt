@@ -7,8 +7,8 @@ use arbiter_core::{Arbiter, Record};
 use std::alloc::Global;
 use std::process::Abort;
 
-// The arbitrator that recorded that 2.1 accused 1.1 and 3.1 claims round 2 about it, and of partition 1 that epoch 5 was
-// prepared for 1.1, its vote, and its done configuration.
+// The arbitrator that recorded that 2.1 accused 1.1 and 3.1 claims round 2 about it, and of partition 1 that epoch 5
+// was prepared for 1.1, its vote, and its done configuration.
 fn restored(rt: &impl Abort, alloc: Global) -> Arbiter {
     let records = [
         Record::AccusedBy {

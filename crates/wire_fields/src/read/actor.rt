@@ -6,12 +6,13 @@ ghost use Rattle.wire_fields.specs.Readers.{Gives, actor_at, who_at, sender_at, 
 
 use crate::not_field::NotField;
 use crate::read::number::{u8_at, u16_at, u32_at};
-use ring_points::{ARBITRATORS, LAST_NODE, Ruling, Who};
+use ring_points::{ARBITRATORS, MAX_ARBITRATORS, MAX_NODE_NUMBER, Ruling, Who};
 
-/// The actors that are arbitrators.
-const FIRST_ARBITER: u16 = ARBITRATORS + 1;
+/// The least actor that is an arbitrator.
+const MIN_ARBITER_ACTOR: u16 = ARBITRATORS + 1;
 
-const LAST_ARBITER: u16 = ARBITRATORS + 9;
+/// The greatest.
+const MAX_ARBITER_ACTOR: u16 = ARBITRATORS + MAX_ARBITRATORS as u16;
 
 // Any actor and instance.
 #[tactic(auto, unfolding(crate::specs::Readers::actor_at))]
@@ -26,7 +27,7 @@ fn actor_at(bytes: &[u8]) -> Result<(Who, &[u8]), NotField>
 fn is_node(actor: u16) -> bool
     ensures { result ≡ is_node actor }
 {
-    1 <= actor && actor <= LAST_NODE
+    1 <= actor && actor <= MAX_NODE_NUMBER
 }
 
 fn is_numbered(who: Who) -> bool
@@ -38,7 +39,7 @@ fn is_numbered(who: Who) -> bool
 fn is_arbiter(who: Who) -> bool
     ensures { result ≡ is_arbiter who }
 {
-    FIRST_ARBITER <= who.actor && who.actor <= LAST_ARBITER && who.instance == 0
+    MIN_ARBITER_ACTOR <= who.actor && who.actor <= MAX_ARBITER_ACTOR && who.instance == 0
 }
 
 /// An instance of a node.

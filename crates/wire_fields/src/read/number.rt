@@ -1,28 +1,14 @@
 // Numbers at the front of some bytes, and what follows them.
 
 ghost use Rattle.std.specs.Prelude.{◌≡◌, is_ok};
-ghost use Rattle.wire_fields.specs.Readers.{Gives, number_at, byte_at, counted_at, last_at, stamp_at, lease_at, node_at, hops_at, round_at, flag_at, session_at, is_nil};
+ghost use Rattle.wire_fields.specs.Readers.{Gives, number_at, byte_at, counted_at, last_at, stamp_at, lease_at};
+ghost use Rattle.wire_fields.specs.Readers.{node_at, hops_at, round_at, flag_at, session_at, is_nil};
 
 use crate::not_field::NotField;
 use byteorder::{BigEndian, ByteOrder};
-use ring_points::LAST_NODE;
-
-/// A reading is at most this.
-const LAST_STAMP: u64 = 1_000_000_000_000_000;
-
-/// The lengths of a lease, in ticks.
-const SHORTEST_LEASE: u64 = 10;
-
-const LONGEST_LEASE: u64 = 1_000_000_000;
-
-/// No log has an entry above this.
-const LAST_ENTRY: u32 = 100_000;
-
-/// A Seek makes at most so many hops.
-const MOST_HOPS: u8 = 64;
-
-/// The greatest number of a round of heirs.
-const LAST_ROUND: u8 = 8;
+use ring_points::{
+    MAX_HOPS, MAX_LEASE, MAX_LOG_ENTRIES, MAX_NODE_NUMBER, MAX_READING, MAX_ROUNDS, MIN_LEASE,
+};
 
 /// A byte.
 #[tactic(auto, unfolding(crate::specs::Readers::byte_at))]
@@ -83,7 +69,7 @@ pub fn last_at(bytes: &[u8]) -> Result<(u32, &[u8]), NotField>
     ensures { Gives (λ x. (x.0, x.1.now)) result (last_at bytes.now) }
 {
     let (n, rest) = u32_at(bytes)?;
-    if n <= LAST_ENTRY {
+    if n <= MAX_LOG_ENTRIES {
         Ok((n, rest))
     } else {
         Err(NotField)
@@ -96,7 +82,7 @@ pub fn stamp_at(bytes: &[u8]) -> Result<(u64, &[u8]), NotField>
     ensures { Gives (λ x. (x.0, x.1.now)) result (stamp_at bytes.now) }
 {
     let (n, rest) = u64_at(bytes)?;
-    if n <= LAST_STAMP {
+    if n <= MAX_READING {
         Ok((n, rest))
     } else {
         Err(NotField)
@@ -109,7 +95,7 @@ pub fn lease_at(bytes: &[u8]) -> Result<(u64, &[u8]), NotField>
     ensures { Gives (λ x. (x.0, x.1.now)) result (lease_at bytes.now) }
 {
     let (n, rest) = u64_at(bytes)?;
-    if SHORTEST_LEASE <= n && n <= LONGEST_LEASE {
+    if MIN_LEASE <= n && n <= MAX_LEASE {
         Ok((n, rest))
     } else {
         Err(NotField)
@@ -122,7 +108,7 @@ pub fn node_at(bytes: &[u8]) -> Result<(u16, &[u8]), NotField>
     ensures { Gives (λ x. (x.0, x.1.now)) result (node_at bytes.now) }
 {
     let (n, rest) = u16_at(bytes)?;
-    if 1 <= n && n <= LAST_NODE {
+    if 1 <= n && n <= MAX_NODE_NUMBER {
         Ok((n, rest))
     } else {
         Err(NotField)
@@ -135,7 +121,7 @@ pub fn hops_at(bytes: &[u8]) -> Result<(u8, &[u8]), NotField>
     ensures { Gives (λ x. (x.0, x.1.now)) result (hops_at bytes.now) }
 {
     let (n, rest) = u8_at(bytes)?;
-    if n <= MOST_HOPS {
+    if n <= MAX_HOPS {
         Ok((n, rest))
     } else {
         Err(NotField)
@@ -148,7 +134,7 @@ pub fn round_at(bytes: &[u8]) -> Result<(u8, &[u8]), NotField>
     ensures { Gives (λ x. (x.0, x.1.now)) result (round_at bytes.now) }
 {
     let (n, rest) = u8_at(bytes)?;
-    if 1 <= n && n <= LAST_ROUND {
+    if 1 <= n && n <= MAX_ROUNDS {
         Ok((n, rest))
     } else {
         Err(NotField)

@@ -1,6 +1,6 @@
 // The intervals of a range set at the front of some bytes, and what follows them.
 
-ghost use Rattle.std.specs.Prelude.{◌≡◌, ◌≤◌, ◌<◌, length, take, IfOk};
+ghost use Rattle.std.specs.Prelude.{◌≤◌, ◌<◌, length, take, IfOk};
 ghost use Rattle.wire_fields.specs.Readers.{Gives, interval_at, times, intervals_at, ranges_at};
 
 use crate::not_field::NotField;

@@ -3,18 +3,13 @@
 ghost use Rattle.std.specs.Prelude.{◌≡◌, ◌≤◌, ◌==◌, length, IfOk};
 ghost use Rattle.std.specs.List.{list_any};
 ghost use Rattle.fabric_terms.specs.Fields.{rises_above, has_members};
-ghost use Rattle.wire_fields.specs.Readers.{Gives, number_at, times, list_at, epoch_at, unit_at, config_at, done_at, payload_at};
+ghost use Rattle.wire_fields.specs.Readers.{Gives, number_at, times, list_at, epoch_at, unit_at, config_at, done_at};
+ghost use Rattle.wire_fields.specs.Readers.{payload_at};
 
 use crate::not_field::NotField;
 use crate::read::number::{flag_at, u8_at, u16_at, u32_at};
+use ring_points::{Config, Epoch, MAX_MEMBERS, MAX_NODE_NUMBER, MAX_WRITE, Members};
 use fabric_terms::Payload;
-use ring_points::{Config, Epoch, LAST_NODE, Members};
-
-/// A configuration has at most so many members.
-const MOST_MEMBERS: u8 = 7;
-
-/// A text has at most so many bytes.
-const LONGEST_TEXT: u16 = 512;
 
 #[tactic(auto, unfolding(crate::specs::Readers::epoch_at))]
 pub fn epoch_at(bytes: &[u8]) -> Result<(Epoch, &[u8]), NotField>
@@ -43,7 +38,7 @@ pub fn unit_at(bytes: &[u8]) -> Result<(u16, Epoch, &[u8]), NotField>
 
 // As many nodes as `count` says.
 fn members_of(count: u8, bytes: &[u8]) -> Result<(Members, &[u8]), NotField>
-    requires { count ≤ 7 }
+    requires { count ≤ MAX_MEMBERS }
     ensures { Gives (λ x. (x.0, x.1.now)) result (times count (number_at 2) bytes.now) }
 {
     let mut members = Members::new();
@@ -62,7 +57,7 @@ fn members_at(bytes: &[u8]) -> Result<(Members, &[u8]), NotField>
     ensures { Gives (λ x. (x.0, x.1.now)) result (list_at 7 (number_at 2) bytes.now) }
 {
     let (count, rest) = u8_at(bytes)?;
-    if count <= MOST_MEMBERS {
+    if usize::from(count) <= MAX_MEMBERS {
         members_of(count, rest)
     } else {
         Err(NotField)
@@ -75,7 +70,7 @@ fn rises(members: &[u16]) -> bool
 {
     let mut below = 0;
     for node in members {
-        if *node <= below || LAST_NODE < *node {
+        if *node <= below || MAX_NODE_NUMBER < *node {
             return false;
         }
         below = *node;
@@ -135,13 +130,13 @@ pub fn done_at(bytes: &[u8]) -> Result<(Option<Config>, &[u8]), NotField>
 #[tactic(auto, unfolding(crate::specs::Readers::payload_at, crate::specs::Readers::bytes_at))]
 pub fn text_at(bytes: &[u8]) -> Result<(&[u8], &[u8]), NotField>
     ensures text { Gives (λ x. (x.0.now, x.1.now)) result (payload_at bytes.now) }
-    ensures short { IfOk result (λ x. length x.0.now ≤ 512) }
+    ensures short { IfOk result (λ x. length x.0.now ≤ MAX_WRITE) }
 {
     let (length, rest) = u16_at(bytes)?;
-    if length > LONGEST_TEXT {
+    let length = usize::from(length);
+    if length > MAX_WRITE {
         return Err(NotField);
     }
-    let length = usize::from(length);
     if rest.len() < length {
         return Err(NotField);
     }

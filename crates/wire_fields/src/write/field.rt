@@ -2,14 +2,15 @@
 
 ghost use Rattle.std.specs.Prelude.{◌≡◌, ◌≤◌, ◌+◌, ◌*◌, length, IsTrue};
 ghost use Rattle.std.specs.List.{flat_map};
-ghost use Rattle.ring_points.specs.Ranges.{is_proper};
 ghost use Rattle.fabric_terms.specs.Fields.{is_done};
-ghost use Rattle.wire_fields.specs.Texts.{number_bytes, who_bytes, ruling_bytes, epoch_bytes, unit_bytes, interval_bytes, ranges_bytes, list_bytes, config_bytes, done_bytes, payload_bytes};
+ghost use Rattle.wire_fields.specs.Texts.{number_bytes, who_bytes, ruling_bytes, epoch_bytes, unit_bytes};
+ghost use Rattle.wire_fields.specs.Texts.{interval_bytes, ranges_bytes, list_bytes, config_bytes, done_bytes};
+ghost use Rattle.wire_fields.specs.Texts.{payload_bytes};
 ghost use Rattle.wire_fields.specs.Writers.{Puts};
 
 use crate::write::number::{put_flag, put_u8, put_u16, put_u32, put_u64};
+use ring_points::{Config, Epoch, Interval, MAX_WRITE, RangeSet, Ruling, Who};
 use fabric_terms::Payload;
-use ring_points::{Config, Epoch, Interval, RangeSet, Ruling, Who};
 
 /// An actor and its instance.
 #[tactic(auto, unfolding(crate::specs::Texts::who_bytes))]
@@ -158,7 +159,7 @@ fn put_bytes(into: &mut [u8], at: usize, bytes: &[u8]) -> usize
 #[tactic(auto, unfolding(crate::specs::Texts::payload_bytes))]
 pub fn put_payload(into: &mut [u8], at: usize, text: &Payload) -> usize
     requires room { at + 514 ≤ length into.old }
-    requires short { length text.now ≤ 512 }
+    requires short { length text.now ≤ MAX_WRITE }
     ensures { Puts (payload_bytes text.now) into.old at into.new result }
 {
     let bytes = text.as_slice();

@@ -1,5 +1,5 @@
 use Rattle.std.proofs.Common.{refl}
-use Rattle.outside.specs.Told.{Loans}
+use Rattle.edge_io.specs.Told.{Loans}
 use Rattle.fabric_top.proofs.Clusters.{cluster_runs}
 use Rattle.fabric_top.proofs.Safe.{accepted_is_safe}
 use Rattle.fabric_top.proofs.forms.run_form.Goals as goal

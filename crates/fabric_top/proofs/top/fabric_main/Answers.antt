@@ -1,6 +1,6 @@
 use Rattle.std.proofs.Common.{◌≡◌, ◌≢◌, None, map, refl, sym, string_bytes, ◌∙◌}
-use Rattle.command_words.specs.Forms.{form_of}
-use Rattle.outside.specs.Told.{Loans}
+use Rattle.fabric_top.specs.Forms.{form_of}
+use Rattle.edge_io.specs.Told.{Loans}
 use Rattle.fabric_top.proofs.NoMemory.{no_memory}
 use Rattle.fabric_top.proofs.Safe.{accepted_is_safe}
 use Rattle.fabric_top.proofs.top.fabric_main.Goals as goal

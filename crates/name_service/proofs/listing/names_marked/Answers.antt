@@ -11,9 +11,9 @@ loop-place-preserved c =
     let all = marked mask 0 (take 64 (names_in (rows_of c.args.rows))) in
     let turn = c.in-Some.ensures.steps in
     record {
-      so_far = one_more mask i c.in-Some.place.now.name.items (names_in (rows_of c.next.new.self)) c.loop-place.names.items c.push_marked.new.names.items all (omega (arith, c.loop-place.invariant.few, c.if-i-eq-MOST_LISTED.false))
+      so_far = one_more mask i c.in-Some.place.now.name.items (names_in (rows_of c.next.new.self)) c.loop-place.names.items c.push_marked.new.names.items all (omega (arith, c.loop-place.invariant.few, c.if-i-eq-MAX_LISTED_NAMES.false))
           (subst (λ rows. c.loop-place.names.items ++ marked mask i (take (64 - i) (names_in (rows_of rows))) ≡ all) turn c.loop-place.invariant.so_far)
           (c.in_ok-push_marked.ensures ∙ ap (λ n. c.loop-place.names.items ++ name_if (bit_of mask i == 1) n) c.name.ensures);
-      few = omega (arith, c.loop-place.invariant.few, c.if-i-eq-MOST_LISTED.false);
+      few = omega (arith, c.loop-place.invariant.few, c.if-i-eq-MAX_LISTED_NAMES.false);
       placed = (subst AllPlaced turn c.loop-place.invariant.placed).1;
     }

@@ -1,4 +1,4 @@
-use Rattle.ring_world.specs.Seats.{AreEmpty}
+use Rattle.ring_world.specs.ConfiguredArbiters.{AreEmpty}
 use Rattle.ring_world.proofs.world.empty_seats.Given as goal
 
 abbrev pub invariant-loop-i : goal.invariant-loop-i

@@ -2,7 +2,7 @@ use Rattle.std.proofs.Common.{◌+◌, ◌<◌, sym, ap, ◌∙◌, subst, arith
 use Rattle.std.proofs.lemmas.List.{drop_more, get_or_default}
 use Rattle.ring_points.specs.declared.who.Who.{Who}
 use Rattle.fabric_terms.specs.Runs.{Clocks}
-use Rattle.run_audit.specs.declared.overlap.Holder.{Holder}
+use Rattle.run_audit.specs.declared.overlap.LiveHolder.{LiveHolder}
 use Rattle.run_audit.specs.Clocks.{AreRows, begins_with}
 use Rattle.run_audit.proofs.Rows.{row_none, row_some, pushed_items}
 use Rattle.run_audit.proofs.Left.{Knows, knows_none, knows_some}
@@ -27,7 +27,7 @@ loop-clock-preserved c = elim c.match-holder_at.branch [
             w.in-Some.ensures.0 (λ stale. let was = c.is_fresh-fresh.ensures.stale (sym w.in-Some.ensures.1 ∙ stale) in (c.loop-clock.invariant.left _ (c.from-left.ensures.among _ was.0), was.1))
             );
         known = λ rise old.
-            subst (λ (hs : List Holder). Knows (drop (c.loop-clock.clock-index + 1) c.args.clocks.now) c.args.lived.now c.from-left.result.now c.args.actor hs) (sym (ap (λ v. v.items) w.rows-is ∙ items))
+            subst (λ (hs : List LiveHolder). Knows (drop (c.loop-clock.clock-index + 1) c.args.clocks.now) c.args.lived.now c.from-left.result.now c.args.actor hs) (sym (ap (λ v. v.items) w.rows-is ∙ items))
             (subst (λ (ws : List Who). Knows (drop (c.loop-clock.clock-index + 1) c.args.clocks.now) c.args.lived.now ws c.args.actor (c.loop-clock.rows.items ++ w.in-Some.holder ∷ [])) (sym c.from-left.ensures.exact)
             (knows_some _ _ c.args.lived.now c.loop-clock.left.now c.args.actor c.loop-clock.rows.items w.in-Some.holder
             (subst (λ (cs : Clocks). Knows cs c.args.lived.now c.loop-clock.left.now c.args.actor c.loop-clock.rows.items) (drop_more c.args.clocks.now c.loop-clock.clock-index _ c.loop-clock-test.true) (c.loop-clock.invariant.known rise old))

@@ -4,7 +4,7 @@ use Rattle.fabric_config.specs.declared.error.ConfigError.TheVariants.{NotJson, 
 use Rattle.fabric_status.specs.declared.status.Refusal.TheVariants.{BadConfig, TooLarge}
 use Rattle.line_format.specs.Lines.{lines_of}
 use Rattle.source_lines.specs.Reading.{TakesOf}
-use Rattle.source_lines.specs.declared.taken.Taken.{Taken}
+use Rattle.source_lines.specs.declared.next_line.NextLine.{NextLine}
 use Rattle.schedule_rules.specs.Halts.{HaltsAt}
 use Rattle.schedule_rules.specs.Schedule.{judge, judge_rest}
 use Rattle.schedule_rules.proofs.Lines.{none_right}
@@ -18,19 +18,19 @@ returns-in-Err-next-clause-halts g c bytes e =
 
 pub returns-in-Ok-End-clause-halts : goal.returns-in-Ok-End-clause-halts
 returns-in-Ok-End-clause-halts g c bytes e =
-    let taken = subst (λ (k : Taken). TakesOf (Ok k) 65536 c.in-Ok.reader (g.S.Source.left c.args.source.now) c.next.new.self (g.S.Source.left c.next.new.source)) c.in-Ok-End.field-0-is c.in-Ok-End.ensures.taken in
+    let taken = subst (λ (k : NextLine). TakesOf (Ok k) 65536 c.in-Ok.reader (g.S.Source.left c.args.source.now) c.next.new.self (g.S.Source.left c.next.new.source)) c.in-Ok-End.field-0-is c.in-Ok-End.ensures.taken in
     let read = taken bytes e in
     first_refusal g.T.Teller.telling bytes (BadConfig NotJson) (g.S.Source.left c.next.new.source) (g.K.Sink.held c.args.sink.now) c.args.text.now.items (first_none bytes (none_right c.in-Ok.reader.waiting bytes read.2.0)) c.requires.heading
 
 pub returns-in-Ok-TooLong-clause-halts : goal.returns-in-Ok-TooLong-clause-halts
 returns-in-Ok-TooLong-clause-halts g c bytes e =
-    let taken = subst (λ (k : Taken). TakesOf (Ok k) 65536 c.in-Ok.reader (g.S.Source.left c.args.source.now) c.next.new.self (g.S.Source.left c.next.new.source)) c.in-Ok-TooLong.field-0-is c.in-Ok-TooLong.ensures.taken in
+    let taken = subst (λ (k : NextLine). TakesOf (Ok k) 65536 c.in-Ok.reader (g.S.Source.left c.args.source.now) c.next.new.self (g.S.Source.left c.next.new.source)) c.in-Ok-TooLong.field-0-is c.in-Ok-TooLong.ensures.taken in
     let read = taken bytes e in
     first_refusal g.T.Teller.telling bytes (TooLarge 1) (g.S.Source.left c.next.new.source) (g.K.Sink.held c.args.sink.now) c.args.text.now.items (ap (λ w. judge (w ++ bytes)) (sym c.in-Ok.ensures.0) ∙ first_long (c.in-Ok.reader.waiting ++ bytes) read.2.0) c.requires.heading
 
 pub returns-in-Ok-read_config-clause-halts : goal.returns-in-Ok-read_config-clause-halts
 returns-in-Ok-read_config-clause-halts g c bytes e =
-    let taken = subst (λ (k : Taken). TakesOf (Ok k) 65536 c.in-Ok.reader (g.S.Source.left c.args.source.now) c.next.new.self (g.S.Source.left c.next.new.source)) c.in-Ok-Line.field-0-is c.in-Ok-Line.ensures.taken in
+    let taken = subst (λ (k : NextLine). TakesOf (Ok k) 65536 c.in-Ok.reader (g.S.Source.left c.args.source.now) c.next.new.self (g.S.Source.left c.next.new.source)) c.in-Ok-Line.field-0-is c.in-Ok-Line.ensures.taken in
     let read = taken bytes e in
     let line = c.next.new.self.line in
     let rest = c.next.new.self.waiting ++ read.0 in
@@ -42,7 +42,7 @@ returns-in-Ok-read_config-clause-halts g c bytes e =
 pub returns : goal.returns
 returns g c = record {
   halts = λ bytes e.
-      let taken = subst (λ (k : Taken). TakesOf (Ok k) 65536 c.in-Ok.reader (g.S.Source.left c.args.source.now) c.next.new.self (g.S.Source.left c.next.new.source)) c.in-Ok-Line.field-0-is c.in-Ok-Line.ensures.taken in
+      let taken = subst (λ (k : NextLine). TakesOf (Ok k) 65536 c.in-Ok.reader (g.S.Source.left c.args.source.now) c.next.new.self (g.S.Source.left c.next.new.source)) c.in-Ok-Line.field-0-is c.in-Ok-Line.ensures.taken in
       let read = taken bytes e in
       let line = c.next.new.self.line in
       let rest = c.next.new.self.waiting ++ read.0 in

@@ -5,16 +5,16 @@ use Rattle.transcript_audit.specs.Said.{clocks_on}
 use Rattle.transcript_audit.proofs.ClockSteps.{clocks_done, clocks_full, clocks_bad, clocks_low, clocks_next}
 use Rattle.transcript_audit.proofs.said.fill.Goals as goal
 
-pub returns-then-len-eq-MOST_CLOCKS : goal.returns-then-len-eq-MOST_CLOCKS
-returns-then-len-eq-MOST_CLOCKS c =
+pub returns-then-len-eq-MAX_NODES : goal.returns-then-len-eq-MAX_NODES
+returns-then-len-eq-MAX_NODES c =
     let some : 0 < length c.loop-rest.rest.now = grind (arith, nat_tests) in
-    let full : 64 - vec_len c.loop-rest.clocks ≡ 0 = omega (arith, c.len.ensures, c.if-len-eq-MOST_CLOCKS.true) in
+    let full : 64 - vec_len c.loop-rest.clocks ≡ 0 = omega (arith, c.len.ensures, c.if-len-eq-MAX_NODES.true) in
     sym c.loop-rest.invariant.read ∙ clocks_full (64 - vec_len c.loop-rest.clocks) c.loop-rest.above c.loop-rest.clocks.items c.loop-rest.rest.now full some
 
 pub returns-in_err-clock : goal.returns-in_err-clock
 returns-in_err-clock c =
     let some : 0 < length c.loop-rest.rest.now = grind (arith, nat_tests) in
-    let room : 0 < 64 - vec_len c.loop-rest.clocks = omega (arith, c.loop-rest.invariant.few, c.len.ensures, c.if-len-eq-MOST_CLOCKS.false) in
+    let room : 0 < 64 - vec_len c.loop-rest.clocks = omega (arith, c.loop-rest.invariant.few, c.len.ensures, c.if-len-eq-MAX_NODES.false) in
     let p = err_from_is_err_and c.from_residual.result c.from_residual.ensures.1 in
     let none = sym c.loop-rest.invariant.read ∙ clocks_bad (64 - vec_len c.loop-rest.clocks) c.loop-rest.above c.loop-rest.clocks.items c.loop-rest.rest.now room some c.in_err-clock.ensures in
     rw (p.1, p.2) none
@@ -22,7 +22,7 @@ returns-in_err-clock c =
 pub returns-then-not-comes_after : goal.returns-then-not-comes_after
 returns-then-not-comes_after c =
     let some : 0 < length c.loop-rest.rest.now = grind (arith, nat_tests) in
-    let room : 0 < 64 - vec_len c.loop-rest.clocks = omega (arith, c.loop-rest.invariant.few, c.len.ensures, c.if-len-eq-MOST_CLOCKS.false) in
+    let room : 0 < 64 - vec_len c.loop-rest.clocks = omega (arith, c.loop-rest.invariant.few, c.len.ensures, c.if-len-eq-MAX_NODES.false) in
     sym c.loop-rest.invariant.read
     ∙ clocks_low (64 - vec_len c.loop-rest.clocks) c.loop-rest.above c.loop-rest.clocks.items c.loop-rest.rest.now c.in_ok-clock.clock c.in_ok-clock.after.now room some c.in_ok-clock.ensures
     (sym c.comes_after.ensures ∙ c.if-not-comes_after.true)
@@ -30,7 +30,7 @@ returns-then-not-comes_after c =
 pub loop-rest-preserved : goal.loop-rest-preserved
 loop-rest-preserved c =
     let some : 0 < length c.loop-rest.rest.now = grind (arith, nat_tests) in
-    let room : 0 < 64 - vec_len c.loop-rest.clocks = omega (arith, c.loop-rest.invariant.few, c.len.ensures, c.if-len-eq-MOST_CLOCKS.false) in
+    let room : 0 < 64 - vec_len c.loop-rest.clocks = omega (arith, c.loop-rest.invariant.few, c.len.ensures, c.if-len-eq-MAX_NODES.false) in
     let less : 64 - vec_len c.push.new.self ≡ 64 - vec_len c.loop-rest.clocks - 1 = omega (arith, c.in_ok-push.ensures.len) in
     record {
       few = omega (arith, c.in_ok-push.ensures.len, room);

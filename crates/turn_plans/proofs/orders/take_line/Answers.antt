@@ -1,7 +1,7 @@
 use Rattle.std.proofs.Common.{◌≡◌, ◌+◌, List, ap, sym, ◌∙◌}
 use Rattle.turn_rules.specs.declared.order.Order.{Order}
 use Rattle.turn_plans.proofs.Judging.{Given, judge, judged_so, verdict, within}
-use Rattle.turn_plans.specs.declared.verdict.Verdict.TheVariants.{Ignored, Ordered, Refused}
+use Rattle.turn_plans.specs.declared.plan_verdict.PlanVerdict.TheVariants.{Ignored, Ordered, Refused}
 use Rattle.turn_plans.proofs.orders.take_line.Goals as goal
 
 pub returns-in-Ignored-clause-judged : goal.returns-in-Ignored-clause-judged

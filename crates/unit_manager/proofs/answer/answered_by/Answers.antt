@@ -1,7 +1,7 @@
 use Rattle.std.proofs.Common.{◌≡◌, ℕ, ◌<◌, List, true, length, set, subst, sym, ap, ◌∙◌, arith, length-set, refl}
 use Rattle.std.specs.Prelude.{is_some}
 use Rattle.fabric_lemmas.specs.Maps.{at}
-use Rattle.unit_desk.specs.declared.desk.Desk.{Desk}
+use Rattle.unit_desk.specs.declared.unit_effects.UnitEffects.{UnitEffects}
 use Rattle.unit_rules.specs.Manager.{Managed}
 use Rattle.reconfig_phases.specs.declared.reconfig.Reconfig.{Reconfig}
 use Rattle.unit_manager.specs.Managers.{loaded, managed, place}
@@ -49,8 +49,8 @@ returns-clause-does c =
     let t = c.task-task.result in
     let p = c.go_on-progress.result in
     let s2 : Managed = managed c.conclude.new.units c.conclude.new.reconfigs.items in
-    let between : Desk = record { records = c.args.desk.now.records; out = c.go_on-progress.new.out; told = c.args.desk.now.told } in
-    does_there units es k i e c.index_mut.ensures.value is inside c.requires.whole nodes m t next p s2 c.args.desk.now between c.conclude.new.desk c.task-task.ensures.task c.go_on-progress.ensures.does.step
+    let between : UnitEffects = record { records = c.args.effects.now.records; out = c.go_on-progress.new.out; told = c.args.effects.now.told } in
+    does_there units es k i e c.index_mut.ensures.value is inside c.requires.whole nodes m t next p s2 c.args.effects.now between c.conclude.new.effects c.task-task.ensures.task c.go_on-progress.ensures.does.step
     (record { records = refl; sent = c.go_on-progress.ensures.does.sent; told = refl }) c.conclude.ensures.does
 
 pub returns-clause-whole : goal.returns-clause-whole
@@ -66,8 +66,8 @@ returns-clause-whole c =
     let t = c.task-task.result in
     let p = c.go_on-progress.result in
     let s2 : Managed = managed c.conclude.new.units c.conclude.new.reconfigs.items in
-    let between : Desk = record { records = c.args.desk.now.records; out = c.go_on-progress.new.out; told = c.args.desk.now.told } in
+    let between : UnitEffects = record { records = c.args.effects.now.records; out = c.go_on-progress.new.out; told = c.args.effects.now.told } in
     let own : t.partition ≡ k = ap (λ t. t.partition) c.task-task.ensures.task ∙ own_there units es k i e c.index_mut.ensures.value is inside c.requires.whole in
     let ends : EndsOwn k (step_with next p) =
     ends_there units es k i e c.index_mut.ensures.value is inside c.requires.whole (loaded units c.args.nodes.now) c.args.answer.now next p c.requires.unit.0 c.requires.sound c.requires.unit.1 c.go_on-progress.ensures.does.step in
-    whole_after units es k i e c.index_mut.ensures.value is inside c.requires.whole t next p s2 between c.conclude.new.desk own c.go_on-progress.ensures.task ends c.conclude.ensures.does
+    whole_after units es k i e c.index_mut.ensures.value is inside c.requires.whole t next p s2 between c.conclude.new.effects own c.go_on-progress.ensures.task ends c.conclude.ensures.does

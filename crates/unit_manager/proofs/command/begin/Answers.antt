@@ -26,5 +26,5 @@ returns-in-Ok-clause-whole c =
     let put_is : reconfigs_of c.enter.new.reconfigs.items ≡ put c.args.partition (reconfig_of r) (reconfigs_of es) =
     c.enter.ensures ∙ ap (λ (fs : List (ℕ × Reconfig)). put c.args.partition (reconfig_of r) (reconfigs_of fs)) c.reserve.ensures.items in
     let many : length (reconfigs_of es) ≡ length es = length-map es _ in
-    let room : length (reconfigs_of es) < 65536 = omega (arith, many, c.if-len-ge-MOST_RECONFIGS.false, c.len.ensures) in
+    let room : length (reconfigs_of es) < 65536 = omega (arith, many, c.if-len-ge-MAX_PARTITIONS.false, c.len.ensures) in
     begins_whole c.args.arbitrators c.args.partition c.args.kind c.in-Some.epoch (managed c.args.units.now es) c.enter_units.new.units (reconfig_of r) (reconfigs_of c.enter.new.reconfigs.items) c.in-Ok.ensures c.begin-begun.ensures.begun put_is c.requires.whole room

@@ -1,6 +1,6 @@
 use Rattle.std.proofs.Common.{◌≡◌, ◌+◌, ◌≤◌, ◌++◌, drop, length, flat_map}
 use Rattle.unit_rules.specs.Deeds.{frames_of}
-use Rattle.unit_rules.specs.Seats.{entry_at}
+use Rattle.unit_rules.specs.ReplicaStates.{entry_at}
 use Rattle.unit_rules.specs.Writes.{entry_sent}
 use Rattle.unit_replica.proofs.send.send_all_next.Given as goal
 

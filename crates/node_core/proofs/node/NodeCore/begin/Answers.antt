@@ -1,22 +1,22 @@
 use Rattle.std.proofs.Common.{◌≡◌, ◌∙◌, ◌++◌, List, ap, sym, subst}
-use Rattle.fabric_above.specs.Fabric.{fabric}
+use Rattle.unit_rules.specs.Fabric.{fabric}
 use Rattle.fabric_terms.specs.declared.report.Report.{Report}
 use Rattle.ring_points.specs.Whos.{node_instance}
-use Rattle.unit_node.specs.Parts.{Part}
+use Rattle.node_core.specs.UnitParts.{Part}
 use Rattle.world_rules.specs.Nodes.{node_begun}
 use Rattle.node_core.specs.declared.kept.NodeKept.{NodeKept}
-use Rattle.node_core.specs.Nodes.{Core, Does, GoesBy, core_of, with_seats}
+use Rattle.node_core.specs.Nodes.{Core, Does, GoesBy, core_of, with_states}
 use Rattle.node_core.proofs.Starting.{does_start, part_begun, starts_by}
 use Rattle.node_core.proofs.node.NodeCore.begin.Goals as goal
 use Rattle.node_core.proofs.node.NodeCore.begin.Goals.{After-array_drop-told-inside-2}
 
 -- the node that begins
-core_is : (c : After-array_drop-told-inside-2) → c.seat.new.self ≡ core_of c.in_ok-ring.ring (part_begun c.args.config.now c.args.kept.now.seats)
+core_is : (c : After-array_drop-told-inside-2) → c.put_states.new.self ≡ core_of c.in_ok-ring.ring (part_begun c.args.config.now c.args.kept.now.states)
 core_is c =
-    c.seat.ensures
-    ∙ ap (λ (n : Core). with_seats c.replace.result.seats n) (c.deref_mut.ensures.value ∙ c.in_ok-core.ensures.ok)
-    ∙ ap (λ (p : Part). with_seats c.replace.result.seats (core_of c.in_ok-ring.ring p)) c.new-2.ensures
-    ∙ ap (λ (k : NodeKept). core_of c.in_ok-ring.ring (part_begun c.args.config.now k.seats)) c.replace.ensures.value
+    c.put_states.ensures
+    ∙ ap (λ (n : Core). with_states c.replace.result.states n) (c.deref_mut.ensures.value ∙ c.in_ok-core.ensures.ok)
+    ∙ ap (λ (p : Part). with_states c.replace.result.states (core_of c.in_ok-ring.ring p)) c.new-2.ensures
+    ∙ ap (λ (k : NodeKept). core_of c.in_ok-ring.ring (part_begun c.args.config.now k.states)) c.replace.ensures.value
 
 pub returns-clause-begins : goal.returns-clause-begins
 returns-clause-begins c = λ records kept.
@@ -29,4 +29,4 @@ returns-clause-begins c = λ records kept.
 pub returns-clause-goes_by : goal.returns-clause-goes_by
 returns-clause-goes_by c =
     subst (λ (n : Core). GoesBy c.args.config.now n) (sym (core_is c))
-    (starts_by c.args.config.now (node_instance c.args.node c.instance_after-instance.result) c.is_spent-spent.result c.in_ok-ring.ring c.in_ok-ring.told c.args.kept.now.seats c.in_ok-ring.ensures.started)
+    (starts_by c.args.config.now (node_instance c.args.node c.instance_after-instance.result) c.is_spent-spent.result c.in_ok-ring.ring c.in_ok-ring.told c.args.kept.now.states c.in_ok-ring.ensures.started)

@@ -1,6 +1,6 @@
 use Rattle.std.proofs.Common.{◌∙◌, ap, sym, subst}
-use Rattle.fabric_above.specs.Fabric.{fabric}
-use Rattle.unit_replica.specs.Starts.{seats_from}
+use Rattle.unit_rules.specs.Fabric.{fabric}
+use Rattle.unit_replica.specs.Starts.{states_from}
 use Rattle.unit_replica.proofs.Kept.{starts_lem}
 use Rattle.world_rules.specs.Nodes.{node_begun}
 use Rattle.node_core.specs.Nodes.{Core, Does}
@@ -11,5 +11,5 @@ returns-clause-begins c = λ records kept.
     subst (λ (n : Core). Does (node_begun fabric c.args.config.now c.args.node records) n c.in_ok-core.outcome) (sym c.into_inner.ensures)
     (c.in_ok-core.ensures.begins records (record {
       boots = sym kept.boots;
-      seats = sym (c.in_ok-begun.ensures.begun ∙ ap seats_from (c.into_vec-replicas.ensures ∙ kept.replicas) ∙ (starts_lem records).begun);
+      states = sym (c.in_ok-begun.ensures.begun ∙ ap states_from (c.into_vec-replicas.ensures ∙ kept.replicas) ∙ (starts_lem records).begun);
     }))

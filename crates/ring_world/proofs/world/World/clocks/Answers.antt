@@ -1,5 +1,5 @@
 use Rattle.std.proofs.Common.{sym, ◌∙◌}
-use Rattle.fabric_above.specs.Fabric.{fabric}
+use Rattle.unit_rules.specs.Fabric.{fabric}
 use Rattle.run_facts.proofs.Clocks.{clocks_are}
 use Rattle.ring_world.proofs.world.World.clocks.Goals as goal
 

@@ -4,7 +4,7 @@ use Rattle.std.specs.List.{zip}
 use Rattle.std.specs.Slice.Iter.{iter_rest}
 use Rattle.std.proofs.lemmas.List.{length_push}
 use Rattle.std.proofs.lemmas.Slice.Zip.{zip_end, zip_turn}
-use Rattle.fabric_above.specs.Fabric.{fabric}
+use Rattle.unit_rules.specs.Fabric.{fabric}
 use Rattle.world_rules.specs.Runs.{run_of}
 use Rattle.ring_world.proofs.Holders.{few_clocks, holders_are, holders_counted, holders_here}
 use Rattle.ring_world.proofs.HolderLoop.{all_seen, counted, is_next, no_more}

@@ -1,6 +1,6 @@
 use Rattle.std.proofs.Common.{◌≡◌, true, false, refl, sym, subst, ◌∙◌, None}
 use Rattle.fabric_terms.specs.declared.event.Event.TheVariants.{Junk}
-use Rattle.fabric_above.specs.Fabric.{fabric}
+use Rattle.unit_rules.specs.Fabric.{fabric}
 use Rattle.world_rules.specs.Schedules.{runs}
 use Rattle.world_rules.specs.Worlds.{Stepped}
 use Rattle.world_rules.proofs.Rows.{world_step-junk}

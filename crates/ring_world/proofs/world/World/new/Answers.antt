@@ -1,5 +1,5 @@
 use Rattle.std.proofs.Common.{ℕ, List, length, refl, subst}
-use Rattle.ring_world.specs.Seats.{AreEmpty}
+use Rattle.ring_world.specs.ConfiguredArbiters.{AreEmpty}
 use Rattle.ring_world.proofs.NewWorld.{new_world}
 use Rattle.ring_world.proofs.world.World.new.Goals as goal
 

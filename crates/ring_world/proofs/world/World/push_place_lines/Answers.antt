@@ -5,7 +5,7 @@ use Rattle.fabric_terms.specs.Reports.{told}
 use Rattle.point_places.specs.Lines.{held_by}
 use Rattle.point_places.specs.Spots.{place_at}
 use Rattle.ring_points.specs.Whos.{node_instance}
-use Rattle.fabric_above.specs.Fabric.{fabric}
+use Rattle.unit_rules.specs.Fabric.{fabric}
 use Rattle.world_rules.specs.Runs.{run_of}
 use Rattle.ring_world.specs.Holders.{holds_in}
 use Rattle.ring_world.proofs.Holders.{has_held}

@@ -1,6 +1,6 @@
 use Rattle.std.proofs.Common.{◌≤◌, subst, arith}
 use Rattle.ring_points.specs.Whos.{arbiter_actor}
-use Rattle.fabric_above.specs.Fabric.{fabric}
+use Rattle.unit_rules.specs.Fabric.{fabric}
 use Rattle.world_rules.specs.Worlds.{Stepped}
 use Rattle.ring_world.specs.Steps.{LeavesSound}
 use Rattle.ring_world.proofs.Arrivals.{to_node}

@@ -1,12 +1,12 @@
 use Rattle.std.proofs.Common.{None, Some, sym, subst}
 use Rattle.std.proofs.lemmas.Result.{err_from_is_err_and}
 use Rattle.world_rules.specs.Arbiters.{ArbiterState}
-use Rattle.fabric_above.specs.Fabric.{fabric}
+use Rattle.unit_rules.specs.Fabric.{fabric}
 use Rattle.world_rules.specs.Worlds.{Stepped}
 use Rattle.ring_world.specs.Moves.{Moves}
 use Rattle.ring_world.specs.Steps.{LeavesSound}
 use Rattle.ring_world.proofs.Arrivals.{lost_at_arbiter, reaches_arbiter}
-use Rattle.ring_world.specs.Seats.{state_of}
+use Rattle.ring_world.specs.ConfiguredArbiters.{state_of}
 use Rattle.ring_world.proofs.Seats.{none_at, none_there, running_at}
 use Rattle.ring_world.proofs.world.World.reach_arbiter.Goals as goal
 

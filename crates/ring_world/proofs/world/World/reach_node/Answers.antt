@@ -1,5 +1,5 @@
 use Rattle.std.proofs.Common.{◌≡◌, true, false, None, Some, sym, subst, ◌∙◌, arith}
-use Rattle.fabric_above.specs.Fabric.{fabric}
+use Rattle.unit_rules.specs.Fabric.{fabric}
 use Rattle.world_rules.specs.Worlds.{Stepped}
 use Rattle.ring_world.specs.Moves.{Moves}
 use Rattle.ring_world.specs.Steps.{LeavesSound}

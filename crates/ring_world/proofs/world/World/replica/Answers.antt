@@ -1,6 +1,6 @@
 use Rattle.std.proofs.Common.{◌≡◌, ◌≤◌, List, ap, subst, sym, ◌∙◌, arith, length, get_or}
 use Rattle.std.proofs.lemmas.Bool.{ltb-false}
-use Rattle.fabric_above.specs.Fabric.{fabric}
+use Rattle.unit_rules.specs.Fabric.{fabric}
 use Rattle.node_core.specs.Nodes.{Core}
 use Rattle.unit_replica.specs.Tables.{replica_at}
 use Rattle.world_rules.specs.Nodes.{NodeState}
@@ -32,6 +32,6 @@ returns c = λ config h stands.
     read_at c.args.self.now.running.items place at.code running at.here
     (subst (λ (rs : List Running). running ≡ get_or rs place running) c.deref.ensures.value c.in_ok-running.ensures.lookup.1) in
     c.replica.ensures
-    ∙ (ap (λ (n : Core). replica_at partition n.state.above.seats) c.deref-2.ensures
-    ∙ (ap (λ (r : Running). replica_at partition r.node.value.state.above.seats) code
-    ∙ (ap (λ (n : NodeState fabric). replica_at partition n.above.seats) at.runs.node ∙ ap (replica_of_running partition) (sym here.found))))
+    ∙ (ap (λ (n : Core). replica_at partition n.state.above.states) c.deref-2.ensures
+    ∙ (ap (λ (r : Running). replica_at partition r.node.value.state.above.states) code
+    ∙ (ap (λ (n : NodeState fabric). replica_at partition n.above.states) at.runs.node ∙ ap (replica_of_running partition) (sym here.found))))

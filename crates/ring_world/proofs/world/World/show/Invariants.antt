@@ -1,5 +1,5 @@
 use Rattle.std.proofs.Common.{◌≡◌, true}
-use Rattle.fabric_above.specs.Fabric.{fabric}
+use Rattle.unit_rules.specs.Fabric.{fabric}
 use Rattle.world_rules.specs.Schedules.{are_of}
 use Rattle.world_rules.specs.Worlds.{World as RuledWorld}
 use Rattle.ring_world.specs.Stands.{Stands}

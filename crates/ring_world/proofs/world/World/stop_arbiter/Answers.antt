@@ -4,9 +4,9 @@ use Rattle.fabric_terms.specs.declared.report.Report.{Report}
 use Rattle.ring_points.specs.Whos.{node_instance}
 use Rattle.world_rules.specs.Events.{world_step, arbiter_stops}
 use Rattle.fabric_lemmas.specs.Maps.{at}
-use Rattle.fabric_above.specs.Fabric.{fabric}
+use Rattle.unit_rules.specs.Fabric.{fabric}
 use Rattle.world_rules.specs.Schedules.{runs}
-use Rattle.ring_world.specs.Seats.{state_of}
+use Rattle.ring_world.specs.ConfiguredArbiters.{state_of}
 use Rattle.ring_world.proofs.Limits.{room_is, room_test, same_world, bound-stop, few_events}
 use Rattle.ring_world.proofs.Seats.{runs_here, runs_nowhere, seat_here, seat_actor, seat_number, running_at}
 use Rattle.ring_world.proofs.StopNames.{stop_runs, stop_arbiter_is}

@@ -4,7 +4,7 @@ use Rattle.fabric_terms.specs.declared.report.Report.{Report}
 use Rattle.ring_world.specs.declared.running.Running.{Running}
 use Rattle.fabric_terms.specs.declared.event.Event.TheVariants.{Stop}
 use Rattle.world_rules.specs.Events.{world_step, node_stops}
-use Rattle.fabric_above.specs.Fabric.{fabric}
+use Rattle.unit_rules.specs.Fabric.{fabric}
 use Rattle.node_core.specs.Nodes.{Core, kept_in}
 use Rattle.node_core.specs.declared.kept.NodeKept.{NodeKept}
 use Rattle.world_rules.specs.Nodes.{NodeState}

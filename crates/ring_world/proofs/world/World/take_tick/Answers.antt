@@ -3,7 +3,7 @@ use Rattle.ring_world.specs.declared.world.World.{World}
 use Rattle.ring_world.proofs.Limits.{few_events, room_test, same_world}
 use Rattle.ring_world.proofs.TickStep.{seen_ticked, tick_bound, tick_broken, tick_full, tick_in_time, tick_late, tick_moves, tick_of, tick_there}
 use Rattle.ring_world.proofs.world.World.take_tick.Goals as goal
-use Rattle.ring_world.proofs.world.World.take_tick.Goals.{then-not-may_come-via-then-not-may_come, then-not-may_come-via-else-not-may_come+then-time-gt-MOST_TIME}
+use Rattle.ring_world.proofs.world.World.take_tick.Goals.{then-not-may_come-via-then-not-may_come, then-not-may_come-via-else-not-may_come+then-time-gt-MAX_READING}
 
 pub returns-then-not-are_of-clause-comes : goal.returns-then-not-are_of-clause-comes
 returns-then-not-are_of-clause-comes c w line s =
@@ -37,8 +37,8 @@ returns-then-not-may_come-clause-comes c w line s =
       | then-not-may_come-via-then-not-may_come b ↦
           let full : room_test a false ≡ false = sym c.may_come.ensures ∙ b.if-not-may_come.true in
           ((there, bound, tick_full a w c.args.advance rs s full), same_world a)
-      | then-not-may_come-via-else-not-may_come+then-time-gt-MOST_TIME b ↦
-          ((there, bound, tick_late a w c.args.advance rs s b.if-time-gt-MOST_TIME.true), same_world a)
+      | then-not-may_come-via-else-not-may_come+then-time-gt-MAX_READING b ↦
+          ((there, bound, tick_late a w c.args.advance rs s b.if-time-gt-MAX_READING.true), same_world a)
     ]
 
 pub show-requires-clause-can : goal.show-requires-clause-can
@@ -59,9 +59,9 @@ returns-clause-comes c w line s =
       record {
         there = tick_there a w c.args.advance rs s true of;
         bound = tick_bound a w c.args.advance rs s true (sym (c.in_default.ensures.fits w s of));
-        room = tick_in_time a w c.args.advance rs s room c.if-time-gt-MOST_TIME.false;
+        room = tick_in_time a w c.args.advance rs s room c.if-time-gt-MAX_READING.false;
       },
-      tick_moves a w c.args.advance rs c.show.new.self.running.items c.show.new.self.clocks.items s (c.show.ensures.shown w s of) (few_events a false room) c.if-time-gt-MOST_TIME.false _ line
+      tick_moves a w c.args.advance rs c.show.new.self.running.items c.show.new.self.clocks.items s (c.show.ensures.shown w s of) (few_events a false room) c.if-time-gt-MAX_READING.false _ line
           (seen_ticked a c.show.new.self (a.time + c.args.advance) c.show.ensures.rest)
           (ap (λ (x : World). x.places) c.show.ensures.rest),
     )

@@ -6,11 +6,11 @@ use Rattle.line_format.proofs.Lists.{put_before}
 use Rattle.line_format.proofs.TickLaws.{readings_full, readings_bad, readings_next, readings_done}
 use Rattle.sched_text.proofs.event.tick.fill.Goals as goal
 
-pub returns-then-len-eq-MOST_READINGS : goal.returns-then-len-eq-MOST_READINGS
-returns-then-len-eq-MOST_READINGS c =
+pub returns-then-len-eq-MAX_NODES : goal.returns-then-len-eq-MAX_NODES
+returns-then-len-eq-MAX_NODES c =
     let rest = c.loop-rest.rest.now in
     let some : 0 < length rest = grind (arith, nat_tests) in
-    let full : length c.loop-rest.readings.items ≡ 64 = omega (arith, c.len.ensures.value, c.if-len-eq-MOST_READINGS.true) in
+    let full : length c.loop-rest.readings.items ≡ 64 = omega (arith, c.len.ensures.value, c.if-len-eq-MAX_NODES.true) in
     sym c.loop-rest.invariant.1 ∙ readings_full (64 - length c.loop-rest.readings.items) c.loop-rest.readings.items rest (omega arith) some
 
 pub returns-in_err-node : goal.returns-in_err-node

@@ -5,7 +5,7 @@ use Rattle.schedule_generate.specs.Course.{taken}
 use Rattle.schedule_generate.specs.Goes.{Went}
 use Rattle.schedule_generate.specs.Moves.{event_for}
 use Rattle.schedule_generate.specs.Settings.{generated_config}
-use Rattle.schedule_generate.specs.declared.halt.Halt.{Halt}
+use Rattle.schedule_generate.specs.declared.course_halt.CourseHalt.{CourseHalt}
 use Rattle.schedule_generate.proofs.Due.{for_a_limit}
 use Rattle.schedule_generate.proofs.Loops.{own_due}
 use Rattle.schedule_generate.proofs.Taking.{names_true, no_tick, refused_on, time_still, took_on}
@@ -36,5 +36,5 @@ returns-in-Err-clause-went g c k sent at =
     let e = event_for c.args.made in
     let refuses : Refuses c.in-Err.refusal (generated_config n) k.history e =
     subst (λ (d : Event). Refuses c.in-Err.refusal (generated_config n) k.history d) c.event.ensures (c.in-Err.ensures (generated_config n) k.history at.goes.world).refused in
-    subst (λ (s : Halt). Went g.L.Listener.writing (g.L.Listener.knows c.args.listener.now) n (Err s) (record c.args.self.now { world = c.apply.new.self }) c.args.text.now.items (taken (generated_config n) e k) sent) (sym c.halt_of.ensures)
+    subst (λ (s : CourseHalt). Went g.L.Listener.writing (g.L.Listener.knows c.args.listener.now) n (Err s) (record c.args.self.now { world = c.apply.new.self }) c.args.text.now.items (taken (generated_config n) e k) sent) (sym c.halt_of.ensures)
     (refused_on g.L.Listener.writing (g.L.Listener.knows c.args.listener.now) (g.L.Listener.knows c.args.listener.now) n c.args.self.now (record c.args.self.now { world = c.apply.new.self }) c.args.text.now.items k sent e c.in-Err.refusal at c.requires.fits refuses)

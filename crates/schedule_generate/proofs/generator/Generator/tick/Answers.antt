@@ -7,7 +7,7 @@ use Rattle.schedule_generate.specs.Course.{taken, tick_of}
 use Rattle.schedule_generate.specs.Goes.{Went}
 use Rattle.schedule_generate.specs.Settings.{generated_config}
 use Rattle.schedule_generate.specs.declared.generator.Generator.{Generator}
-use Rattle.schedule_generate.specs.declared.halt.Halt.{Halt}
+use Rattle.schedule_generate.specs.declared.course_halt.CourseHalt.{CourseHalt}
 use Rattle.schedule_generate.proofs.Due.{for_a_limit}
 use Rattle.schedule_generate.proofs.Loops.{own_number}
 use Rattle.schedule_generate.proofs.Taking.{refused_on, took_on}
@@ -85,5 +85,5 @@ returns-in-Err-clause-went g c k sent at =
     let refuses : Refuses c.in-Err.refusal (generated_config n) k.history (tick_of w) =
     subst (λ (e : Event). Refuses c.in-Err.refusal (generated_config n) k.history e) first (c.in-Err.ensures.answers (generated_config n) k.history at.goes.world).refused in
     let b : Generator = record c.args.self.now { world = c.tick.new.self; readings = c.show_all.new.readings } in
-    subst (λ (s : Halt). Went g.L.Listener.writing (g.L.Listener.knows c.args.listener.now) n (Err s) b c.args.text.now.items (taken (generated_config n) (tick_of w) k) sent) (sym c.halt_of.ensures)
+    subst (λ (s : CourseHalt). Went g.L.Listener.writing (g.L.Listener.knows c.args.listener.now) n (Err s) b c.args.text.now.items (taken (generated_config n) (tick_of w) k) sent) (sym c.halt_of.ensures)
     (refused_on g.L.Listener.writing (g.L.Listener.knows c.args.listener.now) (g.L.Listener.knows c.args.listener.now) n c.args.self.now b c.args.text.now.items k sent (tick_of w) c.in-Err.refusal at fit refuses)

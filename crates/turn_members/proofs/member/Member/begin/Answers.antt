@@ -4,7 +4,7 @@ use Rattle.replica_core.specs.Replicas.{Replica}
 use Rattle.turn_members.proofs.Lives.{begun_runs, begun_writes, both_map}
 use Rattle.turn_members.proofs.member.Member.begin.Goals as goal
 use Rattle.unit_replica.proofs.Kept.{starts_lem}
-use Rattle.unit_replica.specs.Starts.{seats_of}
+use Rattle.unit_replica.specs.Starts.{states_of}
 
 pub returns-clause-deed : goal.returns-clause-deed
 returns-clause-deed c =
@@ -20,4 +20,4 @@ returns-clause-runs c =
 pub begin_any-requires-clause-replicas : goal.begin_any-requires-clause-replicas
 begin_any-requires-clause-replicas c =
     let k = c.requires.kept in
-    ap (λ (rs : List Replica). rises (seats_of rs)) k.1.holds.replicas ∙ (starts_lem k.0).rises
+    ap (λ (rs : List Replica). rises (states_of rs)) k.1.holds.replicas ∙ (starts_lem k.0).rises

@@ -1,3 +1,0 @@
-mod Rising
-mod Named
-pub mod Clusters

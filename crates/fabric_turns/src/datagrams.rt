@@ -1,0 +1,124 @@
+// What has arrived at an actor: each datagram that is a frame is one step.
+ghost use Rattle.std.specs.Prelude.{◌≡◌, ◌<◌, ◌+◌, ◌∷◌, [], ℕ, List, length, Some, None, true, false};
+ghost use Rattle.edge_io.specs.Told.{Told};
+ghost use Rattle.fabric_terms.specs.declared.record.Record.{Record};
+ghost use Rattle.fabric_turns.specs.Moves.{Reaches, Goes, Asks, at_place};
+ghost use Rattle.fabric_turns.specs.Runs.{IsReady, Meets};
+ghost use Rattle.turn_rules.specs.Happenings.{Datagram, Hears, History};
+ghost use Rattle.turn_rules.specs.Order.{TurnPosition, Busy, hearing, rests};
+ghost use Rattle.turn_rules.specs.Whole.{setting};
+
+use crate::actor_step::act;
+use crate::run::Run;
+use edge_io::{DATAGRAM_BYTES, Outside};
+use fabric_terms::{Body, Message};
+use ring_node::Input;
+use ring_points::Who;
+use ring_wire::decode_into;
+use std::alloc::Global;
+use turn_rules::{Plan, StopCause};
+
+/// A place that a frame is read into.
+fn empty_place() -> Message {
+    let nobody = Who {
+        actor: 0,
+        instance: 0,
+    };
+    Message {
+        from: nobody,
+        to: nobody,
+        body: Body::Hello { mine: 0 },
+    }
+}
+
+/// A datagram that has come to the actor at a place. What is no frame changes nothing.
+fn take_datagram<O: Outside>(
+    outside: &mut O,
+    alloc: Global,
+    plan: &Plan,
+    run: &mut Run,
+    turn: u64,
+    place: usize,
+    bytes: &[u8],
+) -> Result<(), StopCause>
+    requires place { place < length run.old.members }
+    requires ready { IsReady plan.now run.old (O.told outside.old) }
+    ensures done { (kept : List (List Record)) (a : Told) (h : History) (p : TurnPosition) →
+        Meets (setting plan.now kept) a (O.told outside.old) run.old h (record { turn = turn; place = place; comes = Hears (Datagram bytes.now) }) p →
+        Reaches (setting plan.now kept) a (O.told outside.new) run.new (record { turn = turn; place = place; comes = Hears (Datagram bytes.now) } ∷ h) p result }
+    ensures ready { IsReady plan.now run.new (O.told outside.new) }
+    ensures same { length run.new.members ≡ length run.old.members }
+{
+    let mut message = empty_place();
+    match decode_into(bytes, &mut message) {
+        Err(_) => Ok(()),
+        Ok(()) => act(
+            outside,
+            alloc,
+            plan,
+            run,
+            turn,
+            place,
+            &Input::Frame(message),
+        ),
+    }
+}
+
+/// The most datagrams that an actor hears in one turn.
+const MAX_DATAGRAMS: u64 = 64;
+
+/// Asks the links once what has come to the actor at a place. Says whether it was a datagram.
+fn hear_one<O: Outside>(
+    outside: &mut O,
+    alloc: Global,
+    plan: &Plan,
+    run: &mut Run,
+    turn: u64,
+    place: usize,
+    buffer: &mut [u8; DATAGRAM_BYTES],
+) -> Result<bool, StopCause>
+    requires place { place < length run.old.members }
+    requires ready { IsReady plan.now run.old (O.told outside.old) }
+    requires within { place < length plan.now.actors }
+    ensures done { (kept : List (List Record)) (n : ℕ) → n < MAX_DATAGRAMS →
+        Asks (setting plan.now kept) (O.told outside.old) run.old (hearing plan.now turn place n) (O.told outside.new)
+        run.new (hearing plan.now turn place (n + 1)) (rests plan.now turn place) result }
+    ensures ready { IsReady plan.now run.new (O.told outside.new) }
+    ensures same { length run.new.members ≡ length run.old.members }
+{
+    match outside.receive(plan.actor_at(place), buffer) {
+        Err(_) => Ok(false),
+        Ok(None) => Ok(false),
+        Ok(Some(count)) => {
+            take_datagram(outside, alloc, plan, run, turn, place, &buffer[..count])?;
+            Ok(true)
+        }
+    }
+}
+
+/// Hears what has come to the actor at a place: at most `MAX_DATAGRAMS` datagrams.
+pub(crate) fn hear<O: Outside>(
+    outside: &mut O,
+    alloc: Global,
+    plan: &Plan,
+    run: &mut Run,
+    turn: u64,
+    place: usize,
+    buffer: &mut [u8; DATAGRAM_BYTES],
+) -> Result<(), StopCause>
+    requires place { place < length run.old.members }
+    requires ready { IsReady plan.now run.old (O.told outside.old) }
+    requires within { place < length plan.now.actors }
+    ensures done { (kept : List (List Record)) →
+        Goes (setting plan.now kept) (O.told outside.old) run.old (at_place turn place (Busy [] 0)) (O.told outside.new)
+        run.new (rests plan.now turn place) result }
+    ensures ready { IsReady plan.now run.new (O.told outside.new) }
+    ensures same { length run.new.members ≡ length run.old.members }
+{
+    for _heard in 0..MAX_DATAGRAMS {
+        if !hear_one(outside, alloc, plan, run, turn, place, buffer)? {
+            return Ok(());
+        }
+    }
+    Ok(())
+}

@@ -1,0 +1,150 @@
+ghost use Rattle.std.specs.Prelude.{◌≡◌, ◌≤◌, ◌+◌, IsTrue, false, length};
+ghost use Rattle.ring_rules.specs.Frames as rules;
+ghost use Rattle.link_core.specs.Frames.{frame_row, may_come};
+ghost use Rattle.link_core.specs.Links.{did, did_after};
+ghost use Rattle.link_core.specs.Ties.{Does, cause_of, is_search};
+
+use crate::announce::{Announce, Announced};
+use crate::links::Links16;
+use crate::links::opening::Beginning;
+use crate::links::session_frames::Session;
+use crate::notes::LinkNotes;
+use crate::renewal::Renewal;
+use ring_points::{MAX_READING, OUTBOX_LIMIT};
+use fabric_terms::{Body, Message, Outbox};
+use ring_rules::LinkState;
+
+impl Links16 {
+    /// What a frame of a link does, or an arbitrator's ruling; a frame of another kind does nothing. The frame is one
+    /// that the node takes: its stamp is a reading, and a ruling is of a configured arbitrator.
+    pub fn on_frame(
+        &mut self,
+        now: u64,
+        message: &Message,
+        announce: &Announce,
+        out: &mut Outbox,
+    ) -> LinkNotes
+        requires now { now ≤ MAX_READING }
+        requires frame { IsTrue (may_come self.old.arbitrators message.now.from message.now.body) }
+        requires room { length out.old + 9 ≤ OUTBOX_LIMIT }
+        ensures did { did self.new out.new result ≡ did_after out.old
+            (frame_row now announce.now message.now.from message.now.body self.old) }
+        ensures row { is_search message.now.body ≡ false →
+            Does (λ c. rules.frame_row c now message.now.from message.now.body) (cause_of message.now.body)
+            self.old announce.now out.old (did self.new out.new result) }
+        ensures kept { self.new ≡ record self.old { slots = self.new.slots; next_session = self.new.next_session } }
+        ensures sessions { self.old.next_session ≤ self.new.next_session }
+        ensures few { length out.new ≤ length out.old + 9 }
+        ensures notes { length result ≤ 2 }
+    {
+        self.hear(now, message, &Announced::of(announce), out)
+    }
+
+    /// As `on_frame`, with the ranges where they lie.
+    pub fn hear(
+        &mut self,
+        now: u64,
+        message: &Message,
+        announce: &Announced,
+        out: &mut Outbox,
+    ) -> LinkNotes
+        requires now { now ≤ MAX_READING }
+        requires frame { IsTrue (may_come self.old.arbitrators message.now.from message.now.body) }
+        requires room { length out.old + 9 ≤ OUTBOX_LIMIT }
+        ensures did { did self.new out.new result ≡ did_after out.old
+            (frame_row now announce.now message.now.from message.now.body self.old) }
+        ensures row { is_search message.now.body ≡ false →
+            Does (λ c. rules.frame_row c now message.now.from message.now.body) (cause_of message.now.body)
+            self.old announce.now out.old (did self.new out.new result) }
+        ensures kept { self.new ≡ record self.old { slots = self.new.slots; next_session = self.new.next_session } }
+        ensures sessions { self.old.next_session ≤ self.new.next_session }
+        ensures few { length out.new ≤ length out.old + 9 }
+        ensures notes { length result ≤ 2 }
+    {
+        // Whose the links are does not matter here: looking at them shows that there are at most nine arbitrators.
+        let _ = &self.me;
+        self.frame(now, message, announce, out)
+    }
+
+    fn frame(
+        &mut self,
+        now: u64,
+        message: &Message,
+        announce: &Announced,
+        out: &mut Outbox,
+    ) -> LinkNotes
+        requires now { now ≤ MAX_READING }
+        requires frame { IsTrue (may_come self.old.arbitrators message.now.from message.now.body) }
+        requires room { length out.old + 9 ≤ OUTBOX_LIMIT }
+        ensures { did self.new out.new result ≡ did_after out.old
+            (frame_row now announce.now message.now.from message.now.body self.old) }
+    {
+        let from = message.from;
+        match &message.body {
+            Body::Hello { mine } => {
+                self.hear_hello(now, from, *mine, Beginning::offered(1, self.lease), out)
+            }
+            Body::HelloFor { mine, length } => {
+                let asked = Beginning::offered(2, (*length).min(self.longest));
+                self.hear_hello(now, from, *mine, asked, out)
+            }
+            Body::Offer { mine, yours } => {
+                self.hear_offer(now, Session::new(from, *mine, *yours), self.lease, out)
+            }
+            Body::OfferFor {
+                mine,
+                yours,
+                length,
+            } => self.hear_offer(now, Session::new(from, *mine, *yours), *length, out),
+            Body::Take { mine, yours } => {
+                self.hear_take(now, Session::new(from, *mine, *yours), announce, out)
+            }
+            Body::Renew {
+                mine,
+                yours,
+                stamp,
+                version,
+                got,
+                want,
+                ranges,
+            } => {
+                let renewal = Renewal {
+                    stamp: *stamp,
+                    version: *version,
+                    got: *got,
+                    want: *want,
+                    ranges,
+                };
+                self.hear_renew(Session::new(from, *mine, *yours), &renewal, out)
+            }
+            Body::RenewAck {
+                mine,
+                yours,
+                stamp,
+                version,
+            } => {
+                self.hear_ack(Session::new(from, *mine, *yours), *stamp, *version);
+                LinkNotes::none()
+            }
+            Body::Transfer {
+                mine,
+                yours,
+                flight,
+                ..
+            } => self.hear_transfer(Session::new(from, *mine, *yours), *flight, out),
+            Body::Gone {
+                mine,
+                yours,
+                got,
+                bound,
+            } => self.hear_gone(Session::new(from, *mine, *yours), *got, *bound, out),
+            Body::Ruled { victim, ruling } => self.hear_ruling(now, from, *victim, *ruling),
+            Body::Kept {
+                victim,
+                round,
+                claimer,
+            } => self.hear_kept(now, from, *victim, (*round, *claimer), out),
+            _ => LinkNotes::none(),
+        }
+    }
+}

@@ -1,0 +1,107 @@
+ghost use Rattle.std.specs.Prelude.{◌≡◌, ◌<◌, ◌≤◌, ◌+◌, IfSome, false, length, take};
+ghost use Rattle.ring_rules.specs.Firing as rules;
+ghost use Rattle.ring_rules.specs.Slots.{slot_at};
+ghost use Rattle.link_core.specs.Deadlines.{some_ended};
+ghost use Rattle.link_core.specs.Firing.{peer_accused, slot_fired};
+ghost use Rattle.link_core.specs.Links.{did, did_after};
+ghost use Rattle.link_core.specs.Ties.{Does, quiet};
+
+use crate::announce::{Announce, Announced};
+use crate::deadlines::change;
+use crate::firing::{Firing, accuse, is_over, spoken};
+use crate::links::Links16;
+use crate::notes::{LinkNote, LinkNotes};
+use ring_points::{MAX_READING, OUTBOX_LIMIT};
+use fabric_terms::{Outbox, Why};
+
+impl Links16 {
+    /// The lease of some slot that guards has ended. Where none has, no slot is due to accuse.
+    fn some_ended(&self, now: u64) -> bool
+        ensures { result ≡ some_ended now self.now.slots }
+    {
+        match self.deadlines.first() {
+            Some(end) => end <= now,
+            None => false,
+        }
+    }
+
+    /// The peer of the slot is accused, where the list of the accused is not full.
+    fn accuse(&mut self, i: usize, out: &mut Outbox) -> LinkNotes
+        requires inside { i < 16 }
+        requires room { length out.old + 9 ≤ OUTBOX_LIMIT }
+        ensures { IfSome (slot_at i self.old.slots)
+            (λ l. did self.new out.new result ≡ did_after out.old (peer_accused i l self.old)) }
+    {
+        if self.accused.is_full() {
+            return LinkNotes::one(LinkNote::Leave(Why::AccusedFull));
+        }
+        let (me, arbitrators, rounds) = (self.me, self.arbitrators, self.rounds);
+        let Some(peer) = change!(self, i, slot => accuse(slot, me, arbitrators, rounds, out)) else {
+            return LinkNotes::none();
+        };
+        self.accused.push(peer);
+        LinkNotes::two(LinkNote::Undo(i), LinkNote::AccusedNow(peer))
+    }
+
+    /// What a firing does at this slot: what it says again, whom it accuses, what ends. A slot that is free does
+    /// nothing.
+    pub fn due(&mut self, slot: usize, now: u64, announce: &Announce, out: &mut Outbox) -> LinkNotes
+        requires slot { slot < 16 }
+        requires now { now ≤ MAX_READING }
+        requires room { length out.old + 9 ≤ OUTBOX_LIMIT }
+        ensures did { did self.new out.new result ≡ did_after out.old (slot_fired now announce.now slot self.old) }
+        ensures row { Does (λ c w. rules.fired_at c now slot (slot_at slot w.ring.slots) w)
+            quiet self.old announce.now out.old (did self.new out.new result) }
+        ensures kept { self.new ≡ record self.old { slots = self.new.slots; accused = self.new.accused } }
+        ensures accused { take (length self.old.accused) self.new.accused ≡ self.old.accused }
+        ensures few { length out.new ≤ length out.old + 9 }
+        ensures notes { length result ≤ 2 }
+    {
+        self.fire(slot, now, &Announced::of(announce), out)
+    }
+
+    /// As `due`, with the ranges where they lie.
+    pub fn fire(
+        &mut self,
+        slot: usize,
+        now: u64,
+        announce: &Announced,
+        out: &mut Outbox,
+    ) -> LinkNotes
+        requires slot { slot < 16 }
+        requires now { now ≤ MAX_READING }
+        requires room { length out.old + 9 ≤ OUTBOX_LIMIT }
+        ensures did { did self.new out.new result ≡ did_after out.old (slot_fired now announce.now slot self.old) }
+        ensures row { Does (λ c w. rules.fired_at c now slot (slot_at slot w.ring.slots) w)
+            quiet self.old announce.now out.old (did self.new out.new result) }
+        ensures kept { self.new ≡ record self.old { slots = self.new.slots; accused = self.new.accused } }
+        ensures accused { take (length self.old.accused) self.new.accused ≡ self.old.accused }
+        ensures few { length out.new ≤ length out.old + 9 }
+        ensures notes { length result ≤ 2 }
+    {
+        self.fired(slot, now, announce, out)
+    }
+
+    fn fired(&mut self, slot: usize, now: u64, announce: &Announced, out: &mut Outbox) -> LinkNotes
+        requires slot { slot < 16 }
+        requires now { now ≤ MAX_READING }
+        requires room { length out.old + 9 ≤ OUTBOX_LIMIT }
+        ensures did { did self.new out.new result ≡ did_after out.old (slot_fired now announce.now slot self.old) }
+        ensures few { self.old.arbitrators ≤ 9 }
+    {
+        let ended = self.some_ended(now);
+        let Some(link) = &self.slots[slot] else {
+            return LinkNotes::none();
+        };
+        if ended && is_over(link, now) {
+            return self.accuse(slot, out);
+        }
+        let firing = Firing {
+            reading: now,
+            answer: self.answer,
+            arbitrators: self.arbitrators,
+            rounds: self.rounds,
+        };
+        change!(self, slot, place => spoken(slot, place, &firing, announce, out))
+    }
+}

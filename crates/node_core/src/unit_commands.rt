@@ -1,0 +1,83 @@
+ghost use Rattle.std.specs.Prelude.{◌≡◌, ◌≤◌, ◌+◌, IfOk, OnErr, length};
+ghost use Rattle.fabric_terms.specs.Ranges.{FitsCommand};
+ghost use Rattle.reconfig_phases.specs.Tasks.{replicas_of};
+ghost use Rattle.unit_desk.specs.UnitEffects.{Does, HasRoom};
+ghost use Rattle.unit_rules.specs.Steps.{command_row, manage};
+ghost use Rattle.node_core.specs.UnitParts.{site_at};
+
+use crate::unit_part::UnitNode;
+use ring_points::{MAX_MEMBERS, Point};
+use fabric_terms::{Command, OutOfMemory};
+use ring_node::RingNode;
+use unit_desk::UnitEffects;
+use unit_rules::Kind;
+
+impl UnitNode {
+    /// A command to the manager, which is the node that holds ring point 0 at this reading.
+    fn manage(
+        &mut self,
+        now: u64,
+        ring: &RingNode,
+        partition: u16,
+        kind: Kind,
+        effects: &mut UnitEffects,
+    ) -> Result<(), OutOfMemory>
+        requires replicas { replicas_of kind ≤ MAX_MEMBERS }
+        requires room { HasRoom effects.old }
+        ensures does { IfOk result (λ _. Does
+            (manage (site_at ring.now.settings self.old) now ring.now.ring partition kind self.old.state)
+            self.new.state effects.old effects.new) }
+        ensures domains { self.new.domains ≡ self.old.domains }
+        ensures few { length effects.new.out ≤ length effects.old.out + 9 }
+        ensures refused { OnErr result ((self.new ≡ self.old) × (effects.new ≡ effects.old)) }
+    {
+        let is_manager = ring.holds(now, Point(0));
+        self.manager.commanded(
+            is_manager,
+            ring.arbitrators(),
+            partition,
+            kind,
+            ring.me(),
+            effects,
+        )
+    }
+
+    /// The row of a command; a command to the ring changes nothing here. It is an error where memory is short, and then
+    /// nothing is changed.
+    pub fn commanded(
+        &mut self,
+        now: u64,
+        ring: &RingNode,
+        command: &Command,
+        effects: &mut UnitEffects,
+    ) -> Result<(), OutOfMemory>
+        requires fits { FitsCommand command.now }
+        requires room { HasRoom effects.old }
+        ensures does { IfOk result (λ _. Does
+            (command_row (site_at ring.now.settings self.old) now ring.now.ring command.now self.old.state)
+            self.new.state effects.old effects.new) }
+        ensures domains { self.new.domains ≡ self.old.domains }
+        ensures few { length effects.new.out ≤ length effects.old.out + 9 }
+        ensures refused { OnErr result ((self.new ≡ self.old) × (effects.new ≡ effects.old)) }
+    {
+        match command {
+            Command::Create(partition, count) => {
+                self.manage(now, ring, *partition, Kind::Create(*count), effects)
+            }
+            Command::Swap(partition, node) => {
+                self.manage(now, ring, *partition, Kind::Swap(*node), effects)
+            }
+            Command::Heal(partition, count) => {
+                self.manage(now, ring, *partition, Kind::Heal(*count), effects)
+            }
+            Command::Lose(partition, node) => {
+                self.manage(now, ring, *partition, Kind::Lose(*node), effects)
+            }
+            Command::Write(partition, text) => self.states.write(*partition, text, effects),
+            Command::Resolve(partition, name) => self.states.resolve(*partition, name, effects),
+            Command::Names(partition, range) => self.states.list_names(*partition, range, effects),
+            Command::Units(range) => self.manager.list_units(range, effects),
+            _ => Ok(()),
+        }
+    }
+}

@@ -1,6 +1,0 @@
-pub mod Lines
-pub mod Joins
-pub mod TakeOvers
-pub mod Searches
-pub mod Lengths
-pub mod Rounds

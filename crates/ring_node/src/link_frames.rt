@@ -1,0 +1,51 @@
+ghost use Rattle.std.specs.Prelude.{◌≡◌, ◌+◌, ◌≤◌, IsTrue, false, length};
+ghost use Rattle.link_core.specs.Frames.{may_come};
+ghost use Rattle.link_core.specs.Ties.{cause_of, is_search};
+ghost use Rattle.ring_node.specs.Nodes.{by, step};
+ghost use Rattle.ring_rules.specs.Deeds.{counted};
+ghost use Rattle.ring_rules.specs.Frames.{frame_row};
+
+use crate::leave::whole_row;
+use crate::node::{RingNode, announced};
+use crate::reports::Reports;
+use ring_points::{MAX_READING, MAX_RING_REPORTS, OUTBOX_LIMIT};
+use fabric_terms::{Body, Message, Outbox};
+
+/// Whether a frame says that its sender is gone and wants an answer.
+pub(crate) fn wants_answer(body: &Body) -> bool
+    ensures { result ≡ (cause_of body.now).gone }
+{
+    matches!(body, Body::Gone { bound: true, .. })
+}
+
+impl RingNode {
+    /// The row of a frame of links, or of a ruling.
+    pub(crate) fn hear_link(
+        &mut self,
+        now: u64,
+        message: &Message,
+        out: &mut Outbox,
+        told: &mut Reports,
+    )
+        requires now { now ≤ MAX_READING }
+        requires frame { IsTrue (may_come self.old.settings.arbitrators message.now.from message.now.body) }
+        requires link { is_search message.now.body ≡ false }
+        requires room { length out.old + 9 ≤ OUTBOX_LIMIT }
+        requires place { length told.old + 2 ≤ MAX_RING_REPORTS }
+        ensures row { step self.new out.new told.new ≡ by
+            (λ c w. counted w (frame_row c now message.now.from message.now.body w)) (step self.old out.old told.old) }
+        ensures few { length told.new ≤ length told.old + 2 }
+        ensures short { length out.new ≤ length out.old + 11 }
+    {
+        whole_row!(
+            self,
+            out,
+            told,
+            {
+                let announce = announced(&self.token, &self.phase);
+                let notes = self.links.hear(now, message, &announce, out);
+                self.notes(&message.body, notes.as_slice(), out, told)
+            }
+        )
+    }
+}

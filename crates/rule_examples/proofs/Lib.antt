@@ -1,0 +1,3 @@
+pub mod RingComputed
+pub mod Computed
+pub mod Named

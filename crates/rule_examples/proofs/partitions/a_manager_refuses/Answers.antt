@@ -1,0 +1,5 @@
+use Rattle.rule_examples.proofs.Computed.{a_manager_refuses}
+use Rattle.rule_examples.proofs.partitions.a_manager_refuses.Goals as goal
+
+pub returns : goal.returns
+returns c = a_manager_refuses

@@ -1,0 +1,15 @@
+pub mod Lines
+pub mod Joins
+pub mod TakeOvers
+pub mod Searches
+pub mod Lengths
+pub mod Rounds
+pub mod Values
+pub mod Replicas
+pub mod Writes
+pub mod Arbiters
+pub mod Phases
+pub mod Managers
+pub mod Runs
+pub mod Moves
+pub mod Names

@@ -1,0 +1,72 @@
+ghost use Rattle.std.specs.Prelude.{◌≡◌, ◌≢◌, ℕ, List, [], Some, IfOk};
+ghost use Rattle.edge_io.specs.Edge.{HasRisen};
+ghost use Rattle.fabric_status.specs.Codes.{status_of};
+ghost use Rattle.fabric_status.specs.Faults.{fault_line};
+ghost use Rattle.transcript_audit.specs.Audits.{IsAnswer, Writes};
+
+use crate::transcript::{Transcript, read_transcript};
+use crate::verdict::{judge, push_verdict};
+use edge_io::{EdgeRefusal, Sink, Source};
+use fabric_status::{Refusal, Status, push_fault, write_last};
+use fabric_terms::OutOfMemory;
+use source_lines::read_all;
+use std::alloc::Global;
+
+/// The last line, and the status that goes with it.
+#[derive(Drop)]
+pub struct AuditResult {
+    pub text: Vec<u8>,
+    pub status: Status,
+}
+
+/// The line of a fault.
+fn refused(alloc: Global, refusal: Refusal) -> Result<AuditResult, OutOfMemory>
+    ensures { IfOk result (λ a. (a.status ≡ status_of refusal) × (a.text.items ≡ fault_line (status_of refusal))) }
+{
+    let status = refusal.status();
+    let mut text = Vec::new(alloc);
+    push_fault(alloc, &mut text, status)?;
+    Ok(AuditResult { text, status })
+}
+
+/// What is answered to a transcript.
+pub fn answer_to(alloc: Global, bytes: &[u8]) -> Result<AuditResult, OutOfMemory>
+    ensures { IfOk result (λ a. IsAnswer bytes.now a.status a.text.items) }
+{
+    match read_transcript(alloc, bytes)? {
+        Transcript::Refused(refusal) => refused(alloc, refusal),
+        Transcript::Good(places) => {
+            let mut places = places;
+            places.sort()?;
+            let breach = judge(alloc, bytes, &places)?;
+            let mut text = Vec::new(alloc);
+            push_verdict(&mut text, breach, places.count())?;
+            Ok(AuditResult {
+                text,
+                status: Status::Ok,
+            })
+        }
+    }
+}
+
+/// Reads a transcript to its end and writes one line: the verdict on its run, with status Ok, or how it is refused.
+/// `ReadFault` and `WriteFault` come only where that device's count of faults rose; at `OutOfMemory` and `WriteFault`
+/// the sink has a front of what would have been written.
+pub fn audit<S: Source, K: Sink>(alloc: Global, source: &mut S, sink: &mut K) -> Status
+    ensures usage { result ≢ Status.Usage }
+    ensures read { result ≡ Status.Ok → (bytes : List ℕ) → S.left source.old ≡ Some bytes →
+        S.left source.new ≡ Some [] }
+    ensures written { (bytes : List ℕ) → S.left source.old ≡ Some bytes →
+        Writes result bytes (HasRisen (S.faults source.old) (S.faults source.new)) (K.held sink.old) (K.held sink.new) }
+    ensures read_fault { result ≡ Status.ReadFault → HasRisen (S.faults source.old) (S.faults source.new) }
+    ensures write_fault { result ≡ Status.WriteFault → HasRisen (K.faults sink.old) (K.faults sink.new) }
+{
+    match read_all(alloc, source) {
+        Err(EdgeRefusal::Failed) => write_last(sink, b"fault read\n", Status::ReadFault),
+        Err(EdgeRefusal::OutOfMemory) => Status::OutOfMemory,
+        Ok(bytes) => match answer_to(alloc, &bytes) {
+            Ok(answer) => write_last(sink, &answer.text, answer.status),
+            Err(_) => Status::OutOfMemory,
+        },
+    }
+}

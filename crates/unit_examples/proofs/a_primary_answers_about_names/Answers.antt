@@ -1,5 +1,0 @@
-use Rattle.unit_examples.proofs.Named.{a_primary_answers}
-use Rattle.unit_examples.proofs.a_primary_answers_about_names.Goals as goal
-
-pub returns : goal.returns
-returns c = a_primary_answers

@@ -1,5 +1,0 @@
-use Rattle.unit_examples.proofs.Computed.{a_replica_promises}
-use Rattle.unit_examples.proofs.a_replica_promises.Goals as goal
-
-pub returns : goal.returns
-returns c = a_replica_promises

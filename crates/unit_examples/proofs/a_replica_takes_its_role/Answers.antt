@@ -1,5 +1,0 @@
-use Rattle.unit_examples.proofs.Computed.{a_replica_takes_its_role}
-use Rattle.unit_examples.proofs.a_replica_takes_its_role.Goals as goal
-
-pub returns : goal.returns
-returns c = a_replica_takes_its_role

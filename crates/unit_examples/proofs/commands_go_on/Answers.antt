@@ -1,5 +1,0 @@
-use Rattle.unit_examples.proofs.Computed.{commands_go_on}
-use Rattle.unit_examples.proofs.commands_go_on.Goals as goal
-
-pub returns : goal.returns
-returns c = commands_go_on

@@ -1,5 +1,0 @@
-use Rattle.unit_examples.proofs.Computed.{creates_and_writes}
-use Rattle.unit_examples.proofs.creates_and_writes.Goals as goal
-
-pub returns : goal.returns
-returns c = creates_and_writes

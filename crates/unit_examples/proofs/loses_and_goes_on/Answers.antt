@@ -1,5 +1,0 @@
-use Rattle.unit_examples.proofs.Computed.{loses_and_goes_on}
-use Rattle.unit_examples.proofs.loses_and_goes_on.Goals as goal
-
-pub returns : goal.returns
-returns c = loses_and_goes_on

@@ -1,8 +1,0 @@
-use Rattle.std.proofs.Common.{◌≡◌, ◌≤◌, length, map, take}
-use Rattle.unit_node.proofs.part.domains_of.Given as goal
-
-abbrev pub invariant-loop-entry : goal.invariant-loop-entry
-invariant-loop-entry l = record {
-  domains : l.domains.items ≡ map (λ n. (n.node, n.domain)) (take l.entry-index l.entry-items);
-  few : length l.domains.items ≤ l.entry-index;
-}

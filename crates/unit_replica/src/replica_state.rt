@@ -1,0 +1,79 @@
+ghost use Rattle.std.specs.Prelude.{◌≡◌, ◌≤◌};
+ghost use Rattle.replica_core.specs.Replicas.{IsSound};
+ghost use Rattle.unit_rules.specs.ReplicaStates.{first_state, last_of};
+ghost use Rattle.unit_replica.specs.Starts.{state_again, state_uncollected};
+
+use crate::progress::ReplicationProgress;
+use crate::named_replica::NamedReplica;
+use ring_points::MAX_LOG_ENTRIES;
+use replica_core::Replica;
+use std::alloc::Global;
+use std::marker::Model;
+use unit_rules::CatchUp;
+
+/// A replica at its node. Contracts see it as the rules' record of that name.
+#[derive(Drop)]
+pub struct ReplicaState {
+    pub(crate) replica: NamedReplica,
+    /// The Sync that it took last.
+    pub(crate) catch_up: Option<CatchUp>,
+    /// What it knows as a primary.
+    pub(crate) progress: Option<ReplicationProgress>,
+}
+
+impl Model for ReplicaState {
+    ghost use Rattle.std.specs.Prelude.{◌≤◌, IfSome};
+    ghost use Rattle.unit_rules.specs.ReplicaStates.{ReplicaState};
+    ghost use Rattle.ring_points.specs.Limits.{most_log_entries};
+
+    ghost Value = { ReplicaState };
+
+    ghost view = { λ s. record { replica = s.replica; catch_up = s.catch_up; progress = s.progress } };
+
+    ghost invariant = { λ s. IfSome s.catch_up (λ t. t.last ≤ most_log_entries) };
+}
+
+impl ReplicaState {
+    /// The state of a new replica. Its log grows by this allocator.
+    pub fn new(alloc: Global, partition: u16) -> Self
+        ensures { result ≡ first_state partition }
+    {
+        ReplicaState {
+            replica: NamedReplica::new(alloc, partition),
+            catch_up: None,
+            progress: None,
+        }
+    }
+
+    /// The replica.
+    pub fn replica(&self) -> &Replica
+        ensures { result.now ≡ self.now.replica }
+    {
+        self.replica.replica()
+    }
+
+    /// What is collected is forgotten.
+    pub(crate) fn drop_collected(&mut self)
+        ensures { self.new ≡ state_uncollected self.old }
+    {
+        self.replica.drop_collected();
+    }
+
+    /// Begins again with the next instance of its node: what was known as a primary is lost, and which Sync was taken.
+    pub(crate) fn begin_again(&mut self)
+        ensures { self.new ≡ state_again self.old }
+    {
+        self.replica.begin_again();
+        self.catch_up = None;
+        self.progress = None;
+    }
+}
+
+/// The number of a replica's last entry, 0 where there is none.
+pub(crate) fn last_of(replica: &NamedReplica) -> u32
+    ensures last { result ≡ last_of replica.now }
+    ensures few { result ≤ MAX_LOG_ENTRIES }
+    ensures sound { IsSound replica.now }
+{
+    replica.log().len() as u32
+}

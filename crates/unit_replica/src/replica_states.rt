@@ -1,0 +1,248 @@
+ghost use Rattle.std.specs.Prelude.{◌≡◌, ◌≤◌, ◌+◌, [], None, IfOk, IsTrue, OnErr, length, true};
+ghost use Rattle.std.specs.Option.{option_copied};
+ghost use Rattle.fabric_lemmas.specs.Maps.{at};
+ghost use Rattle.fabric_terms.specs.Messages.{is_sound_body};
+ghost use Rattle.unit_desk.specs.UnitEffects.{Does, HasRoom};
+ghost use Rattle.unit_rules.specs.Deeds.{still};
+ghost use Rattle.unit_replica.specs.Memory.{grows, is_ready_at, stores};
+ghost use Rattle.unit_replica.specs.Tables.{at_state, at_standing, frame_at, list_at, replica_at, resolve_at, row_of};
+ghost use Rattle.unit_replica.specs.Tables.{write_at};
+
+use crate::answer::{names_commanded, resolve_commanded};
+use crate::frame::row_of;
+use crate::replica_state::ReplicaState;
+use crate::write::{refuse, write_commanded};
+use ring_points::{Interval, MAX_PARTITIONS, Who};
+use fabric_terms::{Body, NameText, OutOfMemory, Payload, Reason, Verb};
+use replica_core::Replica;
+use std::alloc::Global;
+use std::collections::BTreeMap;
+use std::marker::Model;
+use unit_desk::UnitEffects;
+
+/// The replicas of a node. Contracts see the map from partitions, as the list that rises by partition.
+#[derive(Drop)]
+pub struct ReplicaStates {
+    pub(crate) alloc: Global,
+    pub(crate) map: BTreeMap<u16, ReplicaState>,
+}
+
+impl Model for ReplicaStates {
+    ghost use Rattle.unit_replica.specs.Tables.{IsTable, ReplicaStates};
+
+    ghost Value = { ReplicaStates };
+
+    ghost view = { λ s. s.map.entries };
+
+    ghost invariant = { λ s. IsTable s.map.entries };
+}
+
+impl ReplicaStates {
+    /// No replicas. The map and the logs grow by this allocator.
+    pub fn new(alloc: Global) -> Self
+        ensures { result ≡ [] }
+    {
+        ReplicaStates {
+            alloc,
+            map: BTreeMap::new(alloc),
+        }
+    }
+
+    /// How many replicas there are.
+    pub fn count(&self) -> usize
+        ensures count { result ≡ length self.now }
+        ensures few { result ≤ MAX_PARTITIONS }
+    {
+        self.map.len()
+    }
+
+    /// The partition's replica, if there is one.
+    pub fn replica(&self, partition: u16) -> Option<&Replica>
+        ensures { option_copied result ≡ replica_at partition self.now }
+    {
+        match self.map.get(&partition) {
+            Some(state) => Some(state.replica.replica()),
+            None => None,
+        }
+    }
+
+    /// The row of a frame at the partition's replica, where one stands.
+    fn at_standing(
+        &mut self,
+        me: u16,
+        from: Who,
+        partition: u16,
+        body: &Body,
+        effects: &mut UnitEffects,
+    ) -> Result<(), OutOfMemory>
+        requires sound { IsTrue (is_sound_body body.now) }
+        requires room { HasRoom effects.old }
+        ensures does { IfOk result (λ _. Does
+            (at_standing partition (row_of me from body.now) (still self.old) self.old)
+            self.new effects.old effects.new) }
+        ensures few { length effects.new.out ≤ length effects.old.out + 1 }
+        ensures refused { OnErr result ((self.new ≡ self.old) × (effects.new ≡ effects.old)) }
+        ensures memory { OnErr result (grows self.old
+            (at_standing partition (row_of me from body.now) (still self.old) self.old) ≡ true) }
+    {
+        let Some(state) = self.map.get_mut(&partition) else {
+            return Ok(());
+        };
+        row_of(me, from, body, state, effects)
+    }
+
+    /// The row of a frame at the partition's first state, which is made for it.
+    #[tactic(auto, using(crate::proofs::Stored::state_made))]
+    fn at_first(
+        &mut self,
+        me: u16,
+        from: Who,
+        partition: u16,
+        body: &Body,
+        effects: &mut UnitEffects,
+    ) -> Result<(), OutOfMemory>
+        requires sound { IsTrue (is_sound_body body.now) }
+        requires room { HasRoom effects.old }
+        requires none { at partition self.old ≡ None }
+        ensures does { IfOk result (λ _. Does (at_state partition (row_of me from body.now) self.old)
+            self.new effects.old effects.new) }
+        ensures few { length effects.new.out ≤ length effects.old.out + 1 }
+        ensures refused { OnErr result ((self.new ≡ self.old) × (effects.new ≡ effects.old)) }
+        ensures memory { OnErr result (grows self.old (at_state partition (row_of me from body.now) self.old) ≡ true) }
+    {
+        // This never comes, since there are no more numbers of partitions.
+        if self.map.len() >= MAX_PARTITIONS {
+            return Err(OutOfMemory);
+        }
+        let state = ReplicaState::new(self.alloc, partition);
+        self.map.insert(partition, state)?;
+        match self.at_standing(me, from, partition, body, effects) {
+            Ok(()) => Ok(()),
+            Err(_) => {
+                self.map.remove(&partition);
+                Err(OutOfMemory)
+            }
+        }
+    }
+
+    /// The row of a frame at the partition's replica, which is made where none stands.
+    fn at_state(
+        &mut self,
+        me: u16,
+        from: Who,
+        partition: u16,
+        body: &Body,
+        effects: &mut UnitEffects,
+    ) -> Result<(), OutOfMemory>
+        requires sound { IsTrue (is_sound_body body.now) }
+        requires room { HasRoom effects.old }
+        ensures does { IfOk result (λ _. Does (at_state partition (row_of me from body.now) self.old)
+            self.new effects.old effects.new) }
+        ensures few { length effects.new.out ≤ length effects.old.out + 1 }
+        ensures refused { OnErr result ((self.new ≡ self.old) × (effects.new ≡ effects.old)) }
+        ensures memory { OnErr result (grows self.old (at_state partition (row_of me from body.now) self.old) ≡ true) }
+    {
+        if self.map.contains_key(&partition) {
+            self.at_standing(me, from, partition, body, effects)
+        } else {
+            self.at_first(me, from, partition, body, effects)
+        }
+    }
+
+    /// A frame to the replica of its partition. Promise, Sync, Activate and Append make the replica where none stands;
+    /// other frames do nothing then. It is an error where memory is short for a new entry or a new replica, and then
+    /// nothing is changed: no other frame wants memory.
+    pub fn frame_received(
+        &mut self,
+        me: u16,
+        from: Who,
+        body: &Body,
+        effects: &mut UnitEffects,
+    ) -> Result<(), OutOfMemory>
+        requires sound { IsTrue (is_sound_body body.now) }
+        requires room { HasRoom effects.old }
+        ensures does { IfOk result (λ _. Does (frame_at me from body.now self.old) self.new effects.old effects.new) }
+        ensures few { length effects.new.out ≤ length effects.old.out + 1 }
+        ensures refused { OnErr result ((self.new ≡ self.old) × (effects.new ≡ effects.old)) }
+        ensures memory { OnErr result (grows self.old (frame_at me from body.now self.old) ≡ true) }
+    {
+        match body {
+            Body::Promise { partition, .. }
+            | Body::Sync { partition, .. }
+            | Body::Append { partition, .. } => self.at_state(me, from, *partition, body, effects),
+            Body::Activate { config } => self.at_state(me, from, config.partition, body, effects),
+            Body::Fetch { partition, .. }
+            | Body::Piece { partition, .. }
+            | Body::Appended { partition, .. } => {
+                self.at_standing(me, from, *partition, body, effects)
+            }
+            _ => Ok(()),
+        }
+    }
+
+    /// Write: the partition's primary adds an entry. It is refused where the node has no replica of the partition, at a
+    /// replica that takes no writes, and where its log is full. It is an error where memory is short for a new entry,
+    /// and then nothing is changed.
+    pub fn write(
+        &mut self,
+        partition: u16,
+        text: &Payload,
+        effects: &mut UnitEffects,
+    ) -> Result<(), OutOfMemory>
+        requires { HasRoom effects.old }
+        ensures does { IfOk result (λ _. Does (write_at partition text.now self.old) self.new effects.old effects.new) }
+        ensures few { length effects.new.out ≤ length effects.old.out + 6 }
+        ensures refused { OnErr result ((self.new ≡ self.old) × (effects.new ≡ effects.old)) }
+        ensures memory { OnErr result (stores (write_at partition text.now self.old) ≡ true) }
+    {
+        let Some(state) = self.map.get_mut(&partition) else {
+            refuse(Verb::Write, Reason::NotPrimary, effects);
+            return Ok(());
+        };
+        write_commanded(text, state, effects)
+    }
+
+    /// Resolve: the partition's primary tells what a name stands for. It is refused where the node has no replica of
+    /// the partition, and where that answers nothing. It is an error where memory is short for an answer, and then
+    /// nothing is changed.
+    pub fn resolve(
+        &mut self,
+        partition: u16,
+        name: &NameText,
+        effects: &mut UnitEffects,
+    ) -> Result<(), OutOfMemory>
+        requires { HasRoom effects.old }
+        ensures does { IfOk result (λ _. Does (resolve_at partition name.now self.old) self.new effects.old effects.new)
+            }
+        ensures few { length effects.new.out ≤ length effects.old.out }
+        ensures refused { OnErr result ((self.new ≡ self.old) × (effects.new ≡ effects.old)) }
+        ensures memory { OnErr result (is_ready_at partition self.old ≡ true) }
+    {
+        let Some(state) = self.map.get_mut(&partition) else {
+            refuse(Verb::Resolve, Reason::NotPrimary, effects);
+            return Ok(());
+        };
+        resolve_commanded(self.alloc, name, state, effects)
+    }
+
+    /// Names: the partition's primary tells the first names with a point in the range. It is refused, and an error,
+    /// where `resolve` is.
+    pub fn list_names(
+        &mut self,
+        partition: u16,
+        range: &Interval,
+        effects: &mut UnitEffects,
+    ) -> Result<(), OutOfMemory>
+        requires { HasRoom effects.old }
+        ensures does { IfOk result (λ _. Does (list_at partition range.now self.old) self.new effects.old effects.new) }
+        ensures few { length effects.new.out ≤ length effects.old.out }
+        ensures refused { OnErr result ((self.new ≡ self.old) × (effects.new ≡ effects.old)) }
+        ensures memory { OnErr result (is_ready_at partition self.old ≡ true) }
+    {
+        let Some(state) = self.map.get_mut(&partition) else {
+            refuse(Verb::Names, Reason::NotPrimary, effects);
+            return Ok(());
+        };
+        names_commanded(self.alloc, range, state, effects)
+    }
+}
