@@ -2,7 +2,7 @@
 //! so that a time has passed on every other.
 //!
 //! Time is whole ticks. Nothing relates the readings of two clocks but the true time, which no clock
-//! shows. This crate stands on nothing of the project. It promises above that readings are refused
+//! shows. This crate stands on the limits alone. It promises above that readings are refused
 //! exactly where two of them, neighbours or not, cannot come from a clock within the bound, and that a
 //! wait by one clock covers the time that was promised on another.
 #![tactic(auto)]

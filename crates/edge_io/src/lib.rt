@@ -2,9 +2,12 @@
 //!
 //! A device is the outside: bytes that come in, bytes that go out. Its trait says what each call does to
 //! what the device has left or holds, as far as the device tells it, and counts how often it failed.
+//! `Outside` is all devices of a running program as one, so that a contract speaks of one thing before
+//! and after, and not of four devices with eleven meanings. `Devices` is the outside of four borrowed
+//! devices: each call is that of its device, and the others stay as they were.
 //! This crate stands on nothing of the project. Above it the program is written once, over the traits:
-//! run on the real devices it is the product, and on the devices in memory, which tell all, it is what
-//! the theorems speak of.
+//! run on the real devices it is the product, and on the devices in memory, which show everything, it is
+//! what the theorems speak of.
 #![tactic(auto)]
 
 mod clock;

@@ -79,4 +79,3 @@ pub const LONGEST: Limits = Limits {
     least: MIN_LEASE,
     greatest: MAX_LEASE,
 };
-

@@ -1,7 +1,7 @@
 //! What the fabric's messages, schedules, records and reports are made of, and what is seen of a run.
 //!
-//! The types have no behaviour of their own: readers and printers stand above, each in its crate. Beside
-//! them stand the definitions that the program's promise is made of: a run as a list of moments, who holds
+//! The types have no behaviour of their own but `copy_of`: readers and printers are crates above. Beside
+//! them are the definitions that the program's promise is made of: a run as a list of moments, who holds
 //! a point, and what a safe run is. They speak of reports, readings and running instances alone, and know
 //! no lease, message or table.
 #![tactic(auto)]

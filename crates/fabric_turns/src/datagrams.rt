@@ -11,9 +11,9 @@ ghost use Rattle.turn_rules.specs.Whole.{setting};
 use crate::actor_step::act;
 use crate::run::Run;
 use edge_io::{DATAGRAM_BYTES, Outside};
+use ring_points::{FRAME_LIMIT, Who};
 use fabric_terms::{Body, Message};
 use ring_node::Input;
-use ring_points::Who;
 use ring_wire::decode_into;
 use std::alloc::Global;
 use turn_rules::{Plan, StopCause};
@@ -66,6 +66,9 @@ fn take_datagram<O: Outside>(
 
 /// The most datagrams that an actor hears in one turn.
 const MAX_DATAGRAMS: u64 = 64;
+
+// A datagram holds a whole frame.
+const _: () = prove!(FRAME_LIMIT <= DATAGRAM_BYTES);
 
 /// Asks the links once what has come to the actor at a place. Says whether it was a datagram.
 fn hear_one<O: Outside>(

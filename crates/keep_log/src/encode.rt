@@ -2,6 +2,7 @@ ghost use Rattle.std.specs.Prelude.{◌≡◌, ◌≤◌, ◌+◌, ◌++◌, len
 ghost use Rattle.wire_fields.specs.Writers.{Puts};
 ghost use Rattle.keep_log.specs.Spellings.{is_sound, kind_of, fields_of, spelling};
 
+use ring_points::MAX_WRITE;
 use fabric_terms::Record;
 use wire_fields::write::{
     put_config, put_epoch, put_flag, put_payload, put_u8, put_u32, put_unit, put_who,
@@ -9,6 +10,9 @@ use wire_fields::write::{
 
 /// No record has more bytes.
 pub const RECORD_LIMIT: usize = 600;
+
+// A record holds a write, and the 40 bytes of its kind and of its other fields.
+const _: () = prove!(MAX_WRITE + 40 <= RECORD_LIMIT);
 
 fn kind_of(item: &Record) -> u8
     ensures { result ≡ kind_of item.now }

@@ -4,8 +4,10 @@
 //! What a step leaves is taken into memory before the step is done, so that a node for which memory is short is as it
 //! was, and what was kept of a node that could not start is still there. The caller syncs the records, then sends the
 //! frames, then prints the reports. This crate stands on the ring at one node and on what runs above it, the manager of
-//! partitions and the replicas; its promise is the step of a whole node in the rules of the world. A row above the ring
-//! that may want memory is done before the ring's own, which wants none and notes only who was heard.
+//! partitions and the replicas, which `UnitNode` puts together. Its promise is the step of a whole node in the rules of
+//! the world. A row above the ring that may want memory is done before the ring's own, which wants none and notes only
+//! who was heard: these are commands and frames to replicas, and they read nothing that the ring's row changes. Answers
+//! to the manager and firings come after the ring's row, whose notes they read, and want no memory.
 #![tactic(auto)]
 
 mod above;

@@ -2,11 +2,14 @@ ghost use Rattle.std.specs.Prelude.{◌≤◌, IfOk};
 ghost use Rattle.node_core.specs.NodeEffects.{IsClear, IsReady};
 ghost use Rattle.node_core.specs.Nodes.{frames_limit};
 
-use ring_points::MAX_STEP_REPORTS;
+use ring_points::{MAX_RING_REPORTS, MAX_STEP_REPORTS};
 use fabric_terms::{Message, OutOfMemory, Outbox, Record, Report};
 use ring_node::Reports;
 use std::alloc::Global;
-use unit_desk::{UnitEffects, MAX_ROW_RECORDS};
+use unit_desk::{UnitEffects, MAX_ROW_RECORDS, MAX_ROW_REPORTS};
+
+// A step reports what the ring's step and one row above it do, and once what is owned.
+const _: () = prove!(MAX_RING_REPORTS + MAX_ROW_REPORTS + 1 <= MAX_STEP_REPORTS);
 
 /// What a step of a node records, sends and reports, and room for what the step leaves. It is clear between steps.
 #[derive(Drop)]

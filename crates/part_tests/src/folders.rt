@@ -68,8 +68,25 @@ fn is_missing(rt: &(impl Files + Abort), path: &str) {
     assert!(rt; !fs::exists(rt, path).expect(rt, "a folder"), "{path}");
 }
 
+/// The records of a first and of a second start.
+const STARTS: [&[u8]; 2] = [b"\x01\0\0\0\x01", b"\x01\0\0\0\x02"];
+
+/// The same with their lengths, and as the list that is read.
+const STARTS_IN_FILE: &[u8] = b"\0\x05\x01\0\0\0\x01\0\x05\x01\0\0\0\x02";
+const STARTS_READ: &[u8] = b"\x01\0\0\0\x01;\x01\0\0\0\x02;";
+
 #[test]
 fn records_stand_in_the_file_behind_their_lengths(rt: HostRuntime) -> Result<(), Fail> {
+    enter_folder(&rt)?;
+    keep(&rt, rt.alloc(), 1, &STARTS);
+    file_is(&rt, "kept/1", STARTS_IN_FILE);
+    add(&rt, "kept/1", b"\0\x05\x01");
+    records_are(&rt, rt.alloc(), 1, STARTS_READ);
+    remove_folder(&rt)
+}
+
+#[test]
+fn a_record_may_have_no_bytes(rt: HostRuntime) -> Result<(), Fail> {
     enter_folder(&rt)?;
     keep(&rt, rt.alloc(), 1, &[b"boot", b""]);
     file_is(&rt, "kept/1", b"\0\x04boot\0\0");

@@ -11,7 +11,8 @@ use std::rt::Clock;
 use std::test::Fail;
 use std::time::Duration;
 
-pub(crate) const FRAME: &[u8] = b"\x53\x01\0\x01\0\0\0\x01\0\x02\0\0\0\x01\0\0\0\0\0";
+/// A Hello of 2.1 to node 1, in its session 1.
+pub(crate) const FRAME: &[u8] = b"\x53\x01\x01\0\x02\0\0\0\x01\0\x01\0\0\0\0\0\0\0\x01";
 
 /// An address of the machine's own, at a port that is free.
 pub(crate) fn free_address(rt: &HostRuntime) -> Result<String, Fail> {

@@ -9,7 +9,7 @@ mod not_frame;
 mod read;
 mod write;
 
-pub use fabric_terms::{Body, Message};
+pub use fabric_terms::{Body, Message, Outbox};
 pub use frame_format::{one_spelling, short_spelling};
 pub use not_frame::NotFrame;
 pub use read::{decode, decode_into};

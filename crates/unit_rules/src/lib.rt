@@ -4,8 +4,10 @@
 //! point 0 changes this by reconfigurations: in phases it asks the arbitrators and the replicas, and goes on with a
 //! majority. An arbitrator keeps per partition the epoch that it prepared, its votes, and what was done. Each row of a
 //! frame, a command or a firing (docs/step-tables.md) is a definition of its own; all of them together are one value,
-//! `units`, for the rules of the world. Nothing here does anything of the ring. The code of this crate is the values
-//! that the definitions and the layers above share, and how an epoch compares with what a register holds.
+//! `units`, for the rules of the world. Nothing here does anything of the ring. `fabric` names what runs above the ring
+//! in this fabric, so whatever is said of a whole node, of the world and of the program speaks of one definition. The
+//! code of this crate is the values that the definitions and the layers above share, and how an epoch compares with
+//! what a register holds.
 #![tactic(auto)]
 
 mod above;

@@ -4,7 +4,8 @@
 //! The world has the true time, the clocks, the running actors, their synced records, and every frame that was ever
 //! sent. It is generic in what runs above the ring at a node and beside the accusations at an arbitrator, so that what
 //! is proved of the ring holds whatever runs there, so long as it keeps out of the ring's affairs. It stands on the
-//! rules of the ring; the run of a schedule is what the program's promise speaks of.
+//! rules of the ring; the run of a schedule is what the program's promise speaks of. Its code says which nodes a
+//! command may name.
 #![tactic(auto)]
 
 mod above;

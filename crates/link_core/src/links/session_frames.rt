@@ -8,8 +8,8 @@ ghost use Rattle.link_core.specs.Renewals.{ack_received, renew_received};
 
 use crate::announce::Announced;
 use crate::deadlines::change;
-use crate::links::opening::Beginning;
 use crate::links::Links16;
+use crate::links::opening::Beginning;
 use crate::notes::{LinkNote, LinkNotes};
 use crate::renewal::{self, Renewal};
 use crate::{find, flight, handshake, bodies};

@@ -1,6 +1,9 @@
-use crate::turns::configs::{ACCUSE, ACCUSED_BY, BOOT, DUO, HELLO, ONE, ONE_WITHOUT_A3, RULED};
+use crate::turns::configs::{
+    ACCUSE, ACCUSED_BY, BOOT, DUO, HELLO, ONE, ONE_WITHOUT_A3, PROMISED, RULED,
+};
 use crate::turns::memory::{Call, NONE, expect_kept, keeper};
 use edge_io::{Datagram, Endpoint, MemKeeper};
+use std::alloc::Global;
 use std::process::Abort;
 use std::test::Fail;
 
@@ -141,13 +144,14 @@ fn an_arbitrator_rules(rt: HostRuntime) -> Result<(), Fail> {
     expect_kept(&rt, &mut keeps, 32769, &[ACCUSED_BY])
 }
 
-#[test]
-fn a_bad_record_is_told(rt: HostRuntime) -> Result<(), Fail> {
-    let alloc = rt.alloc();
-    let mut records = Vec::new(alloc);
-    records.push(Vec::from_slice(alloc, b"\x01\x00")?)?;
+/// A node whose records are these ends with a fault that names one of them.
+fn expect_bad(rt: &HostRuntime, alloc: Global, records: &[&[u8]], fault: &str) -> Result<(), Fail> {
+    let mut list = Vec::new(alloc);
+    for record in records {
+        list.push(Vec::from_slice(alloc, record)?)?;
+    }
     let mut lists = Vec::new(alloc);
-    lists.push((1, records))?;
+    lists.push((1, list))?;
     let mut keeps = MemKeeper::new(alloc, lists, Vec::new(alloc));
     let node = Call {
         words: &["node", "1", "1"],
@@ -155,5 +159,16 @@ fn a_bad_record_is_told(rt: HostRuntime) -> Result<(), Fail> {
         arrivals: &[],
         readings: &[0],
     };
-    node.expect(&rt, alloc, &mut keeps, NONE, (14, &["fault record 1"], 0))
+    node.expect(rt, alloc, &mut keeps, NONE, (14, &[fault], 0))
+}
+
+#[test]
+fn a_bad_record_is_told(rt: HostRuntime) -> Result<(), Fail> {
+    expect_bad(&rt, rt.alloc(), &[b"\x01\x00"], "fault record 1")
+}
+
+// A replica promises only what is above its promise, so the same promise again is out of its place.
+#[test]
+fn a_bad_record_of_a_replica_is_told(rt: HostRuntime) -> Result<(), Fail> {
+    expect_bad(&rt, rt.alloc(), &[BOOT, PROMISED, PROMISED], "fault record 3")
 }
