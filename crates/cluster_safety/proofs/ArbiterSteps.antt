@@ -19,6 +19,7 @@ use Rattle.world_rules.specs.Uppers.{Did, idle}
 use Rattle.world_rules.specs.Worlds.{arbiter_who, numbers_of, posted}
 use Rattle.cluster_safety.specs.Moments.{frames_of, last_reading}
 use Rattle.cluster_safety.specs.Plans.{Rise}
+use Rattle.cluster_safety.proofs.Echoes.{put_more}
 use Rattle.cluster_safety.proofs.Joined.{Joined, cluster, joined_more, joined_silent, posted_length, running_still}
 use Rattle.cluster_safety.proofs.Members.{AllBelow, arbiter_here, arbiter_set, below_set, match_set, names_of, nodes_still, set_same}
 use Rattle.cluster_safety.proofs.NodeSteps.{HasNumber, later_no_start}
@@ -45,7 +46,7 @@ module _ (s : Setting) (ms : List Member) (last : Option ℕ) (steps : List Step
   pub arbiter_idle : After (idle a)
   arbiter_idle =
       subst (λ (ns : List Member). Joined s ns last ((arbiter_stepped turn k (idle a)).step ∷ steps)) (sym (set_same ms place (Arbiter k a) here))
-      (joined_silent s ms last steps (arbiter_stepped turn k (idle a)).step j (later_no_start turn None later) refl refl reading)
+      (joined_silent s ms last steps (arbiter_stepped turn k (idle a)).step j (later_no_start turn None later) refl refl refl reading)
 
   takes : (f : Message) → HasNumber (frames_of steps) f → takes_frame k f ≡ true → After (arbiter_step fabric s.plan.config k f a)
   takes f has take =
@@ -83,6 +84,7 @@ module _ (s : Setting) (ms : List Member) (last : Option ℕ) (steps : List Step
         count = ap (λ (n : ℕ). n + length d.sent) j.count ∙ sym (posted_length (arbiter_who k) d.sent (frames_of steps));
         names = running_still step steps (later_no_start turn None later) ∙ j.names ∙ ap names_of (sym (nodes_still ms place k a d.state here));
         reading = reading;
+        keeps = λ actor. put_more (arbiter_who k).actor actor d.records q.kept;
       })
     where
       kept_none : (d : Did (ArbiterState fabric)) (n : ℕ) → AllBelow n ms × (arbiter_actor k < n) →

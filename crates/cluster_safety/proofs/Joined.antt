@@ -1,7 +1,7 @@
 -- A process goes with a cluster: the same actors in the same states, the same frames, and the same is seen.
 use Rattle.std.proofs.Common.{arith, ◌≡◌, ◌≤◌, ◌+◌, ℕ, Bool, true, false, List, [], ◌∷◌, ◌++◌, length, Option, Some, None, refl, ap, sym, subst, ◌∙◌}
-use Rattle.std.specs.Prelude.{find, option_map, if◌then◌else◌}
-use Rattle.cluster_schedule.specs.Events.{Cluster, Comes, IsCluster, MayArrive, Turns, cluster_after, comes, events_of}
+use Rattle.std.specs.Prelude.{◌==◌, find, option_map, if◌then◌else◌}
+use Rattle.cluster_schedule.specs.Events.{Cluster, Comes, IsCluster, MayArrive, Turns, cluster_after, comes, events_of, kept_by}
 use Rattle.cluster_schedule.specs.Moments.{clocks_at, entry_for, last_line, moments, seen_in}
 use Rattle.unit_rules.specs.Fabric.{fabric}
 use Rattle.fabric_lemmas.specs.Maps.{at}
@@ -13,8 +13,10 @@ use Rattle.ring_points.specs.declared.who.Who.{Who}
 use Rattle.turn_rules.specs.Plans.{Setting}
 use Rattle.turn_rules.specs.Steps.{Member, Step, present}
 use Rattle.world_rules.specs.Nodes.{NodeState}
-use Rattle.world_rules.specs.Worlds.{numbers_of, posted}
+use Rattle.world_rules.specs.Worlds.{posted}
+use Rattle.cluster_safety.specs.Logs.{recorded_by}
 use Rattle.cluster_safety.specs.Moments.{all_read, frames_of, is_node_start, last_reading, moment_of, moments_of, running}
+use Rattle.cluster_safety.proofs.Echoes.{Echoes, echoes_first, echoes_later, echoes_more, echoes_silent, entry_of, nothing_more, recorded_more}
 use Rattle.cluster_safety.proofs.Members.{AllBelow, Match, arbiters_in, names_of, nodes_in}
 use Rattle.cluster_safety.proofs.Runs.{HadReading, Shows, shows_both, shows_nothing, shows_silent}
 
@@ -38,6 +40,8 @@ pub record Joined (s : Setting) (ms : List Member) (last : Option ℕ) (steps : 
   pub clocks : clocks_of (moments fabric s.plan.config xs) ≡ clocks_at {a = fabric} seen_at (cluster s xs).nodes
   pub before : seen_at ≤ (cluster s xs).time
   pub shows : Shows (moments_of steps) (moments fabric s.plan.config xs)
+  pub records : (actor : ℕ) → recorded_by actor steps ≡ kept_by (cluster s xs) actor
+  pub echoes : Echoes s.plan.config xs steps
 
 pub joined_first : (s : Setting) → Joined s [] None []
 joined_first s = record {
@@ -55,11 +59,9 @@ joined_first s = record {
   clocks = refl;
   before = omega arith;
   shows = shows_nothing;
+  records = λ actor. refl;
+  echoes = echoes_first s.plan.config;
 }
-
--- what an actor did in a step, after so many frames
-abbrev pub entry_of : ℕ → Step → Entry
-entry_of before s = record { who = s.who; reading = s.reading; sent = numbers_of before s.sent; reports = s.told }
 
 -- The cluster after one thing more, which is this step of the process.
 pub record Grows (s : Setting) (old : List Member) (steps : List Step) (j_xs : List Comes) (x : Comes) (ms : List Member) (last : Option ℕ) (step : Step) : Type 0 where
@@ -76,6 +78,7 @@ pub record Grows (s : Setting) (old : List Member) (steps : List Step) (j_xs : L
   pub count : after.count ≡ length (frames_of (step ∷ steps))
   pub names : running (step ∷ steps) ≡ names_of (nodes_in ms)
   pub reading : last_reading (step ∷ steps) ≡ present last
+  pub keeps : (actor : ℕ) → kept_by after actor ≡ recorded_more step actor (kept_by (cluster s j_xs) actor)
 
 clocks_by_names : (t : ℕ) (ns : List (ℕ × NodeState fabric)) → all_read t (names_of ns) ≡ clocks_at {a = fabric} t ns
 clocks_by_names t [] = refl
@@ -95,6 +98,8 @@ joined_more s old ms last now steps step x j g =
     ∙ ap (all_read q.time) g.names
     ∙ clocks_by_names q.time (nodes_in ms)
     ∙ ap (clocks_at {a = fabric} q.time) (sym nodes) in
+    let records : (actor : ℕ) → recorded_by actor (step ∷ steps) ≡ kept_by q actor =
+    λ actor. ap (recorded_more step actor) (j.records actor) ∙ sym (g.keeps actor) ∙ sym (ap (λ (p : Cluster fabric). kept_by p actor) g.does) in
     record {
       xs = x ∷ j.xs;
       is_cluster = (j.is_cluster, g.may);
@@ -112,6 +117,8 @@ joined_more s old ms last now steps step x j g =
       shows =
           subst (λ (r : Run). Shows (moments_of (step ∷ steps)) r) (sym (ap (λ (o : Option Entry). seen_in line q o rest) g.tells))
           (shows_both (moment_of step steps) (record { line = line; time = q.time; clocks = clocks_at {a = fabric} q.time q.nodes; entry = Some e }) (moments_of steps) rest j.shows clocks refl);
+      records = records;
+      echoes = echoes_more s.plan.config j.xs steps j.echoes x step g.tells records;
     }
 
 -- The clock is read.
@@ -132,6 +139,8 @@ joined_at s ms last steps reading j le = record {
   clocks = j.clocks;
   before = let b = j.before in omega (arith, j.time, le);
   shows = j.shows;
+  records = j.records;
+  echoes = echoes_later s.plan.config j.xs steps j.echoes (Turns reading);
 }
 
 -- A step that tells nothing and changes nothing.
@@ -164,8 +173,8 @@ pub running_still : (step : Step) (steps : List Step) → is_node_start step ≡
 running_still step steps h = ap (λ (b : Bool). if b then running steps ++ step.who ∷ [] else running steps) h
 
 pub joined_silent : (s : Setting) (ms : List Member) (last : Option ℕ) (steps : List Step) (step : Step) → Joined s ms last steps → is_node_start step ≡ false →
-    step.sent ≡ [] → step.told ≡ [] → last_reading (step ∷ steps) ≡ present last → Joined s ms last (step ∷ steps)
-joined_silent s ms last steps step j start sent told reading =
+    step.sent ≡ [] → step.told ≡ [] → step.records ≡ [] → last_reading (step ∷ steps) ≡ present last → Joined s ms last (step ∷ steps)
+joined_silent s ms last steps step j start sent told none reading =
     let frames : frames_of steps ≡ frames_of (step ∷ steps) = ap (λ (ms : List (Who × Body)). posted step.who ms (frames_of steps)) (sym sent) in
     let names : running (step ∷ steps) ≡ names_of (nodes_in ms) = running_still step steps start ∙ j.names in
     let clocks : clocks_of (moments fabric s.plan.config j.xs) ≡ all_read j.seen_at (running (step ∷ steps)) =
@@ -191,6 +200,8 @@ joined_silent s ms last steps step j start sent told reading =
       shows =
           shows_silent (moment_of step steps) (entry_of (length (frames_of steps)) step) (moments_of steps) (moments fabric s.plan.config j.xs) j.shows refl told
           (λ w r h. subst (λ (cs : Clocks). HadReading cs w r) (sym clocks) (read_all w (running (step ∷ steps)) j.seen_at (last_reading (step ∷ steps)) r le h));
+      records = λ actor. sym (nothing_more (step.who.actor == actor) (recorded_by actor steps) step.records none) ∙ j.records actor;
+      echoes = echoes_silent s.plan.config j.xs steps j.echoes step told;
     }
 
 pub posted_length : (who : Who) (sent : List (Who × Body)) (frames : List Message) → length (posted who sent frames) ≡ length frames + length sent

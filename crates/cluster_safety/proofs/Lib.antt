@@ -1,4 +1,5 @@
 mod Runs
+mod Echoes
 mod Members
 mod Joined
 mod NodeSteps
@@ -7,5 +8,8 @@ mod Starts
 mod Acts
 mod Places
 mod Whole
+mod Kept
+mod NodeAnswers
+mod Answers
 pub mod Safe
 pub mod Recalling

@@ -33,6 +33,7 @@ use Rattle.world_rules.specs.Uppers.{Did, idle}
 use Rattle.world_rules.specs.Worlds.{numbers_of, posted}
 use Rattle.cluster_safety.specs.Moments.{frames_of}
 use Rattle.cluster_safety.specs.Plans.{Rise}
+use Rattle.cluster_safety.proofs.Echoes.{put_more}
 use Rattle.cluster_safety.proofs.Joined.{Joined, cluster, joined_more, joined_silent, posted_length, running_still}
 use Rattle.cluster_safety.proofs.Members.{AllBelow, arbiters_still, below_set, match_set, names_still, node_here, node_set, set_same}
 
@@ -87,6 +88,7 @@ node_joins s ms last steps turn place st d rise later j here kind name k =
       count = ap (λ (k : ℕ). k + length d.sent) j.count ∙ sym (posted_length d.state.ring.me d.sent (frames_of steps));
       names = running_still step steps (later_no_start turn (Some (present last)) later) ∙ j.names ∙ sym (names_still ms place st d.state here name);
       reading = refl;
+      keeps = λ actor. put_more d.state.ring.me.actor actor d.records q.kept;
     })
   where
     kept_none : (k : ℕ) → AllBelow k ms × (st.ring.me.actor < k) →
@@ -173,7 +175,7 @@ module _ (s : Setting) (ms : List Member) (last : Option ℕ) (steps : List Step
       let d : Did (NodeState fabric) = both_did fabric s.plan.config st.ring (begun st.ring) (idle st.above) in
       subst (λ (ns : List Member). Joined s ns last ((node_stepped turn (present last) d).step ∷ steps)) (sym (set_same ms place (Node st) here))
       (joined_silent s ms last steps (node_stepped turn (present last) d).step j (later_no_start turn (Some (present last)) later) refl
-      (own_same (settings_of s.plan.config st.ring.me.actor) st.ring) refl)
+      (own_same (settings_of s.plan.config st.ring.me.actor) st.ring) refl refl)
     where
       ranges_same : (is : List Interval) → same_ranges is is ≡ true
       ranges_same [] = refl

@@ -20,9 +20,10 @@ use Rattle.world_rules.specs.Events.{arbiter_number, is_arbiter_actor}
 use Rattle.world_rules.specs.Nodes.{NodeState, node_begun}
 use Rattle.world_rules.specs.Schedules.{is_configured_arbiter}
 use Rattle.world_rules.specs.Uppers.{Did, idle}
-use Rattle.world_rules.specs.Worlds.{numbers_of, posted}
+use Rattle.world_rules.specs.Worlds.{arbiter_who, numbers_of, posted}
 use Rattle.cluster_safety.specs.Moments.{frames_of, last_reading}
 use Rattle.cluster_safety.specs.Plans.{Rise, is_configured, is_configured_as}
+use Rattle.cluster_safety.proofs.Echoes.{nothing_more, put_more}
 use Rattle.cluster_safety.proofs.Joined.{Joined, cluster, joined_more, posted_length}
 use Rattle.cluster_safety.proofs.Members.{AllBelow, arbiter_more, arbiters_more_still, below_more, below_next, match_more, names_more, names_of, no_arbiter, no_node, node_more, nodes_more_still}
 
@@ -61,6 +62,7 @@ module _ (s : Setting) (ms : List Member) (last : Option ℕ) (steps : List Step
         count = ap (λ (n : ℕ). n + length d.sent) j.count ∙ sym (posted_length d.state.ring.me d.sent (frames_of steps));
         names = ap (λ (ws : List Who). ws ++ d.state.ring.me ∷ []) j.names ∙ sym (names_more ms d.state);
         reading = refl;
+        keeps = λ actor. put_more d.state.ring.me.actor actor d.records q.kept;
       })
     where
       kept_none : (d : Did (NodeState fabric)) (k : ℕ) → AllBelow k ms × (d.state.ring.me.actor < k) →
@@ -97,6 +99,7 @@ module _ (s : Setting) (ms : List Member) (last : Option ℕ) (steps : List Step
         count = j.count;
         names = j.names ∙ ap names_of (sym (nodes_more_still ms n a));
         reading = reading;
+        keeps = λ actor. nothing_more ((arbiter_who n).actor == actor) (kept_by q actor) [] refl;
       })
     where
       number_back : (actor : ℕ) → is_arbiter_actor actor ≡ true → arbiter_actor (arbiter_number actor) ≡ actor

@@ -1,6 +1,5 @@
 -- A cluster in one process is safe.
 use Rattle.std.specs.Prelude.{◌≡◌, ℕ, List, [], ◌∷◌, Option, Some, None, length, map}
-use Rattle.fabric_terms.specs.Primaries.{Safe}
 use Rattle.fabric_terms.specs.Runs.{Clocks, Run}
 use Rattle.fabric_terms.specs.Sound.{IsSound}
 use Rattle.fabric_terms.specs.declared.message.Body.{Body}
@@ -11,18 +10,18 @@ use Rattle.ring_points.specs.declared.who.Who.{Who}
 use Rattle.turn_rules.specs.Happenings.{History}
 use Rattle.turn_rules.specs.Order.{IsInOrder, TurnPosition}
 use Rattle.turn_rules.specs.Plans.{Plan, Setting}
-use Rattle.turn_rules.specs.Process.{after}
 use Rattle.turn_rules.specs.Recalled.{Recalled}
 use Rattle.turn_rules.specs.Steps.{Step}
 use Rattle.world_rules.specs.Worlds.{arbiter_who}
 use Rattle.cluster_safety.specs.Moments.{moments_of}
 use Rattle.cluster_safety.specs.Plans.{HoldsNothing, IsClusterPlan, KeepsNothing, OwnFrames}
+use Rattle.cluster_safety.specs.Promises.{SafeSteps}
 
--- The steps of a cluster are the moments of a safe run: of a sound configuration, from empty records, in the order of its
--- plan, where it hears its own frames alone. A reading above 10^15 counts as 10^15, as in the steps.
+-- The steps of a cluster are safe: of a sound configuration, from empty records, in the order of its plan, where it hears its
+-- own frames alone. A reading above 10^15 counts as 10^15, as in the steps.
 abbrev pub ClusterIsSafe : Type 0
 ClusterIsSafe = (s : Setting) (h : History) (p : TurnPosition) → IsSound s.plan.config → IsClusterPlan s.plan → KeepsNothing s → IsInOrder s.plan h p → OwnFrames s h →
-    Safe (moments_of (after s h).steps)
+    SafeSteps s h
 
 -- a run that begins with a keeper that holds nothing begins with no record
 abbrev pub NothingIsRecalled : Type 0

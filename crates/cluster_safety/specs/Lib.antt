@@ -1,3 +1,5 @@
 pub mod Moments
 pub mod Plans
+pub mod Logs
+pub mod Promises
 pub mod Laws

@@ -125,6 +125,11 @@ give_entry {a} c p w k f m e fits =
     ∙ hears_entry c p w f (is_arbiter_actor f.to.actor) m fits
     ∙ sym (ap (heard_in a c p) e)
 
+-- what an actor did in the newest moment
+abbrev pub newest_entry : Run → Option Entry
+newest_entry [] = None
+newest_entry (m ∷ ms) = m.entry
+
 -- One event more.
 
 one_more : {a : Upper} (line : ℕ) (s : Stepped a) (p : Cluster a) (run steps : Run) (e : Option Entry) → Mirrors {a = a} p s.world → s.entry ≡ e →
@@ -172,7 +177,20 @@ module _ (a : Upper) (c : FabricConfig) (xs : List Comes) (before : Before a c x
   more_seen (Hears k) may after = one_event (Hears k) (world_step a c w (event.Give k)) after (give_entry c p w k may.0 before.mirrors may.1.2 may.1.3)
   more_seen (Fires n) may after = one_event (Fires n) (world_step a c w (event.Fire n)) after (fire_entry c p w n may.0 before.mirrors may.1)
 
+  -- what the schedule's newest moment shows is what this does
+  newest_seen : (x : Comes) → MayArrive a c p x → newest_entry (run_of a c (events_of a c (x ∷ xs))) ≡ entry_for a c p x
+  newest_seen (Begins n u) may = start_entry c (record p { time = u }) (world_step a c w (tick_to p u)).world n u (tick_mirrors c p w u before.mirrors may.2) refl
+  newest_seen (Stands n) may = stand_entry c p w n
+  newest_seen (Turns u) may = tick_entry c p w u
+  newest_seen (Bids n d) may = bid_entry c p w n d may.0 before.mirrors may.1.0
+  newest_seen (Hears k) may = give_entry c p w k may.0 before.mirrors may.1.2 may.1.3
+  newest_seen (Fires n) may = fire_entry c p w n may.0 before.mirrors may.1
+
 pub all_seen : (a : Upper) (c : FabricConfig) (xs : List Comes) → IsCluster a c xs → steps_of (run_of a c (events_of a c xs)) ≡ moments a c xs
 all_seen a c [] k = refl
 all_seen a c (x ∷ xs) k =
     more_seen a c xs (record { mirrors = (all_followed a (λ bytes. false) c xs k.0).mirrors; steps = all_seen a c xs k.0 }) x k.1 (all_followed a (λ bytes. false) c (x ∷ xs) k).mirrors
+
+pub entry_seen : (a : Upper) (c : FabricConfig) (xs : List Comes) (x : Comes) → IsCluster a c (x ∷ xs) →
+    newest_entry (run_of a c (events_of a c (x ∷ xs))) ≡ entry_for a c (cluster_after a c xs) x
+entry_seen a c xs x k = newest_seen a c xs (record { mirrors = (all_followed a (λ bytes. false) c xs k.0).mirrors; steps = all_seen a c xs k.0 }) x k.1

@@ -150,10 +150,12 @@ module _ (r : Report) (told : tells_names r ≡ true) (partition : ℕ) (questio
             record {
               running = s;
               there = there;
-              stays = stayed stay;
-              count = from.count;
-              is_ready = from.is_ready;
-              told = subst (λ (o : Option (Running units)). r ≡ answer (named_at partition o) names) (sym there) from.is;
+              is = record {
+                stays = stayed stay;
+                count = from.count;
+                is_ready = from.is_ready;
+                told = subst (λ (o : Option (Running units)). r ≡ answer (named_at partition o) names) (sym there) from.is;
+              };
             }
 
     by_node : (o : Option (Running units)) → at node w.nodes ≡ o → IsAmong (acts_at units c w node i o).entry x r → Answered

@@ -42,7 +42,7 @@ module _ (is_frame : List ℕ → Bool) (c : FabricConfig) (sound : IsSound c) (
   w = world_after units c h
 
   -- a node's replica of a partition names it
-  own_partition : (node p : ℕ) (s : Running units) → at node w.nodes ≡ Some s → is_left s.node.ring.phase ≡ false →
+  pub own_partition : (node p : ℕ) (s : Running units) → at node w.nodes ≡ Some s → is_left s.node.ring.phase ≡ false →
       (state_at p s.node.above).replica.partition ≡ p
   own_partition node p s there stay =
       let f : FollowedAfter c h = followed is_frame c sound h valid in
@@ -62,9 +62,9 @@ module _ (is_frame : List ℕ → Bool) (c : FabricConfig) (sound : IsSound c) (
   rests : (node p : ℕ) (answer : ℕ → NameMap → Report) (r : Report) → AnsweredBy w node p (answer (named_at p (at node w.nodes))) r →
       RestsOnCommitted c h node p (answer p) r
   rests node p answer r k =
-      let same : named_at p (at node w.nodes) ≡ p = ap (named_at p) k.there ∙ own_partition node p k.running k.there k.stays in
+      let same : named_at p (at node w.nodes) ≡ p = ap (named_at p) k.there ∙ own_partition node p k.running k.there k.is.stays in
       let by : AnsweredBy w node p (answer p) r = subst (λ (n : ℕ). AnsweredBy w node p (answer n) r) same k in
-      record { by = by; covers = names_covered_lem is_frame c h sound valid node p by.count by.running by.there by.stays by.is_ready }
+      record { by = by; covers = names_covered_lem is_frame c h sound valid node p by.is.count by.running by.there by.is.stays by.is.is_ready }
 
   to_command : (node : ℕ) (x : Who) (r : Report) → tells_names r ≡ true → (asked : Command) → asks_names asked ≡ true →
       IsAmong (world_step units c w (Do node asked)).entry x r → AnswersCommand c h node r asked

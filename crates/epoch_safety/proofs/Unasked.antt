@@ -54,7 +54,7 @@ module _ (c : FabricConfig) (w : World units) (x : Who) (r : Report) (names : te
 
   -- Steps of nodes.
 
-  at_running : (node : ℕ) (i : Input) (s : Running units) → IsAmong (node_acts units c w node i s).entry x r → asks_in i ≡ true
+  pub at_running : (node : ℕ) (i : Input) (s : Running units) → IsAmong (node_acts units c w node i s).entry x r → asks_in i ≡ true
   at_running node i s a =
       go passes
       (from_above r names set s.reading i s.node.ring (above_if units c s.reading new.ring s.node.above i passes).told
@@ -108,7 +108,7 @@ module _ (c : FabricConfig) (w : World units) (x : Who) (r : Report) (names : te
 
   -- Starts and stops.
 
-  at_start : (actor : ℕ) (reading : Option ℕ) (records : List Record) → IsAmong (starts_with units c w actor reading records).entry x r → ⊥
+  pub at_start : (actor : ℕ) (reading : Option ℕ) (records : List Record) → IsAmong (starts_with units c w actor reading records).entry x r → ⊥
   at_start actor None records a = contained r [] a.1
   at_start actor (Some reading) records a =
       never (begun.told ++ report.Own begun.ring.token.ranges (fence_of c.answer begun.ring.slots) ∷ [])

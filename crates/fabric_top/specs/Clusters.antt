@@ -1,29 +1,27 @@
 -- What `cluster` does: the run of all actors in one process, whose steps are safe.
 use mathlib.Core.Logic.{inl, inr}
 use Rattle.std.specs.Prelude.{ℕ, ◌∷◌, Result, Ok, Err}
-use Rattle.cluster_safety.specs.Moments.{moments_of}
 use Rattle.cluster_safety.specs.Plans.{HoldsNothing, OwnFrames}
+use Rattle.cluster_safety.specs.Promises.{SafeSteps}
 use Rattle.fabric_top.specs.CrewCauses.{IsCrewRun}
 use Rattle.fabric_top.specs.CrewRuns.{RunsCrew, RunsJudged, Seen, failed, read, short}
 use Rattle.fabric_status.specs.declared.status.Refusal.{Refusal}
 use Rattle.fabric_status.specs.declared.status.Status.{Status}
-use Rattle.fabric_terms.specs.Primaries.{Safe}
 use Rattle.edge_io.specs.Told.{Told}
 use Rattle.turn_plans.specs.Plans.{judge_plan}
 use Rattle.turn_plans.specs.declared.crew.Crew.TheVariants as crew
 use Rattle.turn_rules.specs.Ends.{Broken, Stopped}
 use Rattle.turn_rules.specs.Happenings.{History}
 use Rattle.turn_rules.specs.Plans.{Plan, Setting}
-use Rattle.turn_rules.specs.Process.{after}
 use Rattle.turn_rules.specs.Whole.{Ends, StoppedRun, setting, with_endpoints}
 use Rattle.turn_rules.specs.Works.{Work}
 use Rattle.turn_rules.specs.declared.stop_cause.StopCause.{StopCause}
 use Rattle.turn_rules.specs.declared.stop_cause.StopCause.TheVariants as stop
 
--- The steps of what has come are the moments of a safe run, where each datagram that was taken is no frame or equals one that
--- was sent before. The clock's reading is the true time, and the reading of every running node.
+-- The steps of what has come are safe, where each datagram that was taken is no frame or equals one that was sent before. The
+-- clock's reading is the true time, and the reading of every running node.
 abbrev pub IsSafeFor : Setting → History → Type 0
-IsSafeFor s h = OwnFrames s h → Safe (moments_of (after s h).steps)
+IsSafeFor s h = OwnFrames s h → SafeSteps s h
 
 -- where the call ended in a step: the steps before it are, and with it
 abbrev pub IsSafeBroken : (s : Setting) (a b : Told) (part : Work) → Broken s a b part → Type 0

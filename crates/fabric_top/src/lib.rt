@@ -9,7 +9,7 @@
 //! partition has at most one primary in an epoch, no node accepts a write of an older epoch than one that it promised,
 //! committed writes stay, and answers about names rest on them. Of the steps of a cluster in one process, from empty
 //! records, where it hears its own frames alone, it promises that no two nodes hold one point, that who is taken over
-//! holds nothing any more, and the same of primaries and of older writes.
+//! holds nothing any more, and the same of primaries, writes and answers.
 #![tactic(auto)]
 
 mod audit_command;

@@ -32,7 +32,7 @@ pub fn fabric_main<S: Source, K: Sink, N: Links, D: Keeper, C: Clock>(
     clock: &mut C,
 ) -> Status
     // What each command does to the devices, at every status, and what is done where the words are none.
-    // The steps of `cluster` are those of a safe run.
+    // The steps of `cluster` are safe.
     ensures does { (l : Loans) × Does (form_of (map string_bytes words.now))
         (record {
           left = S.left source.old;

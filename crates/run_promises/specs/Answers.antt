@@ -14,25 +14,30 @@ use Rattle.ring_points.specs.declared.who.Who.{Who}
 use Rattle.unit_rules.specs.Answers.{listing, ready, resolution}
 use Rattle.unit_rules.specs.Progress.{progress_of}
 use Rattle.unit_rules.specs.Units.{units}
+use Rattle.world_rules.specs.Nodes.{NodeState}
 use Rattle.world_rules.specs.Runs.{History, run_of, world_after}
 use Rattle.world_rules.specs.Worlds.{World, Running}
 use Rattle.run_promises.specs.Covered.{CoverCommitted}
 use Rattle.run_promises.specs.Questions.{tells_names}
 use Rattle.run_promises.specs.Reports.{HasReported}
 
--- the node was ready to answer by so many entries of its log, and this is the answer by the names that they leave
+-- a node in this state is ready to answer by so many entries of its log, and this is the answer by the names that they leave
+pub record IsAnswerBy (node : NodeState units) (partition : ℕ) (answer : NameMap → Report) (r : Report) : Type 0 where
+  pub stays : is_left node.ring.phase ≡ false
+  pub count : ℕ
+  pub is_ready : ready (progress_of (state_at partition node.above)) ≡ Ok count
+  pub told : r ≡ answer (names_of (take count (state_at partition node.above).replica.log))
+
+-- the node of this number was ready to answer so
 pub record AnsweredBy (w : World units) (node partition : ℕ) (answer : NameMap → Report) (r : Report) : Type 0 where
   pub running : Running units
   pub there : at node w.nodes ≡ Some running
-  pub stays : is_left running.node.ring.phase ≡ false
-  pub count : ℕ
-  pub is_ready : ready (progress_of (state_at partition running.node.above)) ≡ Ok count
-  pub told : r ≡ answer (names_of (take count (state_at partition running.node.above).replica.log))
+  pub is : IsAnswerBy running.node partition answer r
 
 -- the node answered so behind the history, and the entries cover what was committed in it
 pub record RestsOnCommitted (c : FabricConfig) (h : History) (node partition : ℕ) (answer : NameMap → Report) (r : Report) : Type 0 where
   pub by : AnsweredBy (world_after units c h) node partition answer r
-  pub covers : CoverCommitted c h partition by.count (state_at partition by.running.node.above).replica
+  pub covers : CoverCommitted c h partition by.is.count (state_at partition by.running.node.above).replica
 
 -- the report answers what the command asked, of the partition that it asked about
 abbrev pub AnswersCommand : FabricConfig → History → (node : ℕ) → Report → Command → Type 0

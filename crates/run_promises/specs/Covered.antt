@@ -15,6 +15,7 @@ use Rattle.unit_rules.specs.Units.{units}
 use Rattle.world_rules.specs.Runs.{History, run_of, world_after}
 use Rattle.world_rules.specs.Worlds.{Running}
 use Rattle.run_promises.specs.Reports.{HasReported, log_after}
+use Rattle.run_promises.specs.Snapshots.{Snapshots, snapshots_of}
 
 -- What a primary reports committed begins with all that was reported committed before, in epochs up to its own of the same
 -- data loss number, by whichever node and instance.
@@ -29,12 +30,16 @@ AnswersCovered c h =
 
 -- So many entries of this replica's log begin with all that was reported committed of the partition before, in epochs up to
 -- the replica's own of the same data loss number, by whichever node and instance.
-abbrev pub CoverCommitted : FabricConfig → History → (partition count : ℕ) → Replica → Type 0
-CoverCommitted c h partition count s =
+abbrev pub CoverCommittedIn : Snapshots → (partition count : ℕ) → Replica → Type 0
+CoverCommittedIn past partition count s =
     (i last : ℕ) (e : Epoch) (x : Who) →
-    HasReported (run_of units c (drop i h)) x (Committed partition e last) →
+    HasReported (past i).run x (Committed partition e last) →
     is_older s.at e ≡ false → e.data_loss ≡ s.at.data_loss →
-    (last ≤ count) × (take last (take count s.log) ≡ take last (log_after c (drop i h) x.actor partition))
+    (last ≤ count) × (take last (take count s.log) ≡ take last ((past i).log x.actor partition))
+
+-- the same of what the run of a schedule reported
+abbrev pub CoverCommitted : FabricConfig → History → (partition count : ℕ) → Replica → Type 0
+CoverCommitted c h partition count s = CoverCommittedIn (snapshots_of c h) partition count s
 
 -- Whoever may answer about names at some moment answers by so many entries of its log, and they cover what was committed.
 abbrev pub NamesCovered : FabricConfig → History → Type 0

@@ -1,4 +1,5 @@
 pub mod Reports
+pub mod Snapshots
 pub mod Writes
 pub mod Questions
 pub mod Covered
