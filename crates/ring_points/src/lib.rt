@@ -1,10 +1,11 @@
-//! Points of the ring, the sets of points that a node can hold, and who can hold them.
+//! Points of the ring, the sets of points that a node can hold, who can hold them, and the limits that crates share.
 //!
-//! The ring has 2^64 points, and of any two the lower or the nearer is told. A node owns a set of them
-//! as a list of intervals; a process of a node is an instance. This crate stands on the limits
-//! alone, and most other crates stand on it. It promises that a range set is its set of points: two
-//! with the same points are equal, and each call says which points are in its result. No call takes
-//! memory, and each goes over the intervals once.
+//! The ring has 2^64 points, and points are compared by their number or by their distance. A node owns a set of them
+//! as a list of intervals; a process of a node is an instance. `limits` has each limit that several crates share, once.
+//! This crate stands on nothing of the project, and most other crates stand on it. It promises that a range set is its
+//! set of points: two with the same points are equal, and each call says which points are in its result. It promises
+//! that each constant is the number of its definition, and that the limits fit each other. No call takes memory, and
+//! each goes over the intervals once.
 #![tactic(auto)]
 
 mod interval;

@@ -1,4 +1,4 @@
-ghost use Rattle.std.specs.Prelude.{◌≡◌, ◌+◌, ◌≤◌, ◌<◌, ◌||◌, false, OnOk, length};
+ghost use Rattle.std.specs.Prelude.{◌≡◌, ◌+◌, ◌≤◌, ◌<◌, ◌||◌, false, OnErr, OnOk, length};
 ghost use Rattle.ring_points.specs.declared.who.Who.{Who};
 ghost use Rattle.ring_points.specs.Whos.{same_who};
 ghost use Rattle.fabric_terms.specs.Reports.{told_on, Told};
@@ -31,6 +31,7 @@ impl TakeOvers {
     pub fn reserve(&mut self, more: usize) -> Result<(), OutOfMemory>
         ensures ok { OnOk result (more ≤ taken_room self.new) }
         ensures same { (v : Who) → taken_at v self.new ≡ taken_at v self.old }
+        ensures full { OnErr result (taken_room self.old < more) }
     {
         match self.table.reserve(more) {
             Ok(()) => Ok(()),

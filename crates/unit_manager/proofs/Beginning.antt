@@ -1,10 +1,13 @@
 -- Where a command begins, and where it would be past the end.
-use Rattle.std.proofs.Common.{◌≡◌, ℕ, ◌<◌, Bool, true, false, cond, List, ◌++◌, length, Option, Some, None, Result, Ok, Err, refl, sym, subst, ap, ◌∙◌}
+use Rattle.std.proofs.Common.{◌≡◌, ℕ, ◌<◌, Bool, true, false, cond, List, ◌++◌, length, nat_lt, Option, Some, None, Result, Ok, Err, refl, sym, subst, ap, ◌∙◌, arith}
 use Rattle.std.specs.Prelude.{is_some}
+use Rattle.std.proofs.lemmas.Bool.Decides.{nat_tests}
+use Rattle.std.proofs.lemmas.Option.{same_Some}
 use Rattle.ring_points.specs.declared.unit.Config.{Config}
 use Rattle.ring_points.specs.declared.unit.Epoch.{Epoch}
 use Rattle.ring_points.specs.declared.who.Who.{Who}
 use Rattle.fabric_terms.specs.declared.message.Body.{Body}
+use Rattle.fabric_terms.specs.declared.report.Reason.{Reason}
 use Rattle.fabric_lemmas.specs.Maps.{at, put}
 use Rattle.failover_units.specs.declared.unit.KnownUnit.{KnownUnit}
 use Rattle.failover_units.specs.declared.refusal.UnitRefusal.{UnitRefusal}
@@ -13,16 +16,17 @@ use Rattle.failover_units.specs.Units.{Table, changed, seen_at, is_full_for, uni
 use Rattle.replica_core.specs.Replicas.{first_epoch}
 use Rattle.unit_rules.specs.declared.reconfig.Kind.{Kind}
 use Rattle.unit_rules.specs.declared.reconfig.Kind.TheVariants.{Create, Swap, Heal, Lose}
+use Rattle.unit_rules.specs.declared.reconfig.Task.{Task}
 use Rattle.unit_rules.specs.Deeds.{frames_of, refuse}
 use Rattle.unit_rules.specs.Epochs.{is_past_end}
-use Rattle.unit_rules.specs.Manager.{Managed, begins_in, entered, epoch_of, task, task_commanded, verb_of}
+use Rattle.unit_rules.specs.Manager.{Managed, begins_in, entered, epoch_of, reason_of, task, task_commanded, verb_of}
 use Rattle.unit_rules.specs.Polls.{arbiters_to}
 use Rattle.unit_rules.specs.Questions.{asks}
 use Rattle.unit_rules.specs.Reconfigs.{Reconfig, task_of}
 use Rattle.unit_rules.specs.Transitions.{begun}
-use Rattle.unit_manager.specs.Managers.{Begins, HasOwn, IsManaged, most_reconfigs, reason_at_end}
+use Rattle.unit_manager.specs.Managers.{Begins, HasOwn, IsManaged, begins_one, most_reconfigs, reason_at_end, refusal_in}
 use Rattle.unit_manager.proofs.Asking.{asking}
-use Rattle.unit_manager.proofs.Keeping.{begins_managed}
+use Rattle.unit_manager.proofs.Keeping.{begins_managed, one_more}
 
 -- the first epoch is far from its end
 first_is_early : (kind : Kind) → is_past_end (epoch_of kind nothing.highest) ≡ false
@@ -56,6 +60,28 @@ refused_at_end arbitrators partition (Create count) s end = by (unit_of partitio
 refused_at_end arbitrators partition (Swap node) s end = rw (stands_at_end (Swap node) partition s.units end, end) refl
 refused_at_end arbitrators partition (Heal count) s end = rw (stands_at_end (Heal count) partition s.units end, end) refl
 refused_at_end arbitrators partition (Lose node) s end = rw (stands_at_end (Lose node) partition s.units end, end) refl
+
+pub refused_in : (t : Task) (s : Managed) (e : Result Table UnitRefusal) (why : Reason) → refusal_in e ≡ Some why
+    → begins_in t s e ≡ refuse (verb_of t.kind) why s
+refused_in t s (Err r) why is = ap (λ (w : Reason). refuse (verb_of t.kind) w s) (same_Some (reason_of r) why is)
+refused_in t s (Ok units) why is = absurd (cc)
+
+-- where nothing refuses it, one more reconfiguration stands
+begins_more : (t : Task) (s : Managed) (e : Result Table UnitRefusal) → refusal_in e ≡ None → is_past_end t.epoch ≡ false
+    → at t.partition s.reconfigs ≡ None → begins_one s (begins_in t s e) ≡ true
+begins_more t s (Ok units) free early none =
+    let more : length s.reconfigs < length (put t.partition (begun t) s.reconfigs) = one_more t.partition (begun t) s.reconfigs none in
+    let longer : nat_lt (length s.reconfigs) (length (put t.partition (begun t) s.reconfigs)) ≡ true = grind (arith, nat_tests, more) in
+    rw early longer
+begins_more t s (Err r) free early none = absurd (cc)
+
+pub begins_if_free : (arbitrators partition : ℕ) (kind : Kind) (s : Managed) (epoch : Epoch)
+    → epoch ≡ epoch_of kind (unit_of partition s.units).highest → is_past_end epoch ≡ false
+    → refusal_in (entered kind partition s.units) ≡ None → at partition s.reconfigs ≡ None
+    → begins_one s (begins_in (task_commanded arbitrators partition kind s.units) s (entered kind partition s.units)) ≡ true
+begins_if_free arbitrators partition kind s epoch is inside free none =
+    begins_more (task_commanded arbitrators partition kind s.units) s (entered kind partition s.units) free
+    (sym (ap is_past_end is) ∙ inside) none
 
 -- what is entered is changed, or stays as it is
 pub begun_whole : (kind : Kind) (k : ℕ) (r : Reconfig) (s : Managed) (units : Table) → IsManaged s → entered kind k s.units ≡ Ok units

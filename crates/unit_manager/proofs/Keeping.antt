@@ -78,6 +78,23 @@ module _ {X : Type 0} (k : ℕ) where
   length-put x [] = omega arith
   length-put x (e ∷ es) = let few = length-put_here x e es (put k x es) (nat_lt k e.0) (k == e.0) (length-put x es) in omega (arith, few)
 
+  -- a number that does not stand yet is one more
+  pub one_more : (x : X) (es : List (ℕ × X)) → at k es ≡ None → length es < length (put k x es)
+  one_more x [] none = omega arith
+  one_more x (e ∷ es) none = by (nat_lt k e.0) (k == e.0) refl none (λ h. one_more x es h)
+    where
+      by : (lt same : Bool) → (k == e.0) ≡ same → at k (e ∷ es) ≡ None → (at k es ≡ None → length es < length (put k x es))
+          → suc (length es) < length (put_here k x e es (put k x es) lt same)
+      by true same g none rest = omega arith
+      by false true g none rest =
+          let here : (e.0 == k) ≡ true = grind (arith, nat_tests, g) in
+          let some : Some e.1 ≡ None = rw here at none in
+          absurd (cc)
+      by false false g none rest =
+          let other : (e.0 == k) ≡ false = grind (arith, nat_tests, g) in
+          let free : at k es ≡ None = rw other at none in
+          omega (arith, rest free)
+
   without_fewer : (es : List (ℕ × X)) → length (without k es) ≤ length es
   without_fewer [] = omega arith
   without_fewer (e ∷ es) = by (not (e.0 == k)) (without_fewer es)

@@ -1,5 +1,5 @@
 -- What contracts see of a manager, and what its calls say of it.
-use Rattle.std.specs.Prelude.{◌≡◌, ℕ, ◌≤◌, ◌+◌, true, ◌==◌, List, [], ◌∷◌, ◌++◌, All, length, map, flat_map, Option, Some, None, is_some}
+use Rattle.std.specs.Prelude.{◌≡◌, ℕ, ◌≤◌, ◌+◌, Bool, true, ◌==◌, List, [], ◌∷◌, ◌++◌, All, length, map, flat_map, nat_lt, Option, Some, None, is_some, Result, Ok, Err, if◌then◌else◌}
 use Rattle.std.specs.List.{position_or_len}
 use Rattle.ring_points.specs.declared.unit.Config.{Config}
 use Rattle.ring_points.specs.declared.unit.Epoch.{Epoch}
@@ -10,7 +10,8 @@ use Rattle.fabric_terms.specs.declared.message.Message.{Message}
 use Rattle.fabric_terms.specs.declared.report.Reason.{Reason}
 use Rattle.fabric_terms.specs.declared.report.Reason.TheVariants as reason
 use Rattle.fabric_terms.specs.declared.report.Report.TheVariants as report
-use Rattle.failover_units.specs.Units.{Table, changed, load_of, noted, seen_at}
+use Rattle.failover_units.specs.declared.refusal.UnitRefusal.{UnitRefusal}
+use Rattle.failover_units.specs.Units.{Table, changed, is_full_for, load_of, noted, seen_at}
 use Rattle.replica_place.specs.declared.load.NodeLoad.{NodeLoad}
 use Rattle.unit_rules.specs.declared.reconfig.Kind.{Kind}
 use Rattle.unit_rules.specs.declared.reconfig.Kind.TheVariants.{Create, Swap, Heal, Lose}
@@ -106,6 +107,19 @@ abbrev pub place : {X : Type 0} → ℕ → List (ℕ × X) → ℕ
 place k es = position_or_len (λ e. e.0 == k) es
 
 -- A command.
+
+-- a new partition may find no place
+abbrev pub no_place : ℕ → Table → Option Reason
+no_place partition units = if is_full_for partition units then Some reason.Full else None
+
+-- why a partition does not enter the units, if it does not
+abbrev pub refusal_in : Result Table UnitRefusal → Option Reason
+refusal_in (Ok units) = None
+refusal_in (Err refusal) = Some (reason_of refusal)
+
+-- a row begins a reconfiguration: only such a row needs memory
+abbrev pub begins_one : Managed → Acted Managed → Bool
+begins_one s a = nat_lt (length s.reconfigs) (length a.state.reconfigs)
 
 -- why a command is refused whose epoch would be past its end, by what is known of the partition
 abbrev pub reason_at_end : Kind → Option Config → Reason

@@ -1,4 +1,5 @@
-ghost use Rattle.std.specs.Prelude.{◌≡◌, ◌≤◌, ◌+◌, ◌∷◌, [], None, length, IfOk, OnErr};
+ghost use Rattle.std.specs.Prelude.{◌≡◌, ◌≤◌, ◌<◌, ◌+◌, ◌∷◌, [], None, Ok, length, vec_len, vec_capacity, IfOk, OnErr};
+ghost use Rattle.std.specs.Prelude.{OnOk, true};
 ghost use Rattle.fabric_lemmas.specs.Maps.{at};
 ghost use Rattle.failover_units.specs.Units.{Answers, unit_of};
 ghost use Rattle.fabric_terms.specs.declared.report.Report.TheVariants.{Refused};
@@ -6,9 +7,10 @@ ghost use Rattle.reconfig_phases.specs.Tasks.{replicas_of};
 ghost use Rattle.unit_desk.specs.UnitEffects.{Does, HasRoom, HasRoomFor, Left};
 ghost use Rattle.unit_rules.specs.Deeds.{Tell};
 ghost use Rattle.unit_rules.specs.Manager.{begins_in, entered, reconfig_commanded, task_commanded, verb_of};
-ghost use Rattle.unit_manager.specs.Managers.{Begins, Few, IsManaged, managed, reason_at_end, reconfigs_of};
+ghost use Rattle.unit_manager.specs.Managers.{Begins, Few, IsManaged, begins_one, managed, most_reconfigs, no_place};
+ghost use Rattle.unit_manager.specs.Managers.{reason_at_end, reconfigs_of, refusal_in};
 
-use crate::answer::{reason_of, verb_of};
+use crate::answer::verb_of;
 use crate::entries::{enter, find};
 use crate::epoch::epoch_after;
 use crate::manager::Manager;
@@ -25,6 +27,31 @@ const FIRST_EPOCH: Epoch = Epoch {
     configuration: 0,
 };
 
+/// A new partition may find no place.
+fn no_place(units: &Units, partition: u16) -> Option<Reason>
+    ensures { result ≡ no_place partition units.now }
+{
+    if units.is_full_for(partition) {
+        Some(Reason::Full)
+    } else {
+        None
+    }
+}
+
+/// Why a partition does not enter the units, if it does not: a create finds a known configuration, or it finds no
+/// place.
+fn refusal_in(units: &Units, partition: u16, kind: Kind) -> Option<Reason>
+    ensures { result ≡ refusal_in (entered kind partition units.now) }
+{
+    match kind {
+        Kind::Create(_) => match units.get(partition) {
+            Ok(_) => Some(Reason::Exists),
+            Err(_) => no_place(units, partition),
+        },
+        Kind::Swap(_) | Kind::Heal(_) | Kind::Lose(_) => no_place(units, partition),
+    }
+}
+
 /// The partition enters the units; a create finds no known configuration there.
 fn enter_units(units: &mut Units, partition: u16, kind: Kind) -> Result<(), UnitRefusal>
     ensures { Answers (entered kind partition units.old) units.old units.new result }
@@ -32,6 +59,32 @@ fn enter_units(units: &mut Units, partition: u16, kind: Kind) -> Result<(), Unit
     match kind {
         Kind::Create(_) => units.create(partition),
         Kind::Swap(_) | Kind::Heal(_) | Kind::Lose(_) => units.seen(partition, FIRST_EPOCH),
+    }
+}
+
+/// A partition that nothing refuses enters the units, and there is room for its reconfiguration. It is an error where
+/// memory is short, and then nothing is changed.
+fn take_place(
+    units: &mut Units,
+    reconfigs: &mut Vec<(u16, Reconfig)>,
+    partition: u16,
+    kind: Kind,
+) -> Result<(), OutOfMemory>
+    requires free { refusal_in (entered kind partition units.old) ≡ None }
+    ensures entered { OnOk result (entered kind partition units.old ≡ Ok units.new) }
+    ensures room { OnOk result (vec_len reconfigs.new < vec_capacity reconfigs.new) }
+    ensures few { OnOk result (length reconfigs.old.items < most_reconfigs) }
+    ensures same { reconfigs.new.items ≡ reconfigs.old.items }
+    ensures refused { OnErr result (units.new ≡ units.old) }
+{
+    // Where none of this partition stands, there is room for one more.
+    if reconfigs.len() >= MAX_PARTITIONS {
+        return Err(OutOfMemory);
+    }
+    reconfigs.reserve(1)?;
+    match enter_units(units, partition, kind) {
+        Ok(()) => Ok(()),
+        Err(_) => Err(OutOfMemory),
     }
 }
 
@@ -49,8 +102,8 @@ fn reason_at_end(units: &Units, partition: u16, kind: Kind) -> Reason
 }
 
 /// Begins what is commanded of a partition of which no reconfiguration stands, or gives the reason why it is refused,
-/// and then changes nothing. It is an error where memory is short, and then nothing is changed either.
-#[tactic(auto, using(crate::proofs::Beginning::refused_at_end))]
+/// and then changes nothing. It is an error where memory is short for what begins, and then nothing is changed either.
+#[tactic(auto, using(crate::proofs::Beginning::refused_at_end, crate::proofs::Beginning::refused_in))]
 fn begin(
     units: &mut Units,
     reconfigs: &mut Vec<(u16, Reconfig)>,
@@ -72,25 +125,21 @@ fn begin(
     ensures whole { IsManaged (managed units.new reconfigs.new.items) }
     ensures refused { OnErr result ((units.new ≡ units.old) × (reconfigs.new.items ≡ reconfigs.old.items) ×
         (out.new ≡ out.old)) }
+    ensures memory { OnErr result (begins_one (managed units.old reconfigs.old.items)
+        (begins_in (task_commanded arbitrators partition kind units.old) (managed units.old reconfigs.old.items)
+        (entered kind partition units.old)) ≡ true) }
     ensures few { length out.new ≤ length out.old + 9 }
 {
     let Some(epoch) = epoch_after(kind, units.highest(partition)) else {
         return Ok(Some(reason_at_end(units, partition, kind)));
     };
-    // Where none of this partition stands, there is room for one more.
-    if reconfigs.len() >= MAX_PARTITIONS {
-        return Err(OutOfMemory);
+    if let Some(reason) = refusal_in(units, partition, kind) {
+        return Ok(Some(reason));
     }
-    reconfigs.reserve(1)?;
-    match enter_units(units, partition, kind) {
-        Ok(()) => {
-            let begun = Reconfig::begin(partition, epoch, kind, me, arbitrators, out);
-            enter(reconfigs, partition, begun);
-            Ok(None)
-        }
-        Err(UnitRefusal::OutOfMemory) => Err(OutOfMemory),
-        Err(refusal) => Ok(Some(reason_of(refusal))),
-    }
+    take_place(units, reconfigs, partition, kind)?;
+    let begun = Reconfig::begin(partition, epoch, kind, me, arbitrators, out);
+    enter(reconfigs, partition, begun);
+    Ok(None)
 }
 
 /// A command is refused for this reason.
@@ -106,8 +155,8 @@ impl Manager {
     /// prepare its epoch, in the name of `me`. It is refused, which is told and changes nothing else, where the node is
     /// not the manager; where a reconfiguration of the partition stands; where a create finds a known configuration;
     /// where a new partition finds no place; or where the epoch would have a number past its end; in this order. At
-    /// most nine messages are sent, and one report is told. It is an error where memory is short, and then nothing is
-    /// changed.
+    /// most nine messages are sent, and one report is told. It is an error where memory is short for the new
+    /// reconfiguration, and then nothing is changed: no refusal needs memory.
     #[tactic(auto, unfolding(unit_rules::specs::Manager::reconfig_commanded))]
     pub fn commanded(
         &mut self,
@@ -124,6 +173,8 @@ impl Manager {
         ensures does { IfOk result (λ _. Does (reconfig_commanded is_manager arbitrators partition kind self.old)
             self.new effects.old effects.new) }
         ensures refused { OnErr result ((self.new ≡ self.old) × (effects.new ≡ effects.old)) }
+        ensures memory { OnErr result (begins_one self.old
+            (reconfig_commanded is_manager arbitrators partition kind self.old) ≡ true) }
         ensures few { Few effects.old effects.new }
     {
         if !is_manager {

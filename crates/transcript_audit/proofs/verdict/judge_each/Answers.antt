@@ -13,13 +13,13 @@ returns-in_default c = λ groups fresh finds rise.
 pub returns-then-is_some : goal.returns-then-is_some
 returns-then-is_some c = λ groups fresh finds rise.
     let one = judged_one c.args.bytes.now c.args.places.now groups c.loop-index.index c.in-Some.field-0-0 c.in-Some.at c.loop-index.auditor c.moment.new.self c.read_group.new.moment c.in_ok-breach.breach finds
-    (sym c.in-Some.ensures.entry) c.in-Some.ensures.found c.in_ok-read_group.ensures c.in_ok-breach.ensures (c.loop-index.invariant groups fresh finds).0 in
+    (sym c.in-Some.ensures.entry) c.in-Some.ensures.found c.in_ok-read_group.ensures c.in_ok-breach.ensures.judges (c.loop-index.invariant groups fresh finds).0 in
     judged_breach c.args.bytes.now c.args.places.now groups _ c.in_ok-breach.breach finds rise (sym c.if-is_some.ensures) one.0
 
 pub loop-index-preserved : goal.loop-index-preserved
 loop-index-preserved c = λ groups fresh finds.
     let one = judged_one c.args.bytes.now c.args.places.now groups c.loop-index.index c.in-Some.field-0-0 c.in-Some.at c.loop-index.auditor c.moment.new.self c.read_group.new.moment c.in_ok-breach.breach finds
-    (sym c.in-Some.ensures.entry) c.in-Some.ensures.found c.in_ok-read_group.ensures c.in_ok-breach.ensures (c.loop-index.invariant groups fresh finds).0 in
+    (sym c.in-Some.ensures.entry) c.in-Some.ensures.found c.in_ok-read_group.ensures c.in_ok-breach.ensures.judges (c.loop-index.invariant groups fresh finds).0 in
     (one.1, one.2 ∙ none_yet c.in_ok-breach.breach (sym c.if-is_some.ensures))
 
 pub returns : goal.returns

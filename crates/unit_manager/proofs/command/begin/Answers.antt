@@ -1,30 +1,40 @@
-use Rattle.std.proofs.Common.{◌≡◌, ◌<◌, List, ℕ, ap, length, ◌∙◌, arith}
+use Rattle.std.proofs.Common.{◌≡◌, ◌<◌, List, ℕ, None, ap, length, ◌∙◌, arith, rules}
 use Rattle.fabric_lemmas.specs.Maps.{put}
 use Rattle.failover_units.specs.Units.{unit_of}
-use Rattle.unit_rules.specs.Manager.{epoch_of}
+use Rattle.unit_rules.specs.Manager.{Managed, entered, epoch_of}
 use Rattle.reconfig_phases.specs.Views.{reconfig_of}
 use Rattle.reconfig_phases.specs.declared.reconfig.Reconfig.{Reconfig}
-use Rattle.unit_manager.specs.Managers.{managed, reconfigs_of}
+use Rattle.unit_manager.specs.Managers.{managed, reconfigs_of, refusal_in}
 use Rattle.std.proofs.lemmas.List.{length-map}
-use Rattle.unit_manager.proofs.Beginning.{begins_so, begins_whole}
+use Rattle.std.proofs.lemmas.Result.{err_from_is_err_and}
+use Rattle.unit_manager.proofs.Beginning.{begins_if_free, begins_so, begins_whole}
 use Rattle.unit_manager.proofs.command.begin.Goals as goal
 
-pub returns-in-Ok-clause-begins : goal.returns-in-Ok-clause-begins
-returns-in-Ok-clause-begins c =
+pub returns-clause-begins : goal.returns-clause-begins
+returns-clause-begins c =
     let es = c.args.reconfigs.now.items in
     let r = c.begin-begun.result in
     let epoch : c.in-Some.epoch ≡ epoch_of c.args.kind (unit_of c.args.partition c.args.units.now).highest =
     c.in-Some.ensures.next.0 ∙ ap (epoch_of c.args.kind) c.highest.ensures in
     let put_is : reconfigs_of c.enter.new.reconfigs.items ≡ put c.args.partition (reconfig_of r) (reconfigs_of es) =
-    c.enter.ensures ∙ ap (λ (fs : List (ℕ × Reconfig)). put c.args.partition (reconfig_of r) (reconfigs_of fs)) c.reserve.ensures.items in
-    begins_so c.args.arbitrators c.args.partition c.args.kind c.in-Some.epoch (managed c.args.units.now es) c.enter_units.new.units (reconfig_of r) (reconfigs_of c.enter.new.reconfigs.items) c.in-Ok.ensures c.begin-begun.ensures.begun put_is c.args.out.now c.begin-begun.new.out epoch c.in-Some.ensures.next.1 c.begin-begun.ensures.sent
+    c.enter.ensures ∙ ap (λ (fs : List (ℕ × Reconfig)). put c.args.partition (reconfig_of r) (reconfigs_of fs)) c.take_place.ensures.same in
+    begins_so c.args.arbitrators c.args.partition c.args.kind c.in-Some.epoch (managed c.args.units.now es) c.take_place.new.units (reconfig_of r) (reconfigs_of c.enter.new.reconfigs.items) c.in_ok-take_place.ensures.entered c.begin-begun.ensures.begun put_is c.args.out.now c.begin-begun.new.out epoch c.in-Some.ensures.next.1 c.begin-begun.ensures.sent
 
-pub returns-in-Ok-clause-whole : goal.returns-in-Ok-clause-whole
-returns-in-Ok-clause-whole c =
+pub returns-clause-whole : goal.returns-clause-whole
+returns-clause-whole c =
     let es = c.args.reconfigs.now.items in
     let r = c.begin-begun.result in
     let put_is : reconfigs_of c.enter.new.reconfigs.items ≡ put c.args.partition (reconfig_of r) (reconfigs_of es) =
-    c.enter.ensures ∙ ap (λ (fs : List (ℕ × Reconfig)). put c.args.partition (reconfig_of r) (reconfigs_of fs)) c.reserve.ensures.items in
+    c.enter.ensures ∙ ap (λ (fs : List (ℕ × Reconfig)). put c.args.partition (reconfig_of r) (reconfigs_of fs)) c.take_place.ensures.same in
     let many : length (reconfigs_of es) ≡ length es = length-map es _ in
-    let room : length (reconfigs_of es) < 65536 = omega (arith, many, c.if-len-ge-MAX_PARTITIONS.false, c.len.ensures) in
-    begins_whole c.args.arbitrators c.args.partition c.args.kind c.in-Some.epoch (managed c.args.units.now es) c.enter_units.new.units (reconfig_of r) (reconfigs_of c.enter.new.reconfigs.items) c.in-Ok.ensures c.begin-begun.ensures.begun put_is c.requires.whole room
+    let room : length (reconfigs_of es) < 65536 = omega (arith, many, c.in_ok-take_place.ensures.few) in
+    begins_whole c.args.arbitrators c.args.partition c.args.kind c.in-Some.epoch (managed c.args.units.now es) c.take_place.new.units (reconfig_of r) (reconfigs_of c.enter.new.reconfigs.items) c.in_ok-take_place.ensures.entered c.begin-begun.ensures.begun put_is c.requires.whole room
+
+pub returns-in_err-take_place-clause-memory : goal.returns-in_err-take_place-clause-memory
+returns-in_err-take_place-clause-memory c =
+    let s : Managed = managed c.args.units.now c.args.reconfigs.now.items in
+    let p = err_from_is_err_and c.from_residual.result c.from_residual.ensures.1 in
+    let epoch : c.in-Some.epoch ≡ epoch_of c.args.kind (unit_of c.args.partition c.args.units.now).highest =
+    c.in-Some.ensures.next.0 ∙ ap (epoch_of c.args.kind) c.highest.ensures in
+    let free : refusal_in (entered c.args.kind c.args.partition c.args.units.now) ≡ None = search rules in
+    rw p.1 (begins_if_free c.args.arbitrators c.args.partition c.args.kind s c.in-Some.epoch epoch c.in-Some.ensures.next.1 free c.requires.none)
