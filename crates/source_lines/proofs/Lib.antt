@@ -4,3 +4,4 @@ pub mod FirstFeed
 pub mod Feeds
 pub mod Pieces
 pub mod Taking
+pub mod Wholes

@@ -41,3 +41,13 @@ feed_behind read n i room within none found =
 
 pub none_behind : (read n : ℕ) (room : List ℕ) → HasNoFeed (take read room) → HasNoFeed (take n (drop read room)) → HasNoFeed (take (read + n) room)
 none_behind read n room none more = ap (position is_feed) (take-add read n room) ∙ behind_none (take read room) (take n (drop read room)) none more
+
+-- `&room[next..end]`
+pub between : (next end : ℕ) (room : List ℕ) → next ≤ end → take (end - next) (drop next room) ≡ drop next (take end room)
+between next end room rise = sym (drop-take next (end - next) room) ∙ ap (λ n. drop next (take n room)) (omega arith)
+
+-- a front of what stands there
+pub front_between : (next end n : ℕ) (room : List ℕ) → next + n ≤ end → drop next (take (next + n) room) ≡ take n (drop next (take end room))
+front_between next end n room within =
+    drop-take next n room
+    ∙ (sym (take-take n (end - next) (drop next room) (omega arith)) ∙ ap (take n) (between next end room (omega arith)))

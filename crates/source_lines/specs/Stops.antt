@@ -16,12 +16,12 @@ StopsAt (Err failed) most bytes = HasNoFeed bytes
 
 -- what is taken up to a feed that waits
 abbrev pub TakesTo : NextLine → ℕ → ℕ → Reading → Reading → Type 0
-TakesTo Line feed most old new = (feed ≤ most) × (new.line ≡ take feed old.waiting) × (new.waiting ≡ drop (feed + 1) old.waiting)
+TakesTo Line feed most old new = (feed ≤ most) × (new.line ≡ take feed old.waiting) × (new.waiting ≡ drop (feed + 1) old.waiting) × (new.whole ≡ take (feed + 1) old.waiting)
 TakesTo TooLong feed most old new = (most < feed) × (new.waiting ≡ old.waiting)
 TakesTo End feed most old new = ⊥
 
 -- what is taken where no feed waits and nothing comes any more
 abbrev pub TakesLast : NextLine → Reading → Reading → Type 0
-TakesLast Line old new = (0 < length old.waiting) × (new.line ≡ old.waiting) × (new.waiting ≡ [])
+TakesLast Line old new = (0 < length old.waiting) × (new.line ≡ old.waiting) × (new.waiting ≡ []) × (new.whole ≡ old.waiting)
 TakesLast TooLong old new = ⊥
 TakesLast End old new = (old.waiting ≡ []) × (new.waiting ≡ [])

@@ -9,13 +9,11 @@ mod cut;
 mod ignored;
 mod limits;
 mod piece;
-mod read;
 mod reader;
 mod next_line;
 
 pub use cut::cut_line;
 pub use ignored::is_ignored;
 pub use limits::{MAX_FIRST_LINE, MAX_LINE, MAX_LINES};
-pub use read::read_all;
 pub use reader::LineReader;
 pub use next_line::NextLine;

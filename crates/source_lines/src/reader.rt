@@ -1,7 +1,7 @@
-ghost use Rattle.std.specs.Prelude.{◌≡◌, ◌≤◌, ◌==◌, ◌++◌, ℕ, List, [], Some, Ok, IfOk, length, position};
+ghost use Rattle.std.specs.Prelude.{◌≡◌, ◌≤◌, ◌+◌, ◌==◌, ◌++◌, ℕ, List, [], Some, Ok, IfOk, length, position};
 ghost use Rattle.edge_io.specs.Edge.{HasCause};
 ghost use Rattle.source_lines.specs.Feeds.{HasNoFeed};
-ghost use Rattle.source_lines.specs.Reading.{IsLineOf, TakesOf};
+ghost use Rattle.source_lines.specs.Reading.{IsLineOf, LeavesUnread, TakesOf, may_wait};
 ghost use Rattle.source_lines.specs.Stops.{StopsAt, TakesTo, TakesLast};
 
 use crate::piece::{PieceEnd, first_feed, move_to_front, read_on};
@@ -17,7 +17,7 @@ const ROOM: usize = 81_920;
 #[derive(Drop)]
 pub struct LineReader {
     room: Vec<u8>,
-    /// The line that was taken last.
+    /// The line that was taken last. Its line feed, if it has one, stands before `next`.
     from: usize,
     to: usize,
     /// What was read and not yet taken.
@@ -26,22 +26,26 @@ pub struct LineReader {
 }
 
 impl Model for LineReader {
-    ghost use Rattle.std.specs.Prelude.{◌≡◌, ◌≤◌, ◌-◌, take, drop, length};
+    ghost use Rattle.std.specs.Prelude.{◌≡◌, ◌≤◌, ◌+◌, ◌-◌, ◌==◌, take, drop, length};
     ghost use Rattle.source_lines.specs.Reading.{Reading};
 
     ghost Value = { Reading };
 
-    ghost view = { λ r. record { waiting = drop r.next (take r.end r.room.items);
-        line = drop r.from (take r.to r.room.items) } };
+    ghost view = { λ r. record {
+      waiting = drop r.next (take r.end r.room.items);
+      line = drop r.from (take r.to r.room.items);
+      whole = drop r.from (take r.next r.room.items);
+      filled = r.end == 81920;
+    } };
 
-    ghost invariant = { λ r. (length r.room.items ≡ 81920) × (r.from ≤ r.to) × (r.to ≤ r.end) × (r.next ≤ r.end) ×
-        (r.end ≤ 81920) };
+    ghost invariant = { λ r. (length r.room.items ≡ 81920) × (r.from ≤ r.to) × (r.to ≤ r.next) × (r.next ≤ r.to + 1) ×
+        (r.next ≤ r.end) × (r.end ≤ 81920) };
 }
 
 impl LineReader {
     /// Nothing is read yet.
     pub fn new(alloc: Global) -> Result<LineReader, AllocError>
-        ensures { IfOk result (λ r. (r.waiting ≡ []) × (r.line ≡ [])) }
+        ensures { IfOk result (λ r. (r.waiting ≡ []) × (r.line ≡ []) × (r.whole ≡ [])) }
     {
         Ok(LineReader {
             room: vec![in alloc; 0u8; ROOM]?,
@@ -60,6 +64,22 @@ impl LineReader {
         &self.room[self.from..self.to]
     }
 
+    /// The same line with its line feed. The last line of a source may have none.
+    pub fn whole_line(&self) -> &[u8]
+        ensures whole { result.now ≡ self.now.whole }
+        ensures longer { length result.now ≤ length self.now.line + 1 }
+    {
+        &self.room[self.from..self.next]
+    }
+
+    /// Whether the next line may wait for the source: no whole line was read, and the last piece was shorter than was
+    /// asked for, so the source may have no more for now. A file gives whole pieces up to its last one.
+    pub fn may_wait(&self) -> bool
+        ensures { result ≡ may_wait self.now }
+    {
+        self.end != ROOM && first_feed(self.waiting()).is_none()
+    }
+
     /// What was read and not yet taken.
     fn waiting(&self) -> &[u8]
         ensures { result.now ≡ self.now.waiting }
@@ -68,10 +88,12 @@ impl LineReader {
     }
 
     /// Takes the next line: it is `line` then, unless it has more bytes than `most`. Pieces of the source are read as
-    /// they are wanted. `Failed` comes only where the source's count of faults rose; what was read is not lost.
+    /// they are needed, and none where a whole line was read already. `Failed` comes only where the source's count of
+    /// faults rose; what was read is not lost.
     pub fn next<S: Source>(&mut self, source: &mut S, most: usize) -> Result<NextLine, Failed>
         requires { most ≤ MAX_FIRST_LINE }
         ensures taken { TakesOf result most self.old (S.left source.old) self.new (S.left source.new) }
+        ensures unread { LeavesUnread self.old (source.new ≡ source.old) }
         ensures line { IsLineOf result most self.new.line }
         ensures cause { HasCause (S.faults source.old) (S.faults source.new) result }
     {

@@ -1,7 +1,7 @@
 -- What is answered, and written, at each status.
-use Rattle.std.proofs.Common.{◌≡◌, ◌≢◌, ℕ, List, Option, Some, Result, Ok, Err, refl, ap, sym, subst, ◌∙◌, ⊎_elim}
+use Rattle.std.proofs.Common.{◌≡◌, ◌≢◌, ℕ, List, [], Option, Some, Result, Ok, Err, refl, ap, sym, subst, ◌∙◌, ⊎_elim}
 use Rattle.std.proofs.lemmas.List.{append-nil}
-use Rattle.edge_io.specs.Edge.{Grew}
+use Rattle.edge_io.specs.Edge.{Grew, HasRisen}
 use Rattle.fabric_status.specs.Codes.{status_of}
 use Rattle.fabric_status.specs.Faults.{fault_line}
 use Rattle.fabric_status.specs.Writes.{Wrote}
@@ -9,7 +9,10 @@ use Rattle.fabric_status.specs.declared.status.Refusal.{Refusal}
 use Rattle.fabric_status.specs.declared.status.Refusal.TheVariants.{BadConfig, BadLine, DriftBroken, NoSuch, TooLarge}
 use Rattle.fabric_status.specs.declared.status.Status.{Status}
 use Rattle.fabric_status.specs.declared.status.Status.TheVariants as status
-use Rattle.transcript_audit.specs.Audits.{IsAnswer, IsAnswerTo, IsVerdictLine, Writes, WritesFront, WritesAnswer, nothing, answer, fault}
+use Rattle.transcript_audit.specs.declared.transcript.Transcript.{Transcript}
+use Rattle.transcript_audit.specs.declared.transcript.Transcript.TheVariants.{Good, Refused}
+use Rattle.transcript_audit.specs.Audits.{IsAnswer, IsAnswerTo, IsEnd, IsVerdictLine, Writes, WritesFront, WritesAnswer, nothing, answer, fault}
+use Rattle.transcript_audit.specs.Places.{LeavesNone}
 use Rattle.transcript_audit.specs.Groups.{Group}
 use Rattle.transcript_audit.specs.Transcript.{transcript_of}
 
@@ -74,9 +77,54 @@ refusal_well (DriftBroken x) = record { words = λ e. cc (e); source = λ e. cc 
 refusal_well (NoSuch x) = record { words = λ e. cc (e); source = λ e. cc (e); sink = λ e. cc (e) }
 refusal_well (TooLarge x) = record { words = λ e. cc (e); source = λ e. cc (e); sink = λ e. cc (e) }
 
-pub ends_well : (bytes : List ℕ) (ended : Status) (text : List ℕ) → IsAnswer bytes ended text → EndsWell ended
-ends_well bytes ended text is = by (transcript_of bytes) is
-  where
-    by : (o : Result (List Group) Refusal) → IsAnswerTo o ended text → EndsWell ended
-    by (Ok groups) a = subst (λ s. EndsWell s) (sym a.0) ok_well
-    by (Err f) a = subst (λ s. EndsWell s) (sym a.0) (refusal_well f)
+not_good : (f : Refusal) → status_of f ≡ status.Ok → ⊥
+not_good (BadConfig x) e = cc (e)
+not_good (BadLine x) e = cc (e)
+not_good (DriftBroken x) e = cc (e)
+not_good (NoSuch x) e = cc (e)
+not_good (TooLarge x) e = cc (e)
+
+-- the answer to a transcript, written
+module _ (t : Transcript) (ended last : Status) (text : List ℕ) (old new : Option (List ℕ)) (before now : ℕ) (is : IsEnd t ended) (wrote : Wrote ended text last old new before now) where
+  well : EndsWell ended
+  well = by t is
+    where
+      by : (u : Transcript) → IsEnd u ended → EndsWell ended
+      by (Good bytes places) e = subst (λ s. EndsWell s) (sym e) ok_well
+      by (Refused f) e = subst (λ s. EndsWell s) (sym e) (refusal_well f)
+
+  ends_as : (s : Status) → last ≡ s → (status.OutOfMemory ≡ s → ⊥) → (status.WriteFault ≡ s → ⊥) → ended ≡ s
+  ends_as s e memory sink =
+      ⊎_elim
+      (λ all. sym all.0 ∙ e)
+      (λ short. ⊎_elim
+      (λ m. absurd (memory (sym m.0 ∙ e)))
+      (λ f. absurd (sink (sym f.0 ∙ e)))
+      short)
+      wrote
+
+  pub no_usage : last ≢ status.Usage
+  no_usage e = well.words (ends_as status.Usage e (λ x. cc (x)) (λ x. cc (x)))
+
+  pub no_read_fault : last ≢ status.ReadFault
+  no_read_fault e = well.source (ends_as status.ReadFault e (λ x. cc (x)) (λ x. cc (x)))
+
+  pub sink_failed : last ≡ status.WriteFault → HasRisen before now
+  sink_failed e =
+      ⊎_elim
+      (λ all. absurd (well.sink (sym all.0 ∙ e)))
+      (λ short. ⊎_elim
+      (λ m. let bad : status.OutOfMemory ≡ status.WriteFault = sym m.0 ∙ e in absurd (cc (bad)))
+      (λ f. f.2)
+      short)
+      wrote
+
+  pub all_read : (left : Option (List ℕ)) → LeavesNone t left → last ≡ status.Ok → left ≡ Some []
+  all_read left none e = by t is none
+    where
+      good : ended ≡ status.Ok
+      good = ends_as status.Ok e (λ x. cc (x)) (λ x. cc (x))
+
+      by : (u : Transcript) → IsEnd u ended → LeavesNone u left → left ≡ Some []
+      by (Good bytes places) end n = n
+      by (Refused f) end n = absurd (not_good f (sym end ∙ good))

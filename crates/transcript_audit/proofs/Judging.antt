@@ -1,10 +1,10 @@
 -- The verdict on the groups, as they are judged in their order.
 use Rattle.std.proofs.Common.{◌≡◌, ℕ, zero, suc, ◌+◌, ◌-◌, ◌<◌, ◌≤◌, Bool, true, false, List, [], ◌∷◌, ◌++◌, length, map, take, drop, get_or, reverse, Option, Some, None, Contains, Result, Ok, Err, inl, inr, arith, refl, sym, ap, ◌∙◌, subst}
-use Rattle.std.specs.Prelude.{slice_get, nat_eq, nat_le, is_some, option_map, IsSome}
+use Rattle.std.specs.Global.{Vec}
+use Rattle.std.specs.Prelude.{slice_get, nat_eq, is_some, option_map, IsSome}
 use Rattle.std.specs.Map.{lookup}
 use Rattle.std.proofs.lemmas.Bool.{eqb-true, eq-eqb}
-use Rattle.std.proofs.lemmas.Bool.Decides.{nat_tests}
-use Rattle.std.proofs.lemmas.List.{take_all, take_more, take-append-drop, reverse-append, drop_all, length-drop, length-map}
+use Rattle.std.proofs.lemmas.List.{take_all, take_more, take-append-drop, reverse-append, length-drop, length-map}
 use Rattle.std.proofs.lemmas.Option.{same_Some}
 use Rattle.run_audit.specs.declared.breach.Breach.{Breach}
 use Rattle.run_audit.specs.Breaches.{IsVerdict}
@@ -21,7 +21,7 @@ use Rattle.line_format.specs.Lines.{lines_of}
 use Rattle.transcript_audit.specs.declared.group_index.GroupIndex.{GroupIndex}
 use Rattle.transcript_audit.specs.Audits.{IsJudged}
 use Rattle.transcript_audit.specs.Groups.{Group, AreLines, Rise, group_at, moment_of, onto, run_along}
-use Rattle.transcript_audit.specs.Places.{Finds, IsSeen, IsTranscript, Stand, group_behind, group_in, lines_in, place_of}
+use Rattle.transcript_audit.specs.Places.{Finds, IsSeen, IsTranscript, group_behind, group_in, lines_in, place_of}
 
 there_looked : (es : List (ℕ × ℕ)) (line : ℕ) → Contains (map (λ e. e.0) es) line → (at : ℕ) × (lookup (nat_eq line) es ≡ Some at)
 there_looked [] line has = Contains-empty line has
@@ -52,20 +52,6 @@ module _ (bytes : List ℕ) (t : GroupIndex) (groups : List Group) (finds : Find
       by : (o : Option Group) → group_at line groups ≡ o → (g : Group) × (group_at line groups ≡ Some g) × (group_behind bytes at ≡ Some g)
       by None f = let bad : ◌≡◌ {A = Option (Option Group)} (Some (group_behind bytes at)) None = both ∙ ap (option_map Some) f in absurd (cc (bad))
       by (Some g) f = let same : ◌≡◌ {A = Option (Option Group)} (Some (group_behind bytes at)) (Some (Some g)) = both ∙ ap (option_map Some) f in (g, f, same_Some _ _ same)
-
-  pub stands : Stand bytes t
-  stands line at e = by (nat_le at (length bytes)) refl
-    where
-      past : length bytes ≤ at → at ≤ length bytes
-      past h =
-          let g = found line at e in
-          let none : group_behind bytes at ≡ None = ap (λ x. group_in (lines_of x)) (drop_all at bytes h) in
-          let bad : ◌≡◌ {A = Option Group} None (Some g.0) = sym none ∙ g.2 in
-          absurd (cc (bad))
-
-      by : (b : Bool) → nat_le at (length bytes) ≡ b → at ≤ length bytes
-      by true h = grind (arith, nat_tests)
-      by false h = past (grind (arith, nat_tests))
 
   there : (line : ℕ) → Contains (lines_in t) line → IsSome (group_at line groups)
   there line has =
@@ -167,9 +153,9 @@ entry_there (x ∷ es) zero e h = cc (e)
 entry_there (x ∷ es) (suc i) e h = entry_there es i e (omega arith)
 
 -- a transcript that was read, and one that is refused
-pub good_is : (bytes : List ℕ) (t : GroupIndex) (o : Result (List Group) Refusal) → IsTranscript bytes (Good t) o → (groups : List Group) × (o ≡ Ok groups) × Finds bytes t groups
-good_is bytes t (Ok groups) is = (groups, refl, is)
-good_is bytes t (Err e) is = absurd is
+pub good_is : (bytes : List ℕ) (text : Vec ℕ) (t : GroupIndex) (o : Result (List Group) Refusal) → IsTranscript bytes (Good text t) o → (groups : List Group) × (o ≡ Ok groups) × (text.items ≡ bytes) × Finds bytes t groups
+good_is bytes text t (Ok groups) is = (groups, refl, is.0, is.1)
+good_is bytes text t (Err e) is = absurd is
 
 pub refused_is : (bytes : List ℕ) (f : Refusal) (o : Result (List Group) Refusal) → IsTranscript bytes (Refused f) o → o ≡ Err f
 refused_is bytes f (Ok groups) is = absurd is

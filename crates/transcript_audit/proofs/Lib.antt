@@ -3,6 +3,8 @@ pub mod SaidSteps
 pub mod Growing
 pub mod Placing
 pub mod Reading
+pub mod Following
+pub mod Within
 pub mod Judging
 pub mod Sorting
 pub mod Telling

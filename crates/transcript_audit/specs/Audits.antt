@@ -8,6 +8,8 @@ use Rattle.fabric_status.specs.declared.status.Status.{Status}
 use Rattle.fabric_status.specs.declared.status.Status.TheVariants as status
 use Rattle.run_audit.specs.Breaches.{IsVerdict}
 use Rattle.run_audit.specs.declared.breach.Breach.{Breach}
+use Rattle.transcript_audit.specs.declared.transcript.Transcript.{Transcript}
+use Rattle.transcript_audit.specs.declared.transcript.Transcript.TheVariants.{Good, Refused}
 use Rattle.transcript_audit.specs.Groups.{Group, AreLines, run_along}
 use Rattle.transcript_audit.specs.Transcript.{transcript_of}
 use Rattle.transcript_audit.specs.Verdicts.{verdict_line}
@@ -33,6 +35,11 @@ IsAnswerTo (Err refusal) ended text = (ended ≡ status_of refusal) × (text ≡
 -- the line and the status that these bytes are answered
 abbrev pub IsAnswer : List ℕ → Status → List ℕ → Type 0
 IsAnswer bytes ended text = IsAnswerTo (transcript_of bytes) ended text
+
+-- the status that a transcript is answered with
+abbrev pub IsEnd : Transcript → Status → Type 0
+IsEnd (Good text places) ended = ended ≡ status.Ok
+IsEnd (Refused refusal) ended = ended ≡ status_of refusal
 
 -- A front of what would have been written: nothing; a front of the line of the verdict or of the fault; or, where the
 -- source failed, a front of the line that says so.

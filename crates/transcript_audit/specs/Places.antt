@@ -1,5 +1,5 @@
 -- Where the groups of a transcript stand in its bytes.
-use Rattle.std.specs.Prelude.{◌≡◌, ℕ, Bool, true, false, ◌≤◌, ◌&&◌, not, nat_eq, nat_lt, List, [], ◌∷◌, length, drop, Option, Some, None, Result, Ok, Err, is_some, option_map, if◌then◌else◌}
+use Rattle.std.specs.Prelude.{◌≡◌, ℕ, ◌+◌, Bool, true, false, ◌≤◌, ◌&&◌, not, nat_eq, nat_lt, List, [], ◌∷◌, ◌++◌, length, drop, Option, Some, None, Result, Ok, Err, is_some, option_map, if◌then◌else◌}
 use Rattle.std.specs.Global.{Vec}
 use Rattle.std.specs.Map.{lookup}
 use Rattle.indexmap.specs.IndexMap.{keys}
@@ -10,6 +10,7 @@ use Rattle.run_audit.specs.declared.moment.Moment.{Moment}
 use Rattle.run_audit.specs.Auditing.{seen, entry_of as audited_entry}
 use Rattle.line_format.specs.Lines.{lines_of}
 use Rattle.source_lines.specs.Lines.{is_ignored}
+use Rattle.source_lines.specs.Reading.{Reading as Lines}
 use Rattle.transcript_audit.specs.declared.group.Told.{Told}
 use Rattle.transcript_audit.specs.declared.group_index.GroupIndex.{GroupIndex}
 use Rattle.transcript_audit.specs.declared.transcript.Transcript.{Transcript}
@@ -18,7 +19,7 @@ use Rattle.transcript_audit.specs.declared.said.Said.{Said as Summary}
 use Rattle.transcript_audit.specs.declared.said.Said.TheVariants as summary
 use Rattle.transcript_audit.specs.Groups.{Group, group_from, grown, may_tell, group_at, entry_of, moment_of, onto}
 use Rattle.transcript_audit.specs.Said.{Said, Opens, Shows, Tells, said_of}
-use Rattle.transcript_audit.specs.Transcript.{Reading}
+use Rattle.transcript_audit.specs.Transcript.{Reading, is_large}
 
 -- what a line says, without its clocks and its report
 abbrev pub summary_of : Said → Summary
@@ -92,7 +93,7 @@ pub record HasBegun (line at : ℕ) (old new : GroupIndex) : Type 0 where
   pub places : (n : ℕ) → place_of n new ≡ (if nat_eq line n then Some at else place_of n old)
 
 abbrev pub Begins : ℕ → ℕ → GroupIndex → GroupIndex → Bool → Type 0
-Begins line at old new ok = (ok ≡ may_begin_in line old) × (ok ≡ true → HasBegun line at old new)
+Begins line at old new ok = (ok ≡ may_begin_in line old) × (ok ≡ true → HasBegun line at old new) × (ok ≡ false → new ≡ old)
 
 abbrev pub may_tell_in : ℕ → Who → Option (ℕ × Option Who) → Bool
 may_tell_in line w None = false
@@ -125,11 +126,17 @@ IsRead bytes ls t (Some refusal) (Ok r) = ⊥
 abbrev pub Finds : List ℕ → GroupIndex → List Group → Type 0
 Finds bytes t groups = (line : ℕ) → option_map (group_behind bytes) (place_of line t) ≡ option_map Some (group_at line groups)
 
+-- the text and where its groups stand, or how the bytes are refused
 abbrev pub IsTranscript : List ℕ → Transcript → Result (List Group) Refusal → Type 0
-IsTranscript bytes (Good t) (Ok groups) = Finds bytes t groups
+IsTranscript bytes (Good text t) (Ok groups) = (text.items ≡ bytes) × Finds bytes t groups
 IsTranscript bytes (Refused refusal) (Err e) = refusal ≡ e
-IsTranscript bytes (Good t) (Err e) = ⊥
+IsTranscript bytes (Good text t) (Err e) = ⊥
 IsTranscript bytes (Refused refusal) (Ok groups) = ⊥
+
+-- a transcript that is not refused was read to the end of the source
+abbrev pub LeavesNone : Transcript → Option (List ℕ) → Type 0
+LeavesNone (Good text t) left = left ≡ Some []
+LeavesNone (Refused refusal) left = Unit {0}
 
 -- the LINEs of the table, in its order
 abbrev pub lines_in : GroupIndex → List ℕ
@@ -155,6 +162,20 @@ GoesOn None new true g = ⊥
 pub record IsEntry (g : Group) (told : Option (Who × Vec Report)) : Type 0 where
   pub is : audited_entry told ≡ entry_of g.who g.reports
 
+-- each group of the table begins within so many bytes
+abbrev pub Within : ℕ → GroupIndex → Type 0
+Within n t = (line at : ℕ) → place_of line t ≡ Some at → at ≤ n
+
 -- each group of the table begins within the bytes
 abbrev pub Stand : List ℕ → GroupIndex → Type 0
-Stand bytes t = (line at : ℕ) → place_of line t ≡ Some at → at ≤ length bytes
+Stand bytes t = Within (length bytes) t
+
+-- the groups of a transcript begin within its text
+abbrev pub Stands : Transcript → Type 0
+Stands (Good text t) = Stand text.items t
+Stands (Refused refusal) = Unit {0}
+
+-- A line that is not refused passes no limit, and stands behind the text.
+abbrev pub IsTaken : Option Refusal → ℕ → Lines → List ℕ → List ℕ → Type 0
+IsTaken None n reader old new = (is_large n (length old + length reader.whole) reader.line ≡ false) × (new ≡ old ++ reader.whole)
+IsTaken (Some refusal) n reader old new = Unit {0}

@@ -69,6 +69,10 @@ read_unless true ignored n o r = Err (TooLarge n)
 read_unless false true n o r = Ok r
 read_unless false false n o r = unless_bad n o
 
+-- what is read with line n, which passes no limit
+abbrev pub short_read : ℕ → List ℕ → Reading → Result Reading Refusal
+short_read n line r = read_unless false (is_ignored line) n (placed_if (said_of line) r) r
+
 -- what is read with line n, which ends with this byte: its length is tested first
 abbrev pub line_read : ℕ → ℕ → List ℕ → Reading → Result Reading Refusal
 line_read n end line r = read_unless (is_large n end line) (is_ignored line) n (placed_if (said_of line) r) r

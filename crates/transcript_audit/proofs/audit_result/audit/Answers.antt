@@ -1,15 +1,25 @@
-use Rattle.std.proofs.Common.{◌≡◌, subst, ◌∙◌}
+use Rattle.std.proofs.Common.{List, ℕ, subst}
 use Rattle.edge_io.specs.Edge.{HasRisen}
-use Rattle.transcript_audit.specs.Audits.{IsAnswer}
 use Rattle.fabric_status.specs.Writes.{Wrote}
-use Rattle.transcript_audit.proofs.Answering.{wrote_answer}
+use Rattle.transcript_audit.proofs.Answering.{all_read, no_read_fault, no_usage, sink_failed, wrote_answer}
 use Rattle.transcript_audit.proofs.audit_result.audit.Goals as goal
+
+pub returns-in-Ok-answer_to-clause-usage : goal.returns-in-Ok-answer_to-clause-usage
+returns-in-Ok-answer_to-clause-usage g c = no_usage c.in-Ok.transcript c.in-Ok-answer_to.answer.status c.write_last-in-Ok-answer_to.result _ _ _ _ _ c.in-Ok-answer_to.ensures.status c.write_last-in-Ok-answer_to.ensures
+
+pub returns-in-Ok-answer_to-clause-read_fault : goal.returns-in-Ok-answer_to-clause-read_fault
+returns-in-Ok-answer_to-clause-read_fault g c e = absurd (no_read_fault c.in-Ok.transcript c.in-Ok-answer_to.answer.status c.write_last-in-Ok-answer_to.result _ _ _ _ _ c.in-Ok-answer_to.ensures.status c.write_last-in-Ok-answer_to.ensures e)
+
+pub returns-in-Ok-answer_to-clause-write_fault : goal.returns-in-Ok-answer_to-clause-write_fault
+returns-in-Ok-answer_to-clause-write_fault g c = sink_failed c.in-Ok.transcript c.in-Ok-answer_to.answer.status c.write_last-in-Ok-answer_to.result _ _ _ _ _ c.in-Ok-answer_to.ensures.status c.write_last-in-Ok-answer_to.ensures
+
+pub returns-in-Ok-answer_to-clause-read : goal.returns-in-Ok-answer_to-clause-read
+returns-in-Ok-answer_to-clause-read g c ended bytes e =
+    all_read c.in-Ok.transcript c.in-Ok-answer_to.answer.status c.write_last-in-Ok-answer_to.result _ _ _ _ _ c.in-Ok-answer_to.ensures.status c.write_last-in-Ok-answer_to.ensures (g.S.Source.left c.read_transcript.new.source) (c.in-Ok.ensures.read bytes e).1 ended
 
 pub returns-in-Ok-answer_to-clause-written : goal.returns-in-Ok-answer_to-clause-written
 returns-in-Ok-answer_to-clause-written g c bytes e =
-    let same : c.deref.result.now ≡ bytes = c.deref.ensures.value ∙ (c.in-Ok.ensures.bytes bytes e).0 in
     let a = c.in-Ok-answer_to.answer in
-    let is : IsAnswer bytes a.status a.text.items = subst (λ b. IsAnswer b a.status a.text.items) same c.in-Ok-answer_to.ensures in
-    wrote_answer bytes (HasRisen (g.S.Source.faults c.args.source.now) (g.S.Source.faults c.read_all.new.source)) a.status a.text.items (g.K.Sink.held c.args.sink.now) (g.K.Sink.held c.write_last-in-Ok-answer_to.new.sink) is
-    c.write_last-in-Ok-answer_to.result _ _
-    (subst (λ t. Wrote a.status t c.write_last-in-Ok-answer_to.result (g.K.Sink.held c.args.sink.now) (g.K.Sink.held c.write_last-in-Ok-answer_to.new.sink) (g.K.Sink.faults c.args.sink.now) (g.K.Sink.faults c.write_last-in-Ok-answer_to.new.sink)) c.deref-in-Ok-answer_to.ensures.value c.write_last-in-Ok-answer_to.ensures)
+    wrote_answer bytes (HasRisen (g.S.Source.faults c.args.source.now) (g.S.Source.faults c.read_transcript.new.source)) a.status a.text.items (g.K.Sink.held c.args.sink.now) (g.K.Sink.held c.write_last-in-Ok-answer_to.new.sink)
+    (c.in-Ok-answer_to.ensures.answer bytes (c.in-Ok.ensures.read bytes e).0) c.write_last-in-Ok-answer_to.result _ _
+    (subst (λ (t : List ℕ). Wrote a.status t c.write_last-in-Ok-answer_to.result (g.K.Sink.held c.args.sink.now) (g.K.Sink.held c.write_last-in-Ok-answer_to.new.sink) (g.K.Sink.faults c.args.sink.now) (g.K.Sink.faults c.write_last-in-Ok-answer_to.new.sink)) c.deref.ensures.value c.write_last-in-Ok-answer_to.ensures)

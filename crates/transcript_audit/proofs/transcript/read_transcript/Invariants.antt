@@ -1,9 +1,14 @@
-use Rattle.std.proofs.Common.{◌-◌, length}
-use Rattle.transcript_audit.proofs.Reading.{Along}
+use Rattle.std.proofs.Common.{◌≡◌, ◌≤◌, ℕ, List, Some, length}
+use Rattle.transcript_audit.specs.Places.{Within}
+use Rattle.transcript_audit.proofs.Following.{Follows}
 use Rattle.transcript_audit.proofs.transcript.read_transcript.Given as goal
 
-abbrev pub invariant-loop-at : goal.invariant-loop-at
-invariant-loop-at l = Along l.bytes l.places l.number l.at
-
-abbrev pub decreases-loop-at : goal.decreases-loop-at
-decreases-loop-at l = length l.bytes - l.at
+-- the lines of the text passed no limit, and their groups begin within it; what the source told of follows it
+abbrev pub invariant-loop-number : goal.invariant-loop-number
+invariant-loop-number g l = record {
+  few : l.number ≤ 2000001;
+  short : length l.text.items ≤ 1073741824;
+  within : Within (length l.text.items) l.places;
+  follows : (bytes : List ℕ) → g.S.Source.left l.fn.source ≡ Some bytes → Follows bytes l.text.items l.reader.waiting (g.S.Source.left l.source) l.places l.number;
+  later : g.S.Source.faults l.fn.source ≤ g.S.Source.faults l.source;
+}
