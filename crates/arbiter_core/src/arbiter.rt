@@ -7,8 +7,8 @@ ghost use Rattle.arbiter_core.specs.Arbiters.{Answers, Gives, entries, frame_cal
 ghost use Rattle.arbiter_core.specs.Arbiters.{restore_call};
 ghost use Rattle.arbiter_core.specs.Memory.{KeepsIfShort};
 
-mod recording;
 mod questions;
+mod recording;
 mod rulings;
 
 use crate::answer::{Answer, ArbiterError};

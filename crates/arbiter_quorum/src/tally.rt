@@ -24,8 +24,12 @@ impl Model for Tally {
 
     ghost Value = { Tally };
 
-    ghost view = { λ a. record { me = a.me; victim = a.victim; arbitrators = a.arbitrators;
-        answers = a.answers.items } };
+    ghost view = { λ a. record {
+      me = a.me;
+      victim = a.victim;
+      arbitrators = a.arbitrators;
+      answers = a.answers.items;
+    } };
 
     ghost invariant = { λ a. Counted a.arbitrators a.answers.items };
 }

@@ -1,8 +1,8 @@
-use crate::outside::Outside;
 use crate::clock::Clock;
-use crate::refusal::{EdgeRefusal, Failed};
 use crate::keeper::Keeper;
 use crate::links::Links;
+use crate::outside::Outside;
+use crate::refusal::{EdgeRefusal, Failed};
 use crate::sink::{Sink, write_all};
 
 /// Four borrowed devices as one outside. Each has a lifetime of its own, so that whoever lent them sees what became of

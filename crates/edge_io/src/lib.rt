@@ -30,6 +30,7 @@ mod source;
 
 pub use clock::Clock;
 pub use datagram::{DATAGRAM_BYTES, Datagram, DatagramBytes};
+pub use devices::Devices;
 pub use endpoint::{Endpoint, SocketAddress};
 pub use keeper::Keeper;
 pub use links::Links;
@@ -38,8 +39,7 @@ pub use mem_keeper::MemKeeper;
 pub use mem_links::MemLinks;
 pub use mem_sink::MemSink;
 pub use mem_source::MemSource;
+pub use outside::Outside;
 pub use refusal::{EdgeRefusal, Failed};
 pub use sink::{Sink, write_all};
 pub use source::Source;
-pub use devices::Devices;
-pub use outside::Outside;

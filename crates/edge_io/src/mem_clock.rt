@@ -20,8 +20,11 @@ impl Model for MemClock {
 
     ghost Value = { ToldClock };
 
-    ghost view = { λ a. record { readings = readings_or (drop a.given a.readings.items) (unwrap_or a.last 0);
-        last = a.last; falls = a.falls } };
+    ghost view = { λ a. record {
+      readings = readings_or (drop a.given a.readings.items) (unwrap_or a.last 0);
+      last = a.last;
+      falls = a.falls;
+    } };
 
     ghost invariant = { λ a. (a.falls ≤ a.given) × (a.given ≤ length a.readings.items) };
 }

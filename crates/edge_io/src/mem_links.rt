@@ -27,8 +27,12 @@ impl Model for MemLinks {
 
     ghost Value = { ToldLinks };
 
-    ghost view = { λ a. record { arrivals = map told_arrival a.arrivals.items; sent = a.sent.items;
-        opened = a.opened.items; faults = a.faults } };
+    ghost view = { λ a. record {
+      arrivals = map told_arrival a.arrivals.items;
+      sent = a.sent.items;
+      opened = a.opened.items;
+      faults = a.faults;
+    } };
 }
 
 impl MemLinks {

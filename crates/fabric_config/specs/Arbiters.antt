@@ -4,6 +4,7 @@ use Rattle.ring_points.specs.Limits.{most_arbiters}
 use Rattle.serde_json.specs.Data.{Data}
 use Rattle.fabric_config.specs.declared.error.ConfigError.{ConfigError}
 use Rattle.fabric_config.specs.declared.field.Field.{Field}
+use Rattle.fabric_config.specs.Checks.{◌>>=◌}
 use Rattle.fabric_config.specs.Numbers.{required}
 use Rattle.fabric_config.specs.Entries.{list_of, entry_of, address_of}
 

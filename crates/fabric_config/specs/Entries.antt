@@ -5,7 +5,7 @@ use Rattle.serde_json.specs.Find.{get, as_str, as_array, as_object}
 use Rattle.fabric_config.specs.declared.error.ConfigError.{ConfigError}
 use Rattle.fabric_config.specs.declared.error.ConfigError.TheVariants.{Missing}
 use Rattle.fabric_config.specs.declared.field.Field.{Field}
-use Rattle.fabric_config.specs.Checks.{or_missing}
+use Rattle.fabric_config.specs.Checks.{◌>>=◌, or_missing}
 use Rattle.fabric_config.specs.Fields.{name_of}
 use Rattle.fabric_config.specs.Numbers.{in_range}
 

@@ -9,7 +9,7 @@ use Rattle.fabric_terms.specs.declared.config.NodeEntry.{NodeEntry}
 use Rattle.fabric_config.specs.declared.error.ConfigError.{ConfigError}
 use Rattle.fabric_config.specs.declared.error.ConfigError.TheVariants.{OutOfRange, Repeated}
 use Rattle.fabric_config.specs.declared.field.Field.{Field}
-use Rattle.fabric_config.specs.Checks.{or_missing}
+use Rattle.fabric_config.specs.Checks.{◌>>=◌, or_missing}
 use Rattle.fabric_config.specs.Fields.{name_of}
 use Rattle.fabric_config.specs.Numbers.{whole, required, optional}
 use Rattle.fabric_config.specs.Points.{point_of}

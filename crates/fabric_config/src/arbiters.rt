@@ -8,8 +8,8 @@ use crate::error::ConfigError;
 use crate::field::Field;
 use crate::limits::Limits;
 use crate::numbers::required;
-use ring_points::MAX_ARBITRATORS;
 use fabric_terms::{Address, Arbiters};
+use ring_points::MAX_ARBITRATORS;
 use serde_json::Value;
 use std::alloc::Global;
 

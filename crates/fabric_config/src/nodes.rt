@@ -11,8 +11,8 @@ use crate::field::Field;
 use crate::limits::{DEFAULT_DOMAIN, DOMAIN, LONGEST, NODE};
 use crate::numbers::{optional, required, whole};
 use crate::point::point_of;
-use ring_points::{MAX_NODES, Point};
 use fabric_terms::{NodeEntry, Nodes};
+use ring_points::{MAX_NODES, Point};
 use serde_json::Value;
 use std::alloc::Global;
 

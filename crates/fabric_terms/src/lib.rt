@@ -20,8 +20,8 @@ mod report;
 
 pub use bytes::Payload;
 pub use command::Command;
-pub use copy::copy_of;
 pub use config::{Address, Arbiters, FabricConfig, NodeEntry, Nodes};
+pub use copy::copy_of;
 pub use event::{Event, JunkBytes, Readings};
 pub use memory::OutOfMemory;
 pub use message::{Body, Message};

@@ -2,11 +2,11 @@ ghost use Rattle.fabric_top.specs.CrewCauses.{IsCrewRun};
 ghost use Rattle.edge_io.specs.Told.{Loans};
 ghost use Rattle.turn_rules.specs.Whole.{told_of};
 
-use turn_plans::Crew;
 use crate::crew_run::run_crew;
 use edge_io::{Clock, Keeper, Links, Sink, Source};
 use fabric_status::Status;
 use std::alloc::Global;
+use turn_plans::Crew;
 
 /// Runs the actors that the words name, by what the source says.
 pub fn run_actors<S: Source, K: Sink, N: Links, D: Keeper, C: Clock>(

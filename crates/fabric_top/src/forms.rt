@@ -4,17 +4,17 @@ ghost use Rattle.fabric_top.specs.Top.{Does};
 ghost use Rattle.edge_io.specs.Told.{Loans};
 ghost use Rattle.turn_rules.specs.Whole.{told_of};
 
-use crate::audit_command::audit_source;
 use crate::actors_command::run_actors;
+use crate::audit_command::audit_source;
+use crate::form::Form;
 use crate::generate_command::{drill_schedule, generate_schedule};
 use crate::replay_command::replay_source;
 use crate::trace_command::trace_source;
 use crate::writes_command::writes_source;
-use crate::form::Form;
-use turn_plans::Crew;
 use edge_io::{Clock, Keeper, Links, Sink, Source};
 use fabric_status::Status;
 use std::alloc::Global;
+use turn_plans::Crew;
 
 /// Runs the command of a form.
 pub fn run_form<S: Source, K: Sink, N: Links, D: Keeper, C: Clock>(

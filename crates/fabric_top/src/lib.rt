@@ -12,9 +12,9 @@
 //! holds nothing any more, and the same of primaries, writes and answers.
 #![tactic(auto)]
 
+mod actors_command;
 mod audit_command;
 mod crew_run;
-mod actors_command;
 mod form;
 mod forms;
 mod generate_command;
@@ -30,5 +30,5 @@ mod worked;
 mod writes_command;
 
 pub use fabric_status::Status;
-pub use top::fabric_main;
 pub use laws::a_clusters_plan_is_read;
+pub use top::fabric_main;

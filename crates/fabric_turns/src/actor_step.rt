@@ -14,8 +14,8 @@ ghost use Rattle.turn_rules.specs.Order.{TurnPosition};
 ghost use Rattle.turn_rules.specs.Whole.{setting};
 
 use crate::run::Run;
-use fabric_terms::FabricConfig;
 use edge_io::Outside;
+use fabric_terms::FabricConfig;
 use ring_node::Input;
 use std::alloc::Global;
 use turn_effects::carry_out;

@@ -2,8 +2,8 @@ ghost use Rattle.std.specs.Prelude.{◌≡◌, OnOk, length};
 ghost use Rattle.fabric_turns.specs.Steps.{ReadsNow};
 
 use crate::run::Run;
-use ring_points::MAX_READING;
 use edge_io::Outside;
+use ring_points::MAX_READING;
 use turn_rules::StopCause;
 
 /// Reads the clock.

@@ -12,8 +12,8 @@ ghost use Rattle.turn_rules.specs.declared.order.Order.{Order as OrderOf};
 
 use crate::actor_step::act;
 use crate::run::Run;
-use fabric_terms::{Command, copy_of};
 use edge_io::Outside;
+use fabric_terms::{Command, copy_of};
 use ring_node::Input;
 use std::alloc::Global;
 use turn_rules::{Order, Plan, StopCause};

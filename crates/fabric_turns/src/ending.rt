@@ -1,9 +1,9 @@
 ghost use Rattle.std.specs.Prelude.{◌≡◌, IfOk};
 ghost use Rattle.turn_rules.specs.Whole.{Finishes, last_line, status_of};
 
+use edge_io::Outside;
 use fabric_status::{Status, push_fault, push_numbered};
 use fabric_terms::OutOfMemory;
-use edge_io::Outside;
 use std::alloc::Global;
 use turn_effects::write_lines;
 use turn_rules::StopCause;
@@ -26,7 +26,11 @@ fn status_of(ended: Result<(), StopCause>) -> Status
 }
 
 /// The last line: where all turns are taken it says how many, and else it names the fault, where there is one.
-fn last_line(alloc: Global, turns: u64, ended: Result<(), StopCause>) -> Result<Vec<u8>, OutOfMemory>
+fn last_line(
+    alloc: Global,
+    turns: u64,
+    ended: Result<(), StopCause>,
+) -> Result<Vec<u8>, OutOfMemory>
     ensures { IfOk result (λ text. text.items ≡ last_line turns ended) }
 {
     let mut text = Vec::new(alloc);

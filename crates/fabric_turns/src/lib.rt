@@ -8,10 +8,10 @@
 #![tactic(auto)]
 
 mod actor_step;
-mod commands;
 mod clock;
-mod ending;
+mod commands;
 mod datagrams;
+mod ending;
 mod recovery;
 mod run;
 mod startup;

@@ -7,8 +7,8 @@ ghost use Rattle.turn_rules.specs.Plans.{is_node_at};
 ghost use Rattle.turn_rules.specs.Whole.{setting};
 
 use crate::actor_step::act;
-use crate::commands::bid_all;
 use crate::clock::read_clock;
+use crate::commands::bid_all;
 use crate::datagrams::hear;
 use crate::run::Run;
 use edge_io::{DATAGRAM_BYTES, Outside};

@@ -3,8 +3,8 @@ ghost use Rattle.frame_bag.specs.Bags.{frame_of};
 ghost use Rattle.fabric_terms.specs.Messages.{is_sound};
 
 use bytes::BytesMut;
-use ring_points::FRAME_LIMIT;
 use fabric_terms::{Message, OutOfMemory};
+use ring_points::FRAME_LIMIT;
 use ring_wire::{decode, encode};
 use std::alloc::Global;
 use std::marker::Model;

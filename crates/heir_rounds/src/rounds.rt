@@ -27,8 +27,13 @@ impl Model for RoundTally {
 
     ghost Value = { RoundTally };
 
-    ghost view = { λ a. record { me = a.me; arbitrators = a.arbitrators; limit = a.limit; round = a.round;
-        answers = a.answers.items } };
+    ghost view = { λ a. record {
+      me = a.me;
+      arbitrators = a.arbitrators;
+      limit = a.limit;
+      round = a.round;
+      answers = a.answers.items;
+    } };
 
     ghost invariant = { λ a. Counted a.arbitrators a.answers.items };
 }

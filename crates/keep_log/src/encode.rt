@@ -2,8 +2,8 @@ ghost use Rattle.std.specs.Prelude.{◌≡◌, ◌≤◌, ◌+◌, ◌++◌, len
 ghost use Rattle.wire_fields.specs.Writers.{Puts};
 ghost use Rattle.keep_log.specs.Spellings.{is_sound, kind_of, fields_of, spelling};
 
-use ring_points::MAX_WRITE;
 use fabric_terms::Record;
+use ring_points::MAX_WRITE;
 use wire_fields::write::{
     put_config, put_epoch, put_flag, put_payload, put_u8, put_u32, put_unit, put_who,
 };

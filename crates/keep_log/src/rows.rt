@@ -11,8 +11,8 @@ ghost use Rattle.keep_log.specs.Taking.{Settles, Takes};
 use crate::item::Item;
 use crate::not_taken::NotTaken;
 use crate::places::{is_adoption, is_piece, is_promise, is_write};
-use ring_points::{Epoch, MAX_LOG_ENTRIES, MAX_WRITE};
 use replica_core::{Done, Replica, ReplicaRefusal};
+use ring_points::{Epoch, MAX_LOG_ENTRIES, MAX_WRITE};
 
 /// More than the number of any entry, so that an entry is only collected.
 const PAST_ALL: u32 = MAX_LOG_ENTRIES + 1;

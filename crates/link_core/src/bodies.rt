@@ -6,8 +6,8 @@ ghost use Rattle.link_core.specs.Handshakes.{renew_body};
 ghost use Rattle.link_core.specs.Links.{turn, turn_after, gone_said};
 
 use crate::announce::Announced;
-use ring_points::{Flight, OUTBOX_LIMIT, Who};
 use fabric_terms::{Body, Outbox};
+use ring_points::{Flight, OUTBOX_LIMIT, Who};
 use ring_rules::Link;
 
 /// The greeting of a link, by its frame version.

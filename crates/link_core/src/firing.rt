@@ -4,13 +4,13 @@ ghost use Rattle.link_core.specs.Links.{turn, turn_after};
 ghost use Rattle.link_core.specs.Firing.{accused_by, asked, asked_if, discharged_end, is_over, spoken, transfer_again};
 
 use crate::announce::Announced;
+use crate::bodies::{self, say_gone};
 use crate::notes::{LinkNote, LinkNotes};
 use crate::rounds::claim_round;
-use crate::bodies::{self, say_gone};
 use arbiter_quorum::Tally;
-use ring_points::{ARBITRATORS, MAX_ARBITRATORS, MAX_LEASE, MAX_ROUNDS, OUTBOX_LIMIT, Who};
 use fabric_terms::{Body, Outbox};
 use heir_rounds::RoundTally;
+use ring_points::{ARBITRATORS, MAX_ARBITRATORS, MAX_LEASE, MAX_ROUNDS, OUTBOX_LIMIT, Who};
 use ring_rules::{Link, LinkState};
 
 /// What a firing at one slot goes by: the reading, the time for an answer, and how many arbitrators and rounds there
@@ -120,8 +120,7 @@ pub(crate) fn spoken(
     requires times { IfSome slot.old (λ l. l.until ≤ 1_000_001_000_000_000) }
     requires length { IfSome slot.old (λ l. l.len ≤ MAX_LEASE) }
     ensures { IfSome slot.old (λ l. turn slot.new out.new result ≡ turn_after out.old
-        (spoken firing.now.reading announce.now firing.now.answer firing.now.rounds firing.now.arbitrators i l l.state))
-        }
+        (spoken firing.now.reading announce.now firing.now.answer firing.now.rounds firing.now.arbitrators i l l.state)) }
 {
     let Some(link) = slot else {
         return LinkNotes::none();

@@ -3,10 +3,10 @@ ghost use Rattle.link_core.specs.Calls.{flight_sent, flight_taken, slot_closed};
 ghost use Rattle.link_core.specs.Flights.{gone_seen, is_lost, last_words, stands, transfer_seen};
 ghost use Rattle.link_core.specs.Links.{turn, turn_after};
 
-use crate::notes::{LinkNote, LinkNotes};
 use crate::bodies::{self, say_gone};
-use ring_points::{Flight, OUTBOX_LIMIT};
+use crate::notes::{LinkNote, LinkNotes};
 use fabric_terms::{Body, Outbox};
+use ring_points::{Flight, OUTBOX_LIMIT};
 use ring_rules::{Link, LinkState};
 
 /// A Transfer in this session.

@@ -3,10 +3,10 @@ ghost use Rattle.link_core.specs.Links.{turn, turn_after};
 ghost use Rattle.link_core.specs.Handshakes.{offer_repeated, offer_taken, hello_repeated, take_seen};
 
 use crate::announce::Announced;
-use crate::notes::{LinkNote, LinkNotes};
 use crate::bodies::{self, say_gone};
-use ring_points::{OUTBOX_LIMIT, Who};
+use crate::notes::{LinkNote, LinkNotes};
 use fabric_terms::{Body, Outbox};
+use ring_points::{OUTBOX_LIMIT, Who};
 use ring_rules::{Link, LinkState};
 
 /// A Hello of an instance that has a link: one that was accepted before gets its Offer again.

@@ -9,6 +9,7 @@
 #![tactic(auto)]
 
 mod announce;
+mod bodies;
 mod deadlines;
 mod find;
 mod firing;
@@ -22,7 +23,6 @@ mod refusal;
 mod renewal;
 mod rounds;
 mod ruling;
-mod bodies;
 
 pub use announce::{Announce, Announced};
 pub use laws::{

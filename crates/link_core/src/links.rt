@@ -4,18 +4,20 @@ ghost use Rattle.ring_rules.specs.Slots.{fence_of};
 ghost use Rattle.link_core.specs.Calls.{call_in, flight_sent, flight_taken, no_links, slot_closed};
 ghost use Rattle.link_core.specs.Links.{did, did_after, with_slot};
 
-mod slot_firing;
-mod opening;
-mod session_frames;
-mod ruling_frames;
 mod dispatch;
+mod opening;
+mod ruling_frames;
+mod session_frames;
+mod slot_firing;
 
 use crate::deadlines::{Deadlines, change};
 use crate::flight;
 use arrayvec::ArrayVec;
 use drift_clock::Bound;
-use ring_points::{Flight, MAX_ARBITRATORS, MAX_DRIFT, MAX_GRAIN, MAX_LEASE, MAX_ROUNDS, OUTBOX_LIMIT, Who};
 use fabric_terms::Outbox;
+use ring_points::{
+    Flight, MAX_ARBITRATORS, MAX_DRIFT, MAX_GRAIN, MAX_LEASE, MAX_ROUNDS, OUTBOX_LIMIT, Who,
+};
 use ring_rules::Link;
 use std::marker::Model;
 
@@ -49,13 +51,31 @@ impl Model for Links16 {
 
     ghost Value = { Links };
 
-    ghost view = { λ k. record { me = k.me; lease = k.lease; longest = k.longest; answer = k.answer; bound = k.bound;
-        arbitrators = k.arbitrators; rounds = k.rounds; slots = k.slots; next_session = k.last_session + 1;
-        accused = k.accused.items } };
+    ghost view = { λ k. record {
+      me = k.me;
+      lease = k.lease;
+      longest = k.longest;
+      answer = k.answer;
+      bound = k.bound;
+      arbitrators = k.arbitrators;
+      rounds = k.rounds;
+      slots = k.slots;
+      next_session = k.last_session + 1;
+      accused = k.accused.items;
+    } };
 
-    ghost invariant = { λ k. AreKept (record { me = k.me; lease = k.lease; longest = k.longest; answer = k.answer;
-        bound = k.bound; arbitrators = k.arbitrators; rounds = k.rounds; slots = k.slots;
-        next_session = k.last_session + 1; accused = k.accused.items }) k.deadlines };
+    ghost invariant = { λ k. AreKept (record {
+      me = k.me;
+      lease = k.lease;
+      longest = k.longest;
+      answer = k.answer;
+      bound = k.bound;
+      arbitrators = k.arbitrators;
+      rounds = k.rounds;
+      slots = k.slots;
+      next_session = k.last_session + 1;
+      accused = k.accused.items;
+    }) k.deadlines };
 }
 
 fn free_slots() -> [Option<Link>; SLOTS]
@@ -188,8 +208,11 @@ impl Links16 {
     /// numbers count.
     pub fn leave(&mut self, last_session: u32, accused: usize)
         requires { last_session < self.old.next_session }
-        ensures { self.new ≡ record self.old { slots = no_slots; next_session = last_session + 1;
-            accused = take accused self.old.accused } }
+        ensures { self.new ≡ record self.old {
+          slots = no_slots;
+          next_session = last_session + 1;
+          accused = take accused self.old.accused;
+        } }
     {
         self.slots = free_slots();
         self.deadlines = Deadlines::none();

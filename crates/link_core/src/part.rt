@@ -1,10 +1,10 @@
 ghost use Rattle.std.specs.Prelude.{◌≡◌, ◌<◌, OnErr, length};
 ghost use Rattle.link_core.specs.Calls.{slot_parted, turn_call_after, turn_outcome};
 
-use crate::refusal::LinkRefusal;
 use crate::bodies::say_gone;
-use ring_points::{OUTBOX_LIMIT, RangeSet};
+use crate::refusal::LinkRefusal;
 use fabric_terms::Outbox;
+use ring_points::{OUTBOX_LIMIT, RangeSet};
 use ring_rules::{Link, LinkState};
 
 /// The slot gives up its record and says so to the peer, unless a flight of it stands.

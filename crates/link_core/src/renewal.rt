@@ -4,10 +4,10 @@ ghost use Rattle.ring_rules.specs.Links.{renewed};
 ghost use Rattle.link_core.specs.Links.{turn, turn_after};
 ghost use Rattle.link_core.specs.Renewals.{ack_seen, renew_seen, wanted_if};
 
-use crate::notes::{LinkNote, LinkNotes};
 use crate::bodies::say_gone;
-use ring_points::{OUTBOX_LIMIT, RangeSet};
+use crate::notes::{LinkNote, LinkNotes};
 use fabric_terms::{Body, Outbox};
+use ring_points::{OUTBOX_LIMIT, RangeSet};
 use ring_rules::{Link, LinkState};
 
 /// What a Renew says beside the numbers of its session.
@@ -38,8 +38,11 @@ fn renew(link: &mut Link, version: u32, got: u32, ranges: &RangeSet)
 
 fn acknowledge(link: &Link, renewal: &Renewal, out: &mut Outbox)
     requires { length out.old < OUTBOX_LIMIT }
-    ensures { out.new ≡ out.old ++ (link.now.peer, body.RenewAck link.now.mine link.now.yours renewal.now.stamp
-        renewal.now.version) ∷ [] }
+    ensures { out.new ≡ out.old ++ (
+      link.now.peer,
+      body.RenewAck link.now.mine link.now.yours renewal.now.stamp
+          renewal.now.version,
+    ) ∷ [] }
 {
     out.send(
         link.peer,

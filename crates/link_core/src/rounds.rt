@@ -6,9 +6,11 @@ ghost use Rattle.link_core.specs.Rounds.{claimed_first, claimed_if, claims, kept
 
 use crate::notes::LinkNotes;
 use crate::ruling::{Terms, becomes_heir, ripe_at};
-use ring_points::{ARBITRATORS, MAX_ARBITRATORS, MAX_DRIFT, MAX_GRAIN, MAX_READING, OUTBOX_LIMIT, Who};
 use fabric_terms::{Body, Outbox};
 use heir_rounds::RoundVerdict;
+use ring_points::{
+    ARBITRATORS, MAX_ARBITRATORS, MAX_DRIFT, MAX_GRAIN, MAX_READING, OUTBOX_LIMIT, Who,
+};
 use ring_rules::{Link, LinkState};
 
 /// Whether the arbitrator has ruled, and has not answered in this round.

@@ -8,8 +8,8 @@ ghost use Rattle.link_core.specs.Rulings.{kept_discharged, ruling_seen, ripe_at}
 use crate::notes::{LinkNote, LinkNotes};
 use arbiter_quorum::Verdict;
 use drift_clock::{Bound, wait_of};
-use ring_points::{MAX_DRIFT, MAX_GRAIN, MAX_READING, Ruling};
 use fabric_terms::Why;
+use ring_points::{MAX_DRIFT, MAX_GRAIN, MAX_READING, Ruling};
 use ring_rules::{Link, LinkState};
 
 /// There is nothing to take over.
@@ -144,8 +144,7 @@ pub(crate) fn ruling_seen(
     requires length { IfSome slot.old (λ l. l.len + terms.answer ≤ 2_000_000_000) }
     requires first { 1 ≤ arbitrator }
     requires last { IfSome slot.old (λ l. arbitrator ≤ l.tally.arbitrators) }
-    ensures { turn slot.new [] result ≡ ruling_seen now terms.bound terms.answer terms.rounds arbitrator ruling slot.old
-        }
+    ensures { turn slot.new [] result ≡ ruling_seen now terms.bound terms.answer terms.rounds arbitrator ruling slot.old }
 {
     let Some(link) = slot else {
         return LinkNotes::none();

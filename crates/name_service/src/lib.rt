@@ -9,8 +9,8 @@
 mod change;
 mod listing;
 mod name;
-mod names;
 mod name_key;
+mod names;
 mod point;
 
 pub use name::Name;

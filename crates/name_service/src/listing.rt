@@ -7,9 +7,9 @@ ghost use Rattle.name_service.specs.Stores.{AllPlaced, Marks, marked, name_if, n
 use crate::name::Name;
 use crate::name_key::NameKey;
 use arrayvec::ArrayVec;
-use ring_points::{Interval, MAX_LISTED_NAMES};
 use fabric_terms::OutOfMemory;
 use lane_scan::{is_marked, mask_in};
+use ring_points::{Interval, MAX_LISTED_NAMES};
 use std::alloc::Global;
 use std::collections::btree_map::Range;
 

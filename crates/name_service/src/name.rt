@@ -1,8 +1,8 @@
 ghost use Rattle.std.specs.Prelude.{◌≡◌, if◌then◌else◌, IfOk, OnErr, Some, None, true};
 ghost use Rattle.name_rules.specs.Grammar.{every, is_name, is_name_byte};
 
-use ring_points::MAX_NAME;
 use fabric_terms::OutOfMemory;
+use ring_points::MAX_NAME;
 use std::alloc::Global;
 use std::marker::Model;
 

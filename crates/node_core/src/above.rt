@@ -14,11 +14,11 @@ ghost use Rattle.node_core.specs.UnitParts.{is_later, most_fired, site_at};
 ghost use Rattle.node_core.specs.Nodes.{FitsInput};
 ghost use Rattle.node_core.specs.Rows.{comes_first, comes_later, row_if};
 
+use crate::unit_part::UnitNode;
 use fabric_terms::{Message, OutOfMemory, Outbox};
 use join_phases::Phase;
 use ring_node::{Input, RingNode};
 use unit_desk::UnitEffects;
-use crate::unit_part::UnitNode;
 
 /// Whether the ring lets the input come to what runs above it: any but a frame that does not pass.
 fn comes_above(ring: &RingNode, input: &Input) -> bool

@@ -13,17 +13,17 @@
 mod above;
 mod batch;
 mod boots;
-mod node_effects;
+mod capacity;
 mod kept;
 mod node;
+mod node_effects;
 mod outcome;
-mod capacity;
-mod whole_step;
 mod unit_commands;
 mod unit_firing;
 mod unit_frames;
 mod unit_loads;
 mod unit_part;
+mod whole_step;
 
 pub use batch::Batch;
 pub use kept::NodeKept;

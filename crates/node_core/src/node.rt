@@ -19,19 +19,19 @@ ghost use Rattle.node_core.specs.UnitParts.{most_fired};
 
 use crate::batch::Batch;
 use crate::boots::{boot, instance_after, is_spent};
-use crate::node_effects::NodeEffects;
 use crate::kept::NodeKept;
+use crate::node_effects::NodeEffects;
 use crate::outcome::Outcome;
+use crate::unit_part::UnitNode;
 use crate::whole_step::step_at;
-use ring_points::{MAX_READING, RangeSet, Who};
 use fabric_terms::{FabricConfig, OutOfMemory};
 use keep_log::Kept;
 use replica_core::Replica;
 use ring_node::{Input, Owned, RingNode};
+use ring_points::{MAX_READING, RangeSet, Who};
 use std::alloc::Global;
 use std::marker::Model;
 use std::mem;
-use crate::unit_part::UnitNode;
 use unit_replica::ReplicaStates;
 
 /// A whole node. Contracts see it as the record `Core`: what it goes by, its ring and what runs above it.

@@ -2,11 +2,11 @@ ghost use Rattle.std.specs.Prelude.{◌≤◌, IfOk};
 ghost use Rattle.node_core.specs.NodeEffects.{IsClear, IsReady};
 ghost use Rattle.node_core.specs.Nodes.{frames_limit};
 
-use ring_points::{MAX_RING_REPORTS, MAX_STEP_REPORTS};
 use fabric_terms::{Message, OutOfMemory, Outbox, Record, Report};
 use ring_node::Reports;
+use ring_points::{MAX_RING_REPORTS, MAX_STEP_REPORTS};
 use std::alloc::Global;
-use unit_desk::{UnitEffects, MAX_ROW_RECORDS, MAX_ROW_REPORTS};
+use unit_desk::{MAX_ROW_RECORDS, MAX_ROW_REPORTS, UnitEffects};
 
 // A step reports what the ring's step and one row above it do, and once what is owned.
 const _: () = prove!(MAX_RING_REPORTS + MAX_ROW_REPORTS + 1 <= MAX_STEP_REPORTS);

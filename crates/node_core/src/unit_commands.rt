@@ -6,9 +6,9 @@ ghost use Rattle.unit_rules.specs.Steps.{command_row, manage};
 ghost use Rattle.node_core.specs.UnitParts.{site_at};
 
 use crate::unit_part::UnitNode;
-use ring_points::{MAX_MEMBERS, Point};
 use fabric_terms::{Command, OutOfMemory};
 use ring_node::RingNode;
+use ring_points::{MAX_MEMBERS, Point};
 use unit_desk::UnitEffects;
 use unit_rules::Kind;
 

@@ -9,9 +9,9 @@ ghost use Rattle.node_core.specs.UnitParts.{site_at};
 
 use crate::unit_loads::{NO_NODE, fill_unloaded};
 use crate::unit_part::UnitNode;
-use ring_points::MAX_NODES;
 use fabric_terms::{Message, OutOfMemory};
 use ring_node::RingNode;
+use ring_points::MAX_NODES;
 use unit_desk::UnitEffects;
 
 impl UnitNode {
@@ -41,7 +41,13 @@ impl UnitNode {
 
     /// The row of an answer to the manager, which places by the nodes that are up at this reading. It needs no memory.
     #[tactic(auto, using(crate::proofs::UnitRows::answer_row))]
-    pub fn answered(&mut self, now: u64, ring: &RingNode, message: &Message, effects: &mut UnitEffects)
+    pub fn answered(
+        &mut self,
+        now: u64,
+        ring: &RingNode,
+        message: &Message,
+        effects: &mut UnitEffects,
+    )
         requires sound { IsTrue (is_sound message.now) }
         requires answer { is_some (answered_unit message.now.body) ≡ true }
         requires room { HasRoom effects.old }

@@ -6,9 +6,9 @@ ghost use Rattle.unit_replica.specs.Tables.{replica_at};
 ghost use Rattle.node_core.specs.UnitParts.{domains_of};
 
 use arrayvec::ArrayVec;
-use ring_points::{MAX_NODES, MAX_PARTITIONS};
 use fabric_terms::FabricConfig;
 use replica_core::Replica;
+use ring_points::{MAX_NODES, MAX_PARTITIONS};
 use std::alloc::Global;
 use std::marker::Model;
 use std::mem;
@@ -32,8 +32,10 @@ impl Model for UnitNode {
 
     ghost Value = { Part };
 
-    ghost view = { λ u. record { domains = u.domains.items;
-        state = record { managed = u.manager; states = u.states } } };
+    ghost view = { λ u. record {
+      domains = u.domains.items;
+      state = record { managed = u.manager; states = u.states };
+    } };
 
     ghost invariant = { λ u. length u.domains.items ≤ most_nodes };
 }
@@ -54,8 +56,10 @@ impl UnitNode {
     /// The start of an instance without replicas: it knows of no partition, and nothing is on its way.
     pub fn new(alloc: Global, config: &FabricConfig) -> Self
         requires { IsSound config.now }
-        ensures { result ≡ record { domains = domains_of config.now;
-            state = record { managed = record { units = []; reconfigs = [] }; states = [] } } }
+        ensures { result ≡ record {
+          domains = domains_of config.now;
+          state = record { managed = record { units = []; reconfigs = [] }; states = [] };
+        } }
     {
         UnitNode {
             domains: domains_of(config),

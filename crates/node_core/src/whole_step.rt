@@ -14,16 +14,16 @@ ghost use Rattle.node_core.specs.Nodes.{Does, FitsInput, GoesBy, IsSmall, core_o
 
 use crate::above::{answer_later, fire_later, take_first};
 use crate::batch::Batch;
+use crate::capacity::give_away;
 use crate::node_effects::NodeEffects;
 use crate::outcome::Outcome;
-use crate::capacity::give_away;
-use ring_points::MAX_READING;
+use crate::unit_part::UnitNode;
 use fabric_terms::{Message, OutOfMemory};
 use reconfig_phases::answered_unit;
 use ring_node::{Input, Owned, RingNode};
+use ring_points::MAX_READING;
 use std::alloc::Global;
 use unit_desk::{MAX_ROW_RECORDS, MAX_ROW_REPORTS};
-use crate::unit_part::UnitNode;
 
 /// What a step leaves, once all is done: what the ring sent and told comes first, and what is owned is told last.
 fn leave(alloc: Global, ring: &RingNode, owned: &mut Owned, effects: &mut NodeEffects) -> Outcome

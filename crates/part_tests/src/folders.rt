@@ -73,6 +73,7 @@ const STARTS: [&[u8]; 2] = [b"\x01\0\0\0\x01", b"\x01\0\0\0\x02"];
 
 /// The same with their lengths, and as the list that is read.
 const STARTS_IN_FILE: &[u8] = b"\0\x05\x01\0\0\0\x01\0\x05\x01\0\0\0\x02";
+
 const STARTS_READ: &[u8] = b"\x01\0\0\0\x01;\x01\0\0\0\x02;";
 
 #[test]

@@ -1,7 +1,7 @@
 ghost use Rattle.std.specs.Prelude.{◌≡◌, ◌≤◌, length};
 
-use ring_points::{Config, Epoch, MAX_LOG_ENTRIES, Members};
 use replica_core::{Done, Entry, EntryBytes, Replica, ReplicaRefusal, Role};
+use ring_points::{Config, Epoch, MAX_LOG_ENTRIES, Members};
 use std::alloc::Global;
 use std::process::Abort;
 

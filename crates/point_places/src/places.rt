@@ -30,8 +30,11 @@ impl Model for Places {
 
     ghost Value = { Spots };
 
-    ghost view = { λ a. record { segments = a.segments.items; moves = reverse a.moves.items;
-        room = vec_capacity a.moves - vec_len a.moves } };
+    ghost view = { λ a. record {
+      segments = a.segments.items;
+      moves = reverse a.moves.items;
+      room = vec_capacity a.moves - vec_len a.moves;
+    } };
 
     ghost invariant = { λ a. IsTrue (is_cut a.segments.items) };
 }

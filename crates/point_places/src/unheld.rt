@@ -140,8 +140,7 @@ pub fn unheld(
     holders: &[Holder],
     place: Place,
 ) -> Result<Vec<Interval>, OutOfMemory>
-    ensures left { IfOk result (λ r. r.items ≡ less_held (seen place) holders.now (spans_of (seen place) segments.now))
-        }
+    ensures left { IfOk result (λ r. r.items ≡ less_held (seen place) holders.now (spans_of (seen place) segments.now)) }
     ensures proper { OnOk result (IsTrue (list_all (λ h. is_proper h.ranges) holders.now)) }
 {
     let mut left = spans(alloc, segments, place)?;

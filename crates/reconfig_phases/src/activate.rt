@@ -6,8 +6,8 @@ ghost use Rattle.unit_rules.specs.Polls.{poll_of, waiting};
 
 use crate::poll::Poll;
 use arrayvec::ArrayVec;
-use ring_points::{Config, MAX_ARBITRATORS};
 use fabric_terms::{Body, Message};
+use ring_points::{Config, MAX_ARBITRATORS};
 use std::marker::Model;
 use unit_rules::{Next, Task};
 

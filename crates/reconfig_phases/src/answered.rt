@@ -8,9 +8,9 @@ use crate::answers::{answered_unit, carried};
 use crate::reconfig::Reconfig;
 use crate::step::{Progress, Step};
 use crate::transitions::source_by;
-use ring_points::OUTBOX_LIMIT;
 use fabric_terms::{Message, Outbox};
 use replica_place::NodeLoad;
+use ring_points::OUTBOX_LIMIT;
 
 impl Reconfig {
     /// Counts an answer in the phase in which it is, and enters the next one where that ends.

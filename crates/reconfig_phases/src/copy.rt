@@ -7,8 +7,8 @@ ghost use Rattle.unit_rules.specs.Polls.{poll_of, waiting};
 use crate::poll::Poll;
 use crate::step::OriginLog;
 use arrayvec::ArrayVec;
-use ring_points::{Config, MAX_ARBITRATORS};
 use fabric_terms::{Body, Message};
+use ring_points::{Config, MAX_ARBITRATORS};
 use std::marker::Model;
 use unit_rules::{Next, Task};
 

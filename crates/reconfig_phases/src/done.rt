@@ -7,8 +7,8 @@ ghost use Rattle.unit_rules.specs.Polls.{arbiters_to, poll_of, waiting};
 use crate::arbiters::arbiters;
 use crate::poll::Poll;
 use arrayvec::ArrayVec;
-use ring_points::{Config, MAX_ARBITRATORS};
 use fabric_terms::{Body, Message};
+use ring_points::{Config, MAX_ARBITRATORS};
 use std::marker::Model;
 use unit_rules::{Next, Task};
 

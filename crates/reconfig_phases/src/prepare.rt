@@ -8,8 +8,8 @@ use crate::arbiters::arbiters;
 use crate::choices::{copy_of, highest_done};
 use crate::poll::Poll;
 use arrayvec::ArrayVec;
-use ring_points::{Config, MAX_ARBITRATORS};
 use fabric_terms::{Body, Message};
+use ring_points::{Config, MAX_ARBITRATORS};
 use std::marker::Model;
 use unit_rules::{Next, Task};
 

@@ -9,8 +9,8 @@ use crate::choices::{furthest, furthest_among};
 use crate::poll::Poll;
 use crate::step::OriginLog;
 use arrayvec::ArrayVec;
-use ring_points::{Config, MAX_ARBITRATORS, Members};
 use fabric_terms::{Body, Message};
+use ring_points::{Config, MAX_ARBITRATORS, Members};
 use std::marker::Model;
 use unit_rules::{Kind, Next, Standing, Task};
 

@@ -18,8 +18,8 @@ use crate::promise::PromisePhase;
 use crate::swap::SwapPhase;
 use crate::vote::VotePhase;
 use arrayvec::ArrayVec;
-use ring_points::{Epoch, MAX_ARBITRATORS, OUTBOX_LIMIT, Who};
 use fabric_terms::{Body, Outbox};
+use ring_points::{Epoch, MAX_ARBITRATORS, OUTBOX_LIMIT, Who};
 use unit_rules::{Kind, Task};
 
 /// A reconfiguration on its way: the phase in which it is. Contracts see it by `reconfig_of`.

@@ -4,8 +4,8 @@ ghost use Rattle.reconfig_phases.specs.Views.{Ends};
 ghost use Rattle.unit_rules.specs.Phases.{swap_ends, swap_on};
 
 use arrayvec::ArrayVec;
-use ring_points::{Config, MAX_ARBITRATORS};
 use fabric_terms::{Body, Message};
+use ring_points::{Config, MAX_ARBITRATORS};
 use std::marker::Model;
 use unit_rules::{Next, Standing, Task};
 

@@ -15,13 +15,13 @@ use crate::done::DonePhase;
 use crate::members::{members_of, rising_members};
 use crate::promise::PromisePhase;
 use crate::reconfig::Reconfig;
-use crate::step::{Progress, OriginLog};
+use crate::step::{OriginLog, Progress};
 use crate::swap::SwapPhase;
 use crate::vote::VotePhase;
-use ring_points::{Config, MAX_MEMBERS, OUTBOX_LIMIT};
 use fabric_terms::Outbox;
 use failover_units::UnitRefusal;
 use replica_place::{NodeLoad, place};
+use ring_points::{Config, MAX_MEMBERS, OUTBOX_LIMIT};
 use unit_rules::{Kind, Standing, Task};
 
 /// The first of these nodes, 0 where there is none.
@@ -49,7 +49,13 @@ pub(crate) fn source_by(kind: Kind, config: &Config, source: OriginLog) -> Origi
 
 impl Reconfig {
     /// The arbitrators are asked to vote for this configuration, with the log of this source.
-    pub(crate) fn propose(&mut self, task: Task, config: Config, source: OriginLog, out: &mut Outbox)
+    pub(crate) fn propose(
+        &mut self,
+        task: Task,
+        config: Config,
+        source: OriginLog,
+        out: &mut Outbox,
+    )
         requires task { IsTask task }
         requires room { length out.old + 9 ≤ OUTBOX_LIMIT }
         ensures does { Does (proposes task config source) (Stay (reconfig_of self.new)) out.old out.new }
@@ -60,7 +66,13 @@ impl Reconfig {
     }
 
     /// The members of the decided configuration are asked to take the log.
-    pub(crate) fn copy_log(&mut self, task: Task, config: Config, source: OriginLog, out: &mut Outbox)
+    pub(crate) fn copy_log(
+        &mut self,
+        task: Task,
+        config: Config,
+        source: OriginLog,
+        out: &mut Outbox,
+    )
         requires task { IsTask task }
         requires room { length out.old + 9 ≤ OUTBOX_LIMIT }
         ensures does { Does (copies task config source) (Stay (reconfig_of self.new)) out.old out.new }

@@ -10,8 +10,8 @@ use crate::arbiters::arbiter_number;
 use crate::step::OriginLog;
 use arbiter_quorum::{VoteTally, VoteVerdict};
 use arrayvec::ArrayVec;
-use ring_points::{ARBITRATORS, Config, MAX_ARBITRATORS};
 use fabric_terms::{Body, Message};
+use ring_points::{ARBITRATORS, Config, MAX_ARBITRATORS};
 use std::marker::Model;
 use unit_rules::{Next, Task};
 

@@ -9,6 +9,6 @@
 mod laws;
 
 pub use laws::{
-    nothing_is_kept, states_are_kept, starts_are_kept, starts_begin_again, starts_go_on,
-    starts_rise, starts_stay_kept, steps_are_kept, steps_stay_kept,
+    nothing_is_kept, starts_are_kept, starts_begin_again, starts_go_on, starts_rise,
+    starts_stay_kept, states_are_kept, steps_are_kept, steps_stay_kept,
 };

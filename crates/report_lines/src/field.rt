@@ -4,8 +4,8 @@ ghost use Rattle.std.specs.List.{list_all};
 ghost use Rattle.text_fields.specs.Fields.{Gives, word_of};
 ghost use Rattle.line_format.specs.Commands.{partition_at, is_printable, text_of};
 
-use ring_points::MAX_PARTITIONS;
 use line_format::BadLine;
+use ring_points::MAX_PARTITIONS;
 use text_fields::{BadField, number_in, number_word};
 
 /// The greatest number of a partition.

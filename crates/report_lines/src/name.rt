@@ -2,9 +2,9 @@ ghost use Rattle.std.specs.Prelude.{◌≡◌, ◌≤◌, length};
 ghost use Rattle.text_fields.specs.Fields.{Gives, last, word_of};
 ghost use Rattle.line_format.specs.Names.{is_name_byte, name_length, name_at};
 
-use ring_points::MAX_NAME;
 use fabric_terms::NameText;
 use line_format::BadLine;
+use ring_points::MAX_NAME;
 use text_fields::after_word;
 
 fn is_name_byte(b: u8) -> bool

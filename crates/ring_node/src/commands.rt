@@ -10,8 +10,8 @@ use crate::node::RingNode;
 use crate::refusals::{refuse, refuse_for};
 use crate::reports::Reports;
 use crate::tokens::Spent;
-use ring_points::{MAX_READING, MAX_RING_REPORTS, OUTBOX_LIMIT};
 use fabric_terms::{Command, Outbox, Reason, Verb};
+use ring_points::{MAX_READING, MAX_RING_REPORTS, OUTBOX_LIMIT};
 
 impl RingNode {
     /// The command to link with a node.
@@ -47,8 +47,7 @@ impl RingNode {
     pub(crate) fn join(&mut self, member: u16, out: &mut Outbox, told: &mut Reports)
         requires room { length out.old < OUTBOX_LIMIT }
         requires place { length told.old < MAX_RING_REPORTS }
-        ensures row { step self.new out.new told.new ≡ by (λ c. join_commanded member) (step self.old out.old told.old)
-            }
+        ensures row { step self.new out.new told.new ≡ by (λ c. join_commanded member) (step self.old out.old told.old) }
         ensures few { length told.new ≤ length told.old + 1 }
         ensures short { length out.new ≤ length out.old + 1 }
     {

@@ -8,8 +8,8 @@ ghost use Rattle.fabric_terms.specs.Messages.{is_sound};
 
 use crate::node::RingNode;
 use crate::reports::Reports;
-use ring_points::{ARBITRATORS, MAX_READING, Point, Who};
 use fabric_terms::{Body, Message, Outbox};
+use ring_points::{ARBITRATORS, MAX_READING, Point, Who};
 use ring_route::is_among;
 
 fn is_for(me: Who, to: Who) -> bool

@@ -16,9 +16,9 @@ use crate::node::RingNode;
 use crate::refusals::{refuse, refuse_gift};
 use crate::reports::Reports;
 use crate::tokens::Spent;
-use ring_points::{MAX_RING_REPORTS, RangeSet, TooMany, Who};
 use fabric_terms::{Reason, Verb};
 use link_core::{Link, LinkState};
+use ring_points::{MAX_RING_REPORTS, RangeSet, TooMany, Who};
 
 fn is_bound_with(slot: &Option<Link>, node: u16) -> bool
     ensures { result ≡ of_node is_bound node slot.now }
@@ -88,8 +88,7 @@ impl RingNode {
             step self.new sent told.new ≡ by (λ c w. give_at all i (slot_at i w.ring.slots) w)
             (step self.old sent told.old)) }
         ensures err { OnErr result ((sent : List (Who × Body)) →
-            has_numbers (give_at all i (slot_at i self.old.ring.slots) (step self.old sent told.old).work).ring ≡ false)
-            }
+            has_numbers (give_at all i (slot_at i self.old.ring.slots) (step self.old sent told.old).work).ring ≡ false) }
         ensures kept { OnErr result (self.new ≡ self.old) }
         ensures same { OnErr result (told.new ≡ told.old) }
         ensures few { length told.new ≤ length told.old + 1 }

@@ -8,9 +8,9 @@ ghost use Rattle.ring_rules.specs.Handshakes.{greet_plainly};
 use crate::node::RingNode;
 use crate::refusals::pass_over;
 use crate::tokens::Spent;
-use ring_points::{MAX_READING, OUTBOX_LIMIT};
 use fabric_terms::Outbox;
 use link_core::LinkRefusal;
+use ring_points::{MAX_READING, OUTBOX_LIMIT};
 
 impl RingNode {
     /// Greets a node.

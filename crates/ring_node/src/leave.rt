@@ -5,8 +5,8 @@ ghost use Rattle.ring_rules.specs.Deeds.{leave};
 
 use crate::node::{Mark, RingNode};
 use crate::reports::Reports;
-use ring_points::MAX_RING_REPORTS;
 use fabric_terms::{Outbox, Report, Why};
+use ring_points::MAX_RING_REPORTS;
 
 /// A row is done whole: one that breaks off for want of a number is not done at all, and the node leaves.
 macro_rules! whole_row {

@@ -9,18 +9,18 @@
 
 mod acked;
 mod commands;
-mod ring_firing;
 mod frames;
 mod giving;
 mod greetings;
-mod link_frames;
 mod leave;
+mod link_frames;
 mod near;
 mod node;
 mod notes;
 mod ownership;
 mod refusals;
 mod reports;
+mod ring_firing;
 mod searches;
 mod start;
 mod step;

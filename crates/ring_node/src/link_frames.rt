@@ -8,8 +8,8 @@ ghost use Rattle.ring_rules.specs.Frames.{frame_row};
 use crate::leave::whole_row;
 use crate::node::{RingNode, announced};
 use crate::reports::Reports;
-use ring_points::{MAX_READING, MAX_RING_REPORTS, OUTBOX_LIMIT};
 use fabric_terms::{Body, Message, Outbox};
+use ring_points::{MAX_READING, MAX_RING_REPORTS, OUTBOX_LIMIT};
 
 /// Whether a frame says that its sender is gone and wants an answer.
 pub(crate) fn wants_answer(body: &Body) -> bool

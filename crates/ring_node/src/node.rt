@@ -7,10 +7,10 @@ ghost use Rattle.ring_route.specs.Routes.{point_of};
 
 use crate::reports::Reports;
 use arrayvec::ArrayVec;
-use ring_points::{MAX_ARBITRATORS, MAX_LEASE, MAX_NODES, Point, Who};
 use fabric_terms::Outbox;
 use join_phases::Phase;
 use link_core::{Announced, Links16};
+use ring_points::{MAX_ARBITRATORS, MAX_LEASE, MAX_NODES, Point, Who};
 use ring_route::RouteTable;
 use std::marker::Model;
 use token_core::Token;
@@ -77,8 +77,11 @@ fn point_in(points: &[(u16, Point)], node: u16) -> Point
 
 /// What a Renew says of a node with this token in this phase.
 pub(crate) fn announced<'a>(token: &'a Token, phase: &Phase) -> Announced<'a>
-    ensures { result ≡ record { version = token.now.version; ranges = announced token.now;
-        want = is_linked phase.now } }
+    ensures { result ≡ record {
+      version = token.now.version;
+      ranges = announced token.now;
+      want = is_linked phase.now;
+    } }
 {
     let want = matches!(phase, Phase::Linked(_));
     Announced::new(token.version(), token.announced(), want)

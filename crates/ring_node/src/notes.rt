@@ -20,9 +20,9 @@ use crate::near::nearer_part;
 use crate::node::RingNode;
 use crate::reports::Reports;
 use crate::tokens::Spent;
-use ring_points::{MAX_RING_REPORTS, OUTBOX_LIMIT, RangeSet, Who};
 use fabric_terms::{Body, Outbox, Report};
 use link_core::LinkNote;
+use ring_points::{MAX_RING_REPORTS, OUTBOX_LIMIT, RangeSet, Who};
 use token_core::TokenRefusal;
 
 impl RingNode {

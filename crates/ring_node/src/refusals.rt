@@ -4,9 +4,9 @@ ghost use Rattle.ring_node.specs.Refusals.{needs_number, reason_for, reason_of, 
 
 use crate::reports::Reports;
 use crate::tokens::Spent;
-use ring_points::MAX_RING_REPORTS;
 use fabric_terms::{Reason, Report, Verb};
 use link_core::LinkRefusal;
+use ring_points::MAX_RING_REPORTS;
 use token_core::TokenRefusal;
 
 /// What is told of a refused call on the links; for want of a number nothing is.

@@ -1,8 +1,8 @@
 ghost use Rattle.std.specs.Prelude.{◌≡◌, ◌+◌, ◌<◌, ◌≤◌, ◌++◌, ◌∷◌, [], length, take, vec_capacity, vec_len};
 
 use arrayvec::ArrayVec;
-use ring_points::MAX_RING_REPORTS;
 use fabric_terms::Report;
+use ring_points::MAX_RING_REPORTS;
 use std::marker::Model;
 use std::mem;
 

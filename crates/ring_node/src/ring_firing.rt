@@ -12,10 +12,10 @@ use crate::leave::whole_row;
 use crate::node::{RingNode, announced};
 use crate::reports::Reports;
 use crate::tokens::Spent;
-use ring_points::{MAX_READING, MAX_RING_REPORTS, OUTBOX_LIMIT};
 use fabric_terms::{Body, Outbox, Report};
 use join_phases::Phase;
 use link_core::SLOTS;
+use ring_points::{MAX_READING, MAX_RING_REPORTS, OUTBOX_LIMIT};
 use token_core::TokenRefusal;
 
 /// What notes of a firing answer: a frame that neither ends a session nor brings a flight.

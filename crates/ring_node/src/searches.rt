@@ -11,8 +11,8 @@ use crate::leave::whole_row;
 use crate::node::RingNode;
 use crate::reports::Reports;
 use crate::tokens::Spent;
-use ring_points::{MAX_HOPS, MAX_READING, MAX_RING_REPORTS, OUTBOX_LIMIT, Point, Who};
 use fabric_terms::{Body, Outbox, Report};
+use ring_points::{MAX_HOPS, MAX_READING, MAX_RING_REPORTS, OUTBOX_LIMIT, Point, Who};
 use ring_route::Hop;
 
 impl RingNode {

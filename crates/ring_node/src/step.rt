@@ -7,8 +7,8 @@ ghost use Rattle.ring_rules.specs.Steps.{input_taken};
 use crate::node::RingNode;
 use crate::ownership::{Owned, keep_ranges, same_fence, same_ranges};
 use crate::reports::Reports;
-use ring_points::{MAX_READING, MAX_RING_REPORTS, OUTBOX_LIMIT};
 use fabric_terms::{Outbox, Report, Why};
+use ring_points::{MAX_READING, MAX_RING_REPORTS, OUTBOX_LIMIT};
 use ring_rules::Input;
 
 impl RingNode {

@@ -22,10 +22,6 @@ pub use laws::{
     a_set_has_one_list, difference_has_the_first_alone, meet_has_both,
     nearer_is_a_strict_total_order, nearer_part_has_the_nearer, union_has_either,
 };
-pub use point::{HALF_RING, Point, distance, nearer};
-pub use ranges::{RangeSet, TooMany};
-pub use unit::{Config, Epoch, Members};
-pub use who::{ARBITRATORS, Flight, Ruling, Who};
 pub use limit_laws::constants_are_the_defined_limits;
 pub use limits::{
     FRAME_LIMIT, MAX_ARBITRATORS, MAX_COUNTER, MAX_DOMAINS, MAX_DRIFT, MAX_GRAIN, MAX_HOPS,
@@ -33,3 +29,7 @@ pub use limits::{
     MAX_NAME_VALUE, MAX_NODE_NUMBER, MAX_NODES, MAX_PARTITIONS, MAX_READING, MAX_RING_REPORTS,
     MAX_ROUNDS, MAX_STEP_REPORTS, MAX_WRITE, MIN_LEASE, OUTBOX_LIMIT,
 };
+pub use point::{HALF_RING, Point, distance, nearer};
+pub use ranges::{RangeSet, TooMany};
+pub use unit::{Config, Epoch, Members};
+pub use who::{ARBITRATORS, Flight, Ruling, Who};

@@ -7,10 +7,10 @@ mod arc;
 mod sweep;
 
 use crate::interval::Interval;
+use crate::limits::MAX_INTERVALS;
 use crate::point::Point;
 use arc::nearer_arc;
 use arrayvec::ArrayVec;
-use crate::limits::MAX_INTERVALS;
 use std::marker::Model;
 use sweep::{Rule, Sets, sweep};
 

@@ -1,7 +1,7 @@
 ghost use Rattle.std.specs.Prelude.{◌≡◌, ◌≤◌, ◌<◌, ◌∷◌, ◌++◌, [], length};
 
-use arrayvec::ArrayVec;
 use crate::limits::MAX_MEMBERS;
+use arrayvec::ArrayVec;
 use std::marker::Model;
 
 /// When a configuration of a partition was made. Epochs are compared by the data loss number, then by

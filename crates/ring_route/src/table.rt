@@ -8,8 +8,8 @@ use crate::hop::Hop;
 use crate::known::{Known, hear_again, hops};
 use crate::near::{Way, add_nodes, sorted, without_repeats};
 use arrayvec::ArrayVec;
-use ring_points::{MAX_NODES, Point, Who, nearer};
 use lane_scan::nearest;
+use ring_points::{MAX_NODES, Point, Who, nearer};
 use std::marker::Model;
 
 /// What a node knows of the others. Contracts see it as the record `Routes`: the points of the configured

@@ -11,12 +11,12 @@ mod roles;
 mod rulings;
 mod searches;
 
-use ring_points::FRAME_LIMIT;
 use fabric_terms::{Body, Message};
 use greetings::put_greeting;
 use links::put_link;
 use partitions::put_partition;
 use replicas::put_replica;
+use ring_points::FRAME_LIMIT;
 use roles::put_role;
 use rulings::put_ruling_body;
 use searches::put_search;

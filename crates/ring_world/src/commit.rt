@@ -57,13 +57,23 @@ impl World {
         requires frames { length frames ≤ self.old.frames.room }
         requires sound { All (λ m. IsTrue (is_sound m)) frames }
         requires reports { length reports ≤ self.old.places.room }
-        ensures rest { self.new ≡ record self.old { events = self.old.events + 1; sent = self.old.sent + length frames;
-            frames = self.new.frames; places = self.new.places } }
+        ensures rest { self.new ≡ record self.old {
+          events = self.old.events + 1;
+          sent = self.old.sent + length frames;
+          frames = self.new.frames;
+          places = self.new.places;
+        } }
         ensures frames { self.new.frames.frames ≡ posted_all frames self.old.frames.frames }
         ensures places { (p : ℕ) → p < 2 ^ 64 →
             place_at self.new.places p ≡ placed_by who reports p (place_at self.old.places p) }
-        ensures acted { result ≡ record { line = line; time = self.old.time; who = who; reading = reading;
-            sent = numbers_after self.old.sent (length frames); reports = reports } }
+        ensures acted { result ≡ record {
+          line = line;
+          time = self.old.time;
+          who = who;
+          reading = reading;
+          sent = numbers_after self.old.sent (length frames);
+          reports = reports;
+        } }
     {
         let count = frames.as_slice().len() as u32;
         let sent = numbers_after(self.sent, count);

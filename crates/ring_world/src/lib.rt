@@ -9,13 +9,13 @@
 mod actors;
 mod arbiter_start;
 mod commit;
+mod configured_arbiter;
 mod delivery;
+mod event_limits;
 mod events;
 mod replica;
-mod event_limits;
 mod ruling;
 mod running;
-mod configured_arbiter;
 mod seen;
 mod start;
 mod step;

@@ -57,8 +57,10 @@ impl World {
         requires room { 0 < self.old.frames.room }
         requires sound { IfSome reply (λ r. IsTrue (is_sound (record { from = from; to = r.0; body = r.1 }))) }
         requires few { self.old.sent < most_frames }
-        ensures rest { self.new ≡ record self.old { frames = self.new.frames;
-            sent = self.old.sent + length (option_to_list reply) } }
+        ensures rest { self.new ≡ record self.old {
+          frames = self.new.frames;
+          sent = self.old.sent + length (option_to_list reply);
+        } }
         ensures frames { self.new.frames.frames ≡ posted from (option_to_list reply) self.old.frames.frames }
         ensures numbers { result ≡ numbers_of self.old.sent (option_to_list reply) }
     {

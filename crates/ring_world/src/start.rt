@@ -15,9 +15,9 @@ ghost use Rattle.ring_world.specs.Starts.{place_for};
 use crate::running::Running;
 use crate::world::{Acted, EventRefusal, World};
 use drift_clock::Drift;
-use ring_points::{MAX_READING, Who};
 use fabric_terms::{Event, OutOfMemory};
 use node_core::NodeCore;
+use ring_points::{MAX_READING, Who};
 use world_rules::is_configured_node;
 
 /// Where the clock of this node has to stand.

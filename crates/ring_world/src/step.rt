@@ -10,9 +10,9 @@ ghost use Rattle.ring_world.specs.Stands.{Stands};
 ghost use Rattle.ring_world.specs.Steps.{CanStep};
 
 use crate::world::{Acted, World};
-use ring_points::MAX_STEP_REPORTS;
 use fabric_terms::OutOfMemory;
 use ring_node::Input;
+use ring_points::MAX_STEP_REPORTS;
 
 impl World {
     /// Makes room for so many frames and for what one step tells.

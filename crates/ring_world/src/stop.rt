@@ -6,9 +6,9 @@ ghost use Rattle.ring_world.specs.Moves.{Comes};
 ghost use Rattle.ring_world.specs.Stands.{Stands};
 
 use crate::world::{Acted, EventRefusal, World};
-use ring_points::{ARBITRATORS, MAX_NODE_NUMBER, Who};
 use fabric_terms::{Event, OutOfMemory, Report};
 use node_core::Batch;
+use ring_points::{ARBITRATORS, MAX_NODE_NUMBER, Who};
 use std::alloc::Global;
 
 fn stopped(alloc: Global) -> Result<Batch<Report>, OutOfMemory>

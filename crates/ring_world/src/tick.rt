@@ -11,8 +11,8 @@ ghost use Rattle.ring_world.specs.Ticks.{Shows, are_of_clocks};
 
 use crate::world::{EventRefusal, World};
 use drift_clock::DriftBroken;
-use ring_points::{MAX_READING, Who};
 use fabric_terms::Event;
+use ring_points::{MAX_READING, Who};
 
 /// Whether the readings are of exactly these nodes, in their order.
 fn are_of(readings: &[(u16, u64)], clocks: &[(Who, u64)]) -> bool

@@ -14,15 +14,15 @@ ghost use Rattle.fabric_terms.specs.Ranges.{Fits};
 ghost use Rattle.unit_rules.specs.Fabric.{fabric};
 ghost use Rattle.world_rules.specs.Runs.{History, run_of};
 
-use crate::running::Running;
 use crate::configured_arbiter::ConfiguredArbiter;
+use crate::running::Running;
 use arbiter_core::Arbiter;
 use drift_clock::DriftBroken;
-use ring_points::{MAX_ARBITRATORS, MAX_NODE_NUMBER, Who};
 use fabric_terms::{Event, FabricConfig, OutOfMemory, Report};
 use frame_bag::FrameBag;
 use node_core::{Batch, NodeKept};
 use point_places::Places;
+use ring_points::{MAX_ARBITRATORS, MAX_NODE_NUMBER, Who};
 use std::alloc::Global;
 
 /// Why an event is refused. Each comes where no earlier one does.

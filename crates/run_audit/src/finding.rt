@@ -44,7 +44,12 @@ fn breach_of(line: u64, findings: Findings) -> Option<Breach>
 
 /// The breach at the end of a run that was safe a moment ago: two holders of a point first, then a victim that holds
 /// one, then what is wrong with the reports.
-pub fn breach_at(line: u64, rows: &[LiveHolder], taken: &TakeOvers, findings: Findings) -> Option<Breach>
+pub fn breach_at(
+    line: u64,
+    rows: &[LiveHolder],
+    taken: &TakeOvers,
+    findings: Findings,
+) -> Option<Breach>
     requires { All Rises rows.now }
     ensures { Finds line rows.now taken.now findings result }
 {

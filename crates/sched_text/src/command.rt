@@ -4,10 +4,10 @@ ghost use Rattle.text_fields.specs.Fields.{Gives, whole_of};
 ghost use Rattle.line_format.specs.Commands.{members_of, link_of, give_of, text_of, in_partition, partition_command_of};
 ghost use Rattle.line_format.specs.Commands.{command_of};
 
-use ring_points::{MAX_LEASE, MAX_MEMBERS, MAX_WRITE, MIN_LEASE, Point};
 use fabric_terms::{Command, Payload};
 use line_format::BadLine;
 use report_lines::{last_name, partition_word, text_of};
+use ring_points::{MAX_LEASE, MAX_MEMBERS, MAX_WRITE, MIN_LEASE, Point};
 use text_fields::{BadField, after_word, last_node, last_number, last_point, last_span, node_at};
 
 fn members_of(bytes: &[u8]) -> Result<u8, BadField>

@@ -9,9 +9,9 @@ ghost use Rattle.schedule_generate.specs.Moves.{events_for};
 ghost use Rattle.schedule_generate.specs.Settings.{generated_config};
 ghost use Rattle.schedule_generate.specs.Shown.{nodes_of, shown};
 
-use crate::generator::Generator;
 use crate::course_halt::{CourseHalt, halt_of};
 use crate::course_observer::CourseObserver;
+use crate::generator::Generator;
 use crate::moves::Move;
 use fabric_terms::OutOfMemory;
 use rand_core::utils::NextWord;
@@ -48,7 +48,11 @@ fn push_firings(moves: &mut Vec<Move>, readings: &[(u16, u64)]) -> Result<(), Ou
 
 impl Generator {
     /// The clock of each running node shows the true time.
-    fn tick<L: CourseObserver>(&mut self, listener: &mut L, text: &mut Vec<u8>) -> Result<(), CourseHalt>
+    fn tick<L: CourseObserver>(
+        &mut self,
+        listener: &mut L,
+        text: &mut Vec<u8>,
+    ) -> Result<(), CourseHalt>
         requires at { IsAt L.writing (L.knows listener.old) self.old text.old.items }
         requires early { self.old.time ≤ 10 ^ 14 }
         requires few { self.old.nodes ≤ 16 }
@@ -109,7 +113,11 @@ impl Generator {
     }
 
     /// All frames that were sent so far and not considered yet, in their order.
-    fn give<L: CourseObserver>(&mut self, listener: &mut L, text: &mut Vec<u8>) -> Result<(), CourseHalt>
+    fn give<L: CourseObserver>(
+        &mut self,
+        listener: &mut L,
+        text: &mut Vec<u8>,
+    ) -> Result<(), CourseHalt>
         requires at { IsAt L.writing (L.knows listener.old) self.old text.old.items }
         ensures went { (g : Course) (sent : List ℕ) →
             At L.writing (L.knows listener.old) self.old.nodes self.old text.old.items g sent →

@@ -9,10 +9,10 @@
 #![tactic(auto)]
 
 mod course;
-mod generator;
 mod course_halt;
-mod lines;
 mod course_observer;
+mod generator;
+mod lines;
 mod moves;
 mod opening;
 mod settings;

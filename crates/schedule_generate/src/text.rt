@@ -5,8 +5,8 @@ ghost use Rattle.schedule_generate.specs.Laws.{judged_of};
 ghost use Rattle.schedule_rules.specs.Schedule.{judge};
 ghost use Rattle.schedule_generate.specs.Texts.{all_written, ended, gen_text, generate_writing, generated};
 
-use crate::lines::{push_move_line, push_tick_line};
 use crate::course_observer::CourseObserver;
+use crate::lines::{push_move_line, push_tick_line};
 use crate::moves::Move;
 use crate::settings::push_config_line;
 use crate::write::write_schedule;

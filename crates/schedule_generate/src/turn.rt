@@ -5,9 +5,9 @@ ghost use Rattle.schedule_generate.specs.Course.{Course, with_turn};
 ghost use Rattle.schedule_generate.specs.Goes.{At, IsAt, Went};
 ghost use Rattle.schedule_generate.specs.Settings.{generated_config};
 
-use crate::generator::Generator;
 use crate::course_halt::CourseHalt;
 use crate::course_observer::CourseObserver;
+use crate::generator::Generator;
 use crate::moves::Move;
 use rand_core::utils::NextWord;
 use ring_points::Who;
@@ -22,7 +22,11 @@ fn is_among(clocks: &[(Who, u64)], node: u16) -> bool
 impl Generator {
     /// A draw decides whether a node is stopped or started, and which: one that runs is stopped, and one that does not
     /// is started, its clock showing the true time.
-    pub fn turn<L: CourseObserver>(&mut self, listener: &mut L, text: &mut Vec<u8>) -> Result<(), CourseHalt>
+    pub fn turn<L: CourseObserver>(
+        &mut self,
+        listener: &mut L,
+        text: &mut Vec<u8>,
+    ) -> Result<(), CourseHalt>
         requires at { IsAt L.writing (L.knows listener.old) self.old text.old.items }
         requires some { 1 ≤ self.old.nodes }
         requires few { self.old.nodes ≤ 16 }

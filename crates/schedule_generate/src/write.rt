@@ -8,9 +8,9 @@ ghost use Rattle.schedule_generate.specs.Settings.{generated_config};
 ghost use Rattle.schedule_generate.specs.Texts.{all_written, ended, gen_text, generated};
 ghost use Rattle.schedule_rules.specs.Schedule.{judge};
 
-use crate::generator::Generator;
 use crate::course_halt::CourseHalt;
 use crate::course_observer::CourseObserver;
+use crate::generator::Generator;
 use crate::moves::Move;
 use crate::opening::opening_moves;
 use edge_io::{EdgeRefusal, Sink};
@@ -69,8 +69,7 @@ fn go_rounds<L: CourseObserver, K: Sink>(
     ensures went { (g : Course) → At L.writing (L.knows listener.old)
         generator.old.nodes generator.old text.old.items g [] →
         WentAll L.writing (L.knows listener.new) generator.old.nodes result generator.new text.new.items
-        (rounds (generated_config generator.old.nodes) generator.old.nodes count g) (K.held sink.old) (K.held sink.new)
-        }
+        (rounds (generated_config generator.old.nodes) generator.old.nodes count g) (K.held sink.old) (K.held sink.new) }
     ensures failed { result ≡ Err CourseHalt.SinkFailed → HasRisen (K.faults sink.old) (K.faults sink.new) }
     ensures later { K.faults sink.old ≤ K.faults sink.new }
 {
@@ -143,8 +142,7 @@ pub fn write_schedule<L: CourseObserver, K: Sink>(
     requires known { L.knows listener.old nodes [] }
     requires some { 1 ≤ nodes }
     requires few { nodes ≤ 16 }
-    ensures judged { IsSettled result → judge (gen_text seed nodes count) ≡ judged_of nodes (generated seed nodes count)
-        }
+    ensures judged { IsSettled result → judge (gen_text seed nodes count) ≡ judged_of nodes (generated seed nodes count) }
     ensures wrote { Wrote (ended (generated seed nodes count))
         (all_written (L.writing nodes) (generated seed nodes count)) result (K.held sink.old) (K.held sink.new)
         (K.faults sink.old) (K.faults sink.new) }
@@ -152,7 +150,9 @@ pub fn write_schedule<L: CourseObserver, K: Sink>(
     let mut text = Vec::new(alloc);
     match make(alloc, seed, nodes, count, listener, &mut text, sink) {
         Ok(()) => write_last(sink, &text, Status::Ok),
-        Err(CourseHalt::TooLarge(line)) => { write_fault(alloc, sink, &mut text, Status::TooLarge(line)) }
+        Err(CourseHalt::TooLarge(line)) => {
+            write_fault(alloc, sink, &mut text, Status::TooLarge(line))
+        }
         Err(CourseHalt::OutOfMemory) => Status::OutOfMemory,
         Err(CourseHalt::SinkFailed) => Status::WriteFault,
     }

@@ -12,8 +12,8 @@ mod clocks;
 mod ending;
 mod report_observer;
 mod run;
-mod schedule;
 mod run_observer;
+mod schedule;
 mod step_report;
 mod transcript_observer;
 

@@ -12,8 +12,8 @@ ghost use Rattle.schedule_rules.specs.Schedule.{judge, judge_from};
 ghost use Rattle.schedule_rules.specs.Telling.{IsTold, lines_judged};
 ghost use Rattle.world_rules.specs.Runs.{History};
 
-use crate::schedule::take_line;
 use crate::run_observer::RunObserver;
+use crate::schedule::take_line;
 use edge_io::{EdgeRefusal, Sink, Source};
 use fabric_config::{ConfigError, read_config};
 use fabric_status::{Refusal, Status, write_last};
@@ -46,7 +46,14 @@ fn take_next<T: RunObserver, S: Source>(
         Err(_) => Err(Halt::SourceFailed),
         Ok(NextLine::End) => Ok(false),
         Ok(NextLine::TooLong) => Err(Halt::Refused(Refusal::TooLarge(number))),
-        Ok(NextLine::Line) => match take_line(world, teller, number, reader.line(), readings, text) {
+        Ok(NextLine::Line) => match take_line(
+            world,
+            teller,
+            number,
+            reader.line(),
+            readings,
+            text,
+        ) {
             Ok(None) => Ok(true),
             Ok(Some(refusal)) => Err(Halt::Refused(refusal)),
             Err(_) => Err(Halt::OutOfMemory),

@@ -8,12 +8,12 @@
 mod cut;
 mod ignored;
 mod limits;
+mod next_line;
 mod piece;
 mod reader;
-mod next_line;
 
 pub use cut::cut_line;
 pub use ignored::is_ignored;
 pub use limits::{MAX_FIRST_LINE, MAX_LINE, MAX_LINES};
-pub use reader::LineReader;
 pub use next_line::NextLine;
+pub use reader::LineReader;

@@ -4,8 +4,9 @@ ghost use Rattle.source_lines.specs.Feeds.{HasNoFeed};
 ghost use Rattle.source_lines.specs.Reading.{IsLineOf, LeavesUnread, TakesOf, may_wait};
 ghost use Rattle.source_lines.specs.Stops.{StopsAt, TakesTo, TakesLast};
 
-use crate::piece::{PieceEnd, first_feed, move_to_front, read_on};
+use crate::limits::MAX_FIRST_LINE;
 use crate::next_line::NextLine;
+use crate::piece::{PieceEnd, first_feed, move_to_front, read_on};
 use edge_io::{Failed, Source};
 use std::alloc::{AllocError, Global};
 use std::marker::Model;

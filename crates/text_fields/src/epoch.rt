@@ -8,8 +8,8 @@ ghost use Rattle.fabric_terms.specs.Ranges.{IsEpoch};
 use crate::bad_field::BadField;
 use crate::number::{number_in, push_number};
 use crate::word::{after_word, push_bytes};
-use ring_points::{Epoch, MAX_COUNTER};
 use fabric_terms::OutOfMemory;
+use ring_points::{Epoch, MAX_COUNTER};
 
 // An epoch, and what follows it.
 fn epoch_at(bytes: &[u8]) -> Result<(Epoch, &[u8]), BadField>

@@ -9,8 +9,8 @@ use crate::actor::{arbiter_at, node_at};
 use crate::bad_field::BadField;
 use crate::number::{number_in, push_number};
 use crate::word::{after_word, push_bytes};
-use ring_points::{ARBITRATORS, MAX_COUNTER, Who};
 use fabric_terms::OutOfMemory;
+use ring_points::{ARBITRATORS, MAX_COUNTER, Who};
 
 /// An instance of a node, as a node, a point and the number of its start, and what follows it.
 pub fn instance_at(bytes: &[u8]) -> Result<(Who, &[u8]), BadField>

@@ -10,8 +10,8 @@ use crate::bad_field::BadField;
 use crate::point::{point_at, push_point};
 use crate::word::{after_word, push_bytes};
 use arrayvec::ArrayVec;
-use ring_points::{Interval, MAX_INTERVALS, RangeSet};
 use fabric_terms::OutOfMemory;
+use ring_points::{Interval, MAX_INTERVALS, RangeSet};
 
 // Two points with a dash between, whichever is the lower, and what follows them.
 #[tactic(auto, unfolding(crate::specs::Intervals::interval_at))]

@@ -28,8 +28,12 @@ impl Model for Token {
 
     ghost Value = { Token };
 
-    ghost view = { λ t. record { ranges = t.ranges; freeze = t.freeze; version = t.version;
-        next_flight = t.last_flight + 1 } };
+    ghost view = { λ t. record {
+      ranges = t.ranges;
+      freeze = t.freeze;
+      version = t.version;
+      next_flight = t.last_flight + 1;
+    } };
 
     ghost invariant = { λ t. t.announced ≡ minus_of t.ranges (frozen_part t.freeze) };
 }
@@ -190,8 +194,7 @@ impl Token {
     ) -> Result<RangeSet, TokenRefusal>
         ensures outcome { outcome result self.new ≡ inherit_call self.old held.now
             (flight_points (option_copied flight.entry)) }
-        ensures added { IfOk result (λ r. r ≡ inherited self.old held.now (flight_points (option_copied flight.entry)))
-            }
+        ensures added { IfOk result (λ r. r ≡ inherited self.old held.now (flight_points (option_copied flight.entry))) }
         ensures err { OnErr result (self.new ≡ self.old) }
     {
         let none = RangeSet::new();

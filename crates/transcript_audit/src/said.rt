@@ -4,9 +4,9 @@ ghost use Rattle.line_format.specs.Readers.{Reads};
 ghost use Rattle.transcript_audit.specs.Places.{summary_of};
 ghost use Rattle.transcript_audit.specs.Said.{clock_at, clocks_on, shown_of, sent_of, section_at, span_of, said_of};
 
-use ring_points::{MAX_COUNTER, MAX_NODES, Who};
 use line_format::{BadLine, LineRefusal};
 use report_lines::{head_at, read_report};
+use ring_points::{MAX_COUNTER, MAX_NODES, Who};
 use run_audit::comes_after;
 use std::alloc::Global;
 use text_fields::{after_word, instance_at, last_number, number_in, number_word};

@@ -172,7 +172,11 @@ fn judge_each(
 }
 
 /// The verdict on the groups of a transcript, which stand in the order of their LINEs.
-pub fn judge(alloc: Global, bytes: &[u8], places: &GroupIndex) -> Result<Option<Breach>, OutOfMemory>
+pub fn judge(
+    alloc: Global,
+    bytes: &[u8],
+    places: &GroupIndex,
+) -> Result<Option<Breach>, OutOfMemory>
     requires { Stand bytes.now places.now }
     ensures { (groups : List Group) → Finds bytes.now places.now groups → Rise (lines_in places.now) →
         IfOk result (λ b. IsJudged groups (length places.now.table.entries) b) }

@@ -8,8 +8,8 @@ ghost use Rattle.turn_rules.specs.Works.{work_with};
 use crate::frames::send_all;
 use crate::records::keep_all;
 use crate::reports::write_reports;
-use fabric_terms::{FabricConfig, Head, Message, Record, Report};
 use edge_io::Outside;
+use fabric_terms::{FabricConfig, Head, Message, Record, Report};
 use std::alloc::Global;
 use turn_rules::StopCause;
 

@@ -8,13 +8,18 @@ ghost use Rattle.turn_rules.specs.Works.{post_of, posts_of};
 
 use crate::address::address_of;
 use edge_io::{EdgeRefusal, Outside};
-use ring_points::FRAME_LIMIT;
 use fabric_terms::{FabricConfig, Message};
+use ring_points::FRAME_LIMIT;
 use ring_wire::encode;
 use turn_rules::StopCause;
 
 /// Sends bytes to an address, where the links do not fail.
-fn try_send<O: Outside>(outside: &mut O, actor: u16, at: &str, bytes: &[u8]) -> Result<(), StopCause>
+fn try_send<O: Outside>(
+    outside: &mut O,
+    actor: u16,
+    at: &str,
+    bytes: &[u8],
+) -> Result<(), StopCause>
     requires { IsListening actor (O.told outside.old).opened }
     ensures { SendsAll (record { from = actor; to = at.now; bytes = bytes.now } ∷ []) (O.told outside.old)
         (O.told outside.new) result }

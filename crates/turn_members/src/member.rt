@@ -9,11 +9,11 @@ ghost use Rattle.ring_points.specs.Whos.{arbiter_actor};
 use crate::answer::Room;
 use crate::deed::Deed;
 use arbiter_core::{Arbiter, ArbiterError};
-use ring_points::{MAX_READING, Who};
 use fabric_terms::{Head, Message, OutOfMemory, Why};
 use join_phases::Phase;
 use node_core::{Batch, NodeCore, Outcome};
 use ring_node::Input;
+use ring_points::{MAX_READING, Who};
 use std::alloc::Global;
 
 /// An actor that runs.
@@ -52,8 +52,12 @@ pub(crate) fn node_head(turn: u64, who: Who, now: u64) -> Head
 
 /// The head of an arbitrator's reports.
 pub(crate) fn arbiter_head(turn: u64, actor: u16) -> Head
-    ensures { result ≡ record { line = turn; time = None; who = record { actor = actor; instance = 0 };
-        reading = None } }
+    ensures { result ≡ record {
+      line = turn;
+      time = None;
+      who = record { actor = actor; instance = 0 };
+      reading = None;
+    } }
 {
     Head {
         line: turn,
@@ -106,8 +110,12 @@ fn arbiter_hear(
 
 /// An arbitrator does nothing but hear.
 fn arbiter_idle(actor: u16, alloc: Global, turn: u64) -> Deed
-    ensures head { result.head ≡ record { line = turn; time = None; who = record { actor = actor; instance = 0 };
-        reading = None } }
+    ensures head { result.head ≡ record {
+      line = turn;
+      time = None;
+      who = record { actor = actor; instance = 0 };
+      reading = None;
+    } }
     ensures records { result.outcome.records ≡ [] }
     ensures frames { result.outcome.frames ≡ [] }
     ensures reports { result.outcome.reports ≡ [] }

@@ -18,10 +18,10 @@ ghost use Rattle.world_rules.specs.Schedules.{is_configured_node};
 use crate::deed::Deed;
 use crate::member::{Member, arbiter_head, node_head, nothing};
 use arbiter_core::{Arbiter, ArbiterError};
-use ring_points::{ARBITRATORS, MAX_READING};
 use fabric_terms::{FabricConfig, OutOfMemory};
 use keep_log::Kept;
 use node_core::NodeCore;
+use ring_points::{ARBITRATORS, MAX_READING};
 use std::alloc::Global;
 
 /// Starts a node.

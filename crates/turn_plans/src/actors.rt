@@ -4,8 +4,8 @@ ghost use Rattle.turn_plans.specs.Crews.{arbiter_at, arbiters_to, endpoints_of, 
 
 use crate::crew::Crew;
 use edge_io::{Endpoint, SocketAddress};
-use ring_points::{ARBITRATORS, MAX_ARBITRATORS, MAX_NODE_NUMBER};
 use fabric_terms::{FabricConfig, OutOfMemory};
+use ring_points::{ARBITRATORS, MAX_ARBITRATORS, MAX_NODE_NUMBER};
 use std::alloc::Global;
 use turn_rules::{arbiter_address, node_address};
 

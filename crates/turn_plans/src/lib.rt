@@ -11,8 +11,8 @@ mod bid;
 mod crew;
 mod error;
 mod orders;
-mod read;
 mod plan_verdict;
+mod read;
 
 pub use crew::Crew;
 pub use error::PlanError;

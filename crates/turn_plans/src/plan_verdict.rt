@@ -7,9 +7,9 @@ use crate::crew::Crew;
 use edge_io::Endpoint;
 use fabric_status::Refusal;
 use fabric_terms::FabricConfig;
-use world_rules::{is_configured_node, is_named};
 use source_lines::{MAX_LINE, MAX_LINES, is_ignored};
 use turn_rules::Order;
+use world_rules::{is_configured_node, is_named};
 
 /// What becomes of a line.
 #[derive(Drop)]

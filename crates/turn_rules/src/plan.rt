@@ -21,8 +21,12 @@ impl Model for Plan {
 
     ghost Value = { Plan };
 
-    ghost view = { λ p. record { config = p.config; actors = p.actors.items; orders = p.orders.items;
-        turns = p.turns } };
+    ghost view = { λ p. record {
+      config = p.config;
+      actors = p.actors.items;
+      orders = p.orders.items;
+      turns = p.turns;
+    } };
 }
 
 impl Plan {

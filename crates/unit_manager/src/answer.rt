@@ -15,11 +15,11 @@ ghost use Rattle.unit_manager.specs.Managers.{manager_received, place, reconfigs
 use crate::entries::{find, take_out};
 use crate::loads::fill;
 use crate::manager::Manager;
-use ring_points::{Config, Epoch, OUTBOX_LIMIT};
 use fabric_terms::{Message, Outbox, Reason, Report, Verb};
 use failover_units::{UnitRefusal, Units};
 use reconfig_phases::{Progress, Reconfig, answered_unit};
 use replica_place::NodeLoad;
+use ring_points::{Config, Epoch, OUTBOX_LIMIT};
 use unit_desk::UnitEffects;
 use unit_rules::{Kind, Task};
 
@@ -118,7 +118,8 @@ fn conclude(
         Progress::Finished(config) => {
             note(units, &config);
             take_out(reconfigs, i, task.partition);
-            effects.told
+            effects
+                .told
                 .tell(Report::Configured(task.partition, config.epoch));
         }
         Progress::Superseded(epoch) => {
@@ -128,7 +129,8 @@ fn conclude(
         }
         Progress::Refused(refusal) => {
             take_out(reconfigs, i, task.partition);
-            effects.told
+            effects
+                .told
                 .tell(Report::Refused(verb_of(task.kind), reason_of(refusal)));
         }
     }

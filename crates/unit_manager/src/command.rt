@@ -14,10 +14,10 @@ use crate::answer::verb_of;
 use crate::entries::{enter, find};
 use crate::epoch::epoch_after;
 use crate::manager::Manager;
-use ring_points::{Epoch, MAX_ARBITRATORS, MAX_MEMBERS, MAX_PARTITIONS, OUTBOX_LIMIT, Who};
 use fabric_terms::{OutOfMemory, Outbox, Reason, Report};
 use failover_units::{UnitRefusal, Units};
 use reconfig_phases::Reconfig;
+use ring_points::{Epoch, MAX_ARBITRATORS, MAX_MEMBERS, MAX_PARTITIONS, OUTBOX_LIMIT, Who};
 use unit_desk::UnitEffects;
 use unit_rules::Kind;
 

@@ -53,8 +53,7 @@ fn place_above(reconfigs: &[(u16, Reconfig)], partition: u16) -> usize
 pub(crate) fn enter(reconfigs: &mut Vec<(u16, Reconfig)>, partition: u16, reconfig: Reconfig)
     requires room { vec_len reconfigs.old < vec_capacity reconfigs.old }
     requires new { at partition (reconfigs_of reconfigs.old.items) ≡ None }
-    ensures { reconfigs_of reconfigs.new.items ≡ put partition (reconfig_of reconfig) (reconfigs_of reconfigs.old.items)
-        }
+    ensures { reconfigs_of reconfigs.new.items ≡ put partition (reconfig_of reconfig) (reconfigs_of reconfigs.old.items) }
 {
     let i = place_above(reconfigs, partition);
     match reconfigs.insert(i, (partition, reconfig)) {

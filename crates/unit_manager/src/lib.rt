@@ -12,11 +12,11 @@ mod answer;
 mod command;
 mod entries;
 mod epoch;
-mod manager_firing;
 mod laws;
 mod list;
 mod loads;
 mod manager;
+mod manager_firing;
 
 pub use laws::{answers_go_to_the_manager, nodes_are_loaded_as_the_rules_say};
 pub use manager::Manager;

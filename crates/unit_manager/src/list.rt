@@ -20,7 +20,8 @@ impl Manager {
     {
         match self.units.in_range(range) {
             Ok(partitions) => {
-                effects.told
+                effects
+                    .told
                     .tell(Report::UnitList(Partitions::new(partitions)));
                 Ok(())
             }

@@ -32,8 +32,7 @@ impl Manager {
     pub fn fire(&self, me: Who, out: &mut Outbox, frames: &mut Vec<Message>)
         requires clear { out.old ≡ [] }
         requires room { vec_len frames.old + 9 * length self.now.reconfigs ≤ vec_capacity frames.old }
-        ensures sent { frames.new.items ≡ frames.old.items ++ from_all me (frames_of (managed_fired self.now.reconfigs))
-            }
+        ensures sent { frames.new.items ≡ frames.old.items ++ from_all me (frames_of (managed_fired self.now.reconfigs)) }
         ensures few { length frames.new.items ≤ length frames.old.items + 9 * length self.now.reconfigs }
         ensures room { vec_capacity frames.new ≡ vec_capacity frames.old }
         ensures clear { out.new ≡ [] }

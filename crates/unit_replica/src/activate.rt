@@ -7,9 +7,9 @@ ghost use Rattle.unit_desk.specs.UnitEffects.{Does, HasRoom, HasRoomFor, Left};
 use crate::progress::ReplicationProgress;
 use crate::promise::say_older;
 use crate::replica_state::{ReplicaState, last_of};
-use ring_points::{Config, MAX_MEMBERS, Who};
 use fabric_terms::{Body, Report};
 use replica_core::Role;
+use ring_points::{Config, MAX_MEMBERS, Who};
 use unit_desk::UnitEffects;
 
 fn say_activated(asker: Who, config: &Config, effects: &mut UnitEffects)
@@ -44,7 +44,8 @@ fn begin_role(
 {
     if role == Role::Primary {
         state.progress = Some(ReplicationProgress::first(me, config, last));
-        effects.told
+        effects
+            .told
             .tell(Report::IsPrimary(config.partition, config.epoch));
     } else {
         state.progress = None;
@@ -54,7 +55,13 @@ fn begin_role(
 
 /// Activate: the replica takes its role of a configuration. Where it has that role already, it only says so.
 #[tactic(auto, using(crate::proofs::Calls::calls_stay), unfolding(unit_rules::specs::Activations::activate_received))]
-pub fn activate_received(me: u16, asker: Who, config: &Config, state: &mut ReplicaState, effects: &mut UnitEffects)
+pub fn activate_received(
+    me: u16,
+    asker: Who,
+    config: &Config,
+    state: &mut ReplicaState,
+    effects: &mut UnitEffects,
+)
     requires few { length config.now.members ≤ MAX_MEMBERS }
     requires room { HasRoom effects.old }
     ensures does { Does (activate_received me asker config.now state.old) state.new effects.old effects.new }

@@ -39,7 +39,9 @@ fn tell_found(partition: u16, name: &NameText, found: Option<NameValue>, effects
     ensures few { length effects.new.out ≤ length effects.old.out }
 {
     match found {
-        None => effects.told.tell(Report::Unresolved(partition, name.copy())),
+        None => effects
+            .told
+            .tell(Report::Unresolved(partition, name.copy())),
         Some(value) => effects
             .told
             .tell(Report::Resolved(partition, name.copy(), value)),

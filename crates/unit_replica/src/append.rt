@@ -12,7 +12,13 @@ use ring_points::{Epoch, Who};
 use unit_desk::UnitEffects;
 
 /// A new entry is recorded, and told as accepted.
-pub(crate) fn accept(partition: u16, epoch: Epoch, lsn: u32, text: &Payload, effects: &mut UnitEffects)
+pub(crate) fn accept(
+    partition: u16,
+    epoch: Epoch,
+    lsn: u32,
+    text: &Payload,
+    effects: &mut UnitEffects,
+)
     requires { HasRoomFor 1 0 1 effects.old }
     ensures left { Left (accepted partition epoch lsn text.now) effects.old effects.new }
     ensures few { length effects.new.out ≤ length effects.old.out }

@@ -6,9 +6,9 @@ ghost use Rattle.unit_replica.specs.Starts.{replicas_in, states_from, states_of,
 use crate::named_replica::NamedReplica;
 use crate::replica_state::ReplicaState;
 use crate::replica_states::ReplicaStates;
-use ring_points::MAX_PARTITIONS;
 use fabric_terms::OutOfMemory;
 use replica_core::Replica;
+use ring_points::MAX_PARTITIONS;
 use std::alloc::Global;
 use std::collections::BTreeMap;
 
@@ -31,7 +31,10 @@ fn state_one(map: &mut BTreeMap<u16, ReplicaState>, replica: Replica) -> Result<
 }
 
 /// Replicas are put in, from the last one on, in front of those that are. Where memory is short, the first ones stay.
-fn state_all(map: &mut BTreeMap<u16, ReplicaState>, replicas: &mut Vec<Replica>) -> Result<(), OutOfMemory>
+fn state_all(
+    map: &mut BTreeMap<u16, ReplicaState>,
+    replicas: &mut Vec<Replica>,
+) -> Result<(), OutOfMemory>
     requires rising { IsTrue (rises (states_of replicas.old.items ++ map.old.entries)) }
     requires room { vec_len replicas.old + length map.old.entries ≤ vec_capacity replicas.old }
     ensures moved { states_of replicas.new.items ++ map.new.entries ≡ states_of replicas.old.items ++ map.old.entries }

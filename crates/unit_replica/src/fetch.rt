@@ -22,7 +22,13 @@ pub(crate) fn entry_at(lsn: u64, log: &[Entry]) -> Option<&Entry>
 
 /// Fetch: an entry of the log is given to who asks in the promised epoch.
 #[tactic(auto, unfolding(unit_rules::specs::Copies::fetch_received))]
-pub fn fetch_received(asker: Who, epoch: Epoch, lsn: u32, state: &ReplicaState, effects: &mut UnitEffects)
+pub fn fetch_received(
+    asker: Who,
+    epoch: Epoch,
+    lsn: u32,
+    state: &ReplicaState,
+    effects: &mut UnitEffects,
+)
     requires { HasRoom effects.old }
     ensures does { Does (fetch_received asker epoch lsn state.now) state.now effects.old effects.new }
     ensures few { length effects.new.out ≤ length effects.old.out + 1 }

@@ -9,21 +9,21 @@
 #![tactic(auto)]
 
 mod activate;
-mod restart;
 mod answer;
 mod append;
 mod boot;
 mod fetch;
-mod replica_firing;
 mod frame;
 mod laws;
-mod progress;
 mod log_names;
 mod named_replica;
 mod piece;
+mod progress;
 mod promise;
+mod replica_firing;
 mod replica_state;
 mod replica_states;
+mod restart;
 mod send;
 mod sync;
 mod write;
@@ -33,9 +33,9 @@ pub use answer::{names_commanded, resolve_commanded};
 pub use append::append_received;
 pub use fetch::fetch_received;
 pub use laws::{starts_are_of_records, stops_are_taken};
-pub use progress::{ReplicationProgress, most_confirmed};
 pub use named_replica::NamedReplica;
 pub use piece::piece_received;
+pub use progress::{ReplicationProgress, most_confirmed};
 pub use promise::promise_received;
 pub use replica_state::ReplicaState;
 pub use replica_states::ReplicaStates;

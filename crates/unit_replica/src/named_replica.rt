@@ -8,9 +8,9 @@ ghost use Rattle.replica_core.specs.Replicas.{IsSound, begun_again, first_replic
 ghost use Rattle.unit_replica.specs.Names.{AreOf};
 
 use crate::log_names::LogNames;
-use ring_points::{Config, Epoch, Interval, MAX_LOG_ENTRIES, MAX_WRITE};
 use fabric_terms::{NameTexts, NameValue, OutOfMemory};
 use replica_core::{Done, Entry, Replica, ReplicaRefusal, Role};
+use ring_points::{Config, Epoch, Interval, MAX_LOG_ENTRIES, MAX_WRITE};
 use std::alloc::Global;
 use std::marker::Model;
 

@@ -8,9 +8,9 @@ ghost use Rattle.unit_desk.specs.UnitEffects.{Does, HasRoom, HasRoomFor, Left};
 use crate::named_replica::NamedReplica;
 use crate::replica_state::ReplicaState;
 use crate::sync::{fetch_next, tell_adopted};
-use ring_points::{Epoch, MAX_LOG_ENTRIES};
 use fabric_terms::{OutOfMemory, Payload, Record};
 use replica_core::ReplicaRefusal;
+use ring_points::{Epoch, MAX_LOG_ENTRIES};
 use unit_desk::UnitEffects;
 use unit_rules::CatchUp;
 

@@ -51,7 +51,12 @@ fn confirmed_peer(peer: PeerProgress, node: u16, last: u32, own: u32) -> PeerPro
 }
 
 /// The members, once this node has its entries up to `last`.
-fn confirmed_peers(peers: &[PeerProgress], node: u16, last: u32, own: u32) -> ArrayVec<PeerProgress, MAX_MEMBERS>
+fn confirmed_peers(
+    peers: &[PeerProgress],
+    node: u16,
+    last: u32,
+    own: u32,
+) -> ArrayVec<PeerProgress, MAX_MEMBERS>
     requires { length peers.now ≤ 6 }
     ensures peers { result.items ≡ map (peer_confirms node last own) peers.now }
     ensures few { length result.items ≤ 6 }

@@ -41,7 +41,9 @@ pub(crate) fn tell_raised(partition: u16, epoch: Epoch, done: Done, effects: &mu
     ensures few { length effects.new.out ≤ length effects.old.out }
 {
     if done == Done::New {
-        effects.records.keep(Record::PromisedAt { partition, epoch });
+        effects
+            .records
+            .keep(Record::PromisedAt { partition, epoch });
         effects.told.tell(Report::Promised(partition, epoch));
     }
 }
@@ -64,7 +66,12 @@ fn say_promised(asker: Who, epoch: Epoch, replica: &NamedReplica, effects: &mut 
 
 /// Promise: the replica takes no call of a lower epoch any more, and says what its log is.
 #[tactic(auto, unfolding(unit_rules::specs::Promises::promise_received))]
-pub fn promise_received(asker: Who, epoch: Epoch, state: &mut ReplicaState, effects: &mut UnitEffects)
+pub fn promise_received(
+    asker: Who,
+    epoch: Epoch,
+    state: &mut ReplicaState,
+    effects: &mut UnitEffects,
+)
     requires { HasRoom effects.old }
     ensures does { Does (promise_received asker epoch state.old) state.new effects.old effects.new }
     ensures few { length effects.new.out ≤ length effects.old.out + 1 }

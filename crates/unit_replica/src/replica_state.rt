@@ -3,10 +3,10 @@ ghost use Rattle.replica_core.specs.Replicas.{IsSound};
 ghost use Rattle.unit_rules.specs.ReplicaStates.{first_state, last_of};
 ghost use Rattle.unit_replica.specs.Starts.{state_again, state_uncollected};
 
-use crate::progress::ReplicationProgress;
 use crate::named_replica::NamedReplica;
-use ring_points::MAX_LOG_ENTRIES;
+use crate::progress::ReplicationProgress;
 use replica_core::Replica;
+use ring_points::MAX_LOG_ENTRIES;
 use std::alloc::Global;
 use std::marker::Model;
 use unit_rules::CatchUp;

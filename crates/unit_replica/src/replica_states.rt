@@ -12,9 +12,9 @@ use crate::answer::{names_commanded, resolve_commanded};
 use crate::frame::row_of;
 use crate::replica_state::ReplicaState;
 use crate::write::{refuse, write_commanded};
-use ring_points::{Interval, MAX_PARTITIONS, Who};
 use fabric_terms::{Body, NameText, OutOfMemory, Payload, Reason, Verb};
 use replica_core::Replica;
+use ring_points::{Interval, MAX_PARTITIONS, Who};
 use std::alloc::Global;
 use std::collections::BTreeMap;
 use std::marker::Model;
@@ -212,8 +212,7 @@ impl ReplicaStates {
         effects: &mut UnitEffects,
     ) -> Result<(), OutOfMemory>
         requires { HasRoom effects.old }
-        ensures does { IfOk result (λ _. Does (resolve_at partition name.now self.old) self.new effects.old effects.new)
-            }
+        ensures does { IfOk result (λ _. Does (resolve_at partition name.now self.old) self.new effects.old effects.new) }
         ensures few { length effects.new.out ≤ length effects.old.out }
         ensures refused { OnErr result ((self.new ≡ self.old) × (effects.new ≡ effects.old)) }
         ensures memory { OnErr result (is_ready_at partition self.old ≡ true) }

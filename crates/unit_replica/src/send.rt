@@ -8,9 +8,9 @@ ghost use Rattle.unit_rules.specs.Writes.{append_to, entry_sent, state_fired};
 use crate::fetch::entry_at;
 use crate::named_replica::NamedReplica;
 use crate::replica_state::ReplicaState;
-use ring_points::{Epoch, MAX_WRITE, OUTBOX_LIMIT, Who};
 use fabric_terms::{Body, Outbox, Payload};
 use replica_core::Role;
+use ring_points::{Epoch, MAX_WRITE, OUTBOX_LIMIT, Who};
 use unit_rules::PeerProgress;
 
 /// Whether a replica takes writes: it is a primary, and has promised nothing higher than its epoch.

@@ -9,8 +9,8 @@ ghost use Rattle.unit_desk.specs.UnitEffects.{Does, HasRoom, HasRoomFor, Left};
 use crate::named_replica::NamedReplica;
 use crate::promise::{say_older, tell_raised};
 use crate::replica_state::{ReplicaState, last_of};
-use ring_points::{Epoch, MAX_LOG_ENTRIES, Who};
 use fabric_terms::{Body, Record, Report};
+use ring_points::{Epoch, MAX_LOG_ENTRIES, Who};
 use unit_desk::UnitEffects;
 use unit_rules::CatchUp;
 
@@ -75,7 +75,11 @@ fn adopt_own(catch_up: CatchUp, state: &mut ReplicaState, effects: &mut UnitEffe
     ensures few { length effects.new.out ≤ length effects.old.out + 1 }
 {
     let partition = state.replica.partition();
-    if state.replica.adopt_own(catch_up.epoch, catch_up.last).is_ok() {
+    if state
+        .replica
+        .adopt_own(catch_up.epoch, catch_up.last)
+        .is_ok()
+    {
         tell_adopted(partition, catch_up, true, effects);
     }
 }
@@ -99,7 +103,12 @@ fn begin_copy(me: u16, catch_up: CatchUp, state: &mut ReplicaState, effects: &mu
 
 /// Sync: the epoch is promised, and its log is taken. Where the log is of the epoch already, that is answered.
 #[tactic(auto, unfolding(unit_rules::specs::Copies::sync_received))]
-pub fn sync_received(me: u16, catch_up: CatchUp, state: &mut ReplicaState, effects: &mut UnitEffects)
+pub fn sync_received(
+    me: u16,
+    catch_up: CatchUp,
+    state: &mut ReplicaState,
+    effects: &mut UnitEffects,
+)
     requires last { catch_up.last ≤ MAX_LOG_ENTRIES }
     requires room { HasRoom effects.old }
     ensures does { Does (sync_received me catch_up state.old) state.new effects.old effects.new }

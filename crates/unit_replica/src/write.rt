@@ -9,8 +9,8 @@ ghost use Rattle.unit_replica.specs.Memory.{stores};
 ghost use Rattle.unit_replica.specs.Rows.{spread};
 
 use crate::append::accept;
-use crate::progress::ReplicationProgress;
 use crate::named_replica::NamedReplica;
+use crate::progress::ReplicationProgress;
 use crate::replica_state::{ReplicaState, last_of};
 use crate::send::{append_to_all, takes_writes};
 use fabric_terms::{OutOfMemory, Payload, Reason, Report, Verb};
@@ -32,14 +32,21 @@ fn commit(state: &mut ReplicaState, effects: &mut UnitEffects)
     if progress.committed() < lsn {
         progress.commit(lsn);
         let partition = state.replica.partition();
-        effects.told
+        effects
+            .told
             .tell(Report::Committed(partition, state.replica.at(), lsn));
     }
 }
 
 /// Appended: the primary of the epoch notes what the member has.
 #[tactic(auto, unfolding(unit_rules::specs::Writes::appended_received))]
-pub fn appended_received(node: u16, epoch: Epoch, last: u32, state: &mut ReplicaState, effects: &mut UnitEffects)
+pub fn appended_received(
+    node: u16,
+    epoch: Epoch,
+    last: u32,
+    state: &mut ReplicaState,
+    effects: &mut UnitEffects,
+)
     requires { HasRoom effects.old }
     ensures does { Does (appended_received node epoch last state.old) state.new effects.old effects.new }
     ensures few { length effects.new.out ≤ length effects.old.out }
@@ -56,7 +63,12 @@ pub fn appended_received(node: u16, epoch: Epoch, last: u32, state: &mut Replica
 }
 
 /// The new last entry is recorded and told, and sent to each other member.
-fn tell_written(text: &Payload, progress: &ReplicationProgress, replica: &NamedReplica, effects: &mut UnitEffects)
+fn tell_written(
+    text: &Payload,
+    progress: &ReplicationProgress,
+    replica: &NamedReplica,
+    effects: &mut UnitEffects,
+)
     requires { HasRoom effects.old }
     ensures left { Left (accepted replica.now.partition replica.now.at (last_of replica.now) text.now ++ map
         (append_to replica.now.at replica.now (last_of replica.now) text.now) progress.now.peers)
@@ -103,7 +115,11 @@ pub(crate) fn refuse(question: Verb, reason: Reason, effects: &mut UnitEffects)
 /// writes, and where the log is full. It is an error where memory is short for a new entry, and then nothing is
 /// changed.
 #[tactic(auto, unfolding(unit_rules::specs::Writes::write_commanded))]
-pub fn write_commanded(text: &Payload, state: &mut ReplicaState, effects: &mut UnitEffects) -> Result<(), OutOfMemory>
+pub fn write_commanded(
+    text: &Payload,
+    state: &mut ReplicaState,
+    effects: &mut UnitEffects,
+) -> Result<(), OutOfMemory>
     requires { HasRoom effects.old }
     ensures does { IfOk result (λ _. Does (write_commanded text.now state.old) state.new effects.old effects.new) }
     ensures few { length effects.new.out ≤ length effects.old.out + 6 }

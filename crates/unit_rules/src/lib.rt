@@ -18,6 +18,6 @@ mod register;
 
 pub use above::Fabric;
 pub use laws::{questions_only_tell, registers_are_recorded};
-pub use progress::{PeerProgress, CatchUp};
+pub use progress::{CatchUp, PeerProgress};
 pub use reconfig::{Kind, Next, Standing, Task};
 pub use register::{Preparation, is_above, is_newer};

@@ -5,10 +5,10 @@ ghost use Rattle.text_fields.specs.Texts.{Keeps};
 ghost use Rattle.write_safety.specs.Lines.{entry_text, head_text, kept_line, kept_lines, log_lines};
 
 use crate::kept::KeptLog;
-use ring_points::MAX_WRITE;
 use fabric_terms::OutOfMemory;
 use hex::encode_to_slice;
 use replica_core::Entry;
+use ring_points::MAX_WRITE;
 use text_fields::{push_bytes, push_epoch, push_number};
 
 /// Two for each byte of an entry.

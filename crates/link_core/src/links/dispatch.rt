@@ -10,8 +10,8 @@ use crate::links::opening::Beginning;
 use crate::links::session_frames::Session;
 use crate::notes::LinkNotes;
 use crate::renewal::Renewal;
-use ring_points::{MAX_READING, OUTBOX_LIMIT};
 use fabric_terms::{Body, Message, Outbox};
+use ring_points::{MAX_READING, OUTBOX_LIMIT};
 use ring_rules::LinkState;
 
 impl Links16 {

@@ -9,11 +9,11 @@ use crate::deadlines::change;
 use crate::links::Links16;
 use crate::part::part;
 use crate::refusal::LinkRefusal;
-use crate::{find, bodies};
+use crate::{bodies, find};
 use arbiter_quorum::Tally;
-use ring_points::{MAX_LEASE, MAX_READING, OUTBOX_LIMIT, RangeSet, Who};
 use fabric_terms::Outbox;
 use heir_rounds::RoundTally;
+use ring_points::{MAX_LEASE, MAX_READING, OUTBOX_LIMIT, RangeSet, Who};
 use ring_rules::{Link, LinkState};
 
 /// How a link begins: its first state, its frame version and its length.

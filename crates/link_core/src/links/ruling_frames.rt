@@ -10,8 +10,8 @@ use crate::links::Links16;
 use crate::notes::LinkNotes;
 use crate::rounds::{self, Keeping};
 use crate::ruling::{self, Terms};
-use ring_points::{ARBITRATORS, MAX_READING, OUTBOX_LIMIT, Ruling, Who};
 use fabric_terms::Outbox;
+use ring_points::{ARBITRATORS, MAX_READING, OUTBOX_LIMIT, Ruling, Who};
 
 impl Links16 {
     /// A ruling of this arbitrator.
@@ -52,8 +52,7 @@ impl Links16 {
         requires first { arbiter_actor 1 ≤ from.actor }
         requires last { from.actor ≤ arbiter_actor self.old.arbitrators }
         requires room { length out.old + 9 ≤ OUTBOX_LIMIT }
-        ensures { did self.new out.new result ≡ did_after out.old (kept_received now from victim kept.0 kept.1 self.old)
-            }
+        ensures { did self.new out.new result ≡ did_after out.old (kept_received now from victim kept.0 kept.1 self.old) }
     {
         if self.rounds <= 1 {
             return LinkNotes::none();

@@ -12,9 +12,9 @@ use crate::links::Links16;
 use crate::links::opening::Beginning;
 use crate::notes::{LinkNote, LinkNotes};
 use crate::renewal::{self, Renewal};
-use crate::{find, flight, handshake, bodies};
-use ring_points::{MAX_LEASE, MAX_READING, OUTBOX_LIMIT, Who};
+use crate::{bodies, find, flight, handshake};
 use fabric_terms::{Outbox, Why};
+use ring_points::{MAX_LEASE, MAX_READING, OUTBOX_LIMIT, Who};
 use ring_rules::LinkState;
 
 /// A session as a frame names it: its sender, the sender's number, and the own number.

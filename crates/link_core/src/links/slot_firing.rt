@@ -11,8 +11,8 @@ use crate::deadlines::change;
 use crate::firing::{Firing, accuse, is_over, spoken};
 use crate::links::Links16;
 use crate::notes::{LinkNote, LinkNotes};
-use ring_points::{MAX_READING, OUTBOX_LIMIT};
 use fabric_terms::{Outbox, Why};
+use ring_points::{MAX_READING, OUTBOX_LIMIT};
 
 impl Links16 {
     /// The lease of some slot that guards has ended. Where none has, no slot is due to accuse.

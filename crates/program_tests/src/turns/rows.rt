@@ -170,5 +170,10 @@ fn a_bad_record_is_told(rt: HostRuntime) -> Result<(), Fail> {
 // A replica promises only what is above its promise, so the same promise again is out of its place.
 #[test]
 fn a_bad_record_of_a_replica_is_told(rt: HostRuntime) -> Result<(), Fail> {
-    expect_bad(&rt, rt.alloc(), &[BOOT, PROMISED, PROMISED], "fault record 3")
+    expect_bad(
+        &rt,
+        rt.alloc(),
+        &[BOOT, PROMISED, PROMISED],
+        "fault record 3",
+    )
 }

@@ -11,9 +11,9 @@ ghost use Rattle.line_format.specs.Readers.{Reads, value_of, named_of, resolved_
 use super::pair::{push_behind, push_number_behind};
 use crate::field::{partition_at, partition_word, text_of};
 use crate::name::{last_name, name_at, name_word};
-use ring_points::{MAX_LISTED_NAMES, MAX_NAME_VALUE};
 use fabric_terms::{NameText, NameTexts, NameValue, OutOfMemory, Partitions, Report};
 use line_format::{BadLine, LineRefusal};
+use ring_points::{MAX_LISTED_NAMES, MAX_NAME_VALUE};
 use std::alloc::Global;
 use text_fields::{after_word, push_bytes, push_number};
 

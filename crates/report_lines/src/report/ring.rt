@@ -15,9 +15,9 @@ use super::pair::{
     push_who_behind,
 };
 use super::refused::why_of;
-use ring_points::{MAX_COUNTER, Point, RangeSet, Who};
 use fabric_terms::{OutOfMemory, Report};
 use line_format::BadLine;
+use ring_points::{MAX_COUNTER, Point, RangeSet, Who};
 use text_fields::{
     BadField, after_word, last_number, last_optional, last_point, last_ranges, last_who,
     number_word, point_word, ranges_word, who_word,

@@ -8,9 +8,9 @@ ghost use Rattle.line_format.specs.Readers.{in_epoch, entry_of, entry_report_of,
 use super::pair::push_number_behind;
 use super::ring::ring_report_of;
 use crate::field::partition_word;
-use ring_points::{Epoch, MAX_COUNTER};
 use fabric_terms::{OutOfMemory, Report};
 use line_format::BadLine;
+use ring_points::{Epoch, MAX_COUNTER};
 use text_fields::{
     BadField, after_word, epoch_word, last_epoch, last_number, push_bytes, push_epoch,
 };

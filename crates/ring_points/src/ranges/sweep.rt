@@ -6,8 +6,8 @@ ghost use Rattle.ring_points.specs.Sweeps.{holds, is_kept, is_ahead};
 
 use super::{RangeSet, TooMany};
 use crate::interval::Interval;
-use arrayvec::ArrayVec;
 use crate::limits::MAX_INTERVALS;
+use arrayvec::ArrayVec;
 
 /// Which points of its first two sets a sweep keeps.
 #[derive(Clone, Copy)]

@@ -6,8 +6,8 @@ ghost use Rattle.frame_format.specs.Links.{renew_ack_of, transfer_of, gone_of, l
 
 use crate::not_frame::NotFrame;
 use crate::read::searches::read_search;
-use ring_points::{Interval, MAX_INTERVALS, RangeSet};
 use fabric_terms::Body;
+use ring_points::{Interval, MAX_INTERVALS, RangeSet};
 use wire_fields::read::{
     counted_at, end, flag_at, intervals_at, lease_at, session_at, stamp_at, u32_at,
 };

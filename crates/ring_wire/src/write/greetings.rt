@@ -5,8 +5,8 @@ ghost use Rattle.fabric_terms.specs.Messages.{is_sound_body};
 ghost use Rattle.frame_format.specs.Frames.{kind_of, body_bytes};
 ghost use Rattle.wire_fields.specs.Writers.{Puts};
 
-use ring_points::FRAME_LIMIT;
 use fabric_terms::Body;
+use ring_points::FRAME_LIMIT;
 use wire_fields::write::{put_session, put_u32, put_u64};
 
 /// A body of a kind up to 3. Gives the place after it.

@@ -5,8 +5,8 @@ ghost use Rattle.fabric_terms.specs.Messages.{is_sound_body};
 ghost use Rattle.frame_format.specs.Frames.{kind_of, body_bytes};
 ghost use Rattle.wire_fields.specs.Writers.{Puts};
 
-use ring_points::FRAME_LIMIT;
 use fabric_terms::Body;
+use ring_points::FRAME_LIMIT;
 use wire_fields::write::{put_config, put_done, put_epoch, put_unit};
 
 /// A body of a kind from 32 to 40. Gives the place after it.

@@ -1,9 +1,9 @@
 ghost use Rattle.text_fields.specs.Fields.{Gives};
 ghost use Rattle.line_format.specs.Lines.{junk_bytes_of};
 
-use ring_points::FRAME_LIMIT;
 use fabric_terms::JunkBytes;
 use line_format::BadLine;
+use ring_points::FRAME_LIMIT;
 use text_fields::hex_value;
 
 /// The bytes of a junk line, from their digits to the end of the line.

@@ -5,9 +5,9 @@ ghost use Rattle.line_format.specs.Lines.{reading_at, readings_of, tick_of, Read
 
 use super::count::count_at;
 use arrayvec::ArrayVec;
-use ring_points::MAX_NODES;
 use fabric_terms::Readings;
 use line_format::BadLine;
+use ring_points::MAX_NODES;
 use text_fields::{BadField, after_word, node_at};
 
 /// Nodes, each with the reading of its clock, in a list that is used for many ticks.

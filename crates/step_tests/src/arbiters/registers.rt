@@ -26,8 +26,12 @@ pub(crate) fn epoch(configuration: u32) -> Epoch
 
 /// A configuration with node 1 alone.
 pub(crate) fn config(configuration: u32) -> Config
-    ensures { result ≡ record { partition = 1; epoch = record { data_loss = 0; configuration = configuration };
-        primary = 1; members = 1 ∷ [] } }
+    ensures { result ≡ record {
+      partition = 1;
+      epoch = record { data_loss = 0; configuration = configuration };
+      primary = 1;
+      members = 1 ∷ [];
+    } }
 {
     let mut members = Members::new();
     members.push(1);

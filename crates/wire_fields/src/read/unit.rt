@@ -8,8 +8,8 @@ ghost use Rattle.wire_fields.specs.Readers.{payload_at};
 
 use crate::not_field::NotField;
 use crate::read::number::{flag_at, u8_at, u16_at, u32_at};
-use ring_points::{Config, Epoch, MAX_MEMBERS, MAX_NODE_NUMBER, MAX_WRITE, Members};
 use fabric_terms::Payload;
+use ring_points::{Config, Epoch, MAX_MEMBERS, MAX_NODE_NUMBER, MAX_WRITE, Members};
 
 #[tactic(auto, unfolding(crate::specs::Readers::epoch_at))]
 pub fn epoch_at(bytes: &[u8]) -> Result<(Epoch, &[u8]), NotField>

@@ -9,8 +9,8 @@ ghost use Rattle.wire_fields.specs.Texts.{payload_bytes};
 ghost use Rattle.wire_fields.specs.Writers.{Puts};
 
 use crate::write::number::{put_flag, put_u8, put_u16, put_u32, put_u64};
-use ring_points::{Config, Epoch, Interval, MAX_WRITE, RangeSet, Ruling, Who};
 use fabric_terms::Payload;
+use ring_points::{Config, Epoch, Interval, MAX_WRITE, RangeSet, Ruling, Who};
 
 /// An actor and its instance.
 #[tactic(auto, unfolding(crate::specs::Texts::who_bytes))]
