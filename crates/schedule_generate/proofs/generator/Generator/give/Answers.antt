@@ -12,7 +12,7 @@ loop-before-init g c =
     let n = c.args.self.now.nodes in
     let none : c.args.self.now.considered - c.args.self.now.considered ≡ 0 = omega arith in
     record {
-      went = λ k sent at. subst (λ (j : ℕ). At g.L.Listener.writing (g.L.Listener.knows c.args.listener.now) n c.args.self.now c.args.text.now.items (considers (generated_config n) j k) sent) (sym none) at;
+      went = λ k sent at. subst (λ (j : ℕ). At g.L.CourseObserver.writing (g.L.CourseObserver.knows c.args.listener.now) n c.args.self.now c.args.text.now.items (considers (generated_config n) j k) sent) (sym none) at;
       ends = inl refl;
       counted = refl;
       still = refl;
@@ -22,7 +22,7 @@ loop-before-init g c =
 pub consider-requires-clause-at : goal.consider-requires-clause-at
 consider-requires-clause-at g c =
     let n = c.args.self.now.nodes in
-    let own = own_number g.L.Listener.writing (g.L.Listener.knows c.args.listener.now) c.args.self.now c.args.text.now.items c.requires.at in
+    let own = own_number g.L.CourseObserver.writing (g.L.CourseObserver.knows c.args.listener.now) c.args.self.now c.args.text.now.items c.requires.at in
     let k = c.loop-before.before - c.args.self.now.considered in
     let all : c.counts-sent.result.1 ≡ (ruled (generated_config n) own.0.history).count = (c.counts-sent.ensures (generated_config n) own.0.history own.2.goes.world).1 in
     let more : (ruled (generated_config n) own.0.history).count ≤ (ruled (generated_config n) (considers (generated_config n) k own.0).history).count = considers_sent (generated_config n) k own.0 in
@@ -33,13 +33,13 @@ returns-in-Err-clause-went g c k sent at =
     let n = c.args.self.now.nodes in
     let first = c.args.self.now.considered in
     let before = considers (generated_config n) (c.loop-before.before - first) k in
-    let here : Went g.L.Listener.writing (g.L.Listener.knows c.consider.new.listener) n (Err c.in-Err.halt) c.consider.new.self c.consider.new.text.items (considered_next (generated_config n) before) sent =
-    subst (λ (m : ℕ). At g.L.Listener.writing (g.L.Listener.knows c.loop-before.listener) m c.loop-before.self c.loop-before.text.items before sent → Went g.L.Listener.writing (g.L.Listener.knows c.consider.new.listener) m (Err c.in-Err.halt) c.consider.new.self c.consider.new.text.items (considered_next (generated_config m) before) sent) c.loop-before.invariant.nodes
+    let here : Went g.L.CourseObserver.writing (g.L.CourseObserver.knows c.consider.new.listener) n (Err c.in-Err.halt) c.consider.new.self c.consider.new.text.items (considered_next (generated_config n) before) sent =
+    subst (λ (m : ℕ). At g.L.CourseObserver.writing (g.L.CourseObserver.knows c.loop-before.listener) m c.loop-before.self c.loop-before.text.items before sent → Went g.L.CourseObserver.writing (g.L.CourseObserver.knows c.consider.new.listener) m (Err c.in-Err.halt) c.consider.new.self c.consider.new.text.items (considered_next (generated_config m) before) sent) c.loop-before.invariant.nodes
     (c.in-Err.ensures.went before sent) (c.loop-before.invariant.went k sent at) in
     let all : c.counts-sent.result.1 ≡ (ruled (generated_config n) k.history).count = (c.counts-sent.ensures (generated_config n) k.history at.goes.world).1 in
     let same : first ≡ k.considered = at.goes.considered in
     let lt : c.loop-before.before - first < (ruled (generated_config n) k.history).count - k.considered = omega arith in
-    considers_halt g.L.Listener.writing (g.L.Listener.knows c.consider.new.listener) (g.L.Listener.knows c.consider.new.listener) n c.in-Err.halt c.consider.new.self c.consider.new.self c.consider.new.text.items (c.loop-before.before - first) ((ruled (generated_config n) k.history).count - k.considered) k sent lt here
+    considers_halt g.L.CourseObserver.writing (g.L.CourseObserver.knows c.consider.new.listener) (g.L.CourseObserver.knows c.consider.new.listener) n c.in-Err.halt c.consider.new.self c.consider.new.self c.consider.new.text.items (c.loop-before.before - first) ((ruled (generated_config n) k.history).count - k.considered) k sent lt here
 
 pub loop-before-preserved : goal.loop-before-preserved
 loop-before-preserved g c =
@@ -49,10 +49,10 @@ loop-before-preserved g c =
     record {
       went = λ k sent at.
           let before = considers (generated_config n) (c.loop-before.before - first) k in
-          let here : At g.L.Listener.writing (g.L.Listener.knows c.consider.new.listener) n c.consider.new.self c.consider.new.text.items (considered_next (generated_config n) before) sent =
-          subst (λ (m : ℕ). At g.L.Listener.writing (g.L.Listener.knows c.loop-before.listener) m c.loop-before.self c.loop-before.text.items before sent → At g.L.Listener.writing (g.L.Listener.knows c.consider.new.listener) m c.consider.new.self c.consider.new.text.items (considered_next (generated_config m) before) sent) c.loop-before.invariant.nodes
+          let here : At g.L.CourseObserver.writing (g.L.CourseObserver.knows c.consider.new.listener) n c.consider.new.self c.consider.new.text.items (considered_next (generated_config n) before) sent =
+          subst (λ (m : ℕ). At g.L.CourseObserver.writing (g.L.CourseObserver.knows c.loop-before.listener) m c.loop-before.self c.loop-before.text.items before sent → At g.L.CourseObserver.writing (g.L.CourseObserver.knows c.consider.new.listener) m c.consider.new.self c.consider.new.text.items (considered_next (generated_config m) before) sent) c.loop-before.invariant.nodes
           (c.in-Ok.ensures.went before sent) (c.loop-before.invariant.went k sent at) in
-          subst (λ (j : ℕ). At g.L.Listener.writing (g.L.Listener.knows c.consider.new.listener) n c.consider.new.self c.consider.new.text.items (considers (generated_config n) j k) sent) next here;
+          subst (λ (j : ℕ). At g.L.CourseObserver.writing (g.L.CourseObserver.knows c.consider.new.listener) n c.consider.new.self c.consider.new.text.items (considers (generated_config n) j k) sent) next here;
       ends = inr (omega arith);
       counted = c.consider.ensures.counted;
       still = c.consider.ensures.still ∙ c.loop-before.invariant.still;
@@ -66,4 +66,4 @@ returns-clause-went g c k sent at =
     let all : c.counts-sent.result.1 ≡ (ruled (generated_config n) k.history).count = (c.counts-sent.ensures (generated_config n) k.history at.goes.world).1 in
     let same : first ≡ k.considered = at.goes.considered in
     let end : c.loop-before.before - first ≡ (ruled (generated_config n) k.history).count - k.considered = ⊎_elim (λ none. omega (arith, none)) (λ some. omega (arith, some)) c.loop-before.invariant.ends in
-    subst (λ (j : ℕ). At g.L.Listener.writing (g.L.Listener.knows c.loop-before.listener) n c.loop-before.self c.loop-before.text.items (considers (generated_config n) j k) sent) end (c.loop-before.invariant.went k sent at)
+    subst (λ (j : ℕ). At g.L.CourseObserver.writing (g.L.CourseObserver.knows c.loop-before.listener) n c.loop-before.self c.loop-before.text.items (considers (generated_config n) j k) sent) end (c.loop-before.invariant.went k sent at)

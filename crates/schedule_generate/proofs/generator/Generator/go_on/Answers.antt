@@ -30,7 +30,7 @@ pub take_all-requires-clause-due : goal.take_all-requires-clause-due
 take_all-requires-clause-due g c =
     let n = c.args.self.now.nodes in
     let items = c.args.self.now.readings.items in
-    let own = own_shown g.L.Listener.writing (g.L.Listener.knows c.args.listener.now) c.args.self.now c.args.text.now.items c.requires.at in
+    let own = own_shown g.L.CourseObserver.writing (g.L.CourseObserver.knows c.args.listener.now) c.args.self.now c.args.text.now.items c.requires.at in
     let is : events_for c.deref-2.result.now ≡ firings (ruled (generated_config n) own.0.history) =
     ap events_for c.deref-2.ensures.value ∙ (c.in_ok-push_firings.ensures ∙ (ap (λ (rs : List (ℕ × ℕ)). map fires (nodes_of rs)) c.deref.ensures.value ∙ ap (map fires) own.3)) in
     (n, own.0, own.1, own.2, subst (λ (es : List Event). AreDue (generated_config n) own.0.history es) (sym is) (firings_due (generated_config n) own.0.history))
@@ -38,7 +38,7 @@ take_all-requires-clause-due g c =
 pub give_and_turn-requires-clause-at : goal.give_and_turn-requires-clause-at
 give_and_turn-requires-clause-at g c =
     let n = c.args.self.now.nodes in
-    let own = own_shown g.L.Listener.writing (g.L.Listener.knows c.args.listener.now) c.args.self.now c.args.text.now.items c.requires.at in
+    let own = own_shown g.L.CourseObserver.writing (g.L.CourseObserver.knows c.args.listener.now) c.args.self.now c.args.text.now.items c.requires.at in
     (n, taken_all (generated_config n) (events_for c.deref-2.result.now) own.0, own.1, c.in-Ok.ensures.went own.0 own.1 own.2)
 
 pub returns-in-Err-clause-went : goal.returns-in-Err-clause-went
@@ -46,6 +46,6 @@ returns-in-Err-clause-went g c k sent at runs =
     let n = c.args.self.now.nodes in
     let is : events_for c.deref-2.result.now ≡ firings (ruled (generated_config n) k.history) =
     ap events_for c.deref-2.ensures.value ∙ (c.in_ok-push_firings.ensures ∙ (ap (λ (rs : List (ℕ × ℕ)). map fires (nodes_of rs)) c.deref.ensures.value ∙ ap (map fires) runs)) in
-    let here : Went g.L.Listener.writing (g.L.Listener.knows c.take_all.new.listener) n (Err c.in-Err.halt) c.take_all.new.self c.take_all.new.text.items (with_firings (generated_config n) k) sent =
-    subst (λ (es : List Event). Went g.L.Listener.writing (g.L.Listener.knows c.take_all.new.listener) n (Err c.in-Err.halt) c.take_all.new.self c.take_all.new.text.items (taken_all (generated_config n) es k) sent) is (c.in-Err.ensures.went k sent at) in
-    went_on g.L.Listener.writing (g.L.Listener.knows c.take_all.new.listener) (g.L.Listener.knows c.take_all.new.listener) n c.in-Err.halt c.take_all.new.self c.take_all.new.self c.take_all.new.text.items (with_firings (generated_config n) k) sent (λ x. with_turn (generated_config n) n (with_gives (generated_config n) x)) (after_firings (generated_config n) n) here
+    let here : Went g.L.CourseObserver.writing (g.L.CourseObserver.knows c.take_all.new.listener) n (Err c.in-Err.halt) c.take_all.new.self c.take_all.new.text.items (with_firings (generated_config n) k) sent =
+    subst (λ (es : List Event). Went g.L.CourseObserver.writing (g.L.CourseObserver.knows c.take_all.new.listener) n (Err c.in-Err.halt) c.take_all.new.self c.take_all.new.text.items (taken_all (generated_config n) es k) sent) is (c.in-Err.ensures.went k sent at) in
+    went_on g.L.CourseObserver.writing (g.L.CourseObserver.knows c.take_all.new.listener) (g.L.CourseObserver.knows c.take_all.new.listener) n c.in-Err.halt c.take_all.new.self c.take_all.new.self c.take_all.new.text.items (with_firings (generated_config n) k) sent (λ x. with_turn (generated_config n) n (with_gives (generated_config n) x)) (after_firings (generated_config n) n) here

@@ -18,14 +18,14 @@ returns-in_ok-took-in-Ok-clause-went g c k sent at =
     let world = ruled (generated_config n) k.history in
     let takes : Takes c.apply.new.self (generated_config n) k.history c.args.self.now.line e c.in-Ok.acted =
     subst (λ (d : Event). Takes c.apply.new.self (generated_config n) k.history c.args.self.now.line d c.in-Ok.acted) c.event.ensures (c.in-Ok.ensures (generated_config n) k.history at.goes.world) in
-    took_on g.L.Listener.writing (g.L.Listener.knows c.args.listener.now) (g.L.Listener.knows c.took.new.self) n c.args.self.now (record c.args.self.now { world = c.apply.new.self; line = c.args.self.now.line + 1 }) c.args.text.now.items c.took.new.text.items k sent e c.in-Ok.acted at takes
+    took_on g.L.CourseObserver.writing (g.L.CourseObserver.knows c.args.listener.now) (g.L.CourseObserver.knows c.took.new.self) n c.args.self.now (record c.args.self.now { world = c.apply.new.self; line = c.args.self.now.line + 1 }) c.args.text.now.items c.took.new.text.items k sent e c.in-Ok.acted at takes
     (c.in_ok-took-in-Ok.ensures n k.history at.known takes) refl refl (at.goes.time ∙ sym (time_still (generated_config n) world e (no_tick c.args.made))) refl refl (names_true n c.args.self.now k c.args.made at.goes c.requires.shows)
 
 pub halt_of-requires : goal.halt_of-requires
 halt_of-requires g c =
     let n = c.args.self.now.nodes in
     let e = event_for c.args.made in
-    let own = own_due g.L.Listener.writing (g.L.Listener.knows c.args.listener.now) c.args.self.now c.args.text.now.items (e ∷ []) c.requires.due in
+    let own = own_due g.L.CourseObserver.writing (g.L.CourseObserver.knows c.args.listener.now) c.args.self.now c.args.text.now.items (e ∷ []) c.requires.due in
     let refuses : Refuses c.in-Err.refusal (generated_config n) own.0.history e =
     subst (λ (d : Event). Refuses c.in-Err.refusal (generated_config n) own.0.history d) c.event.ensures (c.in-Err.ensures (generated_config n) own.0.history own.2.goes.world).refused in
     for_a_limit c.in-Err.refusal (generated_config n) own.0.history e own.3.0 refuses
@@ -36,5 +36,5 @@ returns-in-Err-clause-went g c k sent at =
     let e = event_for c.args.made in
     let refuses : Refuses c.in-Err.refusal (generated_config n) k.history e =
     subst (λ (d : Event). Refuses c.in-Err.refusal (generated_config n) k.history d) c.event.ensures (c.in-Err.ensures (generated_config n) k.history at.goes.world).refused in
-    subst (λ (s : CourseHalt). Went g.L.Listener.writing (g.L.Listener.knows c.args.listener.now) n (Err s) (record c.args.self.now { world = c.apply.new.self }) c.args.text.now.items (taken (generated_config n) e k) sent) (sym c.halt_of.ensures)
-    (refused_on g.L.Listener.writing (g.L.Listener.knows c.args.listener.now) (g.L.Listener.knows c.args.listener.now) n c.args.self.now (record c.args.self.now { world = c.apply.new.self }) c.args.text.now.items k sent e c.in-Err.refusal at c.requires.fits refuses)
+    subst (λ (s : CourseHalt). Went g.L.CourseObserver.writing (g.L.CourseObserver.knows c.args.listener.now) n (Err s) (record c.args.self.now { world = c.apply.new.self }) c.args.text.now.items (taken (generated_config n) e k) sent) (sym c.halt_of.ensures)
+    (refused_on g.L.CourseObserver.writing (g.L.CourseObserver.knows c.args.listener.now) (g.L.CourseObserver.knows c.args.listener.now) n c.args.self.now (record c.args.self.now { world = c.apply.new.self }) c.args.text.now.items k sent e c.in-Err.refusal at c.requires.fits refuses)

@@ -18,7 +18,7 @@ use Rattle.schedule_generate.proofs.generator.Generator.tick.Goals as goal
 pub tick-requires-clause-fits : goal.tick-requires-clause-fits
 tick-requires-clause-fits g c =
     let n = c.args.self.now.nodes in
-    let own = own_number g.L.Listener.writing (g.L.Listener.knows c.args.listener.now) c.args.self.now c.args.text.now.items c.requires.at in
+    let own = own_number g.L.CourseObserver.writing (g.L.CourseObserver.knows c.args.listener.now) c.args.self.now c.args.text.now.items c.requires.at in
     let k = own.0 in
     let goes = own.2.goes in
     let items = c.show_all.new.readings.items in
@@ -35,8 +35,8 @@ returns-in_ok-ticked-in-Ok-clause-went g c k sent at =
     let second : Tick 100 c.deref-in-Ok.result.now ≡ tick_of w = ap (Tick 100) c.deref-in-Ok.ensures.value ∙ tick_is n k items are in
     let takes : Takes c.tick.new.self (generated_config n) k.history c.args.self.now.line (tick_of w) None =
     subst (λ (e : Event). Takes c.tick.new.self (generated_config n) k.history c.args.self.now.line e None) first (c.in-Ok.ensures.answers (generated_config n) k.history at.goes.world) in
-    let told = subst (λ (e : Event). Takes c.tick.new.self (generated_config n) k.history c.args.self.now.line e None → g.L.Listener.knows c.ticked.new.self n ((c.args.self.now.line, e) ∷ k.history) × (c.ticked.new.text.items ≡ c.args.text.now.items ++ (g.L.Listener.writing n).line e)) second (c.in_ok-ticked-in-Ok.ensures n k.history at.known) takes in
-    took_on g.L.Listener.writing (g.L.Listener.knows c.args.listener.now) (g.L.Listener.knows c.ticked.new.self) n c.args.self.now (record c.args.self.now { world = c.tick.new.self; line = c.args.self.now.line + 1; time = c.args.self.now.time + 100; readings = c.show_all.new.readings }) c.args.text.now.items c.ticked.new.text.items k sent (tick_of w) None at takes told
+    let told = subst (λ (e : Event). Takes c.tick.new.self (generated_config n) k.history c.args.self.now.line e None → g.L.CourseObserver.knows c.ticked.new.self n ((c.args.self.now.line, e) ∷ k.history) × (c.ticked.new.text.items ≡ c.args.text.now.items ++ (g.L.CourseObserver.writing n).line e)) second (c.in_ok-ticked-in-Ok.ensures n k.history at.known) takes in
+    took_on g.L.CourseObserver.writing (g.L.CourseObserver.knows c.args.listener.now) (g.L.CourseObserver.knows c.ticked.new.self) n c.args.self.now (record c.args.self.now { world = c.tick.new.self; line = c.args.self.now.line + 1; time = c.args.self.now.time + 100; readings = c.show_all.new.readings }) c.args.text.now.items c.ticked.new.text.items k sent (tick_of w) None at takes told
     refl refl (tick_after n c.args.self.now k (c.args.self.now.time + 100) at.goes refl) refl refl refl
 
 pub returns-in_ok-ticked-in-Ok-clause-shown : goal.returns-in_ok-ticked-in-Ok-clause-shown
@@ -53,7 +53,7 @@ returns-in_ok-ticked-in-Ok-clause-shown g c k sent at =
 pub returns-in_ok-ticked-in-Ok-clause-fit : goal.returns-in_ok-ticked-in-Ok-clause-fit
 returns-in_ok-ticked-in-Ok-clause-fit g c =
     let n = c.args.self.now.nodes in
-    let own = own_number g.L.Listener.writing (g.L.Listener.knows c.args.listener.now) c.args.self.now c.args.text.now.items c.requires.at in
+    let own = own_number g.L.CourseObserver.writing (g.L.CourseObserver.knows c.args.listener.now) c.args.self.now c.args.text.now.items c.requires.at in
     let k = own.0 in
     let goes = own.2.goes in
     let items = c.show_all.new.readings.items in
@@ -63,7 +63,7 @@ returns-in_ok-ticked-in-Ok-clause-fit g c =
 pub halt_of-requires : goal.halt_of-requires
 halt_of-requires g c =
     let n = c.args.self.now.nodes in
-    let own = own_number g.L.Listener.writing (g.L.Listener.knows c.args.listener.now) c.args.self.now c.args.text.now.items c.requires.at in
+    let own = own_number g.L.CourseObserver.writing (g.L.CourseObserver.knows c.args.listener.now) c.args.self.now c.args.text.now.items c.requires.at in
     let k = own.0 in
     let goes = own.2.goes in
     let w = ruled (generated_config n) k.history in
@@ -85,5 +85,5 @@ returns-in-Err-clause-went g c k sent at =
     let refuses : Refuses c.in-Err.refusal (generated_config n) k.history (tick_of w) =
     subst (λ (e : Event). Refuses c.in-Err.refusal (generated_config n) k.history e) first (c.in-Err.ensures.answers (generated_config n) k.history at.goes.world).refused in
     let b : Generator = record c.args.self.now { world = c.tick.new.self; readings = c.show_all.new.readings } in
-    subst (λ (s : CourseHalt). Went g.L.Listener.writing (g.L.Listener.knows c.args.listener.now) n (Err s) b c.args.text.now.items (taken (generated_config n) (tick_of w) k) sent) (sym c.halt_of.ensures)
-    (refused_on g.L.Listener.writing (g.L.Listener.knows c.args.listener.now) (g.L.Listener.knows c.args.listener.now) n c.args.self.now b c.args.text.now.items k sent (tick_of w) c.in-Err.refusal at fit refuses)
+    subst (λ (s : CourseHalt). Went g.L.CourseObserver.writing (g.L.CourseObserver.knows c.args.listener.now) n (Err s) b c.args.text.now.items (taken (generated_config n) (tick_of w) k) sent) (sym c.halt_of.ensures)
+    (refused_on g.L.CourseObserver.writing (g.L.CourseObserver.knows c.args.listener.now) (g.L.CourseObserver.knows c.args.listener.now) n c.args.self.now b c.args.text.now.items k sent (tick_of w) c.in-Err.refusal at fit refuses)
