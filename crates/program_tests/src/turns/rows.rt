@@ -145,7 +145,7 @@ fn an_arbitrator_rules(rt: HostRuntime) -> Result<(), Fail> {
 }
 
 /// A node whose records are these ends with a fault that names one of them.
-fn expect_bad(rt: &HostRuntime, alloc: Global, records: &[&[u8]], fault: &str) -> Result<(), Fail> {
+fn expect_bad(rt: &impl Abort, alloc: Global, records: &[&[u8]], fault: &str) -> Result<(), Fail> {
     let mut list = Vec::new(alloc);
     for record in records {
         list.push(Vec::from_slice(alloc, record)?)?;
