@@ -1,0 +1,127 @@
+"""A run that is ready to be drawn: one report, or those of several processes, with what is said around the picture."""
+from typing import NamedTuple
+
+from .clocks import join
+from .lines import order_of
+from .run import History
+from .sources import Refused
+from .svg import thousands
+
+
+class Window(NamedTuple):
+    first: int
+    last: int
+    is_cut: bool
+
+
+class Run:
+    """What the panels read, and the words of the heading and the notes."""
+
+    def __init__(self, histories, sections, wants_fences, given):
+        self.sections = sections
+        self.is_running = any(it.is_running for it in sections)
+        self.has_steps = len(histories) == 1
+        loose = join(histories, given) if len(histories) > 1 else []
+        history = histories[0] if histories else History(None)
+        self.first, self.last = history.first or 0, history.last
+        self.lives, self.stretches, self.flights = history.lives, history.stretches, history.flights
+        self.marks = sorted(history.marks, key=lambda it: it.begins)
+        self.partitions, self.steps = history.partitions, history.steps
+        self.has_fences = wants_fences and not history.is_filtered
+        self.faults = [it.closing for it in sections if it.closing and it.closing.word == "fault"]
+        self.alarms = [f"the report ends with: fault {it.fields[0]}" for it in self.faults]
+        self.title = self.named()
+        self.time_label = self.labelled()
+        self.notes = [*self.note_fences(history, wants_fences), *self.note_clocks(loose, given), *self.note_ends()]
+
+    def has_lapses(self):
+        return self.has_fences and any(it.lapse is not None for it in self.stretches)
+
+    def named(self):
+        nodes = len({it.who.split(".")[0] for it in self.lives})
+        if not nodes:
+            return "No node began"
+        what = "A run" if self.is_running else "A schedule"
+        return f"{what} of {nodes} node{'' if nodes == 1 else 's'}: who held what"
+
+    def labelled(self):
+        if not self.is_running:
+            return "true time in ticks (a tick is 1 ms in a running process)"
+        return "time in ms since the first process began" if len(self.sections) > 1 else "the process's clock, in ms"
+
+    def summary(self, window):
+        unit = "ms" if self.is_running else "ticks"
+        parts = [f"{len(self.lives):,} instance{'' if len(self.lives) == 1 else 's'}"]
+        if self.partitions:
+            parts.append(f"{len(self.partitions):,} partition{'' if len(self.partitions) == 1 else 's'}")
+        parts.append(f"{thousands(self.first)} to {thousands(self.last)} {unit}")
+        if window.is_cut:
+            parts.append(f"cut: {thousands(window.first)} to {thousands(window.last)}")
+        for it in self.sections:
+            if it.closing and it.closing.word == "end" and len(self.sections) == 1:
+                events = it.closing.fields[0]
+                parts.append(f"{events:,} turns" if self.is_running else f"{events:,} events and {it.closing.fields[1]:,} frames")
+        return ", ".join(parts)
+
+    def note_fences(self, history, wants_fences):
+        if not wants_fences:
+            return ["fences are left out, as was asked: an instance that fell silent is drawn as a holder until it is taken over"]
+        if history.is_filtered:
+            return ["fences are left out: an instance went on past the fence of its last `own` line, so lines are missing in this report"]
+        if self.stretches and all(it.fence is None and it.lapse is None for it in self.stretches):
+            return ["no line has a fence, so none is drawn"]
+        if self.has_lapses() and not self.is_running:
+            return ["a fence is where the clock reaches it if it runs evenly between two lines, and after the last one as true time does"]
+        return []
+
+    def note_clocks(self, loose, given):
+        if len(self.sections) < 2:
+            return []
+        notes = []
+        if not given:
+            notes.append("the clocks of the processes are set by their flights, take-overs and restarts: they are some milliseconds off")
+        if loose:
+            names = ", ".join(sorted({self.sections[i].source.name or "the input" for i in loose}))
+            notes.append(f"nothing ties the clock of {names} to the others: give FILE@MS")
+        return notes
+
+    def note_ends(self):
+        notes = []
+        for it in self.sections:
+            name = f"{it.source.name}: " if it.source.name else ""
+            if it.cut:
+                notes.append(f"{name}the report breaks off in line {it.cut}, which is left out")
+            elif not it.closing and it is self.sections[-1]:
+                notes.append(f"{name}the report has no last line: the process goes on, or was ended")
+            for place in it.places:
+                notes.append("at the end " + place_text(place))
+        return notes
+
+
+def place_text(place):
+    """What a report says at its end of the points that nobody holds."""
+    shown = [f"{lo:016x}-{hi:016x}" for lo, hi in place.fields[-1]]
+    text = ",".join(shown[:3]) + (f" and {len(shown) - 3} more" if len(shown) > 3 else "")
+    if place.word == "unheld":
+        return f"nobody holds what is with {place.fields[0]}: {text}"
+    return f"flight {place.fields[1]} from {place.fields[0]} to {place.fields[2]} is on its way: {text}"
+
+
+def read_run(sources, wants_fences, given):
+    """Reads all sources. `given` has the known beginnings of clocks, by source."""
+    histories, sections, begun = [], [], {}
+    for i, source in enumerate(sources):
+        section = None
+        for belongs, time, line in source:
+            if belongs is not section:
+                section = belongs
+                if i in given and i not in begun.values():
+                    begun[len(histories)] = i
+                histories.append(History(section))
+            histories[-1].take(time, line)
+        sections += source.sections
+    for it in histories:
+        it.close()
+    if len(histories) > 1 and any(not it.section.is_running for it in histories):
+        raise Refused("several reports are joined only where they are of running processes, without true times")
+    return Run(histories, sections, wants_fences, {at: given[i] for at, i in begun.items()})

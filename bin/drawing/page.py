@@ -1,0 +1,199 @@
+"""The page: a heading, the ring, the nodes, the partitions, the scale of time, and a legend, in at most MAX_PICTURE bytes."""
+from bisect import bisect_right
+from typing import NamedTuple
+
+from . import marks, palette
+from .axes import PointAxis, TimeAxis
+from .boxes import Ring
+from .lines import node_of, order_of
+from .node_panel import NodePanel
+from .partition_panel import PartitionPanel
+from .ring_panel import RingPanel
+from .svg import Picture, thousands
+from .time_panel import TimePanel
+
+MAX_PICTURE = 2_000_000
+WIDTH, LEFT, RIGHT = 1000, 138, 16
+# The ring is higher if many nodes hold points, so that a block can bear its name.
+LEAST_RING, MOST_RING, RING_OF_NODE = 300, 560, 9
+MOST_NAMES = 4
+
+
+class Level(NamedTuple):
+    """How much falls together: the ring's grid (0 for none), the distance of marks, and how many lanes there are at most."""
+
+    cell: float
+    together: float
+    lanes: int
+    partitions: int
+
+
+LEVELS = (Level(0, 6, 128, 32), Level(1, 8, 128, 24), Level(2, 12, 64, 12), Level(4, 24, 64, 8), Level(10, 60, 64, 4))
+
+
+class Sheet:
+    """What the panels share: the picture, the scale of time, and what the legend and the notes have to say."""
+
+    def __init__(self, run, window, level):
+        self.run, self.level = run, level
+        self.picture = Picture(WIDTH)
+        first, last = window.first, window.last
+        steps = run.steps if run.has_steps else []
+        self.axis = TimeAxis(first, last, steps, LEFT, WIDTH - LEFT - RIGHT)
+        self.marks = run.marks
+        self.unit = "ms" if run.is_running else "ticks"
+        self.line_word = "turn" if run.is_running else "line"
+        self.colours, self.signs = set(), set()
+        self.notes, self.alarms = [], []
+        self.together = 0
+
+    def is_seen(self, time):
+        return self.axis.first <= time <= self.axis.last
+
+    def lapses(self):
+        """The times at which a fence ended a hold."""
+        return sorted({it.lapse for it in self.run.stretches if it.lapse is not None}) if self.run.has_fences else []
+
+    def line_at(self, moment):
+        time, step = moment
+        return self.run.steps[step][1] if self.run.has_steps and step < len(self.run.steps) else "-"
+
+
+def drawn(run, window):
+    """The picture as text, at the finest level that fits."""
+    for level in LEVELS:
+        text = draw(run, window, level)
+        if len(text.encode()) <= MAX_PICTURE:
+            return text
+    raise AssertionError("the coarsest level always fits")
+
+
+def draw(run, window, level):
+    sheet = Sheet(run, window, level)
+    ring = Ring(run, sheet.axis, run.has_fences)
+    y = top = draw_heading(sheet, window)
+    times = TimePanel(sheet)
+    if run.stretches:
+        y += 28
+        times.draw_above(y)
+        height = min(MOST_RING, max(LEAST_RING, RING_OF_NODE * len({node_of(it.who) for it in run.stretches})))
+        RingPanel(sheet, ring, PointAxis(ring.cuts(), y, height)).draw()
+        y += height
+    elif run.lives:
+        sheet.notes.append("no line says that an instance owns points")
+    y = draw_lanes(sheet, run, ring, y + 30)
+    if run.lives:
+        y += 4
+        draw_fault(sheet, top + 10, y)
+        times.draw_below(y, run.time_label)
+        y = draw_legend(sheet, y + 58)
+    y = draw_notes(sheet, [*run.notes, *sheet.notes], y)
+    sheet.picture.height = y + 6
+    return sheet.picture.written(run.title, palette.style(sorted(sheet.colours)), definitions(sheet))
+
+
+def definitions(sheet):
+    return palette.hatches(sorted(sheet.colours)) + marks.definitions(sheet.signs)
+
+
+def draw_heading(sheet, window):
+    sheet.picture.text(12, 24, sheet.run.title, "big")
+    y = 42
+    sheet.picture.text(12, y, sheet.run.summary(window), "faint")
+    for text in sheet.run.alarms:
+        y += 16
+        sheet.picture.text(12, y, text, "alarm head")
+    return y
+
+
+def draw_lanes(sheet, run, ring, y):
+    """Nodes, then partitions."""
+    nodes = NodePanel(sheet, run, ring, y)
+    if nodes.height:
+        sheet.picture.text(12, y - 6, "nodes", "head")
+        nodes.draw()
+        y += nodes.height
+    if run.partitions:
+        y += 26
+        sheet.picture.text(12, y - 6, "partitions", "head")
+        panel = PartitionPanel(sheet, run.partitions, y)
+        panel.draw()
+        y += panel.height
+    return y
+
+
+def draw_fault(sheet, top, bottom):
+    """A report that ends with a fault has a line where it ends."""
+    for it in sheet.run.faults:
+        x = sheet.axis.right()
+        sheet.picture.line(x, top, x, bottom, "fault", f"fault {it.fields[0]}")
+
+
+def draw_legend(sheet, y):
+    """Colours by node, each with its instances, then signs."""
+    picture, x = sheet.picture, 12
+    picture.open("g", id="legend")
+    instances = {}
+    for who in sorted({it.who for it in sheet.run.lives}, key=order_of):
+        instances.setdefault(node_of(who), []).append(who)
+    entries = [(node, whos) for node, whos in instances.items() if palette.index_of(node) in sheet.colours]
+    for node, whos in entries[:64]:
+        name = ", ".join(whos[:MOST_NAMES]) + (f" .. {whos[-1]}" if len(whos) > MOST_NAMES else "")
+        x, y = room(x, y, 22 + 6.4 * len(name))
+        picture.rect(x, y - 9, 12, 10, f"n{palette.index_of(node)}")
+        picture.text(x + 16, y, name)
+        x += 30 + 6.4 * len(name)
+    if len(entries) > 64:
+        x, y = room(x, y, 150)
+        picture.text(x, y, f"and {len(entries) - 64:,} more nodes", "faint")
+    if len({palette.index_of(node) for node, _ in entries}) < len(entries):
+        sheet.notes.append(f"there are {palette.COLOURS} colours: nodes {palette.COLOURS} numbers apart share one, and blocks bear names")
+    x, y = 12, y + 20
+    for draw, name in signs(sheet):
+        x, y = room(x, y, 22 + 5.9 * len(name))
+        draw(x + 6, y - 4)
+        picture.text(x + 16, y, name)
+        x += 30 + 5.9 * len(name)
+    picture.close("g")
+    return y + 10
+
+
+def room(x, y, width):
+    return (x, y) if x + width <= WIDTH - 12 else (12, y + 17)
+
+
+def signs(sheet):
+    """What is in this picture beside colours: how to draw each sample around a place, and what it means."""
+    picture, first = sheet.picture, min(sheet.colours, default=0)
+    found = []
+    if sheet.run.stretches:
+        found.append((lambda x, y: picture.rect(x - 6, y - 5, 12, 10, "frame"), "blank: nobody holds it"))
+        if any(it.begins for it in sheet.run.flights.values()):
+            found.append((lambda x, y: picture.rect(x - 6, y - 5, 12, 10, f"h{first}"), "striped: in flight, in the giver's colour"))
+        if sheet.run.has_lapses():
+            found.append((lambda x, y: picture.line(x, y - 6, x, y + 6, f"edge e{first}"), "a fence ended the hold"))
+    if sheet.axis.has_steps:
+        found.append((lambda x, y: picture.line(x - 6, y, x + 6, y, "still"), "steps at one time, in their order"))
+    found.append((lambda x, y: picture.rect(x - 6, y - 2, 12, 4, f"n{first} gone"), "pale: it left, or says nothing more"))
+    if any(it.how == "took" for it in sheet.run.flights.values()):
+        found.append((lambda x, y: picture.path(f"M{x - 4} {y - 5}V{y + 4}m-3 -4l3 4l3 -4", "change flown"), "a flight was taken"))
+    for kind in marks.SIGNS:
+        if kind in sheet.signs:
+            found.append((lambda x, y, kind=kind: picture.use(f"m-{kind}", x, y), marks.SIGNS[kind][1]))
+    if sheet.run.partitions:
+        found.append((lambda x, y: picture.path(f"M{x - 6} {y + 2}v-4h12v4", "change"), "reconfiguration, dashed if not configured"))
+        if any(it.commits for it in sheet.run.partitions.values()):
+            found.append((lambda x, y: picture.path(f"M{x - 6} {y + 4}h4v-4h4v-4h4", "rise"), "committed entries"))
+    return found
+
+
+def draw_notes(sheet, notes, y):
+    if sheet.together:
+        notes.append(f"{sheet.together:,} marks and bars fall together with others and are drawn with them")
+    for text in sheet.alarms:
+        y += 16
+        sheet.picture.text(12, y, text, "alarm head")
+    for text in notes:
+        y += 15
+        sheet.picture.text(12, y, text, "small faint")
+    return y
