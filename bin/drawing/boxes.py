@@ -4,6 +4,7 @@ from bisect import bisect_left, insort
 from typing import NamedTuple
 
 from .lines import node_of, order_of
+from .spans import AFTER_ALL
 
 
 class Box(NamedTuple):
@@ -33,7 +34,7 @@ class Ring:
         self.has_fences = has_fences
         self.boxes = []
         self.thin = 0
-        self.cut_at = {} if has_fences else take_overs(run)
+        self.cut_at = {} if has_fences else known_ends(run)
         for stretches in by_instance(run.stretches):
             self.hold(stretches)
         reporters = {it.who for it in run.lives}
@@ -65,8 +66,12 @@ class Ring:
         begins, ends, until = self.axis.x(stretch.begins), self.axis.x(stretch.ends), stretch.ends[0]
         if self.has_fences and stretch.lapse is not None:
             ends, until = max(begins, min(ends, self.axis.x_at(stretch.lapse))), stretch.lapse
-        elif stretch.who in self.cut_at and stretch.begins < self.cut_at[stretch.who] < stretch.ends:
-            ends, until = self.axis.x(self.cut_at[stretch.who]), self.cut_at[stretch.who][0]
+        elif not self.has_fences:
+            cut = self.cut_at.get(stretch.who)
+            if stretch.ends[1] == AFTER_ALL:
+                ends, until = self.axis.right(), None
+            if cut and stretch.begins < cut and (until is None or cut < stretch.ends):
+                ends, until = self.axis.x(cut), cut[0]
         return begins, ends, until
 
     def shut(self, open_boxes, who):
@@ -135,13 +140,17 @@ def by_instance(stretches):
     return [found[who] for who in sorted(found, key=order_of)]
 
 
-def take_overs(run):
-    """When each instance was first taken over. Where fences are left out, its hold is drawn to there at most."""
+def known_ends(run):
+    """When each instance was taken over, or its node's next one started. Without fences its hold is drawn to there at most."""
     found = {}
     for it in run.marks:
         if it.kind == "tookover":
             victim = it.text.split(" ")[-1]
             found[victim] = min(it.begins, found.get(victim, it.begins))
+    lives = sorted(run.lives, key=lambda it: order_of(it.who))
+    for it, following in zip(lives, lives[1:]):
+        if node_of(it.who) == node_of(following.who):
+            found[it.who] = min(following.begins, found.get(it.who, following.begins))
     return found
 
 

@@ -53,6 +53,7 @@ class NodePanel:
             half = min(2, self.lane / 9)
             self.picture.rect(x0, y - half, quiet - x0, 2 * half, f"n{index}", title)
             if quiet < x1:
+                self.sheet.has_pale = True
                 self.picture.rect(quiet, y - half, x1 - quiet, 2 * half, f"n{index} gone", title)
 
     def joined(self, lives):

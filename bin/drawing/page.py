@@ -45,7 +45,7 @@ class Sheet:
         self.line_word = "turn" if run.is_running else "line"
         self.colours, self.signs = set(), set()
         self.notes, self.alarms = [], []
-        self.together = 0
+        self.together, self.has_pale = 0, False
 
     def is_seen(self, time):
         return self.axis.first <= time <= self.axis.last
@@ -174,7 +174,8 @@ def signs(sheet):
             found.append((lambda x, y: picture.line(x, y - 6, x, y + 6, f"edge e{first}"), "a fence ended the hold"))
     if sheet.axis.has_steps:
         found.append((lambda x, y: picture.line(x - 6, y, x + 6, y, "still"), "steps at one time, in their order"))
-    found.append((lambda x, y: picture.rect(x - 6, y - 2, 12, 4, f"n{first} gone"), "pale: it left, or says nothing more"))
+    if sheet.has_pale:
+        found.append((lambda x, y: picture.rect(x - 6, y - 2, 12, 4, f"n{first} gone"), "pale: it left, or says nothing more"))
     if any(it.how == "took" for it in sheet.run.flights.values()):
         found.append((lambda x, y: picture.path(f"M{x - 4} {y - 5}V{y + 4}m-3 -4l3 4l3 -4", "change flown"), "a flight was taken"))
     for kind in marks.SIGNS:

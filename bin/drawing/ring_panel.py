@@ -79,13 +79,13 @@ class RingPanel:
                 self.picture.text((box.x0 + box.x1) / 2, (top + bottom) / 2 + down, box.who, f"middle {ink}{size}")
 
     def draw_blank(self, blank):
-        """How long nobody holds what was held, where there is room to say it."""
+        """How long nobody holds what was held, where there is room to say it: above the signs in the middle."""
         x0, x1, lo, hi, ticks = blank
         top, bottom = self.points.y(hi + 1), self.points.y(lo)
         texts = [f"nobody for {thousands(round(ticks, 1))} {self.sheet.unit}", "nobody"] if ticks is not None else ["nobody"]
         for text in texts:
-            if x1 - x0 >= 6.3 * len(text) + 6 and bottom - top >= LABEL_HEIGHT:
-                self.picture.text((x0 + x1) / 2, (top + bottom) / 2 + 4, text, "middle faint")
+            if x1 - x0 >= 6.3 * len(text) + 8 and bottom - top >= LABEL_HEIGHT:
+                self.picture.text(x0 + 6, min(top + 15, (top + bottom) / 2 + 4), text, "faint")
                 return
 
     def draw_grid(self, cell):

@@ -24,10 +24,14 @@ class TimePanel:
             self.picture.text(x, y + 17, thousands(time), "middle small")
 
     def draw_step_times(self, y):
-        """Each time at its first step, and each fence. Where several steps have one time, a bar says that time does not pass."""
+        """Each time at its first step, each fence, and the ends. Where several steps have one time, a bar says that it does not pass."""
         axis, used = self.axis, axis_edge(self.axis)
-        fences = [[axis.x_at(it), axis.x_at(it), it] for it in self.sheet.lapses() if self.sheet.is_seen(it)]
-        for x0, x1, time in sorted(moments(axis) + fences):
+        others = [[axis.x_at(it), axis.x_at(it), it] for it in self.sheet.lapses() if self.sheet.is_seen(it)]
+        if axis.first < axis.times[0]:
+            others.append([axis.left, axis.left, axis.first])
+        if axis.last > axis.times[-1]:
+            others.append([axis.end, axis.end, axis.last])
+        for x0, x1, time in sorted(moments(axis) + others):
             self.picture.line(x0, y, x0, y + 5, "tick", f"time {time}")
             if x1 > x0:
                 self.picture.line(x0, y + 5, x1, y + 5, "still", f"time {time}: steps in their order")
