@@ -69,7 +69,8 @@ class Made:
 
     def heirs(self):
         """Accusations that are due, and heirs that are ripe."""
-        due, self.waiting = [it for it in self.waiting if it[0] <= self.time], [it for it in self.waiting if it[0] > self.time]
+        due = [it for it in self.waiting if it[0] <= self.time]
+        self.waiting = [it for it in self.waiting if it[0] > self.time]
         for _, what, victim, parts, *heir in due:
             if what == "accuse":
                 alive = [it for it in self.nodes if it.runs and len(it.parts) < 8]

@@ -12,11 +12,12 @@ class Drawn:
         self.boxes = [self.box(it) for it in children(groups.get("ring"), "rect")]
         if not self.boxes:
             return
-        points = sorted((float(it.get("y1")), int(title(it).split()[1], 16)) for it in children(groups["points"], "line"))
+        ticks = children(groups["points"], "line")
+        points = sorted((float(it.get("y1")), int(title(it).split()[1], 16)) for it in ticks)
         self.ys, self.points = [it[0] for it in points], [it[1] for it in points]
         self.steps = [self.step(it) for it in children(groups.get("steps"), "line")]
-        self.ticks = sorted((float(it.get("x1")), float(title(it).split()[1])) for it in children(groups["times"], "line")
-                            if "steps" not in title(it))
+        ticks = [it for it in children(groups["times"], "line") if "steps" not in title(it)]
+        self.ticks = sorted((float(it.get("x1")), float(title(it).split()[1])) for it in ticks)
         frame = next(it for it in page if it.get("class") == "frame")
         self.left = float(frame.get("x"))
         self.right = self.left + float(frame.get("width"))
@@ -143,8 +144,9 @@ class Told:
             aloft.pop((who, fields[1]), None)
         elif word == "tookover":
             taken = ranges(fields[1])
-            for key in [key for key, parts in aloft.items() if key[0] == who and all(holds(taken, lo) for lo, _ in parts)]:
-                del aloft[key]
+            for key, parts in list(aloft.items()):
+                if key[0] == who and all(holds(taken, lo) for lo, _ in parts):
+                    del aloft[key]
 
 
 def clock(lines, time):

@@ -1,8 +1,9 @@
 """Where a time and a point are in the picture.
 
-Time goes to the right. In a short report much happens at one time, so each step gets a width of its own beside the time that
-passes: then a place between two steps is that far between their times. A long report has times alone.
-Points go upwards. A ring whose cuts lie too near together to be seen gets stretches of one height instead of its scale.
+Time goes to the right. In a short report much happens at one time, so each step gets a width of its own beside the
+time that passes: then a place between two steps is that far between their times. A long report has times alone.
+Points go upwards. A ring whose cuts lie too near together to be seen gets stretches of one height instead of its
+scale.
 """
 from bisect import bisect_left, bisect_right
 

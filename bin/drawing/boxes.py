@@ -1,4 +1,6 @@
-"""The ring over time as boxes: an interval of points that an instance holds, or that is on its way, from a place to a place."""
+"""The ring over time as boxes: an interval of points that an instance holds, or that is on its way, from a place to a
+place.
+"""
 import heapq
 from bisect import bisect_left, insort
 from typing import NamedTuple
@@ -8,7 +10,10 @@ from .spans import AFTER_ALL
 
 
 class Box(NamedTuple):
-    """`kind` is `held` or `flight`. `since` and `until` are times for the tooltip; `fence` is drawn where the hold ended at one."""
+    """`kind` is `held` or `flight`.
+
+    `since` and `until` are times for the tooltip; `fence` is drawn where the hold ended at one.
+    """
 
     x0: float
     x1: float
@@ -83,8 +88,8 @@ class Ring:
     def fly(self, flight, ends):
         x0, x1 = self.axis.x(flight.begins), self.axis.x(ends) if ends else self.axis.right()
         until = ends[0] if ends else None
-        how = {"took": ", taken", "returned": ", returned", "tookover": ", taken over"}.get(flight.how, ", not taken yet")
-        note = f" to {flight.receiver}, flight {flight.number}{how}"
+        how = {"took": "taken", "returned": "returned", "tookover": "taken over"}.get(flight.how, "not taken yet")
+        note = f" to {flight.receiver}, flight {flight.number}, {how}"
         for lo, hi in flight.ranges:
             self.add(Box(x0, x1, lo, hi, flight.giver, "flight", flight.begins[0], until, False, note))
 
@@ -98,7 +103,10 @@ class Ring:
         return {it.lo for it in self.boxes} | {it.hi + 1 for it in self.boxes}
 
     def blanks(self):
-        """What nobody holds behind each hold: (x0, x1, lo, hi, ticks). No ticks where it lasts to the end, or ends in parts."""
+        """What nobody holds behind each hold: (x0, x1, lo, hi, ticks).
+
+        No ticks where it lasts to the end, or ends in parts.
+        """
         found = []
         for box in self.boxes:
             if box.kind != "held" or box.x1 >= self.axis.right() - THINNEST:
@@ -125,7 +133,8 @@ class Ring:
             at = bisect_left(active, item)
             for other in active[max(at - 1, 0):at + 1]:
                 if other[3] != box.who and other[0] <= box.hi and box.lo <= other[1]:
-                    found.append((box.x0, min(box.x1, other[2]), max(box.lo, other[0]), min(box.hi, other[1]), other[3], box.who))
+                    lo, hi = max(box.lo, other[0]), min(box.hi, other[1])
+                    found.append((box.x0, min(box.x1, other[2]), lo, hi, other[3], box.who))
             insort(active, item)
             heapq.heappush(ends, (box.x1, item))
             if len(found) >= most:
@@ -141,7 +150,10 @@ def by_instance(stretches):
 
 
 def known_ends(run):
-    """When each instance was taken over, or its node's next one started. Without fences its hold is drawn to there at most."""
+    """When each instance was taken over, or its node's next one started.
+
+    Without fences its hold is drawn to there at most.
+    """
     found = {}
     for it in run.marks:
         if it.kind == "tookover":
@@ -155,9 +167,10 @@ def known_ends(run):
 
 
 def grid(boxes, points, axis, cell):
-    """What falls together, drawn together: the boxes on a grid of cells, as runs of (x, y, width, height) by holder and kind.
+    """What falls together, drawn together: the boxes on a grid of cells.
 
-    A cell shows what has its middle. Runs of one column that go on in the next one are one.
+    Gives runs of cells (x, y, width, height) by holder and kind. A cell shows what has its middle. Runs of one column
+    that go on in the next one are one.
     """
     runs, previous, starts, active, at = {}, {}, {}, [], 0
     columns = int((axis.right() - axis.left) / cell)

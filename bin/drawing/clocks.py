@@ -1,8 +1,9 @@
 """Several processes on one time. Each report counts from the start of its own process.
 
-A receiver takes a flight after it was given, an heir takes over after its victim's hold ended, and the next instance of a
-node starts after the one before. Each such pair bounds how much later one clock began than the other. A clock is put where
-the nearest bound just holds: so what two processes did with each other is off by a message's way, a few milliseconds.
+A receiver takes a flight after it was given, an heir takes over after its victim's hold ended, and the next instance
+of a node starts after the one before. Each such pair bounds how much later one clock began than the other. A clock
+is put where the nearest bound just holds: so what two processes did with each other is off by a message's way, a few
+milliseconds.
 """
 from .lines import node_of, order_of
 
@@ -34,7 +35,8 @@ def bounds(histories):
 
 def follow_ups(histories):
     """Each instance of a node with the next one, where two processes reported them."""
-    lives = sorted(((i, it) for i, history in enumerate(histories) for it in history.lives), key=lambda it: order_of(it[1].who))
+    lives = [(i, it) for i, history in enumerate(histories) for it in history.lives]
+    lives.sort(key=lambda it: order_of(it[1].who))
     return [(x, y) for x, y in zip(lives, lives[1:]) if node_of(x[1].who) == node_of(y[1].who) and x[0] != y[0]]
 
 

@@ -2,31 +2,33 @@
 
 Draws a run: who held what, when it moved, who took over from whom, who was primary.
 
-REPORT is what `fabric replay`, `fabric node` or `fabric cluster` writes. FROM and TO cut the time: ticks of true time, or
-milliseconds of the process's clock. Without a FILE the report comes from standard input. Several FILEs are the reports of
-the processes of one cluster. Each counts from its own start, so their clocks are set by what they did with each other:
-flights, take-overs, restarts. FILE@MS says that this process began MS milliseconds after the first one.
+REPORT is what `fabric replay`, `fabric node` or `fabric cluster` writes. FROM and TO cut the time: ticks of true
+time, or milliseconds of the process's clock. Without a FILE the report comes from standard input. Several FILEs are
+the reports of the processes of one cluster. Each counts from its own start, so their clocks are set by what they did
+with each other: flights, take-overs, restarts. FILE@MS says that this process began MS milliseconds after the first.
 
-The picture is an SVG of at most 2 MB, for light and dark, without a script. Each part has a tooltip.
-  the ring      time to the right, points upwards, a colour for each node. Blank: nobody holds it. Striped: it is in flight.
-                A dashed edge: a fence ended the hold. Red: two instances hold it, which the rules exclude.
-  nodes         thin: the instance runs; thick: it holds points. Signs: started, stopped, accused, discharged, became heir,
-                took over, left. An arrow: a flight was taken, so there is a link. A report has no other word of links.
-  partitions    a bar for each primary with its epoch; thin bars for replicas from their promise on; a bracket for each
-                reconfiguration, from the first line of its epoch (a report does not have the command) to `configured`, dashed
-                if it was superseded or is open; the rising line counts committed entries.
-In a short report each step has a width of its own beside the time that passes, so that one sees what happened at one time:
-a grey bar below says that time does not pass there, and the numbers above are the lines of the steps.
-What falls together is drawn together, and the picture says so. FROM TO shows more.
+The picture is an SVG of at most 2,000,000 bytes, for light and dark, without a script. Each part has a tooltip.
+  the ring    Time goes to the right, points go upwards, and each node has its colour. Blank: nobody holds it.
+              Striped: it is in flight. A dashed edge: a fence ended the hold. Red: two instances hold it, which
+              the rules exclude.
+  nodes       Thin: the instance runs. Thick: it holds points. Pale: it left, or no further line of it comes.
+              The signs have a legend. An arrow: a flight was taken, so there is a link. Reports say no more of links.
+  partitions  A bar for each primary with its epoch. Thin bars for replicas, from their promise on. A bracket for
+              each reconfiguration, from the first line of its epoch (no line has the command) to `configured`;
+              dashed if it was superseded, or is open. The rising line counts committed entries.
+In a short report each step has a width of its own beside the time that passes. A grey bar below says that time does
+not pass there; the numbers above are the lines of the steps. What falls together is drawn together, and the picture
+says so: FROM TO shows more.
 
---no-fences   takes no fence from the `own` lines. Use it for a log from which `own` lines were filtered out. Where such a log
-              shows it (an instance goes on past its fence), fences are left out without this word.
+--no-fences   takes no fence from the `own` lines. Use it for a log without the `own` lines of renewals. If such a
+              log shows it (an instance goes on past its fence), fences are left out without this word.
 
-A report of up to 2,000,000 lines and 300,000,000 bytes is drawn. A line that is none of a report, a time that falls, a line
-behind the end, an empty report and one that is too long are refused with a message that names the line. The begin of a line
-behind the last line feed is left out, and the picture says so. A report that ends with a fault is drawn up to there.
+A report of at most 2,000,000 lines and 300,000,000 bytes is drawn. Refused, with a message that names the line: a
+line that is in no report, a time that falls, a line behind the end, a report that is empty or too long. What follows
+the last line feed is left out, and the picture says so. A report that ends with a fault is drawn up to there.
 
-status  0 the picture is written; 2 the words; 3 a file cannot be read; 4 the picture cannot be written; 6 the report is refused
+status  0 the picture is written   2 the words are wrong   3 a file cannot be read
+        4 the picture cannot be written   6 the report is refused
 """
 import re
 import sys

@@ -5,7 +5,7 @@ from .clocks import join
 from .lines import order_of
 from .run import History
 from .sources import Refused
-from .svg import thousands
+from .svg import counted, thousands
 
 
 class Window(NamedTuple):
@@ -42,7 +42,7 @@ class Run:
         if not nodes:
             return "No node began"
         what = "A run" if self.is_running else "A schedule"
-        return f"{what} of {nodes} node{'' if nodes == 1 else 's'}: who held what"
+        return f"{what} of {counted(nodes, 'node')}: who held what"
 
     def labelled(self):
         if not self.is_running:
@@ -51,27 +51,28 @@ class Run:
 
     def summary(self, window):
         unit = "ms" if self.is_running else "ticks"
-        parts = [f"{len(self.lives):,} instance{'' if len(self.lives) == 1 else 's'}"]
+        parts = [counted(len(self.lives), "instance")]
         if self.partitions:
-            parts.append(f"{len(self.partitions):,} partition{'' if len(self.partitions) == 1 else 's'}")
+            parts.append(counted(len(self.partitions), "partition"))
         parts.append(f"{thousands(self.first)} to {thousands(self.last)} {unit}")
         if window.is_cut:
             parts.append(f"cut: {thousands(window.first)} to {thousands(window.last)}")
         for it in self.sections:
             if it.closing and it.closing.word == "end" and len(self.sections) == 1:
                 events = it.closing.fields[0]
-                parts.append(f"{events:,} turns" if self.is_running else f"{events:,} events and {it.closing.fields[1]:,} frames")
+                frames = "" if self.is_running else f" and {counted(it.closing.fields[1], 'frame')}"
+                parts.append(counted(events, "turn" if self.is_running else "event") + frames)
         return ", ".join(parts)
 
     def note_fences(self, history, wants_fences):
         if not wants_fences:
-            return ["fences are left out, as was asked: an instance that fell silent is drawn as a holder until it is taken over"]
+            return ["fences are left out, as was asked: a silent instance is drawn as a holder until it is taken over"]
         if history.is_filtered:
-            return ["fences are left out: an instance went on past the fence of its last `own` line, so lines are missing in this report"]
+            return ["fences are left out: an instance went on past its last fence, so `own` lines are missing"]
         if self.stretches and all(it.fence is None and it.lapse is None for it in self.stretches):
             return ["no line has a fence, so none is drawn"]
         if self.has_lapses() and not self.is_running:
-            return ["a fence is where the clock reaches it if it runs evenly between two lines, and after the last one as true time does"]
+            return ["where a fence is: a clock is taken to run evenly between two lines, and then as true time does"]
         return []
 
     def note_clocks(self, loose, given):
@@ -79,7 +80,7 @@ class Run:
             return []
         notes = []
         if not given:
-            notes.append("the clocks of the processes are set by their flights, take-overs and restarts: they are some milliseconds off")
+            notes.append("the clocks of the processes are set by flights, take-overs and restarts, some ms off")
         if loose:
             names = ", ".join(sorted({self.sections[i].source.name or "the input" for i in loose}))
             notes.append(f"nothing ties the clock of {names} to the others: give FILE@MS")

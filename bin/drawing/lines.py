@@ -14,7 +14,10 @@ class BadLine(Exception):
 
 
 class Line(NamedTuple):
-    """What an instance reported: `word` with the fields behind it. `time` is None in the report of a running process."""
+    """What an instance reported:
+
+    `word` with the fields behind it. `time` is None in the report of a running process.
+    """
 
     turn: int
     time: Optional[int]
@@ -63,7 +66,10 @@ _known_ranges = {"-": ()}
 
 
 def ranges(text) -> Ranges:
-    """The intervals of a range set: rising, with a missing point between neighbours. Runs repeat a few texts many times."""
+    """The intervals of a range set: rising, with a missing point between neighbours.
+
+    Runs repeat a few texts many times.
+    """
     found = _known_ranges.get(text)
     if found is None:
         found = tuple((int(it[:16], 16), int(it[17:], 16)) for it in text.split(","))
@@ -110,7 +116,8 @@ KINDS = {
     "PARTITIONS": (rf"-|{NUMBER}(?:,{NUMBER})*", partitions),
     "VERB": ("link|part|give|join|create|swap|heal|lose|write|resolve|names", as_it_is),
     "REASON": (
-        "notrouting|full|linked|notlinked|busy|toomany|empty|notmanager|exists|nounit|notmember|notprimary|notready|counters",
+        "notrouting|full|linked|notlinked|busy|toomany|empty|notmanager|exists|nounit|notmember|notprimary|notready"
+        "|counters",
         as_it_is,
     ),
     "DOMAINS": (NUMBER, domains),
@@ -119,7 +126,10 @@ KINDS = {
 
 
 def form(text):
-    """The pattern of some fields, and how each is read. A word in capitals is a field, another one is written as it is."""
+    """The pattern of some fields, and how each is read.
+
+    A word in capitals is a field, another one is written as it is.
+    """
     readers = []
 
     def field(found):
@@ -168,8 +178,9 @@ CLOSINGS = {
         "flight": ["WHO N WHO RANGES"],
         "end": ["LONG LONG", "LONG"],
         "fault": [
-            "usage", "read", "config not json", "config missing FIELD", "config range FIELD LONG", "config repeated LONG",
-            "line LONG", "drift LONG", "nosuch LONG", "large LONG", "keep", "link", "clock LONG LONG", "record LONG", "table",
+            "usage", "read", "config not json", "config missing FIELD", "config range FIELD LONG",
+            "config repeated LONG", "line LONG", "drift LONG", "nosuch LONG", "large LONG", "keep", "link",
+            "clock LONG LONG", "record LONG", "table",
         ],
     }.items()
 }

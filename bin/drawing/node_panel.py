@@ -3,7 +3,7 @@ from . import palette
 from .lines import node_of
 from .marks import gathered
 from .spans import Mark
-from .svg import thousands
+from .svg import counted, thousands
 
 MOST_HEIGHT, LEAST_HEIGHT = 20, 9.5
 # A shorter silence at the end is no news.
@@ -21,7 +21,7 @@ class NodePanel:
         named = {node_of(it.who) for it in run.lives} | {node_of(it.who) for it in sheet.marks}
         nodes = sorted(named)[:sheet.level.lanes]
         if len(named) > len(nodes):
-            sheet.notes.append(f"{len(named) - len(nodes)} more nodes have no lane")
+            sheet.notes.append(f"there is no lane for {counted(len(named) - len(nodes), 'more node')}")
         self.lane = max(LEAST_HEIGHT, min(MOST_HEIGHT, 400 / max(len(nodes), 1)))
         self.middle = {node: top + (i + 0.5) * self.lane for i, node in enumerate(nodes)}
         self.height = self.lane * len(nodes)
@@ -49,7 +49,8 @@ class NodePanel:
                 quiet = x1
             title = f"{life.who} ran from {thousands(life.begins[0])} to {thousands(life.ends[0])} {self.sheet.unit}"
             title += f", and {count - 1} more instances" if count > 1 else ""
-            title += f"; it left at {thousands(life.left[0])}" if life.left else f"; its last line is at {thousands(life.heard[0])}"
+            what, when = ("it left", life.left) if life.left else ("its last line is", life.heard)
+            title += f"; {what} at {thousands(when[0])}"
             half = min(2, self.lane / 9)
             self.picture.rect(x0, y - half, quiet - x0, 2 * half, f"n{index}", title)
             if quiet < x1:
@@ -97,7 +98,8 @@ class NodePanel:
         for (giver, receiver, _), them in found.items():
             x, it = them[0]
             more = f", and {len(them) - 1} more flights" if len(them) > 1 else ""
-            title = f"{it.receiver} took flight {it.number} from {it.giver} at {thousands(it.ends[0])} {self.sheet.unit}{more}"
+            when = f"at {thousands(it.ends[0])} {self.sheet.unit}"
+            title = f"{it.receiver} took flight {it.number} from {it.giver} {when}{more}"
             y0, y1 = self.middle[giver], self.middle[receiver]
             tip = 4 if y1 > y0 else -4
             self.picture.path(f"M{x:.1f} {y0:.1f}V{y1:.1f}m-3 {-tip}l3 {tip}l3 {-tip}", "change flown", title)
@@ -106,7 +108,8 @@ class NodePanel:
         starts = [Mark(it.begins, "start", it.who, f"{it.who} started", "-") for it in self.run.lives]
         for it in starts:
             it.line = self.sheet.line_at(it.begins)
-        placed = [(it, self.middle[node_of(it.who)]) for it in [*starts, *self.sheet.marks] if node_of(it.who) in self.middle]
+        those = [it for it in [*starts, *self.sheet.marks] if node_of(it.who) in self.middle]
+        placed = [(it, self.middle[node_of(it.who)]) for it in those]
         for x, y, kind, title in gathered(self.sheet, placed):
             self.picture.use(f"m-{kind}", x, y, title)
 

@@ -1,4 +1,6 @@
-"""The page: a heading, the ring, the nodes, the partitions, the scale of time, and a legend, in at most MAX_PICTURE bytes."""
+"""The page: a heading, the ring, the nodes, the partitions, the scale of time, and a legend, in at most MAX_PICTURE
+bytes.
+"""
 from bisect import bisect_right
 from typing import NamedTuple
 
@@ -9,7 +11,7 @@ from .lines import node_of, order_of
 from .node_panel import NodePanel
 from .partition_panel import PartitionPanel
 from .ring_panel import RingPanel
-from .svg import Picture, thousands
+from .svg import Picture, counted, thousands
 from .time_panel import TimePanel
 
 MAX_PICTURE = 2_000_000
@@ -20,7 +22,9 @@ MOST_NAMES = 4
 
 
 class Level(NamedTuple):
-    """How much falls together: the ring's grid (0 for none), the distance of marks, and how many lanes there are at most."""
+    """How much falls together: the ring's grid (0 for none), the distance of marks, and how many lanes there are at
+    most.
+    """
 
     cell: float
     together: float
@@ -147,7 +151,8 @@ def draw_legend(sheet, y):
         x, y = room(x, y, 150)
         picture.text(x, y, f"and {len(entries) - 64:,} more nodes", "faint")
     if len({palette.index_of(node) for node, _ in entries}) < len(entries):
-        sheet.notes.append(f"there are {palette.COLOURS} colours: nodes {palette.COLOURS} numbers apart share one, and blocks bear names")
+        many = palette.COLOURS
+        sheet.notes.append(f"there are {many} colours: nodes {many} numbers apart share one, and blocks bear names")
     x, y = 12, y + 20
     for draw, name in signs(sheet):
         x, y = room(x, y, 22 + 5.9 * len(name))
@@ -164,33 +169,37 @@ def room(x, y, width):
 
 def signs(sheet):
     """What is in this picture beside colours: how to draw each sample around a place, and what it means."""
-    picture, first = sheet.picture, min(sheet.colours, default=0)
-    found = []
-    if sheet.run.stretches:
-        found.append((lambda x, y: picture.rect(x - 6, y - 5, 12, 10, "frame"), "blank: nobody holds it"))
-        if any(it.begins for it in sheet.run.flights.values()):
-            found.append((lambda x, y: picture.rect(x - 6, y - 5, 12, 10, f"h{first}"), "striped: in flight, in the giver's colour"))
-        if sheet.run.has_lapses():
-            found.append((lambda x, y: picture.line(x, y - 6, x, y + 6, f"edge e{first}"), "a fence ended the hold"))
+    picture, run, first, found = sheet.picture, sheet.run, min(sheet.colours, default=0), []
+
+    def has(draw, words):
+        found.append((draw, words))
+
+    if run.stretches:
+        has(lambda x, y: picture.rect(x - 6, y - 5, 12, 10, "frame"), "blank: nobody holds it")
+        if any(it.begins for it in run.flights.values()):
+            has(lambda x, y: picture.rect(x - 6, y - 5, 12, 10, f"h{first}"), "striped: in flight, the giver's colour")
+        if run.has_lapses():
+            has(lambda x, y: picture.line(x, y - 6, x, y + 6, f"edge e{first}"), "a fence ended the hold")
     if sheet.axis.has_steps:
-        found.append((lambda x, y: picture.line(x - 6, y, x + 6, y, "still"), "steps at one time, in their order"))
+        has(lambda x, y: picture.line(x - 6, y, x + 6, y, "still"), "steps at one time, in their order")
     if sheet.has_pale:
-        found.append((lambda x, y: picture.rect(x - 6, y - 2, 12, 4, f"n{first} gone"), "pale: it left, or says nothing more"))
-    if any(it.how == "took" for it in sheet.run.flights.values()):
-        found.append((lambda x, y: picture.path(f"M{x - 4} {y - 5}V{y + 4}m-3 -4l3 4l3 -4", "change flown"), "a flight was taken"))
+        has(lambda x, y: picture.rect(x - 6, y - 2, 12, 4, f"n{first} gone"), "pale: it left, or says nothing more")
+    if any(it.how == "took" for it in run.flights.values()):
+        has(lambda x, y: picture.path(f"M{x} {y - 5}V{y + 4}m-3 -4l3 4l3 -4", "change flown"), "a flight was taken")
     for kind in marks.SIGNS:
         if kind in sheet.signs:
-            found.append((lambda x, y, kind=kind: picture.use(f"m-{kind}", x, y), marks.SIGNS[kind][1]))
-    if sheet.run.partitions:
-        found.append((lambda x, y: picture.path(f"M{x - 6} {y + 2}v-4h12v4", "change"), "reconfiguration, dashed if not configured"))
-        if any(it.commits for it in sheet.run.partitions.values()):
-            found.append((lambda x, y: picture.path(f"M{x - 6} {y + 4}h4v-4h4v-4h4", "rise"), "committed entries"))
+            has(lambda x, y, kind=kind: picture.use(f"m-{kind}", x, y), marks.SIGNS[kind][1])
+    if run.partitions:
+        has(lambda x, y: picture.path(f"M{x - 6} {y + 2}v-4h12v4", "change"), "reconfiguration, dashed if not done")
+        if any(it.commits for it in run.partitions.values()):
+            has(lambda x, y: picture.path(f"M{x - 6} {y + 4}h4v-4h4v-4h4", "rise"), "committed entries")
     return found
 
 
 def draw_notes(sheet, notes, y):
     if sheet.together:
-        notes.append(f"{sheet.together:,} marks and bars fall together with others and are drawn with them")
+        marks_and_bars = counted(sheet.together, "mark or bar falls", "marks and bars fall")
+        notes.append(f"{marks_and_bars} together with others: drawn with them")
     for text in sheet.alarms:
         y += 16
         sheet.picture.text(12, y, text, "alarm head")

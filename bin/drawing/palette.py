@@ -1,7 +1,8 @@
 """Colours and styles. A node has one colour, the same in every picture, by its number.
 
-The eight hues are those of Okabe and Ito, which people who see red and green alike can tell apart, with wine in the place of
-black. Nodes 9 to 16 have them darker, nodes 17 to 24 lighter; then they begin anew. So a block bears its instance's name, too.
+The eight hues are those of Okabe and Ito, which people who see red and green alike can tell apart, with wine in the
+place of black. Nodes 9 to 16 have them darker, nodes 17 to 24 lighter; then they begin anew. So a block bears its
+instance's name, too.
 """
 HUES = ("#0072b2", "#e69f00", "#009e73", "#cc79a7", "#56b4e9", "#d55e00", "#f0e442", "#882255")
 TIERS = (None, ("#000000", 0.38), ("#ffffff", 0.5))
@@ -45,10 +46,12 @@ def themed(theme):
 
 
 BASE = (
-    "text{font:11px 'DejaVu Sans',Verdana,sans-serif}.big{font-size:15px;font-weight:bold}.head{font-size:12px;font-weight:bold}"
-    ".small{font-size:10px}.tiny{font-size:8px}.mono{font-family:'DejaVu Sans Mono',monospace}.right{text-anchor:end}.middle{text-anchor:middle}"
+    "text{font:11px 'DejaVu Sans',Verdana,sans-serif}.big{font-size:15px;font-weight:bold}"
+    ".head{font-size:12px;font-weight:bold}.small{font-size:10px}.tiny{font-size:8px}"
+    ".mono{font-family:'DejaVu Sans Mono',monospace}.right{text-anchor:end}.middle{text-anchor:middle}"
     ".rule,.tick{stroke-width:1}.still{stroke-width:3}.frame{fill:none;stroke-width:1}.fault{stroke-width:2}"
-    ".rise{fill:none;stroke-width:1.5}.change{stroke-width:1.5;fill:none}.flown{stroke-width:1;opacity:.55}"
+    ".rise{fill:none;stroke-width:1.5}.change{stroke-width:1.5;fill:none}.dashed{stroke-dasharray:3 2}"
+    ".flown{stroke-width:1;opacity:.55}"
     ".edge{stroke-width:1.5;stroke-dasharray:3 2}.both{opacity:.85}.wash{opacity:.45}.sign{stroke-width:1.3}"
     ".replica{opacity:.55}.gone{opacity:.35}text.dark{fill:#000}text.pale{fill:#fff}"
     "#ring rect,#ring path,#nodes rect{shape-rendering:crispEdges}"

@@ -1,15 +1,19 @@
-"""A lane for each partition: primaries with their epochs, the other replicas, reconfigurations, and committed entries."""
+"""A lane for each partition: primaries with their epochs, the other replicas, reconfigurations, and committed
+entries.
+"""
 from . import palette
 from .lines import epoch_text, node_of, order_of
 from .marks import gathered
-from .svg import number, thousands
+from .svg import counted, number, thousands
 
 PRIMARY, REPLICA, CHANGE, RISE, GAP = 14, 4, 8, 26, 10
 MOST_ROWS = 8
 
 
 class Lane:
-    """The height of a partition's parts: a bracket of reconfigurations, primaries, other replicas, and the rising line."""
+    """The height of a partition's parts: a bracket of reconfigurations, primaries, other replicas, and the rising
+    line.
+    """
 
     def __init__(self, partition, top):
         self.partition, self.top = partition, top
@@ -38,7 +42,7 @@ class PartitionPanel:
         self.sheet, self.picture, self.axis, self.top = sheet, sheet.picture, sheet.axis, top
         shown = sorted(partitions.values(), key=lambda it: it.number)[:sheet.level.partitions]
         if len(partitions) > len(shown):
-            sheet.notes.append(f"{len(partitions) - len(shown):,} more partitions have no lane")
+            sheet.notes.append(f"there is no lane for {counted(len(partitions) - len(shown), 'more partition')}")
         self.lanes = []
         for it in shown:
             self.lanes.append(Lane(it, top))
@@ -55,6 +59,9 @@ class PartitionPanel:
             self.draw_primaries(lane)
             self.draw_commits(lane)
         self.picture.close("g")
+
+    def times(self, span):
+        return f"from {thousands(span.begins[0])} to {thousands(span.ends[0])} {self.sheet.unit}"
 
     def width(self, span):
         """The places of a span, if it is seen."""
@@ -85,8 +92,7 @@ class PartitionPanel:
             index = palette.index_of(node_of(it.who))
             self.sheet.colours.add(index)
             y = lane.top + CHANGE + row_of[id(it)] * PRIMARY
-            title = (f"{it.who} is primary of {lane.partition.number} in epoch {epoch_text(it.epoch)}, "
-                     f"from {thousands(it.begins[0])} to {thousands(it.ends[0])} {self.sheet.unit}")
+            title = f"{it.who} is primary of {lane.partition.number} in epoch {epoch_text(it.epoch)}, {self.times(it)}"
             self.picture.rect(x0, y, max(x1 - x0, 1), PRIMARY - 2, f"n{index}", title)
             for words in (f"{it.who} in {epoch_text(it.epoch)}", epoch_text(it.epoch)):
                 if x1 - x0 >= 6.2 * len(words) + 4:
@@ -100,7 +106,7 @@ class PartitionPanel:
             index = palette.index_of(node_of(it.who))
             self.sheet.colours.add(index)
             y = lane.replica_top + lane.members[it.who] * REPLICA
-            title = f"{it.who} takes part in epoch {epoch_text(it.epoch)} from {thousands(it.begins[0])} to {thousands(it.ends[0])}"
+            title = f"{it.who} takes part in epoch {epoch_text(it.epoch)} {self.times(it)}"
             self.picture.rect(x0, y, max(x1 - x0, 0.5), REPLICA - 1, f"n{index} replica", title)
         for it in lane.partition.promises:
             promises.append((it, lane.replica_top + lane.members[it.who] * REPLICA + 1.5))
@@ -111,12 +117,12 @@ class PartitionPanel:
         """A bracket from the first line of an epoch to `configured`; dashed if it was superseded, or is open."""
         for x0, x1, it in self.seen(lane.partition.changes.values(), lambda it: it.how):
             y = lane.top + 5
-            title = f"reconfiguration to {epoch_text(it.epoch)}: {it.how}, from {thousands(it.begins[0])} to {thousands(it.ends[0])} {self.sheet.unit}"
-            x1 = max(x1, x0 + 1)
+            title = f"reconfiguration to {epoch_text(it.epoch)}: {it.how}, {self.times(it)}"
+            d = f"M{number(x0)} {number(y + 3)}v-4H{number(max(x1, x0 + 1))}"
             if it.how == "configured":
-                self.picture.path(f"M{number(x0)} {number(y + 3)}v-4H{number(x1)}v4", "change", title)
+                self.picture.path(f"{d}v4", "change", title)
             else:
-                self.picture.element("path", title, d=f"M{number(x0)} {number(y + 3)}v-4H{number(x1)}", class_="change", stroke_dasharray="3 2")
+                self.picture.path(d, "change dashed", title)
 
     def draw_commits(self, lane):
         """Committed entries as a rising line, one for each data loss number: `lose` begins a new one."""
@@ -130,7 +136,8 @@ class PartitionPanel:
             right = self.axis.right() if end is None else self.axis.x(end)
             points = self.rise([it for it in lane.partition.commits if it.epoch[0] == loss], most, floor, right)
             if points:
-                self.picture.path(points, "rise", f"committed entries of {lane.partition.number}, data loss number {loss}: up to {most:,}")
+                title = f"committed entries of {lane.partition.number}, data loss number {loss}: up to {most:,}"
+                self.picture.path(points, "rise", title)
         self.picture.text(self.axis.left - 8, floor - 6, f"committed: {most:,}", "right small faint")
 
     def rise(self, commits, most, floor, right):

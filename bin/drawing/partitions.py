@@ -1,4 +1,5 @@
 """What the lines say of one partition: primaries, replicas, reconfigurations, committed entries."""
+from .lines import epoch_text
 from .spans import Change, Commit, Mark, Tenure
 
 
@@ -17,7 +18,10 @@ class Partition:
         return [*self.primaries, *self.replicas, *self.promises, *self.changes.values(), *self.commits]
 
     def take(self, when, line):
-        """A report about this partition. The first line of an epoch begins its reconfiguration, as far as a report can know."""
+        """A report about this partition.
+
+        The first line of an epoch begins its reconfiguration, as far as a report can know.
+        """
         word, who, epoch = line.word, line.who, line.fields[1]
         if word == "superseded":
             self.supersede(when, epoch)
@@ -38,7 +42,8 @@ class Partition:
     def see_replica(self, when, line, who, epoch):
         """A replica takes part in an epoch from its promise on. What it was in an earlier one ends then."""
         if line.word == "promised":
-            self.promises.append(Mark(when, "promised", who, f"promised {line.fields[0]} {epoch[0]}.{epoch[1]}", line.turn))
+            text = f"{who} promised {line.fields[0]} {epoch_text(epoch)}"
+            self.promises.append(Mark(when, "promised", who, text, line.turn))
         replica, leading = self.is_member.get(who), self.is_leading.get(who)
         if leading and leading.epoch < epoch:
             self.end_tenure(self.is_leading, who, when)
@@ -48,7 +53,10 @@ class Partition:
             self.replicas.append(self.is_member[who])
 
     def supersede(self, when, epoch):
-        """A `superseded` names the epoch that was met. What it ends is the newest open reconfiguration below it, or its own."""
+        """A `superseded` names the epoch that was met.
+
+        What it ends is the newest open reconfiguration below it, or its own.
+        """
         begun = [it for it in self.changes.values() if it.ends is None and it.epoch <= epoch]
         if begun:
             ended = max(begun, key=lambda it: (it.epoch < epoch, it.epoch))
@@ -78,7 +86,5 @@ class Partition:
         for epoch, theirs in other.changes.items():
             ours = self.changes.setdefault(epoch, theirs)
             if ours is not theirs:
-                ours.begins = min(ours.begins, theirs.begins)
-                if theirs.how != "open" or ours.how == "open":
-                    ours.ends, ours.how = max(ours.ends, theirs.ends) if ours.how == theirs.how else theirs.ends, theirs.how
+                ours.join(theirs)
         self.commits.sort(key=lambda it: it.begins)

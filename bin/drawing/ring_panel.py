@@ -3,7 +3,7 @@ from . import palette
 from .boxes import grid
 from .lines import RING, node_of
 from .marks import gathered
-from .svg import number, thousands
+from .svg import counted, number, thousands
 
 # Above so many boxes a grid shows the ring.
 MOST_BOXES = 6_000
@@ -23,7 +23,8 @@ def spoken(box, unit):
     until = "the end" if box.until is None else thousands(box.until)
     verb = "holds" if box.kind == "held" else "gave"
     end = ", to its fence" if box.is_lapsed else ""
-    return f"{box.who} {verb} {point_text(box.lo)}-{point_text(box.hi)} from {thousands(box.since)} to {until} {unit}{end}{box.note}"
+    points = f"{point_text(box.lo)}-{point_text(box.hi)}"
+    return f"{box.who} {verb} {points} from {thousands(box.since)} to {until} {unit}{end}{box.note}"
 
 
 class RingPanel:
@@ -51,8 +52,8 @@ class RingPanel:
             index = palette.index_of(node_of(box.who))
             self.sheet.colours.add(index)
             top, bottom = self.points.y(box.hi + 1), self.points.y(box.lo)
-            letter = "n" if box.kind == "held" else "h"
-            self.picture.rect(box.x0, top, box.x1 - box.x0, bottom - top, f"{letter}{index}", spoken(box, self.sheet.unit))
+            class_ = f"{'n' if box.kind == 'held' else 'h'}{index}"
+            self.picture.rect(box.x0, top, box.x1 - box.x0, bottom - top, class_, spoken(box, self.sheet.unit))
         for box in self.ring.boxes:
             self.draw_edge(box)
         for box in self.ring.boxes:
@@ -82,7 +83,9 @@ class RingPanel:
         """How long nobody holds what was held, where there is room to say it: above the signs in the middle."""
         x0, x1, lo, hi, ticks = blank
         top, bottom = self.points.y(hi + 1), self.points.y(lo)
-        texts = [f"nobody for {thousands(round(ticks, 1))} {self.sheet.unit}", "nobody"] if ticks is not None else ["nobody"]
+        texts = ["nobody"]
+        if ticks is not None:
+            texts.insert(0, f"nobody for {thousands(round(ticks, 1))} {self.sheet.unit}")
         for text in texts:
             if x1 - x0 >= 6.3 * len(text) + 8 and bottom - top >= LABEL_HEIGHT:
                 self.picture.text(x0 + 6, min(top + 15, (top + bottom) / 2 + 4), text, "faint")
@@ -136,7 +139,7 @@ class RingPanel:
                 last = y
         self.picture.close("g")
         if points.is_even:
-            self.sheet.notes.append("the points are not to scale: each stretch between two neighbouring cuts has the same height")
+            self.sheet.notes.append("the points are not to scale: each stretch between two cuts has the same height")
 
     def draw_marks(self):
         """What happened, at the ranges that it is about."""
@@ -153,6 +156,8 @@ class RingPanel:
 
     def say_what_is_hidden(self):
         if self.ring.thin:
-            self.sheet.notes.append(f"{self.ring.thin:,} blocks of the ring are too short to be seen at this scale: cut the time by FROM TO")
+            blocks = counted(self.ring.thin, "block of the ring is", "blocks of the ring are")
+            self.sheet.notes.append(f"{blocks} too short to be seen at this scale: cut the time by FROM TO")
         if self.points.hidden:
-            self.sheet.notes.append(f"{self.points.hidden:,} stretches of points are too thin to be seen at this scale")
+            stretches = counted(self.points.hidden, "stretch of points is", "stretches of points are")
+            self.sheet.notes.append(f"{stretches} too thin to be seen at this scale")

@@ -1,4 +1,6 @@
-"""What the lines of a report say of the ring and its nodes: who owned what, which ranges were on their way, who lived when."""
+"""What the lines of a report say of the ring and its nodes: who owned what, which ranges were on their way, who lived
+when.
+"""
 from .lines import Ranges
 from .partitions import Partition
 from .spans import AFTER_ALL, Flight, Life, Mark, Stretch
@@ -7,7 +9,10 @@ ABOUT_PARTITIONS = {"promised", "adopted", "accepted", "primary", "committed", "
 
 
 class Instance:
-    """What an instance has said so far. `seen` is its last line: a time, and what its clock showed. `had` is what it owned last."""
+    """What an instance has said so far.
+
+    `seen` is its last line: a time, and what its clock showed. `had` is what it owned last.
+    """
 
     __slots__ = ("who", "life", "stretch", "had", "fence", "seen", "partitions")
 
@@ -132,7 +137,8 @@ class History:
 
     def heir(self, it, when, line):
         victim, ripe = line.fields
-        self.mark(when, line, line.who, f"{line.who} heir of {victim}, ripe at reading {ripe:,}", self.last_owned(victim))
+        text = f"{line.who} heir of {victim}, ripe at reading {ripe:,}"
+        self.mark(when, line, line.who, text, self.last_owned(victim))
 
     def tookover(self, it, when, line):
         victim, ranges = line.fields
@@ -156,7 +162,9 @@ class History:
         self.mark(when, line, line.who, f"flight {number} to {receiver} returned to {line.who}", ranges)
 
     def flight(self, giver, number, receiver, ranges):
-        return self.flights.get((giver, number)) or self.flights.setdefault((giver, number), Flight(giver, number, receiver, ranges))
+        if (giver, number) not in self.flights:
+            self.flights[giver, number] = Flight(giver, number, receiver, ranges)
+        return self.flights[giver, number]
 
     def left(self, it, when, line):
         self.mark(when, line, line.who, f"{line.who} left: {line.fields[0]}", it.owned())

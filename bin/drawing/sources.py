@@ -29,7 +29,7 @@ class Section:
         if self.is_running is None:
             self.is_running = is_running
         elif self.is_running != is_running:
-            raise Refused("has no time, and the lines before have one" if is_running else "has a time, and the lines before have none")
+            raise Refused("has no true time, unlike those before" if is_running else "has a true time, unlike those before")
         time = line.reading if is_running else line.time
         if time is None:
             time = self.time or 0
@@ -107,6 +107,8 @@ class Source:
     def close(self, section, line):
         if section.closing:
             self.refuse("comes after the end of the report")
+        if line.word == "end" and section.is_running is not None and section.is_running != (len(line.fields) == 1):
+            self.refuse("is the end of another kind of report")
         if line.word in ("end", "fault"):
             section.closing = line
         else:

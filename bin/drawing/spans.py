@@ -26,7 +26,10 @@ class Span:
 
 
 class Stretch(Span):
-    """An instance owns these ranges. It holds them up to `lapse`, the time at which its clock reached its fence, if it did."""
+    """An instance owns these ranges.
+
+    It holds them up to `lapse`, the time at which its clock reached its fence, if it did.
+    """
 
     __slots__ = ("who", "ranges", "fence", "lapse")
 
@@ -41,7 +44,10 @@ class Stretch(Span):
 
 
 class Life(Span):
-    """An instance runs. `left` is when it left the ring, `heard` its last line, `how` what ended it: `stopped`, or the report."""
+    """An instance runs.
+
+    `left` is when it left the ring, `heard` its last line, `how` what ended it: `stopped`, or the report.
+    """
 
     __slots__ = ("who", "left", "heard", "how")
 
@@ -111,6 +117,14 @@ class Change(Span):
     def __init__(self, begins, epoch):
         super().__init__(begins)
         self.epoch, self.how = epoch, None
+
+    def join(self, other):
+        """Takes what another process reported of the same epoch. Only the manager says how it ended."""
+        self.begins = min(self.begins, other.begins)
+        if self.how == other.how:
+            self.ends = max(self.ends, other.ends)
+        elif self.how == "open":
+            self.ends, self.how = other.ends, other.how
 
 
 class Commit(Span):

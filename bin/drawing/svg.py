@@ -59,8 +59,8 @@ class Picture:
             f'width="{number(self.width)}" height="{number(self.height)}" role="img">'
         )
         paper = f'<rect width="{number(self.width)}" height="{number(self.height)}" class="paper"/>'
-        lines = [head, f"<title>{escape(title)}</title>", f"<style>{style}</style>", f"<defs>{definitions}</defs>", paper]
-        return "\n".join([*lines, *self.parts, "</svg>"]) + "\n"
+        lines = [head, f"<title>{escape(title)}</title>", f"<style>{style}</style>", f"<defs>{definitions}</defs>"]
+        return "\n".join([*lines, paper, *self.parts, "</svg>"]) + "\n"
 
 
 def nice_steps(first, last, count):
@@ -69,6 +69,11 @@ def nice_steps(first, last, count):
     power = 10 ** (len(str(int(least))) - 1)
     step = next(power * it for it in (1, 2, 5, 10) if power * it >= least)
     return range(-int(-first // step) * step, int(last) + 1, step)
+
+
+def counted(count, one, many=None):
+    """`1 block`, `2 blocks`."""
+    return f"{count:,} {one if count == 1 else many or one + 's'}"
 
 
 def thousands(value):

@@ -24,7 +24,10 @@ class TimePanel:
             self.picture.text(x, y + 17, thousands(time), "middle small")
 
     def draw_step_times(self, y):
-        """Each time at its first step, each fence, and the ends. Where several steps have one time, a bar says that it does not pass."""
+        """Each time at its first step, each fence, and the ends.
+
+        Where several steps have one time, a bar says that it does not pass.
+        """
         axis, used = self.axis, axis_edge(self.axis)
         others = [[axis.x_at(it), axis.x_at(it), it] for it in self.sheet.lapses() if self.sheet.is_seen(it)]
         if axis.first < axis.times[0]:
