@@ -29,7 +29,8 @@ class Section:
         if self.is_running is None:
             self.is_running = is_running
         elif self.is_running != is_running:
-            raise Refused("has no true time, unlike those before" if is_running else "has a true time, unlike those before")
+            has = "no true time" if is_running else "a true time"
+            raise Refused(f"has {has}, unlike those before")
         time = line.reading if is_running else line.time
         if time is None:
             time = self.time or 0
