@@ -8,7 +8,7 @@ class Drawn:
 
     def __init__(self, written):
         page = tree.fromstring(written)
-        groups = {it.get("id"): it for it in page.iter() if it.get("id")}
+        self.groups = groups = {it.get("id"): it for it in page.iter() if it.get("id")}
         self.boxes = [self.box(it) for it in children(groups.get("ring"), "rect")]
         if not self.boxes:
             return
@@ -25,6 +25,19 @@ class Drawn:
         texts = [(swatch.get("class"), name.text) for swatch, name in zip(groups["legend"], list(groups["legend"])[1:])
                  if tag(swatch) == "rect" and tag(name) == "text"]
         self.legend = {who: colour for colour, names in texts for who in names.replace(" .. ", ", ").split(", ")}
+
+    def signs(self):
+        """The signs in the lanes of nodes: where each is, and what its tooltip says."""
+        return [(float(it.get("x")), title(it)) for it in children(self.groups.get("nodes"), "use")]
+
+    def primaries(self):
+        """The bars of primaries: where each begins and ends, and what its tooltip says."""
+        bars = [it for it in children(self.groups.get("partitions"), "rect") if " is primary of " in title(it)]
+        return [(float(it.get("x")), float(it.get("x")) + float(it.get("width")), title(it)) for it in bars]
+
+    def line_places(self):
+        """Where each line of the report is."""
+        return {line: x for x, _, line in self.steps}
 
     def box(self, rect):
         x, y = float(rect.get("x")), float(rect.get("y"))
@@ -116,6 +129,27 @@ class Told:
                 self.lines.append((time, int(words[0]), words[2], words[3], words[4], words[5:]))
         self.last = self.lines[-1][0] if self.lines else 0
 
+    def signs(self):
+        """What happened to whom: the line, and how a tooltip says it."""
+        said = {
+            "accused": lambda who, fields: f"{fields[0]} accused by {who}",
+            "discharged": lambda who, fields: f"{who} discharged of {fields[0]}",
+            "heir": lambda who, fields: f"{who} heir of {fields[0]}",
+            "tookover": lambda who, fields: f"{who} took over from {fields[0]}",
+            "left": lambda who, fields: f"{who} left: {fields[0]}",
+            "stopped": lambda who, fields: f"{who} stopped",
+        }
+        return [(line, said[word](who, fields)) for _, line, who, _, word, fields in self.lines if word in said]
+
+    def primaries(self):
+        """The line of each primary with the line that ends it, and how a tooltip says it."""
+        found = []
+        for at, (_, line, who, _, word, fields) in enumerate(self.lines):
+            if word == "primary":
+                ends = [it[1] for it in self.lines[at + 1:] if it[2] == who and ends_role(it[4], it[5], fields)]
+                found.append((line, ends[0] if ends else None, f"{who} is primary of {fields[0]} in epoch {fields[1]},"))
+        return found
+
     def owner(self, time, line, point):
         """Who holds a point at a time, behind a line if the time is that of the line."""
         time = min(time, self.last)
@@ -147,6 +181,15 @@ class Told:
             for key, parts in list(aloft.items()):
                 if key[0] == who and all(holds(taken, lo) for lo, _ in parts):
                     del aloft[key]
+
+
+def ends_role(word, fields, leading):
+    """Whether a line ends the role of a primary: its process stopped or left, or it takes part in a later epoch."""
+    if word in ("stopped", "left"):
+        return True
+    later = [int(it) for it in fields[1].split(".")] if len(fields) > 1 and "." in fields[1] else []
+    is_later = later > [int(it) for it in leading[1].split(".")]
+    return word in ("promised", "accepted", "adopted", "primary") and fields[0] == leading[0] and is_later
 
 
 def clock(lines, time):

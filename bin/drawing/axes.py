@@ -14,6 +14,8 @@ from .spans import AFTER_ALL
 STEP_SHARE = 0.62
 LEAST_STEP = 2.2
 WIDEST_STEP = 14
+# The least height of a stretch on an even scale of points. With more cuts it would show no more than the true scale.
+LEAST_STRETCH = 1.5
 # Behind the last time: what holds when the report ends.
 TAIL = 26
 
@@ -80,7 +82,7 @@ class PointAxis:
         self.top, self.height = top, height
         self.cuts = sorted({0, RING, *cuts})
         near = sum(1 for a, b in zip(self.cuts, self.cuts[1:]) if (b - a) * height < 2 * RING)
-        self.is_even = near * 4 > len(self.cuts) - 1
+        self.is_even = near * 4 > len(self.cuts) - 1 and len(self.cuts) * LEAST_STRETCH <= height
         self.hidden = 0 if self.is_even else near
 
     def y(self, point):

@@ -38,12 +38,9 @@ LEVELS = (Level(0, 6, 128, 32), Level(1, 8, 128, 24), Level(2, 12, 64, 12), Leve
 class Sheet:
     """What the panels share: the picture, the scale of time, and what the legend and the notes have to say."""
 
-    def __init__(self, run, window, level):
-        self.run, self.level = run, level
+    def __init__(self, run, axis, level):
+        self.run, self.axis, self.level = run, axis, level
         self.picture = Picture(WIDTH)
-        first, last = window.first, window.last
-        steps = run.steps if run.has_steps else []
-        self.axis = TimeAxis(first, last, steps, LEFT, WIDTH - LEFT - RIGHT)
         self.marks = run.marks
         self.unit = "ms" if run.is_running else "ticks"
         self.line_word = "turn" if run.is_running else "line"
@@ -65,16 +62,17 @@ class Sheet:
 
 def drawn(run, window):
     """The picture as text, at the finest level that fits."""
+    axis = TimeAxis(window.first, window.last, run.steps if run.has_steps else [], LEFT, WIDTH - LEFT - RIGHT)
+    ring = Ring(run, axis, run.has_fences)
     for level in LEVELS:
-        text = draw(run, window, level)
+        text = draw(Sheet(run, axis, level), window, ring)
         if len(text.encode()) <= MAX_PICTURE:
             return text
     raise AssertionError("the coarsest level always fits")
 
 
-def draw(run, window, level):
-    sheet = Sheet(run, window, level)
-    ring = Ring(run, sheet.axis, run.has_fences)
+def draw(sheet, window, ring):
+    run = sheet.run
     y = top = draw_heading(sheet, window)
     times = TimePanel(sheet)
     if run.stretches:
