@@ -147,7 +147,8 @@ class Told:
         for at, (_, line, who, _, word, fields) in enumerate(self.lines):
             if word == "primary":
                 ends = [it[1] for it in self.lines[at + 1:] if it[2] == who and ends_role(it[4], it[5], fields)]
-                found.append((line, ends[0] if ends else None, f"{who} is primary of {fields[0]} in epoch {fields[1]},"))
+                text = f"{who} is primary of {fields[0]} in epoch {fields[1]},"
+                found.append((line, ends[0] if ends else None, text))
         return found
 
     def owner(self, time, line, point):

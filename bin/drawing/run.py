@@ -58,6 +58,8 @@ class History:
         self.last = time
         is_node = line.reading is not None
         it = self.instances.get(line.who) if is_node else None
+        if it and it.life.ends:
+            it = None  # it goes on though it had stopped: no run does that, and it is drawn as it is said
         if it and it.fence is not None and line.reading >= it.fence:
             self.lapse(it, time, line)
         if line.word != "sent":
