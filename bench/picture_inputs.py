@@ -56,6 +56,7 @@ NODE_1 = f"""0 - 1.1 0 own {WHOLE} -
 40 - 1.1 300 own {REST} 900
 90 - 1.1 700 accused 2.1
 95 - 1.1 720 heir 2.1 1700
+95 - 1.1 720 own {REST} -
 200 - 1.1 1700 tookover 2.1 {PART}
 200 - 1.1 1700 own {WHOLE} -
 300 - 1.1 2600 own {WHOLE} 3200

@@ -13,11 +13,11 @@ from .spans import AFTER_ALL
 # The share of the width that steps may take, the least width of a step that can be seen, and the widest.
 STEP_SHARE = 0.62
 LEAST_STEP = 2.2
-WIDEST_STEP = 14
+WIDEST_STEP = 34
 # The least height of a stretch on an even scale of points. With more cuts it would show no more than the true scale.
 LEAST_STRETCH = 1.5
 # Behind the last time: what holds when the report ends.
-TAIL = 26
+TAIL = 34
 
 
 class TimeAxis:

@@ -3,6 +3,7 @@ place.
 """
 import heapq
 from bisect import bisect_left, insort
+from itertools import islice
 from typing import NamedTuple
 
 from .lines import node_of, order_of
@@ -107,12 +108,13 @@ class Ring:
 
         No ticks where it lasts to the end, or ends in parts.
         """
-        found = []
+        found, starts = [], [it.x0 for it in self.boxes]
         for box in self.boxes:
             if box.kind != "held" or box.x1 >= self.axis.right() - THINNEST:
                 continue
-            following = [it for it in self.boxes if it.x0 >= box.x1 - THINNEST and it.lo <= box.hi and box.lo <= it.hi]
-            first = min(following, key=lambda it: it.x0, default=None)
+            begin = bisect_left(starts, box.x1 - THINNEST)
+            following = (it for it in islice(self.boxes, begin, None) if it.lo <= box.hi and box.lo <= it.hi)
+            first = next(following, None)
             if first is None:
                 found.append((box.x1, self.axis.right(), box.lo, box.hi, None))
             elif first.x0 > box.x1 + 20:

@@ -2,10 +2,12 @@
 from typing import NamedTuple
 
 from .clocks import join
-from .lines import order_of
 from .run import History
 from .sources import Refused
 from .svg import counted, thousands
+
+
+MOST_NOTES = 12
 
 
 class Window(NamedTuple):
@@ -29,7 +31,7 @@ class Run:
         self.partitions, self.steps = history.partitions, history.steps
         self.has_fences = wants_fences and not history.is_filtered
         self.faults = [it.closing for it in sections if it.closing and it.closing.word == "fault"]
-        self.alarms = [f"the report ends with: fault {it.fields[0]}" for it in self.faults]
+        self.alarms = some([f"the report ends with: fault {it.fields[0]}" for it in self.faults])
         self.title = self.named()
         self.time_label = self.labelled()
         self.notes = [*self.note_fences(history, wants_fences), *self.note_clocks(loose, given), *self.note_ends()]
@@ -94,9 +96,14 @@ class Run:
                 notes.append(f"{name}the report breaks off in line {it.cut}, which is left out")
             elif not it.closing and it is self.sections[-1]:
                 notes.append(f"{name}the report has no last line: the process goes on, or was ended")
-            for place in it.places:
-                notes.append("at the end " + place_text(place))
-        return notes
+            notes += some(["at the end " + place_text(place) for place in it.places])
+        return some(notes, 3 * MOST_NOTES)
+
+
+def some(texts, most=None):
+    """The first few of many texts, and how many more there are."""
+    most = most or MOST_NOTES
+    return texts if len(texts) <= most else [*texts[:most], f"and {len(texts) - most:,} more such lines"]
 
 
 def place_text(place):

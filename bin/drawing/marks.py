@@ -20,12 +20,15 @@ def definitions(kinds):
 
 
 def gathered(sheet, placed):
-    """Marks of one kind that fall together are one. Gives (x, y, kind, title) of each."""
+    """Marks of one kind that fall together are one. Gives (x, y, kind, title) of each.
+
+    `placed` has each mark with its y and its lane: marks of two lanes do not fall together.
+    """
     found = {}
-    for mark, y in placed:
+    for mark, y, lane in placed:
         x = sheet.axis.x(mark.begins)
         if sheet.is_seen(mark.begins[0]):
-            key = (mark.kind, round(y), round(x / sheet.level.together))
+            key = (mark.kind, lane, round(x / sheet.level.together))
             found.setdefault(key, []).append((x, y, mark))
     for (kind, _, _), them in sorted(found.items(), key=lambda it: it[1][0][0]):
         x, y, mark = them[0]

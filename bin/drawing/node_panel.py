@@ -8,6 +8,8 @@ from .svg import counted, thousands
 MOST_HEIGHT, LEAST_HEIGHT = 20, 9.5
 # A shorter silence at the end is no news.
 LEAST_SILENCE = 60
+# With more flights than that, no arrows are drawn; with more instances, the bars of holds are not apart by instance.
+MOST_ARROWS, MOST_LIVES = 2_000, 2_000
 
 
 def lane_name(node):
@@ -65,9 +67,10 @@ class NodePanel:
             x0, x1 = self.axis.x(it.begins), self.axis.x(it.ends)
             if node not in self.middle or x1 <= self.axis.left or x0 >= self.axis.right():
                 continue
-            if node in last and x1 - last[node][0] < self.sheet.level.together / 3:
-                last[node][1] = x1
+            if node in last and x0 - last[node][0] < self.sheet.level.together / 3:
+                last[node][1] = max(last[node][1], x1)
                 last[node][3] += 1
+                self.sheet.together += 1
             else:
                 last[node] = [x0, max(x1, x0 + 0.5), it, 1]
                 found.append(last[node])
@@ -76,9 +79,11 @@ class NodePanel:
     def draw_holds(self):
         """A thick bar while it holds points."""
         spans = {}
+        is_crowded = len(self.run.lives) > MOST_LIVES
         for box in self.ring.boxes:
-            if box.kind == "held" and node_of(box.who) in self.middle:
-                spans.setdefault(box.who, []).append((box.x0, box.x1))
+            node = node_of(box.who)
+            if box.kind == "held" and node in self.middle:
+                spans.setdefault(f"{node}.x" if is_crowded else box.who, []).append((box.x0, box.x1))
         for who, them in spans.items():
             y, index = self.middle[node_of(who)], palette.index_of(node_of(who))
             for x0, x1 in united(them, self.sheet.level.together / 12):
@@ -95,6 +100,9 @@ class NodePanel:
             if it.how == "took" and giver in self.middle and receiver in self.middle and self.sheet.is_seen(it.ends[0]):
                 x = self.axis.x(it.ends)
                 found.setdefault((giver, receiver, round(x / self.sheet.level.together)), []).append((x, it))
+        if len(found) > MOST_ARROWS:
+            self.sheet.notes.append(f"no arrows: {counted(len(found), 'flight')} would cover the lanes")
+            found = {}
         for (giver, receiver, _), them in found.items():
             x, it = them[0]
             more = f", and {len(them) - 1} more flights" if len(them) > 1 else ""
@@ -109,7 +117,7 @@ class NodePanel:
         for it in starts:
             it.line = self.sheet.line_at(it.begins)
         those = [it for it in [*starts, *self.sheet.marks] if node_of(it.who) in self.middle]
-        placed = [(it, self.middle[node_of(it.who)]) for it in those]
+        placed = [(it, self.middle[node_of(it.who)], node_of(it.who)) for it in those]
         for x, y, kind, title in gathered(self.sheet, placed):
             self.picture.use(f"m-{kind}", x, y, title)
 

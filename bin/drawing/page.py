@@ -1,7 +1,6 @@
 """The page: a heading, the ring, the nodes, the partitions, the scale of time, and a legend, in at most MAX_PICTURE
 bytes.
 """
-from bisect import bisect_right
 from typing import NamedTuple
 
 from . import marks, palette
@@ -10,8 +9,8 @@ from .boxes import Ring
 from .lines import node_of, order_of
 from .node_panel import NodePanel
 from .partition_panel import PartitionPanel
-from .ring_panel import RingPanel
-from .svg import Picture, counted, thousands
+from .ring_panel import RingPanel, point_text
+from .svg import Picture, counted
 from .time_panel import TimePanel
 
 MAX_PICTURE = 2_000_000
@@ -19,6 +18,7 @@ WIDTH, LEFT, RIGHT = 1000, 138, 16
 # The ring is higher if many nodes hold points, so that a block can bear its name.
 LEAST_RING, MOST_RING, RING_OF_NODE = 300, 560, 9
 MOST_NAMES = 4
+MOST_TWICE = 100
 
 
 class Level(NamedTuple):
@@ -72,14 +72,15 @@ def drawn(run, window):
 
 
 def draw(sheet, window, ring):
-    run = sheet.run
+    run, twice = sheet.run, ring.held_twice(MOST_TWICE)
+    sheet.alarms += [*run.alarms, *named_twice(twice)]
     y = top = draw_heading(sheet, window)
     times = TimePanel(sheet)
     if run.stretches:
         y += 28
         times.draw_above(y)
         height = min(MOST_RING, max(LEAST_RING, RING_OF_NODE * len({node_of(it.who) for it in run.stretches})))
-        RingPanel(sheet, ring, PointAxis(ring.cuts(), y, height)).draw()
+        RingPanel(sheet, ring, PointAxis(ring.cuts(), y, height)).draw(twice)
         y += height
     elif run.lives:
         sheet.notes.append("no line says that an instance owns points")
@@ -94,6 +95,15 @@ def draw(sheet, window, ring):
     return sheet.picture.written(run.title, palette.style(sorted(sheet.colours)), definitions(sheet))
 
 
+def named_twice(twice):
+    """Says that two instances hold one point: never in a run by the rules, so it comes first of all."""
+    if not twice:
+        return []
+    _, _, lo, hi, one, other = twice[0]
+    more = f", the first of {len(twice)} such places" if len(twice) > 1 else ""
+    return [f"{one} and {other} both hold {point_text(lo)}-{point_text(hi)}{more}: drawn red"]
+
+
 def definitions(sheet):
     return palette.hatches(sorted(sheet.colours)) + marks.definitions(sheet.signs)
 
@@ -102,7 +112,7 @@ def draw_heading(sheet, window):
     sheet.picture.text(12, 24, sheet.run.title, "big")
     y = 42
     sheet.picture.text(12, y, sheet.run.summary(window), "faint")
-    for text in sheet.run.alarms:
+    for text in sheet.alarms:
         y += 16
         sheet.picture.text(12, y, text, "alarm head")
     return y
@@ -198,9 +208,6 @@ def draw_notes(sheet, notes, y):
     if sheet.together:
         marks_and_bars = counted(sheet.together, "mark or bar falls", "marks and bars fall")
         notes.append(f"{marks_and_bars} together with others: drawn with them")
-    for text in sheet.alarms:
-        y += 16
-        sheet.picture.text(12, y, text, "alarm head")
     for text in notes:
         y += 15
         sheet.picture.text(12, y, text, "small faint")

@@ -40,7 +40,7 @@ def themed(theme):
     return (
         ".paper{fill:%(paper)s}text{fill:%(ink)s}.faint{fill:%(faint)s}.alarm{fill:%(alarm)s}"
         ".rule{stroke:%(rule)s}.tick{stroke:%(faint)s}.still{stroke:%(faint)s}.frame{stroke:%(faint)s}"
-        ".fault{stroke:%(alarm)s}.rise{stroke:%(ink)s}.change{stroke:%(ink)s}.flown{stroke:%(ink)s}.wash{fill:%(rule)s}"
+        ".fault{stroke:%(alarm)s}.rise{stroke:%(ink)s}.change{stroke:%(ink)s}.flown{stroke:%(ink)s}"
         ".both{fill:%(alarm)s}.sign{fill:%(paper)s;stroke:%(ink)s}.full{fill:%(ink)s}" % theme
     )
 
@@ -52,7 +52,7 @@ BASE = (
     ".rule,.tick{stroke-width:1}.still{stroke-width:3}.frame{fill:none;stroke-width:1}.fault{stroke-width:2}"
     ".rise{fill:none;stroke-width:1.5}.change{stroke-width:1.5;fill:none}.dashed{stroke-dasharray:3 2}"
     ".flown{stroke-width:1;opacity:.55}"
-    ".edge{stroke-width:1.5;stroke-dasharray:3 2}.both{opacity:.85}.wash{opacity:.45}.sign{stroke-width:1.3}"
+    ".edge{stroke-width:1.5;stroke-dasharray:3 2}.both{opacity:.85}.sign{stroke-width:1.3}"
     ".replica{opacity:.55}.gone{opacity:.35}text.dark{fill:#000}text.pale{fill:#fff}"
     "#ring rect,#ring path,#nodes rect{shape-rendering:crispEdges}"
 )

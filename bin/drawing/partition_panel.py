@@ -8,6 +8,8 @@ from .svg import counted, number, thousands
 
 PRIMARY, REPLICA, CHANGE, RISE, GAP = 14, 4, 8, 26, 10
 MOST_ROWS = 8
+# Rising lines of a lane: those of the greatest data loss numbers.
+MOST_LOSSES = 50
 
 
 class Lane:
@@ -109,7 +111,8 @@ class PartitionPanel:
             title = f"{it.who} takes part in epoch {epoch_text(it.epoch)} {self.times(it)}"
             self.picture.rect(x0, y, max(x1 - x0, 0.5), REPLICA - 1, f"n{index} replica", title)
         for it in lane.partition.promises:
-            promises.append((it, lane.replica_top + lane.members[it.who] * REPLICA + 1.5))
+            row = lane.members[it.who]
+            promises.append((it, lane.replica_top + row * REPLICA + 1.5, row))
         for x, y, kind, title in gathered(self.sheet, promises):
             self.picture.use(f"m-{kind}", x, y, title)
 
@@ -129,12 +132,14 @@ class PartitionPanel:
         most = max((it.lsn for it in lane.partition.commits), default=0)
         if not most:
             return
-        losses = sorted({it.epoch[0] for it in lane.partition.commits})
-        firsts = [min(it.begins for it in lane.partition.commits if it.epoch[0] == loss) for loss in losses]
+        of_loss = {}
+        for it in lane.partition.commits:
+            of_loss.setdefault(it.epoch[0], []).append(it)
+        losses = sorted(of_loss)[-MOST_LOSSES:]
         floor = lane.rise_top + RISE - 4
-        for loss, end in zip(losses, [*firsts[1:], None]):
-            right = self.axis.right() if end is None else self.axis.x(end)
-            points = self.rise([it for it in lane.partition.commits if it.epoch[0] == loss], most, floor, right)
+        for loss, following in zip(losses, [*losses[1:], None]):
+            right = self.axis.right() if following is None else self.axis.x(of_loss[following][0].begins)
+            points = self.rise(of_loss[loss], most, floor, right)
             if points:
                 title = f"committed entries of {lane.partition.number}, data loss number {loss}: up to {most:,}"
                 self.picture.path(points, "rise", title)

@@ -7,7 +7,6 @@ from .svg import counted, number, thousands
 
 # Above so many boxes a grid shows the ring.
 MOST_BOXES = 6_000
-MOST_TWICE = 100
 # A block of this size bears the name of its instance.
 LABEL_WIDTH, LABEL_HEIGHT, TINY_HEIGHT = 24, 12, 8
 # In a block that is so wide, the name is at its left edge, out of the way of the signs.
@@ -32,14 +31,15 @@ class RingPanel:
         self.sheet, self.ring, self.points = sheet, ring, points
         self.picture = sheet.picture
 
-    def draw(self):
+    def draw(self, twice):
+        """The ring. `twice` has the places that two instances hold."""
         level = self.sheet.level
         self.picture.open("g", id="ring")
         if level.cell or len(self.ring.boxes) > MOST_BOXES:
             self.draw_grid(level.cell or 1)
         else:
             self.draw_boxes()
-        self.draw_twice()
+        self.draw_twice(twice)
         self.picture.close("g")
         self.draw_frame()
         self.draw_points()
@@ -106,18 +106,12 @@ class RingPanel:
             "each cell shows who held its middle"
         )
 
-    def draw_twice(self):
-        """Points that two instances hold at once: never in a run by the rules, so it is shown above all else."""
-        found = self.ring.held_twice(MOST_TWICE)
-        for x0, x1, lo, hi, one, other in found:
+    def draw_twice(self, twice):
+        """Points that two instances hold at once, above all else."""
+        for x0, x1, lo, hi, one, other in twice:
             top, bottom = self.points.y(hi + 1), self.points.y(lo)
             title = f"{one} and {other} both hold {point_text(lo)}-{point_text(hi)}"
             self.picture.rect(x0, top, max(x1 - x0, 1), max(bottom - top, 1), "both", title)
-        if found:
-            first = found[0]
-            more = f", {len(found)} such places" if len(found) > 1 else ""
-            text = f"{first[4]} and {first[5]} both hold {point_text(first[2])}-{point_text(first[3])}{more}: drawn red"
-            self.sheet.alarms.append(text)
 
     def draw_frame(self):
         axis, points = self.ring.axis, self.points
@@ -145,7 +139,8 @@ class RingPanel:
         """What happened, at the ranges that it is about."""
         self.picture.open("g", id="ring-marks")
         placed = [(it, self.middle(it.place)) for it in self.sheet.marks if it.place and it.kind != "stopped"]
-        for x, y, kind, title in gathered(self.sheet, placed):
+        in_rows = [(it, y, round(y / self.sheet.level.together)) for it, y in placed]
+        for x, y, kind, title in gathered(self.sheet, in_rows):
             self.picture.use(f"m-{kind}", x, y, title)
         self.picture.close("g")
 
