@@ -1,5 +1,6 @@
-ghost use Rattle.std.specs.Prelude.{◌≡◌, ◌≢◌, ℕ, List, [], Some};
+ghost use Rattle.std.specs.Prelude.{◌≡◌, ◌≢◌, ℕ, List, [], Some, IsTrue};
 ghost use Rattle.edge_io.specs.Edge.{HasRisen};
+ghost use Rattle.schedule_replay.specs.Statuses.{may_end_replay};
 ghost use Rattle.schedule_rules.specs.Schedule.{judge};
 ghost use Rattle.schedule_rules.specs.Replays.{Writes};
 ghost use Rattle.schedule_rules.specs.Tellings.{replay_telling};
@@ -47,6 +48,7 @@ impl RunObserver for ReportObserver {
 /// failed. `ReadFault` and `WriteFault` come only where that device's count of faults rose; at `OutOfMemory` and
 /// `WriteFault` the sink has a front of what would have been written.
 pub fn replay<S: Source, K: Sink>(alloc: Global, source: &mut S, sink: &mut K) -> Status
+    ensures statuses { IsTrue (may_end_replay result) }
     ensures usage { result ≢ Status.Usage }
     ensures read { result ≡ Status.Ok → (bytes : List ℕ) → S.left source.old ≡ Some bytes →
         S.left source.new ≡ Some [] }

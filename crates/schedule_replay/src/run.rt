@@ -1,10 +1,11 @@
 // The run of a schedule: its lines are taken from a source, and what is told of them goes to a sink.
-ghost use Rattle.std.specs.Prelude.{◌≡◌, ◌≢◌, ◌≤◌, ◌++◌, ℕ, List, [], Some, Ok, Err};
+ghost use Rattle.std.specs.Prelude.{◌≡◌, ◌≢◌, ◌≤◌, ◌++◌, ℕ, List, [], Some, Ok, Err, IsTrue};
 ghost use Rattle.edge_io.specs.Edge.{HasRisen};
 ghost use Rattle.fabric_terms.specs.Sound.{IsSound};
 ghost use Rattle.fabric_terms.specs.declared.config.FabricConfig.{FabricConfig as Configuration};
 ghost use Rattle.ring_world.specs.Answers.{IsWorld};
 ghost use Rattle.line_format.specs.Lines.{lines_of};
+ghost use Rattle.schedule_replay.specs.Statuses.{may_end_replay};
 ghost use Rattle.schedule_rules.specs.Endings.{EndsSo};
 ghost use Rattle.schedule_rules.specs.Follows.{At, TakesNext};
 ghost use Rattle.schedule_rules.specs.Halts.{EndsLines, HaltsAt};
@@ -176,6 +177,7 @@ pub fn run_schedule<T: RunObserver, S: Source, K: Sink>(
     sink: &mut K,
 ) -> Status
     requires { (c : Configuration) → T.knows teller.old c [] }
+    ensures statuses { IsTrue (may_end_replay result) }
     ensures usage { result ≢ Status.Usage }
     ensures read { result ≡ Status.Ok → (bytes : List ℕ) → S.left source.old ≡ Some bytes →
         S.left source.new ≡ Some [] }

@@ -1,5 +1,6 @@
-ghost use Rattle.std.specs.Prelude.{◌≡◌, ◌≢◌, ℕ, List, [], Some};
+ghost use Rattle.std.specs.Prelude.{◌≡◌, ◌≢◌, ℕ, List, [], Some, IsTrue};
 ghost use Rattle.edge_io.specs.Edge.{HasRisen};
+ghost use Rattle.schedule_replay.specs.Statuses.{may_end_replay};
 ghost use Rattle.schedule_rules.specs.Endings.{EndsSo};
 ghost use Rattle.schedule_rules.specs.Schedule.{judge};
 ghost use Rattle.schedule_rules.specs.Telling.{IsTold, lines_judged};
@@ -47,6 +48,7 @@ impl RunObserver for TranscriptObserver {
 /// Reads a schedule to its end and writes its transcript: of each event the clocks behind it and what was told. It ends
 /// as `replay` does, and its text is this one in place of the report.
 pub fn trace<S: Source, K: Sink>(alloc: Global, source: &mut S, sink: &mut K) -> Status
+    ensures statuses { IsTrue (may_end_replay result) }
     ensures usage { result ≢ Status.Usage }
     ensures read { result ≡ Status.Ok → (bytes : List ℕ) → S.left source.old ≡ Some bytes →
         S.left source.new ≡ Some [] }
