@@ -33,6 +33,8 @@ mod names;
 #[cfg(test)]
 mod partitions;
 #[cfg(test)]
+mod pipes;
+#[cfg(test)]
 mod replicas;
 #[cfg(test)]
 mod schedules;

@@ -1,2 +1,4 @@
+pub mod Begins
 pub mod Brief
 pub mod Statuses
+pub mod Waits

@@ -10,10 +10,12 @@
 mod brief;
 mod clocks;
 mod ending;
+mod page;
 mod report_observer;
 mod run;
 mod run_observer;
 mod schedule;
+mod schedule_reader;
 mod step_report;
 mod transcript_observer;
 

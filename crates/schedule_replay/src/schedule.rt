@@ -4,6 +4,7 @@ ghost use Rattle.fabric_terms.specs.declared.config.FabricConfig.{FabricConfig a
 ghost use Rattle.ring_world.specs.Answers.{IsWorld, ruled};
 ghost use Rattle.fabric_terms.specs.Ranges.{Fits};
 ghost use Rattle.line_format.specs.Lines.{event_of};
+ghost use Rattle.text_fields.specs.Texts.{Keeps};
 ghost use Rattle.world_rules.specs.Runs.{History};
 ghost use Rattle.schedule_rules.specs.Follows.{At, Follows};
 ghost use Rattle.schedule_rules.specs.Schedule.{line_verdict, event_verdict, run_verdict, refusal_at};
@@ -39,9 +40,10 @@ fn take_event<T: RunObserver>(
 ) -> Result<Option<Refusal>, OutOfMemory>
     requires world { IsWorld world.old }
     requires fits { Fits event.now }
-    ensures { (c : Configuration) (h : History) → At world.old (T.knows teller.old) c h →
+    ensures follows { (c : Configuration) (h : History) → At world.old (T.knows teller.old) c h →
         IfOk result (λ refused. Follows T.telling c h number (run_verdict c (ruled c h) (length h) number event.now)
         refused world.new (T.knows teller.new) text.old.items text.new.items) }
+    ensures kept { Keeps text.old.items text.new.items }
 {
     match world.apply(number, event) {
         Ok(acted) => {
@@ -63,10 +65,11 @@ fn take_tick<T: RunObserver>(
 ) -> Result<Option<Refusal>, OutOfMemory>
     requires world { IsWorld world.old }
     requires fits { Fits (Event.Tick advance readings.now) }
-    ensures { (c : Configuration) (h : History) → At world.old (T.knows teller.old) c h →
+    ensures follows { (c : Configuration) (h : History) → At world.old (T.knows teller.old) c h →
         IfOk result (λ refused. Follows T.telling c h number
         (run_verdict c (ruled c h) (length h) number (Event.Tick advance readings.now)) refused world.new
         (T.knows teller.new) text.old.items text.new.items) }
+    ensures kept { Keeps text.old.items text.new.items }
 {
     match world.tick(number, advance, readings) {
         Ok(()) => {
@@ -86,10 +89,11 @@ fn take_any<T: RunObserver>(
     text: &mut Vec<u8>,
 ) -> Result<Option<Refusal>, OutOfMemory>
     requires { IsWorld world.old }
-    ensures { (c : Configuration) (h : History) → At world.old (T.knows teller.old) c h →
+    ensures follows { (c : Configuration) (h : History) → At world.old (T.knows teller.old) c h →
         IfOk result (λ refused. Follows T.telling c h number
         (event_verdict c (ruled c h) (length h) number (event_of line.now)) refused world.new (T.knows teller.new)
         text.old.items text.new.items) }
+    ensures kept { Keeps text.old.items text.new.items }
 {
     match read_event(line) {
         Err(_) => Ok(Some(Refusal::BadLine(number))),
@@ -108,10 +112,11 @@ fn take_longer<T: RunObserver>(
     text: &mut Vec<u8>,
 ) -> Result<Option<Refusal>, OutOfMemory>
     requires { IsWorld world.old }
-    ensures { (c : Configuration) (h : History) → At world.old (T.knows teller.old) c h →
+    ensures follows { (c : Configuration) (h : History) → At world.old (T.knows teller.old) c h →
         IfOk result (λ refused. Follows T.telling c h number
         (event_verdict c (ruled c h) (length h) number (event_of line.now)) refused world.new (T.knows teller.new)
         text.old.items text.new.items) }
+    ensures kept { Keeps text.old.items text.new.items }
 {
     match read_tick(line, readings) {
         Err(_) => Ok(Some(Refusal::BadLine(number))),
@@ -130,10 +135,11 @@ fn take_words<T: RunObserver>(
     text: &mut Vec<u8>,
 ) -> Result<Option<Refusal>, OutOfMemory>
     requires { IsWorld world.old }
-    ensures { (c : Configuration) (h : History) → At world.old (T.knows teller.old) c h →
+    ensures follows { (c : Configuration) (h : History) → At world.old (T.knows teller.old) c h →
         IfOk result (λ refused. Follows T.telling c h number
         (event_verdict c (ruled c h) (length h) number (event_of line.now)) refused world.new (T.knows teller.new)
         text.old.items text.new.items) }
+    ensures kept { Keeps text.old.items text.new.items }
 {
     match read_brief(line) {
         Some(Brief::Fire(node)) => take_event(world, teller, number, &Event::Fire { node }, text),
@@ -153,9 +159,10 @@ pub fn take_line<T: RunObserver>(
     text: &mut Vec<u8>,
 ) -> Result<Option<Refusal>, OutOfMemory>
     requires { IsWorld world.old }
-    ensures { (c : Configuration) (h : History) → At world.old (T.knows teller.old) c h →
+    ensures follows { (c : Configuration) (h : History) → At world.old (T.knows teller.old) c h →
         IfOk result (λ refused. Follows T.telling c h number (line_verdict c (ruled c h) (length h) number line.now)
         refused world.new (T.knows teller.new) text.old.items text.new.items) }
+    ensures kept { Keeps text.old.items text.new.items }
 {
     if line.len() > MAX_LINE || number > MAX_LINES {
         return Ok(Some(Refusal::TooLarge(number)));

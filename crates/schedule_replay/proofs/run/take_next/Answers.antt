@@ -11,7 +11,7 @@ use Rattle.schedule_replay.proofs.run.take_next.Goals as goal
 
 pub returns-in-Ok-End-clause-next : goal.returns-in-Ok-End-clause-next
 returns-in-Ok-End-clause-next g c config h at =
-    let taken = subst (λ (k : NextLine). TakesOf (Ok k) 4096 c.args.reader.now (g.S.Source.left c.args.source.now) c.next.new.self (g.S.Source.left c.next.new.source)) c.in-Ok-End.field-0-is c.in-Ok-End.ensures.taken in
+    let taken = subst (λ (k : NextLine). TakesOf (Ok k) 4096 c.args.reader.now.lines (g.S.Source.left c.args.source.now) c.next.new.self (g.S.Source.left c.next.new.source)) c.in-Ok-End.field-0-is c.in-Ok-End.ensures.taken in
     record {
       at = at;
       text = refl;
@@ -22,16 +22,16 @@ returns-in-Ok-End-clause-next g c config h at =
 
 pub returns-in-Ok-TooLong-clause-next : goal.returns-in-Ok-TooLong-clause-next
 returns-in-Ok-TooLong-clause-next g c config h at =
-    let taken = subst (λ (k : NextLine). TakesOf (Ok k) 4096 c.args.reader.now (g.S.Source.left c.args.source.now) c.next.new.self (g.S.Source.left c.next.new.source)) c.in-Ok-TooLong.field-0-is c.in-Ok-TooLong.ensures.taken in
+    let taken = subst (λ (k : NextLine). TakesOf (Ok k) 4096 c.args.reader.now.lines (g.S.Source.left c.args.source.now) c.next.new.self (g.S.Source.left c.next.new.source)) c.in-Ok-TooLong.field-0-is c.in-Ok-TooLong.ensures.taken in
     record {
       text = refl;
-      judged = λ bytes e. long_refused config h c.args.number (c.args.reader.now.waiting ++ bytes) (taken bytes e).2.0;
+      judged = λ bytes e. long_refused config h c.args.number (c.args.reader.now.lines.waiting ++ bytes) (taken bytes e).2.0;
     }
 
 pub returns-in-Ok-None-clause-next : goal.returns-in-Ok-None-clause-next
 returns-in-Ok-None-clause-next g c config h at =
-    let taken = subst (λ (k : NextLine). TakesOf (Ok k) 4096 c.args.reader.now (g.S.Source.left c.args.source.now) c.next.new.self (g.S.Source.left c.next.new.source)) c.in-Ok-Line.field-0-is c.in-Ok-Line.ensures.taken in
-    let follows = subst (λ (r : Option Refusal). Follows g.T.RunObserver.telling config h c.args.number (line_verdict config (ruled config h) (length h) c.args.number c.line.result.now) r c.take_line.new.world (g.T.RunObserver.knows c.take_line.new.teller) c.args.text.now.items c.take_line.new.text.items) c.in-Ok-None.field-0-is (c.in-Ok-None.ensures config h at) in
+    let taken = subst (λ (k : NextLine). TakesOf (Ok k) 4096 c.args.reader.now.lines (g.S.Source.left c.args.source.now) c.next.new.self (g.S.Source.left c.next.new.source)) c.in-Ok-Line.field-0-is c.in-Ok-Line.ensures.taken in
+    let follows = subst (λ (r : Option Refusal). Follows g.T.RunObserver.telling config h c.args.number (line_verdict config (ruled config h) (length h) c.args.number c.line.result.now) r c.take_line.new.world (g.T.RunObserver.knows c.take_line.new.teller) c.args.text.now.items c.take_line.new.text.items) c.in-Ok-None.field-0-is (c.in-Ok-None.ensures.follows config h at) in
     let went = took g.T.RunObserver.telling config h c.args.number c.line.result.now c.take_line.new.world (g.T.RunObserver.knows c.take_line.new.teller) c.args.text.now.items c.take_line.new.text.items follows in
     record {
       history = went.history;
