@@ -2,4 +2,6 @@ mod OnePlace
 mod Ended
 mod Strangers
 mod Example
+mod Stored
+pub mod Rising
 pub mod Barred

@@ -1,4 +1,5 @@
 pub mod Happenings
+pub mod Stored
 pub mod Plans
 pub mod Steps
 pub mod Process

@@ -1,5 +1,5 @@
 -- What a run goes by.
-use Rattle.std.specs.Prelude.{◌≡◌, ◌<◌, ℕ, Bool, true, false, not, ◌&&◌, List, Option, Some, None, ◌==◌, All, filter, length, map, slice_get}
+use Rattle.std.specs.Prelude.{◌≡◌, ◌<◌, ◌≤◌, ℕ, Bool, true, false, not, ◌&&◌, List, [], ◌∷◌, Option, Some, None, ◌==◌, All, filter, length, map, slice_get}
 use Rattle.edge_io.specs.declared.endpoint.Endpoint.{Endpoint}
 use Rattle.fabric_terms.specs.Ranges.{FitsCommand}
 use Rattle.fabric_terms.specs.Sound.{IsSound}
@@ -41,12 +41,18 @@ is_node_at plan place = is_of_node (slice_get plan.actors place)
 abbrev pub IsConfigured : FabricConfig → ℕ → Type 0
 IsConfigured c actor = is_arbiter_actor actor ≡ false → is_configured_node c actor ≡ true
 
--- a plan that can be run: a sound configuration, actors of it, one at least, and commands in their ranges
+-- turns count from `least`, and no order's turn is below that of the order before it
+abbrev pub Rises : ℕ → List Order → Type 0
+Rises least [] = Unit {0}
+Rises least (o ∷ os) = (least ≤ o.turn) × Rises o.turn os
+
+-- a plan that can be run: a sound configuration, actors of it, one at least, and commands in their ranges, turn after turn
 pub record IsPlan (plan : Plan) : Type 0 where
   pub sound : IsSound plan.config
   pub some : 0 < length plan.actors
   pub configured : (place : ℕ) (e : Endpoint) → slice_get plan.actors place ≡ Some e → IsConfigured plan.config e.actor
   pub orders : All (λ o. FitsCommand o.command) plan.orders
+  pub rising : Rises 1 plan.orders
 
 -- what a run begins with: its plan, and the records that are kept of each actor, by its place
 pub record Setting : Type 0 where

@@ -16,7 +16,8 @@ fn arbiter_entry(arbiters: &[(u16, Address)], number: u16) -> Option<&(u16, Addr
 
 /// Where the node of a number listens, if it is configured.
 pub fn node_address(config: &FabricConfig, number: u16) -> Option<&str>
-    ensures { option_map (λ at. at.now) result ≡ option_map (λ e. e.at) (find (λ e. e.node == number) config.now.nodes) }
+    ensures { option_map (λ at. at.now) result ≡
+        option_map (λ e. e.at) (find (λ e. e.node == number) config.now.nodes) }
 {
     match node_entry(config.nodes.as_slice(), number) {
         None => None,

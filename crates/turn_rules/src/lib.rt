@@ -12,6 +12,7 @@
 mod address;
 mod laws;
 mod order;
+mod orders;
 mod plan;
 mod stop_cause;
 
@@ -21,5 +22,6 @@ pub use laws::{
     nothing_comes_after_an_end, what_has_come_leads_to_one_place,
 };
 pub use order::Order;
+pub use orders::Orders;
 pub use plan::Plan;
 pub use stop_cause::StopCause;

@@ -1,6 +1,6 @@
 ghost use Rattle.std.specs.Prelude.{◌≡◌};
 
-use crate::order::Order;
+use crate::orders::Orders;
 use edge_io::Endpoint;
 use fabric_terms::FabricConfig;
 use ring_points::ARBITRATORS;
@@ -12,7 +12,7 @@ use std::marker::Model;
 pub struct Plan {
     config: FabricConfig,
     actors: Vec<Endpoint>,
-    orders: Vec<Order>,
+    orders: Orders,
     turns: u64,
 }
 
@@ -24,7 +24,7 @@ impl Model for Plan {
     ghost view = { λ p. record {
       config = p.config;
       actors = p.actors.items;
-      orders = p.orders.items;
+      orders = p.orders;
       turns = p.turns;
     } };
 }
@@ -35,8 +35,8 @@ impl Plan {
     ghost use Rattle.edge_io.specs.declared.endpoint.Endpoint.{Endpoint as EndpointOf};
 
     /// A plan of these.
-    pub fn new(config: FabricConfig, actors: Vec<Endpoint>, orders: Vec<Order>, turns: u64) -> Self
-        ensures { result ≡ record { config = config; actors = actors.items; orders = orders.items; turns = turns } }
+    pub fn new(config: FabricConfig, actors: Vec<Endpoint>, orders: Orders, turns: u64) -> Self
+        ensures { result ≡ record { config = config; actors = actors.items; orders = orders; turns = turns } }
     {
         Plan {
             config,
@@ -92,9 +92,9 @@ impl Plan {
     }
 
     /// The commands, in their order.
-    pub fn orders(&self) -> &[Order]
+    pub fn orders(&self) -> &Orders
         ensures { result.now ≡ self.now.orders }
     {
-        self.orders.as_slice()
+        &self.orders
     }
 }
