@@ -9,10 +9,8 @@ use Rattle.fabric_terms.specs.declared.config.FabricConfig.{FabricConfig}
 use Rattle.source_lines.specs.Lines.{most_line, most_lines}
 use Rattle.turn_rules.specs.declared.order.Order.{Order}
 use Rattle.turn_plans.specs.Plans.{judge_from}
-use Rattle.turn_plans.specs.PlanVerdicts.{line_verdict, unless_large}
+use Rattle.turn_plans.specs.PlanVerdicts.{Ignored, Ordered, PlanVerdict, Refused, line_verdict, unless_large}
 use Rattle.turn_plans.specs.declared.crew.Crew.{Crew}
-use Rattle.turn_plans.specs.declared.plan_verdict.PlanVerdict.{PlanVerdict}
-use Rattle.turn_plans.specs.declared.plan_verdict.PlanVerdict.TheVariants.{Ignored, Ordered, Refused}
 
 -- what lines are judged for
 pub record Given : Type 0 where

@@ -11,7 +11,7 @@ use Rattle.fabric_terms.specs.Sound.{IsSound}
 use Rattle.fabric_terms.specs.declared.config.FabricConfig.{FabricConfig}
 use Rattle.fabric_terms.specs.declared.config.NodeEntry.{NodeEntry}
 use Rattle.ring_points.specs.Whos.{arbiter_actor}
-use Rattle.turn_rules.specs.Plans.{IsPlan, IsConfigured}
+use Rattle.turn_rules.specs.Plans.{IsPlan, IsConfigured, Rises}
 use Rattle.turn_rules.specs.declared.order.Order.{Order}
 use Rattle.turn_plans.specs.Crews.{arbiter_at, arbiters_to, endpoints_of, is_crew, listener, node_at, nodes_to}
 use Rattle.turn_plans.specs.declared.crew.Crew.{Crew}
@@ -115,10 +115,11 @@ known_at c es all place e here =
     subst (IsKnown c) (get_or_from_slice_get es place e e here) (All-get_or (IsKnown c) es place e (slice_get_within es place e here) all)
 
 -- what is read can be run
-pub is_plan : (crew : Crew) (c : FabricConfig) (actors : List Endpoint) (turns : ℕ) (orders : List Order) → actors ≡ endpoints_of c crew → IsSound c → is_crew c crew ≡ true → All (λ o. FitsCommand o.command) orders → IsPlan (record { config = c; actors = actors; orders = orders; turns = turns })
-is_plan crew c actors turns orders same sound there fit = record {
+pub is_plan : (crew : Crew) (c : FabricConfig) (actors : List Endpoint) (turns : ℕ) (orders : List Order) → actors ≡ endpoints_of c crew → IsSound c → is_crew c crew ≡ true → All (λ o. FitsCommand o.command) orders → Rises 1 orders → IsPlan (record { config = c; actors = actors; orders = orders; turns = turns })
+is_plan crew c actors turns orders same sound there fit rising = record {
   sound = sound;
   some = subst (λ (es : List Endpoint). 0 < length es) (sym same) (some_run c crew sound there);
   configured = known_at c actors (subst (λ (es : List Endpoint). All (IsKnown c) es) (sym same) (all_known c crew sound there));
   orders = fit;
+  rising = rising;
 }

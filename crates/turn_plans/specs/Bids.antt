@@ -5,9 +5,14 @@ use Rattle.line_format.specs.Commands.{command_of}
 use Rattle.text_fields.specs.Actors.{node_at}
 use Rattle.text_fields.specs.Fields.{◌>>=◌, Field, nothing, word_of}
 use Rattle.text_fields.specs.Numbers.{number_in}
-use Rattle.turn_plans.specs.declared.bid.Bid.{Bid}
 use Rattle.turn_plans.specs.declared.crew.Crew.{Crew}
 use Rattle.turn_plans.specs.declared.crew.Crew.TheVariants.{Node, Arbiter, Cluster}
+
+-- which node is commanded what, in which turn
+pub record Bid : Type 0 where
+  pub turn : ℕ
+  pub node : ℕ
+  pub command : Command
 
 -- one of the turns that may come, and the blank behind it
 abbrev pub turn_word : ℕ → ℕ → List ℕ → Field ℕ

@@ -13,11 +13,10 @@ use Rattle.source_lines.specs.Lines.{most_first_line}
 use Rattle.turn_rules.specs.Plans.{Plan}
 use Rattle.turn_rules.specs.declared.order.Order.{Order}
 use Rattle.turn_plans.specs.Crews.{endpoints_of, is_crew}
-use Rattle.turn_plans.specs.PlanVerdicts.{line_verdict}
+use Rattle.turn_plans.specs.PlanVerdicts.{Ignored, Ordered, Refused, line_verdict}
 use Rattle.turn_plans.specs.declared.crew.Crew.{Crew}
 use Rattle.turn_plans.specs.declared.error.PlanError.{PlanError}
 use Rattle.turn_plans.specs.declared.error.PlanError.TheVariants as error
-use Rattle.turn_plans.specs.declared.plan_verdict.PlanVerdict.TheVariants.{Ignored, Ordered, Refused}
 
 -- The commands of the lines from number n on, behind those of the lines before. No turn is below that of an earlier line.
 abbrev pub judge_from : Crew → FabricConfig → List Endpoint → ℕ → List Order → ℕ → ℕ → List (List ℕ) → Result (List Order) Refusal

@@ -2,6 +2,7 @@
 use Rattle.std.specs.Prelude.{◌≡◌, ℕ, ◌≤◌, List, [], ◌++◌, All, Option, Some, None, Result, Ok, Err}
 use Rattle.edge_io.specs.Edge.{Tells}
 use Rattle.fabric_status.specs.declared.status.Refusal.{Refusal}
+use Rattle.fabric_terms.specs.Ranges.{FitsCommand}
 use Rattle.line_format.specs.Lines.{lines_of}
 use Rattle.source_lines.specs.Feeds.{HasNoFeed}
 use Rattle.source_lines.specs.Lines.{most_lines}
@@ -9,7 +10,8 @@ use Rattle.turn_plans.specs.Plans.{judge_plan}
 use Rattle.turn_plans.specs.declared.crew.Crew.{Crew}
 use Rattle.turn_plans.specs.declared.error.PlanError.{PlanError}
 use Rattle.turn_plans.specs.declared.error.PlanError.TheVariants as error
-use Rattle.turn_rules.specs.Plans.{Plan}
+use Rattle.turn_rules.specs.Plans.{Plan, Rises}
+use Rattle.turn_rules.specs.declared.order.Order.{Order}
 
 -- where the source tells what it had left, it has nothing left now
 abbrev pub IsAtEnd : Option (List ℕ) → Option (List ℕ) → Type 0
@@ -34,6 +36,13 @@ pub record AreJudged {A : Type 0} (judge : List (List ℕ) → Result A Refusal)
   pub plain : All HasNoFeed lines
   pub some : judge lines ≡ judged
   pub all : (bytes : List ℕ) → left ≡ Some bytes → judge (lines_of (waiting ++ bytes)) ≡ judged
+
+-- the orders of the lines that were taken: in their ranges, turn after turn, and none of a turn above the last
+pub record AreTaken (orders : List Order) (last : ℕ) : Type 0 where
+  pub fit : All (λ o. FitsCommand o.command) orders
+  pub rising : Rises 1 orders
+  pub low : All (λ o. o.turn ≤ last) orders
+  pub some : 1 ≤ last
 
 -- a line that is taken leads to what stands then, and is one of those that there may be; one that is refused, to its refusal
 abbrev pub TakesLine : {A : Type 0} → ℕ → Result A Refusal → Result A Refusal → Option Refusal → Type 0

@@ -10,6 +10,7 @@ mod actors;
 mod bid;
 mod crew;
 mod error;
+mod given;
 mod orders;
 mod plan_verdict;
 mod read;

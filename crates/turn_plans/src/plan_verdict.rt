@@ -1,21 +1,24 @@
-ghost use Rattle.std.specs.Prelude.{◌≡◌, ◌==◌, position};
-ghost use Rattle.fabric_terms.specs.Ranges.{FitsCommand};
-ghost use Rattle.turn_plans.specs.PlanVerdicts.{FitsVerdict, line_verdict, order_verdict, place_of};
+ghost use Rattle.std.specs.Prelude.{◌≡◌, ◌==◌, Some, position};
+ghost use Rattle.line_format.specs.Commands.{command_of};
+ghost use Rattle.turn_plans.specs.Bids.{bid};
+ghost use Rattle.turn_plans.specs.PlanVerdicts.{CanBeKept, line_verdict, order_verdict, place_of, seen};
 
 use crate::bid::{Bid, bid_of};
-use crate::crew::Crew;
+use crate::given::Given;
 use edge_io::Endpoint;
 use fabric_status::Refusal;
-use fabric_terms::FabricConfig;
 use source_lines::{MAX_LINE, MAX_LINES, is_ignored};
 use turn_rules::Order;
 use world_rules::{is_configured_node, is_named};
 
 /// What becomes of a line.
 #[derive(Drop)]
-pub enum PlanVerdict {
+pub enum PlanVerdict<'a> {
+    /// It says nothing.
     Ignored,
-    Ordered(Order),
+    /// It commands a node, in these words.
+    Ordered(Order, &'a [u8]),
+    /// It ends the reading.
     Refused(Refusal),
 }
 
@@ -36,35 +39,37 @@ fn place_of(actors: &[Endpoint], node: u16) -> usize
 }
 
 /// A bid at a line, where the node that it is for, and the one that its command names, are there.
-fn order_verdict(config: &FabricConfig, actors: &[Endpoint], number: u64, bid: Bid) -> PlanVerdict
-    requires { FitsCommand bid.command }
-    ensures verdict { result ≡ order_verdict config.now actors.now number bid }
-    ensures fits { FitsVerdict result }
+fn order_verdict<'a>(given: &Given, number: u64, asked: Bid<'a>) -> PlanVerdict<'a>
+    requires { command_of asked.words.now ≡ Some asked.command }
+    ensures verdict { seen result ≡ order_verdict given.now.config.now given.now.actors.now number
+        (bid asked.entry.turn asked.entry.node asked.entry.command) }
+    ensures kept { CanBeKept asked.entry.turn result }
 {
-    if is_configured_node(config, bid.node) && is_named(config, bid.node, &bid.command) {
-        PlanVerdict::Ordered(Order {
-            turn: bid.turn,
-            place: place_of(actors, bid.node),
-            command: bid.command,
-        })
+    if is_configured_node(given.config, asked.node)
+        && is_named(given.config, asked.node, &asked.command)
+    {
+        let order = Order {
+            turn: asked.turn,
+            place: place_of(given.actors, asked.node),
+            command: asked.command,
+        };
+        PlanVerdict::Ordered(order, asked.words)
     } else {
         PlanVerdict::Refused(Refusal::NoSuch(number))
     }
 }
 
-/// The line of this number, where the turns from `least` to `turns` may come.
+/// The line of this number, where no turn below `least` may come.
 #[tactic(auto, unfolding(crate::specs::PlanVerdicts::line_verdict))]
-pub(crate) fn line_verdict(
-    crew: Crew,
-    config: &FabricConfig,
-    actors: &[Endpoint],
-    turns: u64,
+pub(crate) fn line_verdict<'a>(
+    given: &Given,
     least: u64,
     number: u64,
-    line: &[u8],
-) -> PlanVerdict
-    ensures verdict { result ≡ line_verdict crew config.now actors.now turns least number line.now }
-    ensures fits { FitsVerdict result }
+    line: &'a [u8],
+) -> PlanVerdict<'a>
+    ensures verdict { seen result ≡ line_verdict given.now.crew given.now.config.now given.now.actors.now
+        given.now.turns least number line.now }
+    ensures kept { CanBeKept least result }
 {
     if line.len() > MAX_LINE || number > MAX_LINES {
         return PlanVerdict::Refused(Refusal::TooLarge(number));
@@ -72,8 +77,8 @@ pub(crate) fn line_verdict(
     if is_ignored(line) {
         return PlanVerdict::Ignored;
     }
-    match bid_of(crew, least, turns, line) {
+    match bid_of(given.crew, least, given.turns, line) {
         Err(_) => PlanVerdict::Refused(Refusal::BadLine(number)),
-        Ok(bid) => order_verdict(config, actors, number, bid),
+        Ok(bid) => order_verdict(given, number, bid),
     }
 }

@@ -9,6 +9,7 @@ ghost use Rattle.turn_rules.specs.Plans.{IsPlan};
 use crate::actors::endpoints_of;
 use crate::crew::{Crew, is_crew};
 use crate::error::PlanError;
+use crate::given::Given;
 use crate::orders::take_lines;
 use edge_io::Source;
 use fabric_config::{ConfigError, need_endpoints, read_config};
@@ -56,15 +57,13 @@ fn plan_of<S: Source>(
     ensures cause { HasCauseOf PlanError.SourceFailed (S.faults source.old) (S.faults source.new) result }
 {
     let actors = endpoints_of(alloc, &config, crew)?;
-    match take_lines(
-        alloc,
+    let given = Given {
         crew,
-        &config,
-        actors.as_slice(),
+        config: &config,
+        actors: actors.as_slice(),
         turns,
-        reader,
-        source,
-    ) {
+    };
+    match take_lines(alloc, &given, reader, source) {
         Ok(orders) => Ok(Plan::new(config, actors, orders, turns)),
         Err(error) => Err(error),
     }

@@ -1,6 +1,4 @@
 use Rattle.std.proofs.Common.{List, [], Ok, sym, subst, ◌∙◌}
-use Rattle.std.specs.Prelude.{Vec}
-use Rattle.std.specs.declared.alloc.Global.{Global}
 use Rattle.turn_rules.specs.declared.order.Order.{Order}
 use Rattle.edge_io.specs.declared.endpoint.Endpoint.{Endpoint}
 use Rattle.turn_plans.specs.Plans.{judge_from, plan_of}
@@ -12,17 +10,17 @@ use Rattle.turn_rules.specs.Plans.{IsPlan, Plan}
 
 pub returns-in-Ok-clause-plan : goal.returns-in-Ok-clause-plan
 returns-in-Ok-clause-plan g c =
-    let read = subst (λ (es : List Endpoint). AreJudged (judge_from c.args.crew c.args.config es c.args.turns [] 1 2) c.args.reader.now.waiting (g.S.Source.left c.args.source.now) (Ok c.in-Ok.orders.items)) c.as_slice.ensures.value c.in-Ok.ensures.read.0 in (
+    let read = subst (λ (es : List Endpoint). AreJudged (judge_from c.args.crew c.args.config es c.args.turns [] 1 2) c.args.reader.now.waiting (g.S.Source.left c.args.source.now) (Ok c.in-Ok.orders)) c.as_slice.ensures.value c.in-Ok.ensures.read.0 in (
       subst (λ (p : Plan). AreJudged (plan_of c.args.crew c.args.turns c.args.config) c.args.reader.now.waiting (g.S.Source.left c.args.source.now) (Ok p)) (sym c.new.ensures)
-          (planned c.args.crew c.args.turns c.args.config c.in_ok-actors.actors.items c.args.reader.now.waiting (g.S.Source.left c.args.source.now) (Ok c.in-Ok.orders.items) c.in_ok-actors.ensures read),
+          (planned c.args.crew c.args.turns c.args.config c.in_ok-actors.actors.items c.args.reader.now.waiting (g.S.Source.left c.args.source.now) (Ok c.in-Ok.orders) c.in_ok-actors.ensures read),
       c.in-Ok.ensures.read.1,
     )
 
 pub returns-in-Ok-clause-runs : goal.returns-in-Ok-clause-runs
 returns-in-Ok-clause-runs g c =
     subst IsPlan (sym c.new.ensures)
-    (is_plan c.args.crew c.args.config c.in_ok-actors.actors.items c.args.turns c.in-Ok.orders.items c.in_ok-actors.ensures c.requires.sound c.requires.crew c.in-Ok.ensures.fits)
+    (is_plan c.args.crew c.args.config c.in_ok-actors.actors.items c.args.turns c.in-Ok.orders c.in_ok-actors.ensures c.requires.sound c.requires.crew c.in-Ok.ensures.fits c.in-Ok.ensures.rising)
 
 pub returns-in-Err-clause-plan : goal.returns-in-Err-clause-plan
 returns-in-Err-clause-plan g c =
-    planned_error {B = Vec Order Global} (λ orders. orders.items) c.args.crew c.args.turns c.args.config c.as_slice.result.now c.args.reader.now.waiting (g.S.Source.left c.args.source.now) (g.S.Source.left c.take_lines.new.source) c.in-Err.error (c.as_slice.ensures.value ∙ c.in_ok-actors.ensures) c.in-Err.ensures.read
+    planned_error {B = List Order} (λ orders. orders) c.args.crew c.args.turns c.args.config c.as_slice.result.now c.args.reader.now.waiting (g.S.Source.left c.args.source.now) (g.S.Source.left c.take_lines.new.source) c.in-Err.error (c.as_slice.ensures.value ∙ c.in_ok-actors.ensures) c.in-Err.ensures.read
