@@ -5,6 +5,7 @@ mod Through
 mod Stepping
 mod Coming
 mod Places
+mod Windows
 mod Hearing
 mod RecordKinds
 mod Recalling

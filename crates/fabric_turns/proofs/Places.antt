@@ -1,16 +1,13 @@
--- Places of a run, and the commands of a turn.
-use Rattle.std.proofs.Common.{arith, ◌≡◌, ◌<◌, ◌≤◌, ◌+◌, ℕ, zero, suc, Bool, true, false, List, [], ◌∷◌, length, drop, map, Result, refl, ap, sym, subst, ◌∙◌, ⊎_elim, nat_lt}
-use Rattle.std.specs.Prelude.{◌==◌, if◌then◌else◌, filter, slice_index_or}
+-- Places of a run.
+use Rattle.std.proofs.Common.{arith, ◌≡◌, ◌<◌, ◌≤◌, ◌+◌, ℕ, Bool, true, false, [], length, Result, ap, sym, subst, ◌∙◌, ⊎_elim, nat_lt}
+use Rattle.std.specs.Prelude.{◌==◌, if◌then◌else◌}
 use Rattle.std.proofs.lemmas.Bool.Decides.{nat_tests, eqb_tells}
-use Rattle.std.proofs.lemmas.Bool.{eq-eqb}
-use Rattle.std.proofs.Math.Seq.{drop-cons}
 use Rattle.fabric_turns.specs.Moves.{Asks, Goes, Leads, at_place}
 use Rattle.fabric_turns.specs.Runs.{Run}
 use Rattle.edge_io.specs.Told.{Told}
 use Rattle.std.specs.Prelude.{Ok}
 use Rattle.turn_rules.specs.Order.{TurnPosition, Starting, Turning, Busy, Firing, arrive, coming, onward, rests, hearing}
-use Rattle.turn_rules.specs.Plans.{Plan, Setting, is_node_at, is_order_at, commands_in}
-use Rattle.turn_rules.specs.declared.order.Order.{Order}
+use Rattle.turn_rules.specs.Plans.{Plan, Setting, is_node_at}
 use Rattle.turn_rules.specs.declared.stop_cause.StopCause.{StopCause}
 
 -- Places.
@@ -57,28 +54,9 @@ goes_as s b c run run' p q p' q' r e f g = subst (λ (x : TurnPosition). Goes s 
 pub leads_to : (s : Setting) (b c : Told) (run run' : Run) (p q q' : TurnPosition) → q ≡ q' → Leads s b run p c run' q → Leads s b run p c run' q'
 leads_to s b c run run' p q q' f g = subst (λ (y : TurnPosition). Leads s b run p c run' y) f g
 
--- Commands.
-
-pub command_here : (turn place : ℕ) (o : Order) (rest : List Order) → o.turn ≡ turn → o.place ≡ place → commands_in turn place (o ∷ rest) ≡ o.command ∷ commands_in turn place rest
-command_here turn place o rest e f =
-    let t : is_order_at turn place o ≡ true = rw (eq-eqb o.turn turn e, eq-eqb o.place place f) refl in
-    ap (λ (b : Bool). map (λ (x : Order). x.command) (if b then o ∷ filter (is_order_at turn place) rest else filter (is_order_at turn place) rest)) t
-
-pub dropped : (turn place : ℕ) (items orders : List Order) (i : ℕ) (d : Order) → items ≡ orders → i < length items → commands_in turn place (drop i orders) ≡ commands_in turn place (slice_index_or items i d ∷ drop (i + 1) orders)
-dropped turn place items orders i d e h =
-    let n : suc i ≡ i + 1 = omega arith in
-    ap (λ (xs : List Order). commands_in turn place (drop i xs)) (sym e)
-    ∙ ap (commands_in turn place) (drop-cons items i d h ∙ ap (λ (k : ℕ). slice_index_or items i d ∷ drop k items) n)
-    ∙ ap (λ (xs : List Order). commands_in turn place (slice_index_or items i d ∷ drop (i + 1) xs)) e
-
-pub dropped_item : (turn place : ℕ) (items orders : List Order) (i : ℕ) (o : Order) → items ≡ orders → i < length items → o ≡ slice_index_or items i o → commands_in turn place (drop i orders) ≡ commands_in turn place (o ∷ drop (i + 1) orders)
-dropped_item turn place items orders i o e h is = dropped turn place items orders i o e h ∙ ap (λ (x : Order). commands_in turn place (x ∷ drop (i + 1) orders)) (sym is)
-
-pub all_dropped : (turn place : ℕ) (orders : List Order) (i : ℕ) → length orders ≤ i → commands_in turn place (drop i orders) ≡ []
-all_dropped turn place [] zero h = refl
-all_dropped turn place [] (suc i) h = refl
-all_dropped turn place (o ∷ os) zero h = absurd (omega arith)
-all_dropped turn place (o ∷ os) (suc i) h = all_dropped turn place os i (omega arith)
+-- by another name of its number, a turn of all actors
+pub turn_numbered : (s : Setting) (b c : Told) (run run' : Run) (n m : ℕ) (r : Result (Unit {0}) StopCause) → n ≡ m → Goes s b run (arrive s.plan n 0) c run' (arrive s.plan (n + 1) 0) r → Goes s b run (arrive s.plan m 0) c run' (arrive s.plan (m + 1) 0) r
+turn_numbered s b c run run' n m r e g = subst (λ (k : ℕ). Goes s b run (arrive s.plan k 0) c run' (arrive s.plan (k + 1) 0) r) e g
 
 -- what a question was answered
 pub asks_none : (s : Setting) (b c : Told) (run run' : Run) (p more none : TurnPosition) (answer : Bool) → answer ≡ false → Asks s b run p c run' more none (Ok answer) → Leads s b run p c run' none

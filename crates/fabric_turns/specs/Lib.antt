@@ -1,4 +1,5 @@
 pub mod Runs
 pub mod Steps
+pub mod Windows
 pub mod Moves
 pub mod Opening

@@ -14,6 +14,7 @@ ghost use Rattle.turn_rules.specs.Order.{TurnPosition};
 ghost use Rattle.turn_rules.specs.Whole.{setting};
 
 use crate::run::Run;
+use crate::turn::ActorTurn;
 use edge_io::Outside;
 use fabric_terms::FabricConfig;
 use ring_node::Input;
@@ -73,22 +74,22 @@ pub(crate) fn act<O: Outside>(
     alloc: Global,
     plan: &Plan,
     run: &mut Run,
-    turn: u64,
-    place: usize,
+    at: ActorTurn,
     input: &Input,
 ) -> Result<(), StopCause>
-    requires place { place < length run.old.members }
+    requires place { at.place < length run.old.members }
     requires ready { IsReady plan.now run.old (O.told outside.old) }
     requires input { FitsInput input.now }
     ensures done { (kept : List (List Record)) (a : Told) (h : History) (x : Happening) (p : TurnPosition) →
-        Meets (setting plan.now kept) a (O.told outside.old) run.old h x p → IsStep (setting plan.now kept) h x turn place input.now →
+        Meets (setting plan.now kept) a (O.told outside.old) run.old h x p →
+        IsStep (setting plan.now kept) h x at.turn.number at.place input.now →
         Reaches (setting plan.now kept) a (O.told outside.new) run.new (x ∷ h) p result }
     ensures ready { IsReady plan.now run.new (O.told outside.new) }
     ensures same { length run.new.members ≡ length run.old.members }
 {
-    match run.step(alloc, turn, place, input) {
+    match run.step(alloc, at.turn.number, at.place, input) {
         Err(ArbiterError::OutOfMemory) => Err(StopCause::OutOfMemory),
         Err(ArbiterError::TableFull) => Err(StopCause::TableFull),
-        Ok(deed) => carry_through(outside, alloc, plan, run, place, deed),
+        Ok(deed) => carry_through(outside, alloc, plan, run, at.place, deed),
     }
 }

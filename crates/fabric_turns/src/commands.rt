@@ -1,8 +1,9 @@
 // The commands of a node's turn: each is one step.
-ghost use Rattle.std.specs.Prelude.{◌≡◌, ◌<◌, ◌∷◌, [], ℕ, List, length};
+ghost use Rattle.std.specs.Prelude.{◌≡◌, ◌<◌, ◌+◌, ◌∷◌, [], ℕ, List, drop, length, slice_get, Some};
 ghost use Rattle.fabric_terms.specs.declared.record.Record.{Record};
 ghost use Rattle.fabric_turns.specs.Moves.{Goes, at_place};
 ghost use Rattle.fabric_turns.specs.Runs.{IsReady};
+ghost use Rattle.fabric_turns.specs.Windows.{IsTurnOf};
 ghost use Rattle.turn_rules.specs.Order.{Busy};
 ghost use Rattle.turn_rules.specs.Plans.{orders_at, commands_in};
 ghost use Rattle.turn_rules.specs.Whole.{setting};
@@ -12,11 +13,12 @@ ghost use Rattle.turn_rules.specs.declared.order.Order.{Order as OrderOf};
 
 use crate::actor_step::act;
 use crate::run::Run;
+use crate::turn::ActorTurn;
 use edge_io::Outside;
-use fabric_terms::{Command, copy_of};
+use fabric_terms::Command;
 use ring_node::Input;
 use std::alloc::Global;
-use turn_rules::{Order, Plan, StopCause};
+use turn_rules::{Plan, StopCause};
 
 /// One command of the node at a place.
 fn bid<O: Outside>(
@@ -24,45 +26,47 @@ fn bid<O: Outside>(
     alloc: Global,
     plan: &Plan,
     run: &mut Run,
-    turn: u64,
-    place: usize,
-    command: &Command,
+    at: ActorTurn,
+    command: Command,
 ) -> Result<(), StopCause>
-    requires place { place < length run.old.members }
+    requires place { at.place < length run.old.members }
     requires ready { IsReady plan.now run.old (O.told outside.old) }
-    requires command { FitsCommand command.now }
+    requires command { FitsCommand command }
     ensures done { (kept : List (List Record)) (rest : List CommandOf) (n : ℕ) →
-        Goes (setting plan.now kept) (O.told outside.old) run.old (at_place turn place (Busy (command.now ∷ rest) n))
-        (O.told outside.new) run.new (at_place turn place (Busy rest n)) result }
+        Goes (setting plan.now kept) (O.told outside.old) run.old
+        (at_place at.turn.number at.place (Busy (command ∷ rest) n)) (O.told outside.new) run.new
+        (at_place at.turn.number at.place (Busy rest n)) result }
     ensures ready { IsReady plan.now run.new (O.told outside.new) }
     ensures same { length run.new.members ≡ length run.old.members }
 {
-    let input = Input::Do(copy_of(command));
-    act(outside, alloc, plan, run, turn, place, &input)
+    act(outside, alloc, plan, run, at, &Input::Do(command))
 }
 
-/// One of the commands, if it is of this turn of the node at this place.
+/// One of the turn's commands, if it is for the node at this place.
 fn bid_order<O: Outside>(
     outside: &mut O,
     alloc: Global,
     plan: &Plan,
     run: &mut Run,
-    turn: u64,
-    place: usize,
-    order: &Order,
+    at: ActorTurn,
+    index: usize,
 ) -> Result<(), StopCause>
-    requires place { place < length run.old.members }
+    requires place { at.place < length run.old.members }
     requires ready { IsReady plan.now run.old (O.told outside.old) }
-    requires command { FitsCommand order.now.command }
-    ensures done { (kept : List (List Record)) (rest : List OrderOf) →
+    requires known { index < length plan.now.orders }
+    requires turn { (o : OrderOf) → slice_get plan.now.orders index ≡ Some o → o.turn ≡ at.turn.number }
+    ensures done { (kept : List (List Record)) →
         Goes (setting plan.now kept) (O.told outside.old) run.old
-        (at_place turn place (Busy (commands_in turn place (order.now ∷ rest)) 0)) (O.told outside.new) run.new
-        (at_place turn place (Busy (commands_in turn place rest) 0)) result }
+        (at_place at.turn.number at.place (Busy (commands_in at.turn.number at.place (drop index plan.now.orders)) 0))
+        (O.told outside.new) run.new
+        (at_place at.turn.number at.place
+        (Busy (commands_in at.turn.number at.place (drop (index + 1) plan.now.orders)) 0)) result }
     ensures ready { IsReady plan.now run.new (O.told outside.new) }
     ensures same { length run.new.members ≡ length run.old.members }
 {
-    if order.turn == turn && order.place == place {
-        bid(outside, alloc, plan, run, turn, place, &order.command)
+    let orders = plan.orders();
+    if orders.place_at(index) == at.place {
+        bid(outside, alloc, plan, run, at, orders.command_at(index))
     } else {
         Ok(())
     }
@@ -74,20 +78,20 @@ pub(crate) fn bid_all<O: Outside>(
     alloc: Global,
     plan: &Plan,
     run: &mut Run,
-    turn: u64,
-    place: usize,
+    at: ActorTurn,
 ) -> Result<(), StopCause>
-    requires place { place < length run.old.members }
+    requires place { at.place < length run.old.members }
     requires ready { IsReady plan.now run.old (O.told outside.old) }
+    requires turn { IsTurnOf plan.now.orders at.turn }
     ensures done { (kept : List (List Record)) →
         Goes (setting plan.now kept) (O.told outside.old) run.old
-        (at_place turn place (Busy (orders_at plan.now turn place) 0)) (O.told outside.new) run.new
-        (at_place turn place (Busy [] 0)) result }
+        (at_place at.turn.number at.place (Busy (orders_at plan.now at.turn.number at.place) 0)) (O.told outside.new)
+        run.new (at_place at.turn.number at.place (Busy [] 0)) result }
     ensures ready { IsReady plan.now run.new (O.told outside.new) }
     ensures same { length run.new.members ≡ length run.old.members }
 {
-    for order in plan.orders() {
-        bid_order(outside, alloc, plan, run, turn, place, order)?;
+    for index in at.turn.first..at.turn.end {
+        bid_order(outside, alloc, plan, run, at, index)?;
     }
     Ok(())
 }

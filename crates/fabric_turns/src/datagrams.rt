@@ -10,6 +10,7 @@ ghost use Rattle.turn_rules.specs.Whole.{setting};
 
 use crate::actor_step::act;
 use crate::run::Run;
+use crate::turn::ActorTurn;
 use edge_io::{DATAGRAM_BYTES, Outside};
 use fabric_terms::{Body, Message};
 use ring_node::Input;
@@ -37,30 +38,23 @@ fn take_datagram<O: Outside>(
     alloc: Global,
     plan: &Plan,
     run: &mut Run,
-    turn: u64,
-    place: usize,
+    at: ActorTurn,
     bytes: &[u8],
 ) -> Result<(), StopCause>
-    requires place { place < length run.old.members }
+    requires place { at.place < length run.old.members }
     requires ready { IsReady plan.now run.old (O.told outside.old) }
     ensures done { (kept : List (List Record)) (a : Told) (h : History) (p : TurnPosition) →
-        Meets (setting plan.now kept) a (O.told outside.old) run.old h (record { turn = turn; place = place; comes = Hears (Datagram bytes.now) }) p →
-        Reaches (setting plan.now kept) a (O.told outside.new) run.new (record { turn = turn; place = place; comes = Hears (Datagram bytes.now) } ∷ h) p result }
+        Meets (setting plan.now kept) a (O.told outside.old) run.old h
+        (record { turn = at.turn.number; place = at.place; comes = Hears (Datagram bytes.now) }) p →
+        Reaches (setting plan.now kept) a (O.told outside.new) run.new
+        (record { turn = at.turn.number; place = at.place; comes = Hears (Datagram bytes.now) } ∷ h) p result }
     ensures ready { IsReady plan.now run.new (O.told outside.new) }
     ensures same { length run.new.members ≡ length run.old.members }
 {
     let mut message = empty_place();
     match decode_into(bytes, &mut message) {
         Err(_) => Ok(()),
-        Ok(()) => act(
-            outside,
-            alloc,
-            plan,
-            run,
-            turn,
-            place,
-            &Input::Frame(message),
-        ),
+        Ok(()) => act(outside, alloc, plan, run, at, &Input::Frame(message)),
     }
 }
 
@@ -76,24 +70,24 @@ fn hear_one<O: Outside>(
     alloc: Global,
     plan: &Plan,
     run: &mut Run,
-    turn: u64,
-    place: usize,
+    at: ActorTurn,
     buffer: &mut [u8; DATAGRAM_BYTES],
 ) -> Result<bool, StopCause>
-    requires place { place < length run.old.members }
+    requires place { at.place < length run.old.members }
     requires ready { IsReady plan.now run.old (O.told outside.old) }
-    requires within { place < length plan.now.actors }
+    requires within { at.place < length plan.now.actors }
     ensures done { (kept : List (List Record)) (n : ℕ) → n < MAX_DATAGRAMS →
-        Asks (setting plan.now kept) (O.told outside.old) run.old (hearing plan.now turn place n) (O.told outside.new)
-        run.new (hearing plan.now turn place (n + 1)) (rests plan.now turn place) result }
+        Asks (setting plan.now kept) (O.told outside.old) run.old
+        (hearing plan.now at.turn.number at.place n) (O.told outside.new) run.new
+        (hearing plan.now at.turn.number at.place (n + 1)) (rests plan.now at.turn.number at.place) result }
     ensures ready { IsReady plan.now run.new (O.told outside.new) }
     ensures same { length run.new.members ≡ length run.old.members }
 {
-    match outside.receive(plan.actor_at(place), buffer) {
+    match outside.receive(plan.actor_at(at.place), buffer) {
         Err(_) => Ok(false),
         Ok(None) => Ok(false),
         Ok(Some(count)) => {
-            take_datagram(outside, alloc, plan, run, turn, place, &buffer[..count])?;
+            take_datagram(outside, alloc, plan, run, at, &buffer[..count])?;
             Ok(true)
         }
     }
@@ -105,21 +99,21 @@ pub(crate) fn hear<O: Outside>(
     alloc: Global,
     plan: &Plan,
     run: &mut Run,
-    turn: u64,
-    place: usize,
+    at: ActorTurn,
     buffer: &mut [u8; DATAGRAM_BYTES],
 ) -> Result<(), StopCause>
-    requires place { place < length run.old.members }
+    requires place { at.place < length run.old.members }
     requires ready { IsReady plan.now run.old (O.told outside.old) }
-    requires within { place < length plan.now.actors }
+    requires within { at.place < length plan.now.actors }
     ensures done { (kept : List (List Record)) →
-        Goes (setting plan.now kept) (O.told outside.old) run.old (at_place turn place (Busy [] 0)) (O.told outside.new)
-        run.new (rests plan.now turn place) result }
+        Goes (setting plan.now kept) (O.told outside.old) run.old
+        (at_place at.turn.number at.place (Busy [] 0)) (O.told outside.new) run.new
+        (rests plan.now at.turn.number at.place) result }
     ensures ready { IsReady plan.now run.new (O.told outside.new) }
     ensures same { length run.new.members ≡ length run.old.members }
 {
     for _heard in 0..MAX_DATAGRAMS {
-        if !hear_one(outside, alloc, plan, run, turn, place, buffer)? {
+        if !hear_one(outside, alloc, plan, run, at, buffer)? {
             return Ok(());
         }
     }

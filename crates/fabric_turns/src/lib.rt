@@ -15,6 +15,7 @@ mod ending;
 mod recovery;
 mod run;
 mod startup;
+mod turn;
 mod turns;
 mod whole_run;
 

@@ -30,7 +30,8 @@ fn join<O: Outside>(
     requires kept { (records : List Record) × IsKeptAt plan.now place records kept }
     requires next { length run.old.members ≡ place }
     requires ready { IsReady plan.now run.old (O.told outside.old) }
-    ensures done { (list : List (List Record)) (records : List Record) (a : Told) (h : History) (x : Happening) (p : TurnPosition) →
+    ensures done { (list : List (List Record)) (records : List Record) (a : Told) (h : History) (x : Happening)
+        (p : TurnPosition) →
         slice_get list place ≡ Some records → IsKeptAt plan.now place records kept →
         MeetsStart (setting plan.now list) a (O.told outside.old) run.old h x p place →
         Reaches (setting plan.now list) a (O.told outside.new) run.new (x ∷ h) p result }

@@ -2,6 +2,7 @@ ghost use Rattle.std.specs.Prelude.{◌≡◌, ◌<◌, ◌+◌, OnOk, List, len
 ghost use Rattle.fabric_terms.specs.declared.record.Record.{Record};
 ghost use Rattle.fabric_turns.specs.Moves.{Goes, at_place};
 ghost use Rattle.fabric_turns.specs.Runs.{IsReady};
+ghost use Rattle.fabric_turns.specs.Windows.{IsTurnOf};
 ghost use Rattle.turn_rules.specs.Order.{Turning, Firing, arrive, coming, onward};
 ghost use Rattle.turn_rules.specs.Plans.{is_node_at};
 ghost use Rattle.turn_rules.specs.Whole.{setting};
@@ -11,6 +12,7 @@ use crate::clock::read_clock;
 use crate::commands::bid_all;
 use crate::datagrams::hear;
 use crate::run::Run;
+use crate::turn::{ActorTurn, Turn, turn_of};
 use edge_io::{DATAGRAM_BYTES, Outside};
 use ring_node::Input;
 use std::alloc::Global;
@@ -22,18 +24,18 @@ fn fire<O: Outside>(
     alloc: Global,
     plan: &Plan,
     run: &mut Run,
-    turn: u64,
-    place: usize,
+    at: ActorTurn,
 ) -> Result<(), StopCause>
-    requires place { place < length run.old.members }
+    requires place { at.place < length run.old.members }
     requires ready { IsReady plan.now run.old (O.told outside.old) }
     ensures done { (kept : List (List Record)) →
-        Goes (setting plan.now kept) (O.told outside.old) run.old (at_place turn place Firing) (O.told outside.new)
-        run.new (onward plan.now turn place) result }
+        Goes (setting plan.now kept) (O.told outside.old) run.old
+        (at_place at.turn.number at.place Firing) (O.told outside.new) run.new
+        (onward plan.now at.turn.number at.place) result }
     ensures ready { IsReady plan.now run.new (O.told outside.new) }
     ensures same { length run.new.members ≡ length run.old.members }
 {
-    act(outside, alloc, plan, run, turn, place, &Input::Fire)
+    act(outside, alloc, plan, run, at, &Input::Fire)
 }
 
 /// The turn of the node at a place.
@@ -42,24 +44,25 @@ fn node_turn<O: Outside>(
     alloc: Global,
     plan: &Plan,
     run: &mut Run,
-    turn: u64,
-    place: usize,
+    at: ActorTurn,
     buffer: &mut [u8; DATAGRAM_BYTES],
 ) -> Result<(), StopCause>
-    requires place { place < length run.old.members }
+    requires place { at.place < length run.old.members }
     requires ready { IsReady plan.now run.old (O.told outside.old) }
-    requires within { place < length plan.now.actors }
-    requires node { is_node_at plan.now place ≡ true }
+    requires within { at.place < length plan.now.actors }
+    requires turn { IsTurnOf plan.now.orders at.turn }
+    requires node { is_node_at plan.now at.place ≡ true }
     ensures done { (kept : List (List Record)) →
-        Goes (setting plan.now kept) (O.told outside.old) run.old (at_place turn place Turning) (O.told outside.new)
-        run.new (onward plan.now turn place) result }
+        Goes (setting plan.now kept) (O.told outside.old) run.old
+        (at_place at.turn.number at.place Turning) (O.told outside.new) run.new
+        (onward plan.now at.turn.number at.place) result }
     ensures ready { OnOk result (IsReady plan.now run.new (O.told outside.new)) }
     ensures same { OnOk result (length run.new.members ≡ length run.old.members) }
 {
     read_clock(outside, run)?;
-    bid_all(outside, alloc, plan, run, turn, place)?;
-    hear(outside, alloc, plan, run, turn, place, buffer)?;
-    fire(outside, alloc, plan, run, turn, place)
+    bid_all(outside, alloc, plan, run, at)?;
+    hear(outside, alloc, plan, run, at, buffer)?;
+    fire(outside, alloc, plan, run, at)
 }
 
 /// The turn of the actor at a place: an arbitrator only hears. Turns count from 1.
@@ -68,24 +71,25 @@ fn take_turn<O: Outside>(
     alloc: Global,
     plan: &Plan,
     run: &mut Run,
-    turn: u64,
-    place: usize,
+    at: ActorTurn,
     buffer: &mut [u8; DATAGRAM_BYTES],
 ) -> Result<(), StopCause>
-    requires place { place < length run.old.members }
+    requires place { at.place < length run.old.members }
     requires ready { IsReady plan.now run.old (O.told outside.old) }
-    requires within { place < length plan.now.actors }
-    requires turn { 0 < turn }
+    requires within { at.place < length plan.now.actors }
+    requires turn { IsTurnOf plan.now.orders at.turn }
+    requires counted { 0 < at.turn.number }
     ensures done { (kept : List (List Record)) →
-        Goes (setting plan.now kept) (O.told outside.old) run.old (coming plan.now turn place) (O.told outside.new)
-        run.new (coming plan.now turn (place + 1)) result }
+        Goes (setting plan.now kept) (O.told outside.old) run.old
+        (coming plan.now at.turn.number at.place) (O.told outside.new) run.new
+        (coming plan.now at.turn.number (at.place + 1)) result }
     ensures ready { OnOk result (IsReady plan.now run.new (O.told outside.new)) }
     ensures same { OnOk result (length run.new.members ≡ length run.old.members) }
 {
-    if plan.is_node_at(place) {
-        node_turn(outside, alloc, plan, run, turn, place, buffer)
+    if plan.is_node_at(at.place) {
+        node_turn(outside, alloc, plan, run, at, buffer)
     } else {
-        hear(outside, alloc, plan, run, turn, place, buffer)
+        hear(outside, alloc, plan, run, at, buffer)
     }
 }
 
@@ -95,20 +99,22 @@ fn turn_all<O: Outside>(
     alloc: Global,
     plan: &Plan,
     run: &mut Run,
-    turn: u64,
+    turn: Turn,
     buffer: &mut [u8; DATAGRAM_BYTES],
 ) -> Result<(), StopCause>
     requires all { length run.old.members ≡ length plan.now.actors }
     requires ready { IsReady plan.now run.old (O.told outside.old) }
-    requires turn { 0 < turn }
+    requires turn { IsTurnOf plan.now.orders turn }
+    requires counted { 0 < turn.number }
     ensures done { (kept : List (List Record)) →
-        Goes (setting plan.now kept) (O.told outside.old) run.old (arrive plan.now turn 0) (O.told outside.new) run.new
-        (arrive plan.now (turn + 1) 0) result }
+        Goes (setting plan.now kept) (O.told outside.old) run.old
+        (arrive plan.now turn.number 0) (O.told outside.new) run.new
+        (arrive plan.now (turn.number + 1) 0) result }
     ensures ready { OnOk result (IsReady plan.now run.new (O.told outside.new)) }
     ensures same { OnOk result (length run.new.members ≡ length run.old.members) }
 {
     for place in 0..plan.len() {
-        take_turn(outside, alloc, plan, run, turn, place, buffer)?;
+        take_turn(outside, alloc, plan, run, ActorTurn { turn, place }, buffer)?;
     }
     Ok(())
 }
@@ -127,8 +133,11 @@ pub(crate) fn take_turns<O: Outside>(
         (arrive plan.now (plan.now.turns + 1) 0) result }
 {
     let mut buffer = [0u8; DATAGRAM_BYTES];
-    for turn in 0..plan.turns() {
-        turn_all(outside, alloc, plan, run, turn + 1, &mut buffer)?;
+    let mut first = 0;
+    for number in 0..plan.turns() {
+        let turn = turn_of(plan.orders(), number + 1, first);
+        turn_all(outside, alloc, plan, run, turn, &mut buffer)?;
+        first = turn.end;
     }
     Ok(())
 }

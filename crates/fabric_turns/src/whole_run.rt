@@ -46,9 +46,13 @@ pub fn run_on<K: Sink, N: Links, D: Keeper, C: Clock>(
 ) -> Status
     requires { IsPlan plan.now }
     ensures { (l : Loans) × IsRun plan.now
-        (told_of l (K.held sink.old) (K.faults sink.old) (D.kept keeps.old) (D.faults keeps.old) (N.opened links.old) (N.arrivals links.old) (N.sent links.old) (N.faults links.old) (C.readings clock.old) (C.last clock.old) (C.falls clock.old))
+        (told_of l (K.held sink.old) (K.faults sink.old) (D.kept keeps.old) (D.faults keeps.old) (N.opened links.old)
+        (N.arrivals links.old) (N.sent links.old) (N.faults links.old) (C.readings clock.old) (C.last clock.old)
+        (C.falls clock.old))
         result
-        (told_of l (K.held sink.new) (K.faults sink.new) (D.kept keeps.new) (D.faults keeps.new) (N.opened links.new) (N.arrivals links.new) (N.sent links.new) (N.faults links.new) (C.readings clock.new) (C.last clock.new) (C.falls clock.new)) }
+        (told_of l (K.held sink.new) (K.faults sink.new) (D.kept keeps.new) (D.faults keeps.new) (N.opened links.new)
+        (N.arrivals links.new) (N.sent links.new) (N.faults links.new) (C.readings clock.new) (C.last clock.new)
+        (C.falls clock.new)) }
 {
     let mut devices = Devices {
         sink,

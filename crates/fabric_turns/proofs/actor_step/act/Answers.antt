@@ -10,11 +10,11 @@ returns-in-Err-OutOfMemory-clause-done g c = λ kept a h x p m is. short_at (set
 
 pub returns-in-Err-TableFull-clause-done : goal.returns-in-Err-TableFull-clause-done
 returns-in-Err-TableFull-clause-done g c = λ kept a h x p m is.
-    act_full (setting c.args.plan.now kept) a _ c.args.run.now h x p c.args.turn c.args.place c.args.input.now m is (c.step.ensures.full (search rules) c.args.plan.now c.requires.ready.members)
+    act_full (setting c.args.plan.now kept) a _ c.args.run.now h x p c.args.at.turn.number c.args.at.place c.args.input.now m is (c.step.ensures.full (search rules) c.args.plan.now c.requires.ready.members)
 
 pub carry_through-requires-clause-listens : goal.carry_through-requires-clause-listens
 carry_through-requires-clause-listens g c =
-    named_step c.args.plan.now c.args.run.now _ c.args.turn c.args.place c.args.input.now c.in-Ok.deed c.step.new.self c.requires.ready (c.in-Ok.ensures.does c.args.plan.now c.requires.ready.members)
+    named_step c.args.plan.now c.args.run.now _ c.args.at.turn.number c.args.at.place c.args.input.now c.in-Ok.deed c.step.new.self c.requires.ready (c.in-Ok.ensures.does c.args.plan.now c.requires.ready.members)
 
 pub carry_through-requires-clause-deed : goal.carry_through-requires-clause-deed
 carry_through-requires-clause-deed g c = let t = c.in-Ok.ensures.does c.args.plan.now c.requires.ready.members in (t.endpoint.actor, t.own)
@@ -22,10 +22,10 @@ carry_through-requires-clause-deed g c = let t = c.in-Ok.ensures.does c.args.pla
 pub returns-in-Ok-clause-done : goal.returns-in-Ok-clause-done
 returns-in-Ok-clause-done g c =
     let t = c.in-Ok.ensures.does c.args.plan.now c.requires.ready.members in
-    λ kept a h x q m is. act_through (setting c.args.plan.now kept) a _ _ c.args.run.now c.step.new.self h x q c.args.turn c.args.place c.args.input.now c.in-Ok.deed m is t c.carry_through.result c.carry_through.ensures
+    λ kept a h x q m is. act_through (setting c.args.plan.now kept) a _ _ c.args.run.now c.step.new.self h x q c.args.at.turn.number c.args.at.place c.args.input.now c.in-Ok.deed m is t c.carry_through.result c.carry_through.ensures
 
 pub returns-in-Ok-clause-ready : goal.returns-in-Ok-clause-ready
 returns-in-Ok-clause-ready g c =
     let t = c.in-Ok.ensures.does c.args.plan.now c.requires.ready.members in
-    ready_on c.args.plan.now c.args.run.now _ c.args.turn c.args.place c.args.input.now c.in-Ok.deed c.step.new.self _ c.requires.ready t
-    (through_opened (work_in c.args.plan.now.config c.in-Ok.deed) (left_at c.step.new.self.members c.args.place) _ _ c.carry_through.result c.carry_through.ensures)
+    ready_on c.args.plan.now c.args.run.now _ c.args.at.turn.number c.args.at.place c.args.input.now c.in-Ok.deed c.step.new.self _ c.requires.ready t
+    (through_opened (work_in c.args.plan.now.config c.in-Ok.deed) (left_at c.step.new.self.members c.args.at.place) _ _ c.carry_through.result c.carry_through.ensures)

@@ -29,4 +29,4 @@ loop-heard-preserved g c = record {
 pub returns-clause-done : goal.returns-clause-done
 returns-clause-done g c = λ kept.
     let e : c.loop-heard._heard ≡ 64 = omega arith in
-    leads_to (setting c.args.plan.now kept) _ _ c.args.run.now c.loop-heard.run _ _ _ (ap (hearing c.args.plan.now c.args.turn c.args.place) e) (c.loop-heard.invariant.done kept)
+    leads_to (setting c.args.plan.now kept) _ _ c.args.run.now c.loop-heard.run _ _ _ (ap (hearing c.args.plan.now c.args.at.turn.number c.args.at.place) e) (c.loop-heard.invariant.done kept)

@@ -5,4 +5,4 @@ use Rattle.fabric_turns.proofs.turns.fire.Goals as goal
 
 pub returns-clause-done : goal.returns-clause-done
 returns-clause-done g c = λ kept a h t.
-    comes_to (setting c.args.plan.now kept) a _ _ (_ ∷ h) _ c.act.result (c.act.ensures.done kept a h (fires_at c.args.turn c.args.place) _ (fire_comes (setting c.args.plan.now kept) a _ c.args.run.now h c.args.turn c.args.place t) refl)
+    comes_to (setting c.args.plan.now kept) a _ _ (_ ∷ h) _ c.act.result (c.act.ensures.done kept a h (fires_at c.args.at.turn.number c.args.at.place) _ (fire_comes (setting c.args.plan.now kept) a _ c.args.run.now h c.args.at.turn.number c.args.at.place t) refl)

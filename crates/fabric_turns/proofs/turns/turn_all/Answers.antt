@@ -20,4 +20,4 @@ loop-place-preserved g c = record {
 
 pub returns-clause-done : goal.returns-clause-done
 returns-clause-done g c = λ kept.
-    leads_to (setting c.args.plan.now kept) _ _ c.args.run.now c.loop-place.run _ _ _ (coming_end c.args.plan.now c.args.turn c.loop-place.place (omega (arith, c.len-place-end.ensures))) (c.loop-place.invariant.done kept)
+    leads_to (setting c.args.plan.now kept) _ _ c.args.run.now c.loop-place.run _ _ _ (coming_end c.args.plan.now c.args.turn.number c.loop-place.place (omega (arith, c.len-place-end.ensures))) (c.loop-place.invariant.done kept)

@@ -8,7 +8,7 @@ use Rattle.fabric_turns.proofs.turns.turn_all.Given as goal
 
 abbrev pub invariant-loop-place : goal.invariant-loop-place
 invariant-loop-place g l = record {
-  done : (kept : List (List Record)) → Leads (setting l.plan kept) (g.O.Outside.told l.fn.outside) l.fn.run (arrive l.plan l.turn 0) (g.O.Outside.told l.outside) l.run (coming l.plan l.turn l.place);
+  done : (kept : List (List Record)) → Leads (setting l.plan kept) (g.O.Outside.told l.fn.outside) l.fn.run (arrive l.plan l.turn.number 0) (g.O.Outside.told l.outside) l.run (coming l.plan l.turn.number l.place);
   ready : IsReady l.plan l.run (g.O.Outside.told l.outside);
   same : length l.run.members ≡ length l.fn.run.members;
 }
