@@ -8,3 +8,4 @@ mod memory;
 mod replicas;
 mod rows;
 mod sources;
+mod tables;
