@@ -16,14 +16,11 @@ use Rattle.fabric_terms.specs.declared.config.NodeEntry.{NodeEntry}
 use Rattle.source_lines.specs.Lines.{is_ignored, most_line, most_lines}
 use Rattle.turn_rules.specs.declared.order.Order.{Order}
 use Rattle.world_rules.specs.Schedules.{command_names, is_configured_node}
-use Rattle.turn_plans.specs.Bids.{bid_of}
+use Rattle.turn_plans.specs.Bids.{Bid, bid_of}
 use Rattle.turn_plans.specs.Crews.{arbiters_to, listener, node_at, nodes_to}
 use Rattle.turn_plans.specs.Plans.{judge_from}
-use Rattle.turn_plans.specs.PlanVerdicts.{bid_verdict, is_there, line_verdict, order_of, order_verdict, place_of, unless_ignored, unless_large}
-use Rattle.turn_plans.specs.declared.bid.Bid.{Bid}
+use Rattle.turn_plans.specs.PlanVerdicts.{Ignored, Ordered, PlanVerdict, Refused, bid_verdict, is_there, line_verdict, order_of, order_verdict, place_of, unless_ignored, unless_large}
 use Rattle.turn_plans.specs.declared.crew.Crew.{Crew}
-use Rattle.turn_plans.specs.declared.plan_verdict.PlanVerdict.{PlanVerdict}
-use Rattle.turn_plans.specs.declared.plan_verdict.PlanVerdict.TheVariants.{Ignored, Ordered, Refused}
 use Rattle.turn_plans.proofs.Judging.{Given, judge_line, judge_on, verdict}
 use Rattle.turn_plans.proofs.Runs.{found}
 
