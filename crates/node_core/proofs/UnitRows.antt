@@ -30,14 +30,14 @@ use Rattle.unit_desk.proofs.Deeds.{frames_of-append}
 -- A frame to a replica.
 
 -- what was done at the replicas, as the whole part sees it
-abbrev lifted : Failover → Acted (List (ℕ × ReplicaState)) → Acted Failover
+abbrev pub lifted : Failover → Acted (List (ℕ × ReplicaState)) → Acted Failover
 lifted s a = acted (record s { states = a.state }) a.deeds
 
 found_row : (p : ℕ) (row : ReplicaState → Acted ReplicaState) (s : Failover) (state : Option ReplicaState) → steps.at_found p row (still s) s state ≡ lifted s (tables.at_found p row (still s.states) s.states state)
 found_row p row s None = refl
 found_row p row s (Some state) = refl
 
-frame_is : (c : Site) (now : ℕ) (r : Ring) (x : Who) (b : Body) (s : Failover) → is_some (answered_unit b) ≡ false → frame_row c now r x b s ≡ lifted s (frame_at r.me.actor x b s.states)
+pub frame_is : (c : Site) (now : ℕ) (r : Ring) (x : Who) (b : Body) (s : Failover) → is_some (answered_unit b) ≡ false → frame_row c now r x b s ≡ lifted s (frame_at r.me.actor x b s.states)
 frame_is c now r x (body.Fetch partition epoch lsn) s a = found_row partition (tables.row_of r.me.actor x (body.Fetch partition epoch lsn)) s (at partition s.states)
 frame_is c now r x (body.Piece partition epoch lsn entry text) s a = found_row partition (tables.row_of r.me.actor x (body.Piece partition epoch lsn entry text)) s (at partition s.states)
 frame_is c now r x (body.Appended partition epoch last) s a = found_row partition (tables.row_of r.me.actor x (body.Appended partition epoch last)) s (at partition s.states)

@@ -1,5 +1,5 @@
 -- A whole node as a value, and what its calls do.
-use Rattle.std.specs.Prelude.{◌≡◌, ℕ, ◌+◌, ◌≤◌, List, [], IsTrue, length}
+use Rattle.std.specs.Prelude.{◌≡◌, ℕ, ◌+◌, ◌≤◌, Bool, true, false, List, [], IsTrue, length}
 use Rattle.fabric_terms.specs.declared.config.FabricConfig.{FabricConfig}
 use Rattle.fabric_terms.specs.declared.record.Record.{Record}
 use Rattle.ring_rules.specs.declared.input.Input.{Input}
@@ -19,19 +19,21 @@ use Rattle.node_core.specs.UnitParts.{Part, domains_of, most_fired}
 use Rattle.node_core.specs.declared.kept.NodeKept.{NodeKept}
 use Rattle.node_core.specs.declared.outcome.Outcome.{Outcome}
 
--- a whole node: what its ring goes by, the fault domains by which it places, its ring and what runs above it
+-- a whole node: what its ring goes by, the fault domains by which it places, its ring and what runs above it, and whether it
+-- has room for what its next step leaves
 pub record Core : Type 0 where
   pub settings : Settings
   pub domains : List (ℕ × ℕ)
   pub state : NodeState fabric
+  pub has_room : Bool
 
 -- the ring at the node
 abbrev pub ring_of : Core → Node
 ring_of n = record { settings = n.settings; ring = n.state.ring }
 
--- the node of this ring and this part above it
+-- the node of this ring and this part above it, without room
 abbrev pub core_of : Node → Part → Core
-core_of n p = record { settings = n.settings; domains = p.domains; state = record { ring = n.ring; above = p.state } }
+core_of n p = record { settings = n.settings; domains = p.domains; state = record { ring = n.ring; above = p.state }; has_room = false }
 
 -- the node with these replicas
 abbrev pub with_states : List (ℕ × ReplicaState) → Core → Core
@@ -82,6 +84,16 @@ pub record IsSmall (before : NodeState fabric) (o : Outcome) : Type 0 where
   pub frames : length o.frames ≤ most_frames before
   pub limit : length o.frames ≤ frames_limit
   pub reports : length o.reports ≤ most_reports
+
+-- nothing is recorded, sent or told
+pub record IsNothing (o : Outcome) : Type 0 where
+  pub records : o.records ≡ []
+  pub frames : o.frames ≡ []
+  pub reports : o.reports ≡ []
+
+-- a node with room keeps it over a step that leaves nothing, where the next step leaves no more than this one at most
+abbrev pub KeepsRoom : Core → Core → Outcome → Type 0
+KeepsRoom old new o = old.has_room ≡ true → IsNothing o → most_frames new.state ≤ most_frames old.state → new.has_room ≡ true
 
 -- what comes is in its ranges
 abbrev pub FitsInput : Input → Type 0

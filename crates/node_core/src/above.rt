@@ -1,4 +1,4 @@
-ghost use Rattle.std.specs.Prelude.{◌≡◌, ◌≤◌, ◌+◌, ◌++◌, [], IfOk, IsTrue, OnErr, false, is_some, length, not, true};
+ghost use Rattle.std.specs.Prelude.{◌≡◌, ◌≤◌, ◌+◌, ◌++◌, ◌&&◌, [], IfOk, IsTrue, OnErr, false, is_some, length, not, true};
 ghost use Rattle.std.specs.Prelude.{vec_capacity, vec_len};
 ghost use Rattle.fabric_terms.specs.Messages.{is_sound};
 ghost use Rattle.fabric_terms.specs.Sent.{from_all};
@@ -11,6 +11,7 @@ ghost use Rattle.unit_desk.specs.UnitEffects.{Does, HasRoom};
 ghost use Rattle.unit_rules.specs.Deeds.{frames_of};
 ghost use Rattle.unit_rules.specs.Steps.{failover_step};
 ghost use Rattle.node_core.specs.UnitParts.{is_later, most_fired, site_at};
+ghost use Rattle.node_core.specs.Memory.{row_stores};
 ghost use Rattle.node_core.specs.Nodes.{FitsInput};
 ghost use Rattle.node_core.specs.Rows.{comes_first, comes_later, row_if};
 
@@ -54,6 +55,8 @@ fn take(
     ensures domains { units.new.domains ≡ units.old.domains }
     ensures few { length effects.new.out ≤ length effects.old.out + 9 }
     ensures refused { OnErr result ((units.new ≡ units.old) × (effects.new ≡ effects.old)) }
+    ensures memory { OnErr result
+        (row_stores (site_at ring.now.settings units.old) now ring.now.ring units.old.state input.now ≡ true) }
 {
     match input {
         Input::Fire => Ok(()),
@@ -63,7 +66,7 @@ fn take(
 }
 
 /// A command or a frame to a replica has its row before the ring's own, where it comes above: want of memory leaves
-/// both as they were.
+/// both as they were, and comes only where that row stores something or answers a question.
 pub(crate) fn take_first(
     now: u64,
     ring: &RingNode,
@@ -81,6 +84,8 @@ pub(crate) fn take_first(
     ensures domains { units.new.domains ≡ units.old.domains }
     ensures few { length effects.new.out ≤ length effects.old.out + 9 }
     ensures refused { OnErr result ((units.new ≡ units.old) × (effects.new ≡ effects.old)) }
+    ensures memory { OnErr result ((comes_first ring.now.settings now ring.now.ring input.now &&
+        row_stores (site_at ring.now.settings units.old) now ring.now.ring units.old.state input.now) ≡ true) }
 {
     if ring.acts(now) && comes_above(ring, input) {
         take(now, ring, units, input, effects)
@@ -127,6 +132,7 @@ pub(crate) fn fire_later(
         (frames_of (row_if (not (is_left ring.now.ring.phase)) (site_at ring.now.settings units.now)
         0 ring.now.ring units.now.state input.Fire).deeds) }
     ensures few { vec_len frames.new ≤ vec_len frames.old + most_fired units.now.state }
+    ensures room { vec_capacity frames.new ≡ vec_capacity frames.old }
     ensures clear { out.new ≡ [] }
 {
     if !has_left(ring) {

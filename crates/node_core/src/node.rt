@@ -1,4 +1,4 @@
-ghost use Rattle.std.specs.Prelude.{◌≡◌, ◌≤◌, ◌+◌, List, [], IfOk, IsTrue, OnOk, OnErr, true};
+ghost use Rattle.std.specs.Prelude.{◌≡◌, ◌≤◌, ◌+◌, ◌||◌, List, [], IfOk, IsTrue, OnOk, OnErr, false, not, true};
 ghost use Rattle.std.specs.Option.{option_copied};
 ghost use Rattle.fabric_lemmas.specs.Maps.{rises};
 ghost use Rattle.fabric_terms.specs.Sound.{IsSound};
@@ -12,8 +12,9 @@ ghost use Rattle.world_rules.specs.Schedules.{is_configured_node};
 ghost use Rattle.ring_node.specs.Owned.{owned_of};
 ghost use Rattle.unit_replica.specs.Starts.{states_of};
 ghost use Rattle.unit_replica.specs.Tables.{replica_at};
-ghost use Rattle.node_core.specs.NodeEffects.{IsClear};
-ghost use Rattle.node_core.specs.Nodes.{Amounts, Does, FitsInput, GoesBy, IsSmall, core_of, frames_limit, kept_in};
+ghost use Rattle.node_core.specs.Memory.{may_store};
+ghost use Rattle.node_core.specs.NodeEffects.{IsClear, IsReady};
+ghost use Rattle.node_core.specs.Nodes.{Amounts, Does, FitsInput, GoesBy, IsSmall, KeepsRoom, frames_limit, kept_in};
 ghost use Rattle.node_core.specs.Nodes.{most_frames, nothing_kept, ring_of, with_states};
 ghost use Rattle.node_core.specs.UnitParts.{most_fired};
 
@@ -43,21 +44,23 @@ pub struct NodeCore {
     owned: Owned,
     /// What runs above the ring.
     units: UnitNode,
-    /// From the first step on, where its steps put what they leave.
+    /// Where its next step puts what it leaves, with room for that. A node has none before its first step, and where
+    /// memory for it was short since.
     effects: Option<Box<NodeEffects>>,
 }
 
 impl Model for NodeCore {
-    ghost use Rattle.std.specs.Prelude.{◌≡◌, IfSome};
+    ghost use Rattle.std.specs.Prelude.{◌≡◌, IfSome, is_some};
     ghost use Rattle.ring_node.specs.Owned.{owned_of};
-    ghost use Rattle.node_core.specs.NodeEffects.{IsClear};
-    ghost use Rattle.node_core.specs.Nodes.{Core, core_of};
+    ghost use Rattle.node_core.specs.NodeEffects.{IsReady};
+    ghost use Rattle.node_core.specs.Nodes.{Core, core_of, most_frames};
 
     ghost Value = { Core };
 
-    ghost view = { λ n. core_of n.ring n.units };
+    ghost view = { λ n. record (core_of n.ring n.units) { has_room = is_some n.effects } };
 
-    ghost invariant = { λ n. (n.owned ≡ owned_of n.ring) × IfSome n.effects (λ d. IsClear d.value) };
+    ghost invariant = { λ n. (n.owned ≡ owned_of n.ring) ×
+        IfSome n.effects (λ d. IsReady (most_frames (core_of n.ring n.units).state) d.value) };
 }
 
 /// The most frames of a step with this above the ring: what the ring sends, and nine of a reconfiguration and six of a
@@ -120,8 +123,9 @@ impl NodeCore {
         Ok((core, outcome))
     }
 
-    /// The node begins with these replicas.
+    /// The node begins with these replicas. It has no room for a step yet.
     fn put_states(&mut self, states: ReplicaStates)
+        requires { self.old.has_room ≡ false }
         ensures { self.new ≡ with_states states self.old }
     {
         self.units.put_states(states);
@@ -155,29 +159,59 @@ impl NodeCore {
     }
 
     /// Gives back what is kept of the node, for its next start: nothing else of a node is needed once it has stopped.
-    /// The node has no replica then.
+    /// The node has no replica then, and no room for a step.
     pub fn take_kept(&mut self) -> NodeKept
         ensures given { result ≡ kept_in self.old.state }
-        ensures left { self.new ≡ with_states [] self.old }
+        ensures left { self.new ≡ record (with_states [] self.old) { has_room = false } }
     {
+        self.effects = None;
         NodeKept {
             boots: self.ring.me().instance,
             states: self.units.take_states(self.alloc),
         }
     }
 
-    /// Makes the effects that the node's steps fill. It is never inlined into a step, which would then pay for the
-    /// room in which effects are dropped.
-    #[inline(never)]
-    fn make_effects(&mut self) -> Result<(), OutOfMemory>
-        ensures { self.new ≡ self.old }
+    /// Takes out the room for a step that sends so many frames at most, or makes it where there is none. It is an error
+    /// where memory for it is short.
+    #[tactic(auto, unfolding(crate::specs::Nodes::most_frames))]
+    fn take_room(&mut self, most: usize) -> Result<Box<NodeEffects>, OutOfMemory>
+        requires most { most ≡ most_frames self.old.state }
+        requires limit { most ≤ frames_limit }
+        ensures ready { IfOk result (λ d. IsReady (most_frames self.old.state) d.value) }
+        ensures taken { OnOk result (self.new ≡ record self.old { has_room = false }) }
+        ensures refused { OnErr result ((self.new ≡ self.old) × (self.old.has_room ≡ false)) }
     {
-        self.effects = Some(NodeEffects::boxed(self.alloc)?);
-        Ok(())
+        match self.effects.take() {
+            Some(effects) => Ok(effects),
+            None => Ok(NodeEffects::boxed(self.alloc, most)?),
+        }
+    }
+
+    /// Keeps the room of a step for the next one where it is wanted, and is large enough or can be made so. It is never
+    /// inlined into a step, which would then pay for the room in which effects are dropped.
+    #[inline(never)]
+    #[tactic(auto, unfolding(crate::specs::Nodes::most_frames))]
+    fn keep_room(&mut self, mut effects: Box<NodeEffects>, is_wanted: bool)
+        requires taken { self.old.has_room ≡ false }
+        requires clear { IsClear effects.value }
+        ensures rest { self.new ≡ record self.old { has_room = self.new.has_room } }
+        ensures kept { is_wanted ≡ true → IsReady (most_frames self.old.state) effects.value →
+            self.new.has_room ≡ true }
+        ensures dropped { is_wanted ≡ false → self.new.has_room ≡ false }
+    {
+        if !is_wanted {
+            return;
+        }
+        match effects.make_room(most_frames_of(&self.units)) {
+            Ok(()) => self.effects = Some(effects),
+            Err(_) => {}
+        }
     }
 
     /// The step of the node when this comes, at this reading of its clock, in ticks. It is an error where memory is
-    /// short, and then nothing is changed.
+    /// short, and then nothing is changed. A node with room for what the step leaves wants memory only for what a row
+    /// above the ring stores: an entry, a replica or a reconfiguration; and for the answer to a question about names or
+    /// units. So no late frame and no refusal is an error there.
     #[tactic(auto, unfolding(crate::specs::Nodes::most_frames))]
     pub fn step(&mut self, now: u64, input: &Input) -> Result<Outcome, OutOfMemory>
         requires now { now ≤ MAX_READING }
@@ -189,23 +223,31 @@ impl NodeCore {
         ensures domains { self.new.domains ≡ self.old.domains }
         ensures me { self.new.state.ring.me ≡ self.old.state.ring.me }
         ensures refused { OnErr result (self.new ≡ self.old) }
+        ensures memory { OnErr result ((not self.old.has_room || may_store now input.now self.old) ≡ true) }
+        ensures room { IfOk result (KeepsRoom self.old self.new) }
     {
-        if self.effects.is_none() {
-            self.make_effects()?;
-        }
-        let Some(effects) = &mut self.effects else {
-            return Err(OutOfMemory);
-        };
-        effects.make_room(most_frames_of(&self.units))?;
-        step_at(
+        let had_room = self.effects.is_some();
+        let most = most_frames_of(&self.units);
+        let mut effects = self.take_room(most)?;
+        let done = step_at(
             self.alloc,
             &mut self.ring,
             &mut self.owned,
             &mut self.units,
             now,
             input,
-            effects,
-        )
+            &mut effects,
+        );
+        match done {
+            Ok(outcome) => {
+                self.keep_room(effects, true);
+                Ok(outcome)
+            }
+            Err(refused) => {
+                self.keep_room(effects, had_room);
+                Err(refused)
+            }
+        }
     }
 
     /// How many frames the next step sends at most.

@@ -1,4 +1,4 @@
-ghost use Rattle.std.specs.Prelude.{◌≤◌, IfOk};
+ghost use Rattle.std.specs.Prelude.{◌≤◌, IfOk, IsOk};
 ghost use Rattle.node_core.specs.NodeEffects.{IsClear, IsReady};
 ghost use Rattle.node_core.specs.Nodes.{frames_limit};
 
@@ -37,21 +37,25 @@ impl NodeEffects {
         }
     }
 
-    /// Effects before the first step. It is never inlined into a step, which would then pay at each entry for the room
-    /// in which they are made.
+    /// Effects with room for what one step leaves, with so many frames. It is never inlined into a step, which would
+    /// then pay at each entry for the room in which they are made.
     #[inline(never)]
-    pub(crate) fn boxed(alloc: Global) -> Result<Box<NodeEffects>, OutOfMemory>
-        ensures { IfOk result (λ d. IsClear d.value) }
+    pub(crate) fn boxed(alloc: Global, frames: usize) -> Result<Box<NodeEffects>, OutOfMemory>
+        requires { frames ≤ frames_limit }
+        ensures { IfOk result (λ d. IsReady frames d.value) }
     {
-        Ok(Box::new(alloc, NodeEffects::new(alloc))?)
+        let mut effects = Box::new(alloc, NodeEffects::new(alloc))?;
+        effects.make_room(frames)?;
+        Ok(effects)
     }
 
-    /// Makes room for what one step leaves, with so many frames.
+    /// Makes room for what one step leaves, with so many frames. It wants memory only where there is less.
     pub(crate) fn make_room(&mut self, frames: usize) -> Result<(), OutOfMemory>
         requires clear { IsClear self.old }
         requires frames { frames ≤ frames_limit }
         ensures clear { IsClear self.new }
         ensures ready { IfOk result (λ _. IsReady frames self.new) }
+        ensures memory { IsReady frames self.old → IsOk result }
     {
         self.records.reserve(MAX_ROW_RECORDS)?;
         self.frames.reserve(frames)?;

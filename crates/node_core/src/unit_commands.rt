@@ -1,8 +1,10 @@
-ghost use Rattle.std.specs.Prelude.{◌≡◌, ◌≤◌, ◌+◌, IfOk, OnErr, length};
+ghost use Rattle.std.specs.Prelude.{◌≡◌, ◌≤◌, ◌+◌, IfOk, OnErr, length, true};
 ghost use Rattle.fabric_terms.specs.Ranges.{FitsCommand};
 ghost use Rattle.reconfig_phases.specs.Tasks.{replicas_of};
 ghost use Rattle.unit_desk.specs.UnitEffects.{Does, HasRoom};
+ghost use Rattle.ring_rules.specs.declared.input.Input.TheVariants as inputs;
 ghost use Rattle.unit_rules.specs.Steps.{command_row, manage};
+ghost use Rattle.node_core.specs.Memory.{grows_above, row_stores};
 ghost use Rattle.node_core.specs.UnitParts.{site_at};
 
 use crate::unit_part::UnitNode;
@@ -14,6 +16,7 @@ use unit_rules::Kind;
 
 impl UnitNode {
     /// A command to the manager, which is the node that holds ring point 0 at this reading.
+    #[tactic(auto, using(crate::proofs::Storing::manager_grows))]
     fn manage(
         &mut self,
         now: u64,
@@ -30,6 +33,8 @@ impl UnitNode {
         ensures domains { self.new.domains ≡ self.old.domains }
         ensures few { length effects.new.out ≤ length effects.old.out + 9 }
         ensures refused { OnErr result ((self.new ≡ self.old) × (effects.new ≡ effects.old)) }
+        ensures memory { OnErr result (grows_above self.old.state
+            (manage (site_at ring.now.settings self.old) now ring.now.ring partition kind self.old.state) ≡ true) }
     {
         let is_manager = ring.holds(now, Point(0));
         self.manager.commanded(
@@ -42,8 +47,9 @@ impl UnitNode {
         )
     }
 
-    /// The row of a command; a command to the ring changes nothing here. It is an error where memory is short, and then
-    /// nothing is changed.
+    /// The row of a command; a command to the ring changes nothing here. It is an error where memory is short for what
+    /// the row stores or answers, and then nothing is changed: no refusal wants memory.
+    #[tactic(auto, using(crate::proofs::Storing::command_stores))]
     pub fn commanded(
         &mut self,
         now: u64,
@@ -59,6 +65,8 @@ impl UnitNode {
         ensures domains { self.new.domains ≡ self.old.domains }
         ensures few { length effects.new.out ≤ length effects.old.out + 9 }
         ensures refused { OnErr result ((self.new ≡ self.old) × (effects.new ≡ effects.old)) }
+        ensures memory { OnErr result (row_stores (site_at ring.now.settings self.old)
+            now ring.now.ring self.old.state (inputs.Do command.now) ≡ true) }
     {
         match command {
             Command::Create(partition, count) => {

@@ -18,6 +18,7 @@ impl UnitNode {
         requires room { vec_len frames.old + most_fired self.now.state ≤ vec_capacity frames.old }
         ensures sent { frames.new.items ≡ frames.old.items ++ from_all me (frames_of (fired self.now.state)) }
         ensures few { vec_len frames.new ≤ vec_len frames.old + most_fired self.now.state }
+        ensures room { vec_capacity frames.new ≡ vec_capacity frames.old }
         ensures clear { out.new ≡ [] }
     {
         self.manager.fire(me, out, frames);

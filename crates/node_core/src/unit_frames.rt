@@ -5,6 +5,7 @@ ghost use Rattle.ring_rules.specs.Rings.{Ring};
 ghost use Rattle.unit_desk.specs.UnitEffects.{Does, HasRoom};
 ghost use Rattle.unit_rules.specs.Loads.{Site};
 ghost use Rattle.unit_rules.specs.Steps.{frame_row};
+ghost use Rattle.node_core.specs.Memory.{grows_above};
 ghost use Rattle.node_core.specs.UnitParts.{site_at};
 
 use crate::unit_loads::{NO_NODE, fill_unloaded};
@@ -16,9 +17,9 @@ use unit_desk::UnitEffects;
 
 impl UnitNode {
     /// The row of a frame to a replica of the node with this number; any other frame that is no answer to a manager
-    /// changes nothing. It reads nothing of the ring but who it is. It is an error where memory is short, and then
-    /// nothing is changed.
-    #[tactic(auto, using(crate::proofs::UnitRows::replica_row))]
+    /// changes nothing. It reads nothing of the ring but who it is. It is an error where memory is short for an entry
+    /// or a replica that the row stores, and then nothing is changed: no late frame wants memory.
+    #[tactic(auto, using(crate::proofs::UnitRows::replica_row, crate::proofs::Storing::replica_grows))]
     pub fn frame_received(
         &mut self,
         me: u16,
@@ -34,6 +35,8 @@ impl UnitNode {
         ensures domains { self.new.domains ≡ self.old.domains }
         ensures few { length effects.new.out ≤ length effects.old.out + 9 }
         ensures refused { OnErr result ((self.new ≡ self.old) × (effects.new ≡ effects.old)) }
+        ensures memory { OnErr result ((c : Site) (now : ℕ) (r : Ring) → r.me.actor ≡ me →
+            grows_above self.old.state (frame_row c now r message.now.from message.now.body self.old.state) ≡ true) }
     {
         self.states
             .frame_received(me, message.from, &message.body, effects)

@@ -9,7 +9,8 @@ ghost use Rattle.world_rules.specs.Nodes.{node_step};
 ghost use Rattle.unit_rules.specs.Fabric.{fabric};
 ghost use Rattle.ring_node.specs.Owned.{own_since, owned_of};
 ghost use Rattle.node_core.specs.UnitParts.{is_later};
-ghost use Rattle.node_core.specs.NodeEffects.{IsClear, IsReady};
+ghost use Rattle.node_core.specs.NodeEffects.{IsClear, IsReady, RoomStays};
+ghost use Rattle.node_core.specs.Memory.{may_store};
 ghost use Rattle.node_core.specs.Nodes.{Does, FitsInput, GoesBy, IsSmall, core_of, frames_limit, most_frames};
 
 use crate::above::{answer_later, fire_later, take_first};
@@ -42,6 +43,7 @@ fn leave(alloc: Global, ring: &RingNode, owned: &mut Owned, effects: &mut NodeEf
     ensures few_reports { length result.reports ≤ vec_len effects.old.reports + (length effects.old.told + 5) }
     ensures owned { owned.new ≡ owned_of ring.now }
     ensures clear { IsClear effects.new }
+    ensures room { RoomStays result effects.old effects.new }
 {
     let me = ring.me();
     // No row leaves more than its effects hold.
@@ -62,8 +64,8 @@ fn leave(alloc: Global, ring: &RingNode, owned: &mut Owned, effects: &mut NodeEf
     }
 }
 
-/// The step of a command, or of a frame that is no answer to the manager. It is an error where memory is short, and
-/// then the node is as it was.
+/// The step of a command, or of a frame that is no answer to the manager. It is an error where memory is short for what
+/// its row stores or answers, and then the node is as it was.
 #[tactic(auto, unfolding(crate::specs::Nodes::most_frames))]
 fn take_input(
     alloc: Global,
@@ -86,9 +88,12 @@ fn take_input(
     ensures settings { ring.new.settings ≡ ring.old.settings }
     ensures domains { units.new.domains ≡ units.old.domains }
     ensures me { ring.new.ring.me ≡ ring.old.ring.me }
-    ensures refused { OnErr result ((ring.new ≡ ring.old) × (units.new ≡ units.old) × (owned.new ≡ owned.old)) }
+    ensures refused { OnErr result ((ring.new ≡ ring.old) × (units.new ≡ units.old) × (owned.new ≡ owned.old) ×
+        (effects.new ≡ effects.old)) }
+    ensures memory { OnErr result (may_store now input.now (core_of ring.old units.old) ≡ true) }
     ensures owned { owned.new ≡ owned_of ring.new }
     ensures clear { IsClear effects.new }
+    ensures room { IfOk result (λ o. RoomStays o effects.old effects.new) }
 {
     take_first(now, ring, units, input, &mut effects.units)?;
     ring.advance(now, input, &mut effects.out, &mut effects.told);
@@ -122,6 +127,7 @@ fn take_answer(
     ensures me { ring.new.ring.me ≡ ring.old.ring.me }
     ensures owned { owned.new ≡ owned_of ring.new }
     ensures clear { IsClear effects.new }
+    ensures room { RoomStays result effects.old effects.new }
 {
     let comes = ring.passes(message);
     ring.advance(now, input, &mut effects.out, &mut effects.told);
@@ -151,6 +157,7 @@ fn take_firing(
     ensures me { ring.new.ring.me ≡ ring.old.ring.me }
     ensures owned { owned.new ≡ owned_of ring.new }
     ensures clear { IsClear effects.new }
+    ensures room { RoomStays result effects.old effects.new }
 {
     ring.advance(now, &Input::Fire, &mut effects.out, &mut effects.told);
     effects.out.hand_over(ring.me(), &mut effects.frames);
@@ -158,8 +165,8 @@ fn take_firing(
     leave(alloc, ring, owned, effects)
 }
 
-/// The step of a whole node, into effects with room for it. It is an error where memory is short, and then the node is
-/// as it was.
+/// The step of a whole node, into effects with room for it. It is an error where memory is short for what a row above
+/// the ring stores or answers, and then the node is as it was.
 pub(crate) fn step_at(
     alloc: Global,
     ring: &mut RingNode,
@@ -180,9 +187,12 @@ pub(crate) fn step_at(
     ensures settings { ring.new.settings ≡ ring.old.settings }
     ensures domains { units.new.domains ≡ units.old.domains }
     ensures me { ring.new.ring.me ≡ ring.old.ring.me }
-    ensures refused { OnErr result ((ring.new ≡ ring.old) × (units.new ≡ units.old) × (owned.new ≡ owned.old)) }
+    ensures refused { OnErr result ((ring.new ≡ ring.old) × (units.new ≡ units.old) × (owned.new ≡ owned.old) ×
+        (effects.new ≡ effects.old)) }
+    ensures memory { OnErr result (may_store now input.now (core_of ring.old units.old) ≡ true) }
     ensures owned { owned.new ≡ owned_of ring.new }
     ensures clear { IsClear effects.new }
+    ensures room { IfOk result (λ o. RoomStays o effects.old effects.new) }
 {
     match input {
         Input::Fire => Ok(take_firing(alloc, ring, owned, units, now, effects)),
