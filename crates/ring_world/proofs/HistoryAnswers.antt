@@ -67,7 +67,7 @@ module _ (old new : World) (h : History) (s : StandsFor old old.config h) (e : E
   refused NoSuch m = m
   refused (BrokenDrift broken) m = m
   refused TooLarge m = (m.0, m.1, ap (λ n. has_room (ruled c h) n e) (sym s.keeps.events) ∙ m.2)
-  refused OutOfMemory m = tt
+  refused OutOfMemory m = (accepted m.0, m.1)
 
   stays : (refusal : EventRefusal) → MayNot refusal old (ruled c h) e → Same old new → Stays new c h e refusal
   stays refusal m same = record {

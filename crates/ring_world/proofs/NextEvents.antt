@@ -1,5 +1,6 @@
 -- The next event of a history: its frames, and what is answered where an actor acts.
 use Rattle.std.proofs.Common.{◌≡◌, ℕ, true, ◌∷◌, Some, sym, ap, subst, ◌∙◌}
+use Rattle.std.specs.Prelude.{is_some}
 use Rattle.std.proofs.lemmas.List.Elements.{All-cons}
 use Rattle.fabric_terms.specs.declared.config.FabricConfig.{FabricConfig}
 use Rattle.fabric_terms.specs.declared.event.Event.{Event}
@@ -13,11 +14,12 @@ use Rattle.world_rules.specs.Schedules.{is_there, keeps_bound}
 use Rattle.world_rules.specs.Worlds.{World as RuledWorld, Running as RuledRunning, Stepped}
 use Rattle.ring_world.specs.Answers.{IsWorld, StandsFor, is_frame, ruled}
 use Rattle.ring_world.specs.Finds.{IsAt}
-use Rattle.ring_world.specs.Moves.{MayCome, Moves}
+use Rattle.ring_world.specs.Moves.{MayCome, MayNot, Moves, Same}
 use Rattle.ring_world.specs.EventLimits.{acts, time_after}
 use Rattle.ring_world.specs.Stands.{Stands}
 use Rattle.ring_world.specs.Steps.{LeavesSound, CanStep}
 use Rattle.ring_world.specs.declared.world.Acted.{Acted}
+use Rattle.ring_world.specs.declared.world.EventRefusal.TheVariants.{OutOfMemory}
 use Rattle.ring_world.specs.declared.world.World.{World}
 use Rattle.fabric_fit.proofs.Units.{units_in_format}
 use Rattle.ring_world.proofs.Limits.{room_is, room_test}
@@ -54,6 +56,15 @@ can_act a node place i e world fits acting there here =
     let sound : LeavesSound (world_step fabric a.config w e) = sound_next a o.history 0 e o.stands fits (there w s) (acting w).bound in
     let step : world_step fabric a.config w e ≡ node_acts fabric a.config w node i k.value = (acting w).step ∙ ap (λ o. acts_at fabric a.config w node i o) k.found in
     (w, s, record { node = node; state = k.value; here = k.here; sound = subst (λ (st : Stepped fabric). LeavesSound st) step sound })
+
+-- where memory is short for it
+pub act_short : (a new : World) (w : RuledWorld fabric) (node : ℕ) (i : Input) (e : Event) (s : RuledRunning fabric) → Acting a w node i e → Stands a w
+    → is_there is_frame a.config w e ≡ true → room_test a true ≡ true → at node w.nodes ≡ Some s → Same a new → MayNot OutOfMemory a w e × Same a new
+act_short a new w node i e s acting st there room here same =
+    let step : world_step fabric a.config w e ≡ node_acts fabric a.config w node i s = acting.step ∙ ap (λ o. acts_at fabric a.config w node i o) here in (
+      (record { there = there; bound = acting.bound; room = room_is a w e true st acting.acts acting.still ∙ room }, ap (λ (x : Stepped fabric). is_some x.entry) step),
+      same,
+    )
 
 pub act_done : (a new : World) (w : RuledWorld fabric) (node : ℕ) (i : Input) (e : Event) (s : RuledRunning fabric) (line : ℕ) (acted : Acted) → Acting a w node i e → Stands a w
     → is_there is_frame a.config w e ≡ true → room_test a true ≡ true → at node w.nodes ≡ Some s → Moves a new (node_acts fabric a.config w node i s) line (Some acted)

@@ -1,5 +1,5 @@
 -- Starts of nodes: what they name.
-use Rattle.std.proofs.Common.{◌≡◌, ℕ, Bool, false, not, List, [], ◌∷◌, Option, Some, None, sym, ap, ◌∙◌, ◌+◌, subst}
+use Rattle.std.proofs.Common.{◌≡◌, ℕ, Bool, true, false, not, List, [], ◌∷◌, Option, Some, None, refl, sym, ap, ◌∙◌, ◌+◌, subst}
 use Rattle.std.specs.Prelude.{◌&&◌, is_some}
 use Rattle.fabric_terms.specs.declared.event.Event.TheVariants.{Start}
 use Rattle.world_rules.specs.Events.{world_step}
@@ -12,10 +12,13 @@ use Rattle.world_rules.proofs.Rows.{is_there-start, world_step-start}
 use Rattle.ring_world.specs.Answers.{is_frame}
 use Rattle.ring_world.specs.Finds.{IsPlaceOf}
 use Rattle.fabric_terms.specs.declared.config.FabricConfig.{FabricConfig}
-use Rattle.ring_world.specs.Moves.{Moves, Same, placed_in}
+use Rattle.ring_world.specs.Moves.{MayNot, Moves, Same, placed_in}
 use Rattle.ring_world.specs.Seen.{Seen}
+use Rattle.ring_world.specs.Stands.{Stands}
 use Rattle.ring_world.specs.declared.world.Acted.{Acted}
+use Rattle.ring_world.specs.declared.world.EventRefusal.TheVariants.{OutOfMemory}
 use Rattle.ring_world.specs.declared.world.World.{World}
+use Rattle.ring_world.proofs.Limits.{bound-start, room_is, room_test}
 
 -- a place is found exactly where the number is
 pub runs_where : {X : Type 0} (node : ℕ) (es : List (ℕ × X)) (o : Option ℕ) → IsPlaceOf node es o → is_some (at node es) ≡ is_some o
@@ -34,6 +37,21 @@ module _ (a : World) (w : RuledWorld fabric) (node reading : ℕ) where
 
   pub start_is : world_step fabric a.config w (Start node (Some reading)) ≡ node_acted fabric w node reading ((w.time, reading) ∷ []) (node_begun fabric a.config node (kept_of w node))
   start_is = world_step-start fabric a.config w node (Some reading)
+
+  -- where memory is short for it
+  pub start_short : (new : World) → Stands a w → is_configured_node a.config node ≡ true → is_some (at node w.nodes) ≡ false → room_test a true ≡ true → Same a new
+      → MayNot OutOfMemory a w (Start node (Some reading)) × Same a new
+  start_short new st named absent room same = (
+    (
+      record {
+        there = start_there true false named absent;
+        bound = bound-start a w node (Some reading);
+        room = room_is a w (Start node (Some reading)) true st refl refl ∙ room;
+      },
+      ap (λ (x : Stepped fabric). is_some x.entry) start_is,
+    ),
+    same,
+  )
 
 -- what is done after room was made is done
 pub after_room : (a m new : World) (w : RuledWorld fabric) (node reading line : ℕ) (acted : Acted) → Same a m

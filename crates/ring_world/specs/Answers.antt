@@ -45,14 +45,18 @@ pub record Accepts (c : FabricConfig) (h : History) (e : Event) : Type 0 where
   pub bound : keeps_bound c (ruled c h) e ≡ true
   pub room : has_room (ruled c h) (length h) e ≡ true
 
--- it is refused: for the first of these that fails, or for want of memory
+-- only an event at which an actor does something may want memory: no tick, no junk and no frame that is lost
+abbrev pub wants_memory : FabricConfig → RuledWorld fabric → Event → Bool
+wants_memory c w e = is_some (world_step fabric c w e).entry
+
+-- it is refused: for the first of these that fails, or for want of memory, where it may come
 abbrev pub Refuses : EventRefusal → FabricConfig → History → Event → Type 0
 Refuses NoSuch c h e = is_there is_frame c (ruled c h) e ≡ false
 Refuses (BrokenDrift broken) c h e =
     (is_there is_frame c (ruled c h) e ≡ true) × (keeps_bound c (ruled c h) e ≡ false) × (drift_broken c (ruled c h) e ≡ Some broken)
 Refuses TooLarge c h e =
     (is_there is_frame c (ruled c h) e ≡ true) × (keeps_bound c (ruled c h) e ≡ true) × (has_room (ruled c h) (length h) e ≡ false)
-Refuses OutOfMemory c h e = Unit {0}
+Refuses OutOfMemory c h e = Accepts c h e × (wants_memory c (ruled c h) e ≡ true)
 
 -- what an actor did, as it is seen
 abbrev pub entry_of : Option Acted → Option Entry

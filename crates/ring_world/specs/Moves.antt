@@ -1,5 +1,5 @@
 -- What an event makes of a world of the code, by the world of the rules that it stands for.
-use Rattle.std.specs.Prelude.{◌≡◌, ℕ, ◌+◌, ◌<◌, ◌^◌, true, false, List, [], ◌∷◌, Option, Some, None, Result, Ok, Err}
+use Rattle.std.specs.Prelude.{◌≡◌, ℕ, ◌+◌, ◌<◌, ◌^◌, true, false, List, [], ◌∷◌, Option, Some, None, Result, Ok, Err, is_some}
 use Rattle.fabric_terms.specs.Places.{Place, place_after}
 use Rattle.fabric_terms.specs.Runs.{Entry}
 use Rattle.fabric_terms.specs.declared.event.Event.{Event}
@@ -11,7 +11,7 @@ use Rattle.world_rules.specs.Events.{world_step}
 use Rattle.unit_rules.specs.Fabric.{fabric}
 use Rattle.world_rules.specs.Schedules.{is_there, keeps_bound}
 use Rattle.world_rules.specs.Worlds.{World as RuledWorld, Stepped}
-use Rattle.ring_world.specs.Answers.{is_frame, entry_of, IsSeenAt}
+use Rattle.ring_world.specs.Answers.{is_frame, entry_of, wants_memory, IsSeenAt}
 use Rattle.ring_world.specs.Drifts.{drift_broken}
 use Rattle.ring_world.specs.EventLimits.{has_room}
 use Rattle.ring_world.specs.Seen.{seen_of}
@@ -56,7 +56,7 @@ MayNot (BrokenDrift broken) a w e =
     (is_there is_frame a.config w e ≡ true) × (keeps_bound a.config w e ≡ false) × (drift_broken a.config w e ≡ Some broken)
 MayNot TooLarge a w e =
     (is_there is_frame a.config w e ≡ true) × (keeps_bound a.config w e ≡ true) × (has_room w a.events e ≡ false)
-MayNot OutOfMemory a w e = Unit {0}
+MayNot OutOfMemory a w e = MayCome a w e × (wants_memory a.config w e ≡ true)
 
 -- what is answered to an event
 abbrev pub Comes : World → World → RuledWorld fabric → ℕ → Event → Result (Option Acted) EventRefusal → Type 0
@@ -68,10 +68,10 @@ abbrev pub Steps : World → World → Stepped fabric → ℕ → Result Acted N
 Steps old new st line (Ok acted) = Moves old new st line (Some acted)
 Steps old new st line (Err _) = Same old new
 
--- the same where perhaps nobody does anything
+-- the same where perhaps nobody does anything, and then memory is not wanted
 abbrev pub Delivers : World → World → Stepped fabric → ℕ → Result (Option Acted) NoMemory → Type 0
 Delivers old new st line (Ok acted) = Moves old new st line acted
-Delivers old new st line (Err _) = Same old new
+Delivers old new st line (Err _) = (is_some st.entry ≡ true) × Same old new
 
 -- what is answered to a tick
 abbrev pub ComesTick : World → World → RuledWorld fabric → ℕ → Event → Result (Unit {0}) EventRefusal → Type 0

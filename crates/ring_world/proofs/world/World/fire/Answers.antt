@@ -1,9 +1,10 @@
 use Rattle.std.proofs.Common.{◌≡◌, true, false, sym, ◌∙◌}
+use Rattle.std.proofs.lemmas.Result.{err_from_is_err_and}
 use Rattle.ring_rules.specs.declared.input.Input.TheVariants as input
 use Rattle.fabric_terms.specs.declared.event.Event.TheVariants.{Fire}
 use Rattle.ring_world.proofs.InputNames.{fire_acts, fire_there, fire_absent}
 use Rattle.ring_world.proofs.Limits.{room_is, room_test, same_world}
-use Rattle.ring_world.proofs.NextEvents.{can_act, act_done}
+use Rattle.ring_world.proofs.NextEvents.{can_act, act_done, act_short}
 use Rattle.ring_world.proofs.world.World.fire.Goals as goal
 
 pub returns-in_default : goal.returns-in_default
@@ -23,6 +24,15 @@ step_at-requires-clause-can c =
     let a = c.args.self.now in
     can_act a c.args.node c.in-Some.place input.Fire (Fire c.args.node) c.requires.world c.requires.fits (λ w. fire_acts a w c.args.node)
     (λ w s. fire_there a w c.args.node c.in-Some.place (c.in-Some.ensures w s)) c.in-Some.ensures
+
+pub returns-in_err-step_at : goal.returns-in_err-step_at
+returns-in_err-step_at c w s =
+    let a = c.args.self.now in
+    let k = c.in-Some.ensures w s in
+    let room : room_test a true ≡ true = sym c.may_act.ensures ∙ c.if-not-may_act.false in
+    let p = err_from_is_err_and c.from_residual.result c.from_residual.ensures.1 in
+    rw (p.1, p.2) (act_short a c.step_at.new.self w c.args.node input.Fire (Fire c.args.node) k.value (fire_acts a w c.args.node) s
+    (fire_there a w c.args.node c.in-Some.place k) room k.found (c.in_err-step_at.ensures w c.args.node k.value s k.here k.found))
 
 pub returns : goal.returns
 returns c w s =

@@ -1,4 +1,6 @@
-use Rattle.std.proofs.Common.{◌≡◌, true, false, None, Some, refl, sym, subst, ◌∙◌}
+use Rattle.std.proofs.Common.{◌≡◌, true, false, None, Some, refl, sym, ap, subst, ◌∙◌}
+use Rattle.std.specs.Prelude.{is_some}
+use Rattle.std.proofs.lemmas.Result.{err_from_is_err_and}
 use Rattle.fabric_terms.specs.declared.event.Event.TheVariants.{Give}
 use Rattle.frame_bag.specs.Bags.{frame_of}
 use Rattle.unit_rules.specs.Fabric.{fabric}
@@ -31,6 +33,26 @@ reach-requires-clause-sound c =
     let a = c.args.self.now in
     let got : frame_of c.args.number a.frames.frames ≡ Some c.in-Some.message = sym c.get.ensures ∙ c.in-Some.is in
     sound_frame a c.args.number c.in-Some.message c.requires.world got
+
+pub returns-in_err-reach : goal.returns-in_err-reach
+returns-in_err-reach c w s =
+    let a = c.args.self.now in
+    let m = c.in-Some.message in
+    let got : frame_of c.args.number a.frames.frames ≡ Some m = sym c.get.ensures ∙ c.in-Some.is in
+    let room : room_test a true ≡ true = sym c.may_act.ensures ∙ c.if-not-may_act.false in
+    let short = c.in_err-reach.ensures w s in
+    let p = err_from_is_err_and c.from_residual.result c.from_residual.ensures.1 in
+    rw (p.1, p.2) (
+      (
+        record {
+          there = give_there a w c.args.number s m got;
+          bound = bound-give a w c.args.number;
+          room = room_is a w (Give c.args.number) true s refl refl ∙ room;
+        },
+        ap (λ (x : Stepped fabric). is_some x.entry) (give_is a w c.args.number s m got) ∙ short.0,
+      ),
+      short.1,
+    )
 
 pub returns : goal.returns
 returns c w s =

@@ -1,4 +1,5 @@
-use Rattle.std.proofs.Common.{None, Some, sym, subst}
+use Rattle.std.proofs.Common.{None, Some, sym, ap, subst}
+use Rattle.std.specs.Prelude.{is_some}
 use Rattle.std.proofs.lemmas.Result.{err_from_is_err_and}
 use Rattle.world_rules.specs.Arbiters.{ArbiterState}
 use Rattle.unit_rules.specs.Fabric.{fabric}
@@ -42,8 +43,9 @@ returns-in_err-rule_at c w s =
     let q = c.index.result.now in
     let there = running_at a w c.in-Some.place q s c.in-Some.ensures.1 c.index.ensures c.if-not-index.false in
     let state : ArbiterState fabric = state_of q.arbiter in
+    let step = reaches_arbiter a w c.args.message.now c.requires.arbiter c.in-Some.place state c.in-Some.ensures.0 there in
     let p = err_from_is_err_and c.from_residual.result c.from_residual.ensures.1 in
-    rw p.1 (c.in_err-rule_at.ensures w state s there)
+    rw p.1 (ap (λ (y : Stepped fabric). is_some y.entry) step, c.in_err-rule_at.ensures w state s there)
 
 pub returns : goal.returns
 returns c w s =

@@ -1,4 +1,6 @@
-use Rattle.std.proofs.Common.{◌≡◌, true, false, None, Some, sym, subst, ◌∙◌, arith}
+use Rattle.std.proofs.Common.{◌≡◌, true, false, None, Some, sym, ap, subst, ◌∙◌, arith}
+use Rattle.std.specs.Prelude.{is_some}
+use Rattle.std.proofs.lemmas.Result.{err_from_is_err_and}
 use Rattle.unit_rules.specs.Fabric.{fabric}
 use Rattle.world_rules.specs.Worlds.{Stepped}
 use Rattle.ring_world.specs.Moves.{Moves}
@@ -41,6 +43,15 @@ step_at-requires-clause-can c =
         sound = subst (λ (x : Stepped fabric). LeavesSound x) (reaches_instance a can.0 c.args.message c.in-Some.place c.index.result.now can.1 k c.index.ensures meant) can.2;
       },
     )
+
+pub returns-in_err-step_at : goal.returns-in_err-step_at
+returns-in_err-step_at c w s =
+    let a = c.args.self.now in
+    let k = c.in-Some.ensures w s in
+    let meant : is_meant_for c.args.message.to c.index.result.now.0 ≡ true = sym c.is_meant.ensures ∙ c.if-not-is_meant.false in
+    let step = reaches_instance a w c.args.message c.in-Some.place c.index.result.now s k c.index.ensures meant in
+    let p = err_from_is_err_and c.from_residual.result c.from_residual.ensures.1 in
+    rw p.1 (ap (λ (x : Stepped fabric). is_some x.entry) step, c.in_err-step_at.ensures w c.args.message.to.actor k.value s k.here k.found)
 
 pub returns : goal.returns
 returns c w s =

@@ -7,7 +7,7 @@ use Rattle.world_rules.specs.Schedules.{is_configured_node}
 use Rattle.ring_world.specs.Seen.{Seen}
 use Rattle.ring_world.specs.Stands.{SeenStands}
 use Rattle.ring_world.proofs.Limits.{room_is, room_test, same_on, same_world, bound-start}
-use Rattle.ring_world.proofs.NodeStartNames.{absent_where, after_room, runs_where, start_there}
+use Rattle.ring_world.proofs.NodeStartNames.{absent_where, after_room, runs_where, start_short, start_there}
 use Rattle.ring_world.proofs.world.World.start_node.Goals as goal
 
 pub returns-then-not-is_configured_node : goal.returns-then-not-is_configured_node
@@ -41,14 +41,27 @@ pub enter-requires-clause-configured : goal.enter-requires-clause-configured
 enter-requires-clause-configured c =
     ap (λ (x : Seen). is_configured_node x.config c.args.node) c.in_ok-make_place.ensures.same.seen ∙ (sym c.is_configured_node.ensures ∙ c.if-not-is_configured_node.false)
 
+pub returns-in_err-make_place : goal.returns-in_err-make_place
+returns-in_err-make_place c w s =
+    let a = c.args.self.now in
+    let yes : is_configured_node a.config c.args.node ≡ true = sym c.is_configured_node.ensures ∙ c.if-not-is_configured_node.false in
+    let none : is_some (at c.args.node w.nodes) ≡ false = runs_where c.args.node w.nodes c.place_of.result (c.place_of.ensures w s) ∙ (sym c.is_some.ensures ∙ c.if-is_some.false) in
+    let room : room_test a true ≡ true = sym c.may_act.ensures ∙ c.if-not-may_act.false in
+    let p = err_from_is_err_and c.from_residual.result c.from_residual.ensures.1 in
+    rw (p.1, p.2) (start_short a w c.args.node c.args.reading c.make_place.new.self s yes none room c.in_err-make_place.ensures.same)
+
 pub returns-in_err-enter : goal.returns-in_err-enter
 returns-in_err-enter c w s =
+    let a = c.args.self.now in
     let place = c.place_of.ensures w s in
+    let yes : is_configured_node a.config c.args.node ≡ true = sym c.is_configured_node.ensures ∙ c.if-not-is_configured_node.false in
+    let none : is_some (at c.args.node w.nodes) ≡ false = runs_where c.args.node w.nodes c.place_of.result place ∙ (sym c.is_some.ensures ∙ c.if-is_some.false) in
+    let room : room_test a true ≡ true = sym c.may_act.ensures ∙ c.if-not-may_act.false in
     let same = c.in_ok-make_place.ensures.same in
     let stands = subst (λ (x : Seen). SeenStands x w) (sym same.seen) s in
     let absent = absent_where c.args.node w.nodes c.place_of.result place (sym c.is_some.ensures ∙ c.if-is_some.false) in
     let p = err_from_is_err_and c.from_residual-in_err-enter.result c.from_residual-in_err-enter.ensures.1 in
-    rw (p.1, p.2) (tt, same_on same (c.in_err-enter.ensures w stands absent))
+    rw (p.1, p.2) (start_short a w c.args.node c.args.reading c.enter.new.self s yes none room (same_on same (c.in_err-enter.ensures w stands absent)))
 
 pub returns : goal.returns
 returns c w s =

@@ -1,5 +1,6 @@
 use Rattle.std.proofs.Common.{◌≡◌, true, false, refl, sym, ap, ◌∙◌, Some, arith, ℕ, List}
 use Rattle.std.specs.Prelude.{is_some, slice_set}
+use Rattle.std.proofs.lemmas.Result.{err_from_is_err_and}
 use Rattle.fabric_terms.specs.declared.report.Report.{Report}
 use Rattle.ring_world.specs.declared.running.Running.{Running}
 use Rattle.fabric_terms.specs.declared.event.Event.TheVariants.{Stop}
@@ -8,6 +9,7 @@ use Rattle.unit_rules.specs.Fabric.{fabric}
 use Rattle.node_core.specs.Nodes.{Core, kept_in}
 use Rattle.node_core.specs.declared.kept.NodeKept.{NodeKept}
 use Rattle.world_rules.specs.Nodes.{NodeState}
+use Rattle.world_rules.specs.Worlds.{Stepped}
 use Rattle.ring_world.proofs.NodePlaces.{placed, read_at}
 use Rattle.ring_world.proofs.NodeStop.{seen_ended, stop_moves}
 use Rattle.ring_world.proofs.Limits.{room_is, room_test, same_world, bound-stop, few_events}
@@ -25,6 +27,26 @@ returns-then-not-may_come c w s =
     let k = c.in-Some.ensures w s in
     let full : room_test a false ≡ false = sym c.may_come.ensures ∙ c.if-not-may_come.true in (
       (stop_runs a w c.args.node true (node_runs_is a w c.args.node true c.requires.node (ap (λ o. is_some o) k.found)), bound-stop a w c.args.node, room_is a w (Stop c.args.node) false s refl refl ∙ full),
+      same_world a,
+    )
+
+pub returns-in_err-reports : goal.returns-in_err-reports
+returns-in_err-reports c w s =
+    let a = c.args.self.now in
+    let k = c.in-Some.ensures w s in
+    let room : room_test a false ≡ true = sym c.may_come.ensures ∙ c.if-not-may_come.false in
+    let step : world_step fabric a.config w (Stop c.args.node) ≡ node_stops fabric w c.args.node (Some k.value) =
+    stop_node_is a w c.args.node c.requires.node ∙ ap (λ o. node_stops fabric w c.args.node o) k.found in
+    let p = err_from_is_err_and c.from_residual.result c.from_residual.ensures.1 in
+    rw (p.1, p.2) (
+      (
+        record {
+          there = stop_runs a w c.args.node true (node_runs_is a w c.args.node true c.requires.node (ap (λ o. is_some o) k.found));
+          bound = bound-stop a w c.args.node;
+          room = room_is a w (Stop c.args.node) false s refl refl ∙ room;
+        },
+        ap (λ (x : Stepped fabric). is_some x.entry) step,
+      ),
       same_world a,
     )
 
