@@ -1,22 +1,16 @@
 ghost use Rattle.std.specs.Prelude.{◌≡◌, ◌+◌, ◌≤◌, IsTrue, false, length};
 ghost use Rattle.link_core.specs.Frames.{may_come};
-ghost use Rattle.link_core.specs.Ties.{cause_of, is_search};
+ghost use Rattle.link_core.specs.Ties.{is_search};
 ghost use Rattle.ring_node.specs.Nodes.{by, step};
 ghost use Rattle.ring_rules.specs.Deeds.{counted};
 ghost use Rattle.ring_rules.specs.Frames.{frame_row};
 
+use crate::cause::Cause;
 use crate::leave::whole_row;
 use crate::node::{RingNode, announced};
 use crate::reports::Reports;
-use fabric_terms::{Body, Message, Outbox};
+use fabric_terms::{Message, Outbox};
 use ring_points::{MAX_READING, MAX_RING_REPORTS, OUTBOX_LIMIT};
-
-/// Whether a frame says that its sender is gone and wants an answer.
-pub(crate) fn wants_answer(body: &Body) -> bool
-    ensures { result ≡ (cause_of body.now).gone }
-{
-    matches!(body, Body::Gone { bound: true, .. })
-}
 
 impl RingNode {
     /// The row of a frame of links, or of a ruling.
@@ -44,7 +38,8 @@ impl RingNode {
             {
                 let announce = announced(&self.token, &self.phase);
                 let notes = self.links.hear(now, message, &announce, out);
-                self.notes(&message.body, notes.as_slice(), out, told)
+                let cause = Cause::of(&message.body);
+                self.notes(&cause, notes.as_slice(), out, told)
             }
         )
     }

@@ -7,7 +7,7 @@ ghost use Rattle.fabric_terms.specs.declared.message.Body.{Body};
 ghost use Rattle.join_phases.specs.Phases.{is_routing};
 ghost use Rattle.link_core.specs.Calls.{call_in, slot_closed};
 ghost use Rattle.link_core.specs.Links.{did, did_after};
-ghost use Rattle.link_core.specs.Ties.{all_noted, arrived_at, arrived_in, cause_of, noted, returned_in, ripe_in};
+ghost use Rattle.link_core.specs.Ties.{all_noted, arrived_at, arrived_in, noted, returned_in, ripe_in};
 ghost use Rattle.link_core.specs.Ties.{wanted_at};
 ghost use Rattle.ring_node.specs.Grants.{part_for};
 ghost use Rattle.ring_node.specs.Nodes.{IsBroken, IsBrokenOff, Rings, RingsBroken, by, links_of, step, with_links};
@@ -15,12 +15,12 @@ ghost use Rattle.ring_node.specs.Nodes.{with_token};
 ghost use Rattle.ring_points.specs.declared.who.Who.{Who};
 ghost use Rattle.ring_rules.specs.Slots.{slot_at};
 
-use crate::link_frames::wants_answer;
+use crate::cause::{Brought, Cause};
 use crate::near::nearer_part;
 use crate::node::RingNode;
 use crate::reports::Reports;
 use crate::tokens::Spent;
-use fabric_terms::{Body, Outbox, Report};
+use fabric_terms::{Outbox, Report};
 use link_core::LinkNote;
 use ring_points::{MAX_RING_REPORTS, OUTBOX_LIMIT, RangeSet, Who};
 use token_core::TokenRefusal;
@@ -79,30 +79,24 @@ impl RingNode {
     }
 
     /// A flight has arrived.
-    fn arrive(
-        &mut self,
-        i: usize,
-        number: u32,
-        part: &RangeSet,
-        told: &mut Reports,
-    ) -> Result<(), Spent>
+    fn arrive(&mut self, i: usize, flight: &Brought, told: &mut Reports) -> Result<(), Spent>
         requires { length told.old < MAX_RING_REPORTS }
         ensures ok { OnOk result ((sent : List (Who × Body)) →
-            step self.new sent told.new ≡ by (λ c w. arrived_at i (record { number = number; part = part.now })
-            (slot_at i w.ring.slots) w) (step self.old sent told.old)) }
+            step self.new sent told.new ≡ by (λ c w. arrived_at i flight.now (slot_at i w.ring.slots) w)
+            (step self.old sent told.old)) }
         ensures err { OnErr result ((sent : List (Who × Body)) →
-            IsBroken (λ c w. arrived_at i (record { number = number; part = part.now }) (slot_at i w.ring.slots) w)
-            (step self.old sent told.old) (step self.new sent told.new)) }
+            IsBroken (λ c w. arrived_at i flight.now (slot_at i w.ring.slots) w) (step self.old sent told.old)
+            (step self.new sent told.new)) }
         ensures few { length told.new ≤ length told.old + 1 }
     {
         let Some(peer) = self.peer(i) else {
             return Ok(());
         };
-        match self.token.take(part) {
+        match self.token.take(flight.part) {
             Ok(()) => {
-                self.links.took(i, number);
+                self.links.took(i, flight.number);
                 self.hold();
-                told.tell(Report::Took(peer, number, part.copy()));
+                told.tell(Report::Took(peer, flight.number, flight.part.copy()));
                 Ok(())
             }
             Err(TokenRefusal::Counters) => Err(Spent),
@@ -132,20 +126,20 @@ impl RingNode {
         }
     }
 
-    /// The flight of the frame has arrived.
-    fn arrive_by(&mut self, i: usize, body: &Body, told: &mut Reports) -> Result<(), Spent>
+    /// The flight has arrived, where one has come.
+    fn arrive_by(&mut self, i: usize, cause: &Cause, told: &mut Reports) -> Result<(), Spent>
         requires { length told.old < MAX_RING_REPORTS }
         ensures ok { OnOk result ((sent : List (Who × Body)) →
-            step self.new sent told.new ≡ by (λ c w. arrived_in i (cause_of body.now).flight (slot_at i w.ring.slots) w)
+            step self.new sent told.new ≡ by (λ c w. arrived_in i cause.now.flight (slot_at i w.ring.slots) w)
             (step self.old sent told.old)) }
         ensures err { OnErr result ((sent : List (Who × Body)) →
-            IsBroken (λ c w. arrived_in i (cause_of body.now).flight (slot_at i w.ring.slots) w)
+            IsBroken (λ c w. arrived_in i cause.now.flight (slot_at i w.ring.slots) w)
             (step self.old sent told.old) (step self.new sent told.new)) }
         ensures few { length told.new ≤ length told.old + 1 }
     {
-        match body {
-            Body::Transfer { flight, ranges, .. } => self.arrive(i, *flight, ranges, told),
-            _ => Ok(()),
+        match &cause.flight {
+            Some(flight) => self.arrive(i, flight, told),
+            None => Ok(()),
         }
     }
 
@@ -218,16 +212,16 @@ impl RingNode {
     /// Does what a note leaves to the node.
     fn note(
         &mut self,
-        body: &Body,
+        cause: &Cause,
         note: &LinkNote,
         out: &mut Outbox,
         told: &mut Reports,
     ) -> Result<(), Spent>
         requires room { length out.old < OUTBOX_LIMIT }
         requires place { length told.old < MAX_RING_REPORTS }
-        ensures ok { OnOk result (step self.new out.new told.new ≡ by (λ c. noted (cause_of body.now) note.now)
+        ensures ok { OnOk result (step self.new out.new told.new ≡ by (λ c. noted cause.now note.now)
             (step self.old out.old told.old)) }
-        ensures err { OnErr result (IsBroken (λ c. noted (cause_of body.now) note.now) (step self.old out.old told.old)
+        ensures err { OnErr result (IsBroken (λ c. noted cause.now note.now) (step self.old out.old told.old)
             (step self.new out.new told.new)) }
         ensures few { length told.new ≤ length told.old + 1 }
         ensures short { length out.new ≤ length out.old + 1 }
@@ -235,8 +229,8 @@ impl RingNode {
         match note {
             LinkNote::BoundNow => self.bind(),
             LinkNote::Wanted(i) => return self.grant(*i),
-            LinkNote::Arrived(i) => return self.arrive_by(*i, body, told),
-            LinkNote::Return(i) => return self.take_back(*i, wants_answer(body), out, told),
+            LinkNote::Arrived(i) => return self.arrive_by(*i, cause, told),
+            LinkNote::Return(i) => return self.take_back(*i, cause.gone, out, told),
             LinkNote::Undo(i) => return self.undo(*i),
             LinkNote::AccusedNow(who) => told.tell(Report::Accused(*who)),
             LinkNote::DischargedNow(who) => told.tell(Report::Discharged(*who)),
@@ -247,25 +241,25 @@ impl RingNode {
         Ok(())
     }
 
-    /// Does what the notes leave to the node, in their order. The body is that of the frame whose row it is.
+    /// Does what the notes leave to the node, in their order.
     pub(crate) fn notes(
         &mut self,
-        body: &Body,
+        cause: &Cause,
         notes: &[LinkNote],
         out: &mut Outbox,
         told: &mut Reports,
     ) -> Result<(), Spent>
         requires room { length out.old + length notes.now ≤ OUTBOX_LIMIT }
         requires place { length told.old + length notes.now ≤ MAX_RING_REPORTS }
-        ensures ok { OnOk result (step self.new out.new told.new ≡ by (λ c. all_noted (cause_of body.now) notes.now)
+        ensures ok { OnOk result (step self.new out.new told.new ≡ by (λ c. all_noted cause.now notes.now)
             (step self.old out.old told.old)) }
-        ensures err { OnErr result (IsBrokenOff (λ c. all_noted (cause_of body.now) notes.now)
+        ensures err { OnErr result (IsBrokenOff (λ c. all_noted cause.now notes.now)
             (step self.old out.old told.old) (step self.new out.new told.new)) }
         ensures few { length told.new ≤ length told.old + length notes.now }
         ensures short { length out.new ≤ length out.old + length notes.now }
     {
         for note in notes {
-            match self.note(body, note, out, told) {
+            match self.note(cause, note, out, told) {
                 Ok(()) => {}
                 Err(spent) => return Err(spent),
             }

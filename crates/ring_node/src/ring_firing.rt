@@ -8,18 +8,16 @@ ghost use Rattle.ring_rules.specs.Firing.{timer_fired};
 ghost use Rattle.ring_rules.specs.Slots.{is_free, slot_at};
 
 use crate::acked::all_acked;
+use crate::cause::Cause;
 use crate::leave::whole_row;
 use crate::node::{RingNode, announced};
 use crate::reports::Reports;
 use crate::tokens::Spent;
-use fabric_terms::{Body, Outbox, Report};
+use fabric_terms::{Outbox, Report};
 use join_phases::Phase;
 use link_core::SLOTS;
 use ring_points::{MAX_READING, MAX_RING_REPORTS, OUTBOX_LIMIT};
 use token_core::TokenRefusal;
-
-/// What notes of a firing answer: a frame that neither ends a session nor brings a flight.
-const NO_FRAME: Body = Body::Hello { mine: 0 };
 
 impl RingNode {
     /// What a firing does at this slot, whether it is free or not.
@@ -40,7 +38,8 @@ impl RingNode {
             {
                 let announce = announced(&self.token, &self.phase);
                 let notes = self.links.fire(i, now, &announce, out);
-                self.notes(&NO_FRAME, notes.as_slice(), out, told)
+                let cause = Cause::none();
+                self.notes(&cause, notes.as_slice(), out, told)
             }
         )
     }
