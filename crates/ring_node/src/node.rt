@@ -1,4 +1,4 @@
-ghost use Rattle.std.specs.Prelude.{◌≡◌, ◌≤◌, ◌+◌, IsTrue, length, map};
+ghost use Rattle.std.specs.Prelude.{◌≡◌, ◌≤◌, ◌+◌, IsTrue, length, map, true};
 ghost use Rattle.join_phases.specs.Phases.{bound_phase, holding_phase, is_left, is_linked, is_routing};
 ghost use Rattle.token_core.specs.Tokens.{announced};
 ghost use Rattle.ring_node.specs.Nodes.{with_phase};
@@ -10,7 +10,7 @@ use arrayvec::ArrayVec;
 use fabric_terms::Outbox;
 use join_phases::Phase;
 use link_core::{Announced, Links16};
-use ring_points::{MAX_ARBITRATORS, MAX_LEASE, MAX_NODES, Point, Who};
+use ring_points::{MAX_ARBITRATORS, MAX_COUNTER, MAX_LEASE, MAX_NODES, Point, Who};
 use ring_route::RouteTable;
 use std::marker::Model;
 use token_core::Token;
@@ -133,6 +133,15 @@ impl RingNode {
             sent: out.messages().len(),
             told: told.as_slice().len(),
         }
+    }
+
+    /// No version, session or flight has a number past the last. That holds of every node, so that the version alone
+    /// is looked at.
+    pub(crate) fn has_numbers(&self) -> bool
+        ensures value { result ≡ true }
+        ensures numbers { IsTrue (has_numbers self.now.ring) }
+    {
+        u64::from(self.token.version()) <= MAX_COUNTER
     }
 
     pub(crate) fn is_left(&self) -> bool

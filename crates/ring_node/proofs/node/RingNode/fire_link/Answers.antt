@@ -17,7 +17,7 @@ returns-in-Ok-clause-row c =
     let k = c.fire-notes.new.self in
     let e = sym c.self.view_is in
     links_ok (λ s w. fired_at s c.args.now c.args.i (slot_at c.args.i w.ring.slots) w) quiet n i.links k i.token i.routes i.phase i.target i.near c.announced-announce.result c.none-cause.result c.fire-notes.result c.as_slice.result.now c.args.out.now c.fire-notes.new.out c.args.told.now (step c.notes.new.self c.notes.new.out c.notes.new.told)
-    e c.fire-notes.ensures.row (kept_links n i.links k i.token i.routes i.phase i.target i.near e (kept_fired i.links k c.fire-notes.ensures.kept)) (c.announced-announce.ensures ∙ ap (λ (m : Node). announce_of m.ring) c.self.view_is) c.mark-mark.ensures.numbers c.none-cause.ensures c.as_slice.ensures.value c.in-Ok.ensures.ok c.is_left.ensures.numbers
+    e c.fire-notes.ensures.row (kept_links n i.links k i.token i.routes i.phase i.target i.near e (kept_fired i.links k c.fire-notes.ensures.kept)) (c.announced-announce.ensures ∙ ap (λ (m : Node). announce_of m.ring) c.self.view_is) c.mark-mark.ensures.numbers c.none-cause.ensures c.as_slice.ensures.value c.in-Ok.ensures.ok c.has_numbers.ensures.numbers
 
 pub returns-in-Err-clause-row : goal.returns-in-Err-clause-row
 unfolding slot_fired

@@ -16,7 +16,7 @@ returns-in-Ok-clause-row c =
     let k = c.hear-notes.new.self in
     let e = sym c.self.view_is in
     links_ok (λ s. frame_row s c.args.now c.args.message.now.from c.args.message.now.body) (cause_of c.args.message.now.body) n i.links k i.token i.routes i.phase i.target i.near c.announced-announce.result c.of-cause.result c.hear-notes.result c.as_slice.result.now c.args.out.now c.hear-notes.new.out c.args.told.now (step c.notes.new.self c.notes.new.out c.notes.new.told)
-    e (c.hear-notes.ensures.row c.requires.link) (kept_links n i.links k i.token i.routes i.phase i.target i.near e (kept_heard i.links k c.hear-notes.ensures.kept)) (c.announced-announce.ensures ∙ ap (λ (m : Node). announce_of m.ring) c.self.view_is) c.mark-mark.ensures.numbers c.of-cause.ensures c.as_slice.ensures.value c.in-Ok.ensures.ok c.is_left.ensures.numbers
+    e (c.hear-notes.ensures.row c.requires.link) (kept_links n i.links k i.token i.routes i.phase i.target i.near e (kept_heard i.links k c.hear-notes.ensures.kept)) (c.announced-announce.ensures ∙ ap (λ (m : Node). announce_of m.ring) c.self.view_is) c.mark-mark.ensures.numbers c.of-cause.ensures c.as_slice.ensures.value c.in-Ok.ensures.ok c.has_numbers.ensures.numbers
 
 pub returns-in-Err-clause-row : goal.returns-in-Err-clause-row
 returns-in-Err-clause-row c =
