@@ -20,30 +20,6 @@ use ring_points::{MAX_READING, MAX_RING_REPORTS, OUTBOX_LIMIT};
 use token_core::TokenRefusal;
 
 impl RingNode {
-    /// What a firing does at this slot, whether it is free or not.
-    #[tactic(auto, unfolding(ring_rules::specs::Firing::slot_fired))]
-    fn fire_link(&mut self, i: usize, now: u64, out: &mut Outbox, told: &mut Reports)
-        requires slot { i < 16 }
-        requires now { now ≤ MAX_READING }
-        requires room { length out.old + 11 ≤ OUTBOX_LIMIT }
-        requires place { length told.old + 2 ≤ MAX_RING_REPORTS }
-        ensures row { step self.new out.new told.new ≡ by (λ c. slot_fired c now i) (step self.old out.old told.old) }
-        ensures few { length told.new ≤ length told.old + 2 }
-        ensures short { length out.new ≤ length out.old + 11 }
-    {
-        whole_row!(
-            self,
-            out,
-            told,
-            {
-                let announce = announced(&self.token, &self.phase);
-                let notes = self.links.fire(i, now, &announce, out);
-                let cause = Cause::none();
-                self.notes(&cause, notes.as_slice(), out, told)
-            }
-        )
-    }
-
     /// Whether the slot is free.
     fn is_free(&self, i: usize) -> bool
         requires { i < 16 }
@@ -67,7 +43,17 @@ impl RingNode {
         if self.is_free(i) {
             return;
         }
-        self.fire_link(i, now, out, told);
+        whole_row!(
+            self,
+            out,
+            told,
+            {
+                let announce = announced(&self.token, &self.phase);
+                let notes = self.links.fire(i, now, &announce, out);
+                let cause = Cause::none();
+                self.notes(&cause, notes.as_slice(), out, told)
+            }
+        )
     }
 
     /// Each slot in its order, until the node leaves.

@@ -94,34 +94,9 @@ impl RingNode {
         self.input(now, input, out, told);
     }
 
-    /// The step of an input, in these reports: the row of the rules, and at last what is owned, where that has changed
-    /// or the node has left. The outbox and the reports are empty before it, the reading is at most 10^15, and a frame
-    /// is in the grammar. It sends at most `OUTBOX_LIMIT` messages and makes at most 64 reports. What the node owns is
-    /// kept beside it, from `owned` on.
-    pub fn act(
-        &mut self,
-        now: u64,
-        input: &Input,
-        owned: &mut Owned,
-        out: &mut Outbox,
-        told: &mut Reports,
-    )
-        requires now { now ≤ MAX_READING }
-        requires sound { IsTrue (is_sound_input input.now) }
-        requires owned { owned.old ≡ owned_of self.old }
-        requires sent { out.old ≡ [] }
-        requires told { told.old ≡ [] }
-        ensures step { step self.new out.new told.new ≡ acted now input.now self.old }
-        ensures owned { owned.new ≡ owned_of self.new }
-        ensures messages { length out.new ≤ OUTBOX_LIMIT }
-        ensures reports { length told.new ≤ MAX_RING_REPORTS }
-    {
-        self.advance(now, input, out, told);
-        self.tell_own(owned, told);
-    }
-
-    /// The step of an input. The outbox is empty before it, the reading is at most 10^15, and a frame is in the
-    /// grammar. It sends at most `OUTBOX_LIMIT` messages and makes at most 64 reports.
+    /// The step of an input: the row of the rules, and at last what is owned, where that has changed or the node has
+    /// left. The outbox is empty before it, the reading is at most 10^15, and a frame is in the grammar. It sends at
+    /// most `OUTBOX_LIMIT` messages and makes at most 64 reports.
     pub fn step(&mut self, now: u64, input: &Input, out: &mut Outbox) -> Reports
         requires now { now ≤ MAX_READING }
         requires sound { IsTrue (is_sound_input input.now) }
@@ -132,7 +107,8 @@ impl RingNode {
     {
         let mut owned = self.owned();
         let mut told = Reports::new();
-        self.act(now, input, &mut owned, out, &mut told);
+        self.advance(now, input, out, &mut told);
+        self.tell_own(&mut owned, &mut told);
         told
     }
 }

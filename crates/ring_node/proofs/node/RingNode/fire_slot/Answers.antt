@@ -7,7 +7,7 @@ use Rattle.ring_node.proofs.Stays.{accused_kept, kept_fired, kept_links, landed,
 use Rattle.ring_node.proofs.Rows.{links_broken, links_ok}
 use Rattle.ring_rules.specs.Firing.{fired_at, slot_fired}
 use Rattle.ring_rules.specs.Slots.{slot_at}
-use Rattle.ring_node.proofs.node.RingNode.fire_link.Goals as goal
+use Rattle.ring_node.proofs.node.RingNode.fire_slot.Goals as goal
 
 pub returns-in-Ok-clause-row : goal.returns-in-Ok-clause-row
 unfolding slot_fired
