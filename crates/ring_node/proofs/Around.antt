@@ -105,9 +105,5 @@ found_none now key holder n out told h e =
     rw h (ap (λ (w : Work). has_numbers w.ring) (greet_untargeted n.settings now holder.actor (step n out (told ++ Found key holder ∷ [])).work) ∙ e)
 
 -- a node without a place asks the member that it joins by
--- no near nodes are wanted
-pub none_near : (now : ℕ) (n : Node) (out : List (Who × Body)) (told : List Report) → is_routing n.ring.phase ≡ true → n.settings.near ≡ 0 → step n out told ≡ by (λ c w. search_by c now w (is_routing w.ring.phase)) (step n out told)
-none_near now n out told h z = rw (h, z) refl
-
 pub sought : (now member : ℕ) (n : Node) (out : List (Who × Body)) (told : List Report) → is_routing n.ring.phase ≡ false → n.ring.target ≡ Some member → by (λ c w. search_by c now w (is_routing w.ring.phase)) (step n out told) ≡ by (λ c. seek_place member) (step n out told)
 sought now member n out told h e = rw (h, e) refl
