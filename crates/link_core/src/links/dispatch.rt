@@ -11,7 +11,7 @@ use crate::links::session_frames::Session;
 use crate::notes::LinkNotes;
 use crate::renewal::Renewal;
 use fabric_terms::{Body, Message, Outbox};
-use ring_points::{MAX_READING, OUTBOX_LIMIT};
+use ring_points::{MAX_ARBITRATORS, MAX_READING, OUTBOX_LIMIT};
 use ring_rules::LinkState;
 
 impl Links16 {
@@ -61,8 +61,8 @@ impl Links16 {
         ensures few { length out.new ≤ length out.old + 9 }
         ensures notes { length result ≤ 2 }
     {
-        // Whose the links are does not matter here: looking at them shows that there are at most nine arbitrators.
-        let _ = &self.me;
+        // So a frame is answered by no more frames than there is room for.
+        prove!(usize::from(self.arbitrators) <= MAX_ARBITRATORS);
         self.frame(now, message, announce, out)
     }
 
