@@ -82,11 +82,11 @@ impl Links16 {
         let from = message.from;
         match &message.body {
             Body::Hello { mine } => {
-                self.hear_hello(now, from, *mine, Beginning::offered(1, self.lease), out)
+                self.hear_hello(from, *mine, Beginning::offered(now, 1, self.lease), out)
             }
             Body::HelloFor { mine, length } => {
-                let asked = Beginning::offered(2, (*length).min(self.longest));
-                self.hear_hello(now, from, *mine, asked, out)
+                let len = (*length).min(self.longest);
+                self.hear_hello(from, *mine, Beginning::offered(now, 2, len), out)
             }
             Body::Offer { mine, yours } => {
                 self.hear_offer(now, Session::new(from, *mine, *yours), self.lease, out)

@@ -16,9 +16,10 @@ use heir_rounds::RoundTally;
 use ring_points::{MAX_LEASE, MAX_READING, OUTBOX_LIMIT, RangeSet, Who};
 use ring_rules::{Link, LinkState};
 
-/// How a link begins: its first state, its frame version and its length.
+/// How a link begins: at which reading, in which state, by which frame version and for which length.
 #[derive(Clone, Copy)]
 pub(crate) struct Beginning {
+    pub at: u64,
     pub state: LinkState,
     pub wire: u8,
     pub len: u64,
@@ -26,10 +27,11 @@ pub(crate) struct Beginning {
 
 impl Beginning {
     /// An offer, in answer to a Hello by this frame version, for this length.
-    pub(crate) fn offered(wire: u8, len: u64) -> Beginning
-        ensures { result ≡ record { state = LinkState.Offered; wire = wire; len = len } }
+    pub(crate) fn offered(at: u64, wire: u8, len: u64) -> Beginning
+        ensures { result ≡ record { at = at; state = LinkState.Offered; wire = wire; len = len } }
     {
         Beginning {
+            at,
             state: LinkState::Offered,
             wire,
             len,
@@ -45,12 +47,13 @@ impl Links16 {
         self.last_session == u32::MAX
     }
 
-    /// A link that begins now.
-    pub(crate) fn new_link(&self, now: u64, peer: Who, theirs: u32, beginning: Beginning) -> Link
-        requires now { now ≤ MAX_READING }
+    /// A link that begins so.
+    pub(crate) fn new_link(&self, peer: Who, theirs: u32, beginning: Beginning) -> Link
+        requires now { beginning.at ≤ MAX_READING }
         requires len { beginning.len ≤ MAX_LEASE }
         requires left { is_spent self.now ≡ false }
-        ensures value { result ≡ new_link self.now now peer theirs beginning.state beginning.wire beginning.len }
+        ensures value { result ≡ new_link self.now beginning.at peer theirs beginning.state beginning.wire
+            beginning.len }
         ensures sound { IsSoundLink self.now.arbitrators result }
     {
         Link {
@@ -58,7 +61,7 @@ impl Links16 {
             mine: self.last_session + 1,
             yours: theirs,
             state: beginning.state,
-            until: now + beginning.len,
+            until: beginning.at + beginning.len,
             ripe: 0,
             acked: 0,
             held: RangeSet::new(),
@@ -97,8 +100,13 @@ impl Links16 {
             actor: node,
             instance: 0,
         };
-        let state = LinkState::Hello;
-        self.new_link(now, any, 0, Beginning { state, wire, len })
+        let beginning = Beginning {
+            at: now,
+            state: LinkState::Hello,
+            wire,
+            len,
+        };
+        self.new_link(any, 0, beginning)
     }
 
     /// Greets a node, by frame version 1 for the configured lease, or by version 2 for a length of at most the

@@ -50,19 +50,12 @@ impl Links16 {
     }
 
     /// Accepts a Hello by a new link, in the first free slot.
-    fn accept(
-        &mut self,
-        now: u64,
-        from: Who,
-        theirs: u32,
-        asked: Beginning,
-        out: &mut Outbox,
-    ) -> LinkNotes
-        requires now { now ≤ MAX_READING }
+    fn accept(&mut self, from: Who, theirs: u32, asked: Beginning, out: &mut Outbox) -> LinkNotes
+        requires now { asked.at ≤ MAX_READING }
         requires len { asked.len ≤ MAX_LEASE }
         requires room { length out.old < OUTBOX_LIMIT }
         ensures { did self.new out.new result ≡ did_after out.old
-            (accept self.old self.old (new_link self.old now from theirs asked.state asked.wire asked.len)) }
+            (accept self.old self.old (new_link self.old asked.at from theirs asked.state asked.wire asked.len)) }
     {
         let Some(i) = find::free_place(&self.slots) else {
             return LinkNotes::none();
@@ -70,7 +63,7 @@ impl Links16 {
         if self.is_spent() {
             return LinkNotes::one(LinkNote::Leave(Why::Counters));
         }
-        let link = self.new_link(now, from, theirs, asked);
+        let link = self.new_link(from, theirs, asked);
         out.send(link.peer, bodies::offer(&link));
         self.begin(i, link);
         LinkNotes::none()
@@ -80,52 +73,50 @@ impl Links16 {
     fn cross(
         &mut self,
         i: usize,
-        now: u64,
         from: Who,
         theirs: u32,
         asked: Beginning,
         out: &mut Outbox,
     ) -> LinkNotes
         requires inside { i < length self.old.slots }
-        requires now { now ≤ MAX_READING }
+        requires now { asked.at ≤ MAX_READING }
         requires len { asked.len ≤ MAX_LEASE }
         requires room { length out.old < OUTBOX_LIMIT }
         ensures { did self.new out.new result ≡ did_after out.old
             (accept self.old (with_slot i None self.old)
-            (new_link self.old now from theirs asked.state asked.wire asked.len)) }
+            (new_link self.old asked.at from theirs asked.state asked.wire asked.len)) }
     {
         if self.is_spent() {
             return LinkNotes::one(LinkNote::Leave(Why::Counters));
         }
         change!(self, i, slot => *slot = None);
-        self.accept(now, from, theirs, asked, out)
+        self.accept(from, theirs, asked, out)
     }
 
     /// A Hello: one that was accepted before gets its Offer again; one that crosses the own Hello counts where the
     /// own node is the higher one; another is accepted.
     pub(crate) fn hear_hello(
         &mut self,
-        now: u64,
         from: Who,
         theirs: u32,
         asked: Beginning,
         out: &mut Outbox,
     ) -> LinkNotes
-        requires now { now ≤ MAX_READING }
+        requires now { asked.at ≤ MAX_READING }
         requires len { asked.len ≤ MAX_LEASE }
         requires state { asked.state ≡ LinkState.Offered }
         requires room { length out.old < OUTBOX_LIMIT }
         ensures { did self.new out.new result ≡ did_after out.old
-            (hello_received now from theirs asked.wire asked.len self.old) }
+            (hello_received asked.at from theirs asked.wire asked.len self.old) }
     {
         if let Some(i) = find::instance(&self.slots, from) {
             change!(self, i, slot => handshake::hello_repeated(slot, theirs, out));
             return LinkNotes::none();
         }
         match find::greeting(&self.slots, from.actor) {
-            None => self.accept(now, from, theirs, asked, out),
+            None => self.accept(from, theirs, asked, out),
             Some(_) if self.me.actor < from.actor => LinkNotes::none(),
-            Some(i) => self.cross(i, now, from, theirs, asked, out),
+            Some(i) => self.cross(i, from, theirs, asked, out),
         }
     }
 
