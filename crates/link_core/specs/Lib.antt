@@ -11,4 +11,5 @@ pub mod Frames
 pub mod Calls
 pub mod Kept
 pub mod Ties
+pub mod Outcomes
 pub mod Laws

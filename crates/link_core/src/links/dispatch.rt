@@ -1,8 +1,7 @@
-ghost use Rattle.std.specs.Prelude.{◌≡◌, ◌≤◌, ◌+◌, IsTrue, false, length};
-ghost use Rattle.ring_rules.specs.Frames as rules;
-ghost use Rattle.link_core.specs.Frames.{frame_row, may_come};
+ghost use Rattle.std.specs.Prelude.{◌≡◌, ◌≤◌, ◌+◌, IsTrue, length};
+ghost use Rattle.link_core.specs.Frames.{flight_row, frame_row, may_come, renewal_row, ruling_row};
 ghost use Rattle.link_core.specs.Links.{did, did_after};
-ghost use Rattle.link_core.specs.Ties.{Does, cause_of, is_search};
+ghost use Rattle.link_core.specs.Outcomes.{FrameHeard};
 
 use crate::announce::{Announce, Announced};
 use crate::links::Links16;
@@ -12,7 +11,6 @@ use crate::notes::LinkNotes;
 use crate::renewal::Renewal;
 use fabric_terms::{Body, Message, Outbox};
 use ring_points::{MAX_ARBITRATORS, MAX_READING, OUTBOX_LIMIT};
-use ring_rules::LinkState;
 
 impl Links16 {
     /// What a frame of a link does, or an arbitrator's ruling; a frame of another kind does nothing. The frame is one
@@ -27,15 +25,7 @@ impl Links16 {
         requires now { now ≤ MAX_READING }
         requires frame { IsTrue (may_come self.old.arbitrators message.now.from message.now.body) }
         requires room { length out.old + 9 ≤ OUTBOX_LIMIT }
-        ensures did { did self.new out.new result ≡ did_after out.old
-            (frame_row now announce.now message.now.from message.now.body self.old) }
-        ensures row { is_search message.now.body ≡ false →
-            Does (λ c. rules.frame_row c now message.now.from message.now.body) (cause_of message.now.body)
-            self.old announce.now out.old (did self.new out.new result) }
-        ensures kept { self.new ≡ record self.old { slots = self.new.slots; next_session = self.new.next_session } }
-        ensures sessions { self.old.next_session ≤ self.new.next_session }
-        ensures few { length out.new ≤ length out.old + 9 }
-        ensures notes { length result ≤ 2 }
+        ensures { FrameHeard now announce.now message.now self.old out.old (did self.new out.new result) }
     {
         self.hear(now, message, &Announced::of(announce), out)
     }
@@ -51,21 +41,14 @@ impl Links16 {
         requires now { now ≤ MAX_READING }
         requires frame { IsTrue (may_come self.old.arbitrators message.now.from message.now.body) }
         requires room { length out.old + 9 ≤ OUTBOX_LIMIT }
-        ensures did { did self.new out.new result ≡ did_after out.old
-            (frame_row now announce.now message.now.from message.now.body self.old) }
-        ensures row { is_search message.now.body ≡ false →
-            Does (λ c. rules.frame_row c now message.now.from message.now.body) (cause_of message.now.body)
-            self.old announce.now out.old (did self.new out.new result) }
-        ensures kept { self.new ≡ record self.old { slots = self.new.slots; next_session = self.new.next_session } }
-        ensures sessions { self.old.next_session ≤ self.new.next_session }
-        ensures few { length out.new ≤ length out.old + 9 }
-        ensures notes { length result ≤ 2 }
+        ensures { FrameHeard now announce.now message.now self.old out.old (did self.new out.new result) }
     {
         // So a frame is answered by no more frames than there is room for.
         prove!(usize::from(self.arbitrators) <= MAX_ARBITRATORS);
         self.frame(now, message, announce, out)
     }
 
+    /// The row of a greeting, and of its answers.
     fn frame(
         &mut self,
         now: u64,
@@ -99,6 +82,20 @@ impl Links16 {
             Body::Take { mine, yours } => {
                 self.hear_take(now, Session::new(from, *mine, *yours), announce, out)
             }
+            _ => self.renewal_frame(now, message, out),
+        }
+    }
+
+    /// The row of a renewal, and of its answer.
+    fn renewal_frame(&mut self, now: u64, message: &Message, out: &mut Outbox) -> LinkNotes
+        requires now { now ≤ MAX_READING }
+        requires frame { IsTrue (may_come self.old.arbitrators message.now.from message.now.body) }
+        requires room { length out.old + 9 ≤ OUTBOX_LIMIT }
+        ensures { did self.new out.new result ≡ did_after out.old
+            (renewal_row now message.now.from message.now.body self.old) }
+    {
+        let from = message.from;
+        match &message.body {
             Body::Renew {
                 mine,
                 yours,
@@ -126,6 +123,20 @@ impl Links16 {
                 self.hear_ack(Session::new(from, *mine, *yours), *stamp, *version);
                 LinkNotes::none()
             }
+            _ => self.flight_frame(now, message, out),
+        }
+    }
+
+    /// The row of a flight, and of the end of a session.
+    fn flight_frame(&mut self, now: u64, message: &Message, out: &mut Outbox) -> LinkNotes
+        requires now { now ≤ MAX_READING }
+        requires frame { IsTrue (may_come self.old.arbitrators message.now.from message.now.body) }
+        requires room { length out.old + 9 ≤ OUTBOX_LIMIT }
+        ensures { did self.new out.new result ≡ did_after out.old
+            (flight_row now message.now.from message.now.body self.old) }
+    {
+        let from = message.from;
+        match &message.body {
             Body::Transfer {
                 mine,
                 yours,
@@ -138,6 +149,20 @@ impl Links16 {
                 got,
                 bound,
             } => self.hear_gone(Session::new(from, *mine, *yours), *got, *bound, out),
+            _ => self.ruling_frame(now, message, out),
+        }
+    }
+
+    /// The row of an arbitrator's answer.
+    fn ruling_frame(&mut self, now: u64, message: &Message, out: &mut Outbox) -> LinkNotes
+        requires now { now ≤ MAX_READING }
+        requires frame { IsTrue (may_come self.old.arbitrators message.now.from message.now.body) }
+        requires room { length out.old + 9 ≤ OUTBOX_LIMIT }
+        ensures { did self.new out.new result ≡ did_after out.old
+            (ruling_row now message.now.from message.now.body self.old) }
+    {
+        let from = message.from;
+        match &message.body {
             Body::Ruled { victim, ruling } => self.hear_ruling(now, from, *victim, *ruling),
             Body::Kept {
                 victim,

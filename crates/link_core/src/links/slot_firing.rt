@@ -1,10 +1,9 @@
-ghost use Rattle.std.specs.Prelude.{◌≡◌, ◌<◌, ◌≤◌, ◌+◌, IfSome, false, length, take};
-ghost use Rattle.ring_rules.specs.Firing as rules;
+ghost use Rattle.std.specs.Prelude.{◌≡◌, ◌<◌, ◌≤◌, ◌+◌, IfSome, false, length};
 ghost use Rattle.ring_rules.specs.Slots.{slot_at};
 ghost use Rattle.link_core.specs.Deadlines.{some_ended};
 ghost use Rattle.link_core.specs.Firing.{peer_accused, slot_fired};
 ghost use Rattle.link_core.specs.Links.{did, did_after};
-ghost use Rattle.link_core.specs.Ties.{Does, quiet};
+ghost use Rattle.link_core.specs.Outcomes.{SlotFired};
 
 use crate::announce::{Announce, Announced};
 use crate::deadlines::change;
@@ -12,7 +11,7 @@ use crate::firing::{Firing, accuse, is_over, spoken};
 use crate::links::Links16;
 use crate::notes::{LinkNote, LinkNotes};
 use fabric_terms::{Outbox, Why};
-use ring_points::{MAX_READING, OUTBOX_LIMIT};
+use ring_points::{MAX_ARBITRATORS, MAX_READING, OUTBOX_LIMIT};
 
 impl Links16 {
     /// The lease of some slot that guards has ended. Where none has, no slot is due to accuse.
@@ -49,13 +48,7 @@ impl Links16 {
         requires slot { slot < 16 }
         requires now { now ≤ MAX_READING }
         requires room { length out.old + 9 ≤ OUTBOX_LIMIT }
-        ensures did { did self.new out.new result ≡ did_after out.old (slot_fired now announce.now slot self.old) }
-        ensures row { Does (λ c w. rules.fired_at c now slot (slot_at slot w.ring.slots) w)
-            quiet self.old announce.now out.old (did self.new out.new result) }
-        ensures kept { self.new ≡ record self.old { slots = self.new.slots; accused = self.new.accused } }
-        ensures accused { take (length self.old.accused) self.new.accused ≡ self.old.accused }
-        ensures few { length out.new ≤ length out.old + 9 }
-        ensures notes { length result ≤ 2 }
+        ensures { SlotFired now slot announce.now self.old out.old (did self.new out.new result) }
     {
         self.fire(slot, now, &Announced::of(announce), out)
     }
@@ -71,13 +64,7 @@ impl Links16 {
         requires slot { slot < 16 }
         requires now { now ≤ MAX_READING }
         requires room { length out.old + 9 ≤ OUTBOX_LIMIT }
-        ensures did { did self.new out.new result ≡ did_after out.old (slot_fired now announce.now slot self.old) }
-        ensures row { Does (λ c w. rules.fired_at c now slot (slot_at slot w.ring.slots) w)
-            quiet self.old announce.now out.old (did self.new out.new result) }
-        ensures kept { self.new ≡ record self.old { slots = self.new.slots; accused = self.new.accused } }
-        ensures accused { take (length self.old.accused) self.new.accused ≡ self.old.accused }
-        ensures few { length out.new ≤ length out.old + 9 }
-        ensures notes { length result ≤ 2 }
+        ensures { SlotFired now slot announce.now self.old out.old (did self.new out.new result) }
     {
         self.fired(slot, now, announce, out)
     }
@@ -87,7 +74,7 @@ impl Links16 {
         requires now { now ≤ MAX_READING }
         requires room { length out.old + 9 ≤ OUTBOX_LIMIT }
         ensures did { did self.new out.new result ≡ did_after out.old (slot_fired now announce.now slot self.old) }
-        ensures few { self.old.arbitrators ≤ 9 }
+        ensures arbitrators { self.old.arbitrators ≤ MAX_ARBITRATORS }
     {
         let ended = self.some_ended(now);
         let Some(link) = &self.slots[slot] else {
