@@ -7,9 +7,5 @@
 #![tactic(auto)]
 
 mod unit_effects;
-mod unit_records;
-mod unit_reports;
 
-pub use unit_effects::UnitEffects;
-pub use unit_records::{MAX_ROW_RECORDS, UnitRecords};
-pub use unit_reports::{MAX_ROW_REPORTS, UnitReports};
+pub use unit_effects::{MAX_ROW_RECORDS, MAX_ROW_REPORTS, UnitEffects, UnitRecords, UnitReports};

@@ -1,8 +1,19 @@
 ghost use Rattle.unit_desk.specs.UnitEffects.{IsClear};
 
-use crate::unit_records::UnitRecords;
-use crate::unit_reports::UnitReports;
-use fabric_terms::Outbox;
+use bounded_list::Bounded;
+use fabric_terms::{Outbox, Record, Report};
+
+/// The most records of one row.
+pub const MAX_ROW_RECORDS: usize = 4;
+
+/// The most reports of one row.
+pub const MAX_ROW_REPORTS: usize = 4;
+
+/// What one row records, in its order.
+pub type UnitRecords = Bounded<Record, MAX_ROW_RECORDS>;
+
+/// What one row reports, in its order.
+pub type UnitReports = Bounded<Report, MAX_ROW_REPORTS>;
 
 /// What a row of partitions records, sends and reports. The ring's step uses the same outbox, before the row.
 #[derive(Drop)]
@@ -18,9 +29,9 @@ impl UnitEffects {
         ensures { IsClear result }
     {
         UnitEffects {
-            records: UnitRecords::new(),
+            records: Bounded::new(),
             out: Outbox::new(),
-            told: UnitReports::new(),
+            told: Bounded::new(),
         }
     }
 }

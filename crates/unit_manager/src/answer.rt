@@ -120,18 +120,18 @@ fn conclude(
             take_out(reconfigs, i, task.partition);
             effects
                 .told
-                .tell(Report::Configured(task.partition, config.epoch));
+                .push(Report::Configured(task.partition, config.epoch));
         }
         Progress::Superseded(epoch) => {
             see(units, task.partition, epoch);
             take_out(reconfigs, i, task.partition);
-            effects.told.tell(Report::Superseded(task.partition, epoch));
+            effects.told.push(Report::Superseded(task.partition, epoch));
         }
         Progress::Refused(refusal) => {
             take_out(reconfigs, i, task.partition);
             effects
                 .told
-                .tell(Report::Refused(verb_of(task.kind), reason_of(refusal)));
+                .push(Report::Refused(verb_of(task.kind), reason_of(refusal)));
         }
     }
 }

@@ -147,7 +147,7 @@ fn refuse(kind: Kind, reason: Reason, effects: &mut UnitEffects)
     requires { HasRoomFor 0 0 1 effects.old }
     ensures { Left (Tell (Refused (verb_of kind) reason) ∷ []) effects.old effects.new }
 {
-    effects.told.tell(Report::Refused(verb_of(kind), reason));
+    effects.told.push(Report::Refused(verb_of(kind), reason));
 }
 
 impl Manager {

@@ -22,7 +22,7 @@ impl Manager {
             Ok(partitions) => {
                 effects
                     .told
-                    .tell(Report::UnitList(Partitions::new(partitions)));
+                    .push(Report::UnitList(Partitions::new(partitions)));
                 Ok(())
             }
             Err(_) => Err(OutOfMemory),

@@ -46,7 +46,7 @@ fn begin_role(
         state.progress = Some(ReplicationProgress::first(me, config, last));
         effects
             .told
-            .tell(Report::IsPrimary(config.partition, config.epoch));
+            .push(Report::IsPrimary(config.partition, config.epoch));
     } else {
         state.progress = None;
     }

@@ -41,10 +41,10 @@ fn tell_found(partition: u16, name: &NameText, found: Option<NameValue>, effects
     match found {
         None => effects
             .told
-            .tell(Report::Unresolved(partition, name.copy())),
+            .push(Report::Unresolved(partition, name.copy())),
         Some(value) => effects
             .told
-            .tell(Report::Resolved(partition, name.copy(), value)),
+            .push(Report::Resolved(partition, name.copy(), value)),
     }
 }
 
@@ -54,7 +54,7 @@ fn tell_names(partition: u16, names: NameTexts, effects: &mut UnitEffects)
     ensures left { Left (Tell (NameList partition names) ∷ []) effects.old effects.new }
     ensures few { length effects.new.out ≤ length effects.old.out }
 {
-    effects.told.tell(Report::NameList(partition, names));
+    effects.told.push(Report::NameList(partition, names));
 }
 
 /// Resolve: a primary tells what a name stands for by the entries that it reported committed. It is refused at a

@@ -23,13 +23,13 @@ pub(crate) fn accept(
     ensures left { Left (accepted partition epoch lsn text.now) effects.old effects.new }
     ensures few { length effects.new.out ≤ length effects.old.out }
 {
-    effects.records.keep(Record::Wrote {
+    effects.records.push(Record::Wrote {
         partition,
         epoch,
         lsn,
         text: text.copy(),
     });
-    effects.told.tell(Report::Accepted(partition, epoch, lsn));
+    effects.told.push(Report::Accepted(partition, epoch, lsn));
 }
 
 fn say_appended(asker: Who, epoch: Epoch, replica: &NamedReplica, effects: &mut UnitEffects)

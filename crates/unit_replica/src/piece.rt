@@ -63,7 +63,7 @@ fn collect(
     );
     match adopted {
         Ok(_) => {
-            effects.records.keep(Record::Incoming {
+            effects.records.push(Record::Incoming {
                 partition: state.replica.partition(),
                 epoch: catch_up.epoch,
                 lsn,

@@ -43,8 +43,8 @@ pub(crate) fn tell_raised(partition: u16, epoch: Epoch, done: Done, effects: &mu
     if done == Done::New {
         effects
             .records
-            .keep(Record::PromisedAt { partition, epoch });
-        effects.told.tell(Report::Promised(partition, epoch));
+            .push(Record::PromisedAt { partition, epoch });
+        effects.told.push(Report::Promised(partition, epoch));
     }
 }
 

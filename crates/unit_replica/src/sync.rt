@@ -23,14 +23,14 @@ pub(crate) fn tell_adopted(partition: u16, catch_up: CatchUp, own: bool, effects
 {
     let epoch = catch_up.epoch;
     let last = catch_up.last;
-    effects.records.keep(Record::AdoptedAt {
+    effects.records.push(Record::AdoptedAt {
         partition,
         epoch,
         last,
         own: own && last > 0,
     });
     if last > 0 {
-        effects.told.tell(Report::Adopted(partition, epoch, last));
+        effects.told.push(Report::Adopted(partition, epoch, last));
     }
     say_adopted(catch_up, partition, last, effects);
 }

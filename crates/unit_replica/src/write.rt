@@ -34,7 +34,7 @@ fn commit(state: &mut ReplicaState, effects: &mut UnitEffects)
         let partition = state.replica.partition();
         effects
             .told
-            .tell(Report::Committed(partition, state.replica.at(), lsn));
+            .push(Report::Committed(partition, state.replica.at(), lsn));
     }
 }
 
@@ -108,7 +108,7 @@ pub(crate) fn refuse(question: Verb, reason: Reason, effects: &mut UnitEffects)
     ensures left { Left (Tell (Refused question reason) ∷ []) effects.old effects.new }
     ensures few { length effects.new.out ≤ length effects.old.out }
 {
-    effects.told.tell(Report::Refused(question, reason));
+    effects.told.push(Report::Refused(question, reason));
 }
 
 /// Write: the primary adds an entry, and sends it to each other member. It is refused at a replica that takes no
