@@ -1,9 +1,9 @@
-//! What a step of units leaves before it is handed on: what is to be recorded, what is to be sent, and what is told.
+//! The effects of a row of partitions: what it records, sends and reports.
 //!
-//! The rules of partitions say what a row does as a list of deeds, one after another. The effects hold what these come
-//! to, each kind in a list of its own and in its order, in room of a fixed size, so that no row takes memory for it. A
-//! row says of the effects that the deeds stand there, behind what was there before. This crate decides nothing; the
-//! rows of the manager and of the replicas stand above it, and the node hands over what they left.
+//! The rules say what a row does as a list of deeds, in order. `UnitEffects` has what the deeds come to: records,
+//! messages and reports, each kind in a bounded list of its own and in its order, so no row allocates for them. The
+//! contract of a row says that its deeds were added behind what was there. This crate decides nothing. The rows of the
+//! manager and of the replicas stand above it, and the node hands over what they leave.
 #![tactic(auto)]
 
 mod unit_effects;

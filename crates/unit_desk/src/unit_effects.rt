@@ -15,7 +15,7 @@ pub type UnitRecords = Bounded<Record, MAX_ROW_RECORDS>;
 /// What one row reports, in its order.
 pub type UnitReports = Bounded<Report, MAX_ROW_REPORTS>;
 
-/// What a row of partitions records, sends and reports. The ring's step uses the same outbox, before the row.
+/// What a row of partitions records, sends and reports.
 #[derive(Drop)]
 pub struct UnitEffects {
     pub records: UnitRecords,
@@ -24,7 +24,7 @@ pub struct UnitEffects {
 }
 
 impl UnitEffects {
-    /// Effects of nothing yet.
+    /// No effects yet.
     pub fn new() -> Self
         ensures { IsClear result }
     {

@@ -7,6 +7,7 @@ use Rattle.fabric_terms.specs.declared.record.Record.{Record}
 use Rattle.fabric_terms.specs.declared.record.Record.TheVariants as kept
 use Rattle.fabric_terms.specs.declared.report.Report.{Report}
 use Rattle.fabric_terms.specs.declared.report.Report.TheVariants as report
+use Rattle.ring_points.specs.Limits.{most_arbiters, most_messages}
 use Rattle.ring_points.specs.declared.unit.Epoch.{Epoch}
 use Rattle.ring_points.specs.declared.who.Who.{Who}
 use Rattle.ring_points.specs.Epochs.{is_older, same_epoch}
@@ -19,8 +20,10 @@ use Rattle.unit_rules.specs.Progress.{confirmed_by, is_primary, progress_of}
 use Rattle.unit_rules.specs.ReplicaStates.{ReplicationProgress, ReplicaState, last_of, replica_put}
 use Rattle.unit_rules.specs.Writes.{accepted, append_to, appended_received, appended_to, committed, write_answered, write_commanded, write_to}
 use Rattle.unit_desk.specs.declared.unit_effects.UnitEffects.{UnitEffects}
+use Rattle.unit_desk.specs.Limits.{most_row_records, most_row_reports}
 use Rattle.unit_desk.specs.UnitEffects.{Does, HasRoom, HasRoomFor, Left}
 use Rattle.unit_desk.proofs.Deeds.{records_of-append, frames_of-append, reports_of-append}
+use Rattle.unit_replica.specs.Limits.{most_peers}
 use Rattle.unit_replica.specs.Rows.{spread}
 
 -- what is sent to each member is neither recorded nor told
@@ -64,25 +67,25 @@ left_told p e n bytes peers r text l before mid after hp he hn hb hq told_first 
 
 -- there is room for one more report
 pub room_left : (p : ℕ) (e : Epoch) (n : ℕ) (text bytes : List ℕ) (r : Replica) (peers : List PeerProgress) (before mid after : UnitEffects)
-    → HasRoom before → length peers ≤ 6 → Left (accepted p e n text) before mid → after.records ≡ mid.records → after.told ≡ mid.told
+    → HasRoom before → length peers ≤ most_peers → Left (accepted p e n text) before mid → after.records ≡ mid.records → after.told ≡ mid.told
     → after.out ≡ mid.out ++ frames_of (map (append_to e r n bytes) peers) → HasRoomFor 0 0 1 after
 room_left p e n text bytes r peers before mid after room few l records told out = record {
   records =
       let is : length after.records ≡ length before.records + 1 =
       ap (λ (rs : List Record). length rs) (records ∙ l.records) ∙ length-append before.records (kept.Wrote p e n text ∷ []) in
-      let had : length before.records + 2 ≤ 4 = room.records in
+      let had : length before.records + 2 ≤ most_row_records = room.records in
       omega (arith, is, had);
   sent =
       let first : length mid.out ≡ length before.out = ap (λ (ms : List (Who × Body)). length ms) (l.sent ∙ append-nil before.out) in
       let is : length after.out ≡ length mid.out + length peers =
       ap (λ (ms : List (Who × Body)). length ms) out
       ∙ (length-append mid.out (frames_of (map (append_to e r n bytes) peers)) ∙ ap (λ (k : ℕ). length mid.out + k) (sent_length e r n bytes peers)) in
-      let had : length before.out + 9 ≤ 192 = room.sent in
+      let had : length before.out + most_arbiters ≤ most_messages = room.sent in
       omega (arith, first, is, had, few);
   told =
       let is : length after.told ≡ length before.told + 1 =
       ap (λ (rs : List Report). length rs) (told ∙ l.told) ∙ length-append before.told (report.Accepted p e n ∷ []) in
-      let had : length before.told + 2 ≤ 4 = room.told in
+      let had : length before.told + 2 ≤ most_row_reports = room.told in
       omega (arith, is, had);
 }
 

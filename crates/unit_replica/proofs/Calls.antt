@@ -1,6 +1,7 @@
 -- Which calls on a replica leave it as it was.
 use Rattle.std.proofs.Common.{◌≡◌, ℕ, Bool, true, false, List, Result, Ok, Err, refl}
 use Rattle.std.specs.Prelude.{◌+◌, ◌==◌, not, nat_lt, length}
+use Rattle.ring_points.specs.Limits.{most_log_entries}
 use Rattle.ring_points.specs.Epochs.{is_older, same_epoch}
 use Rattle.replica_core.specs.declared.entry.Entry.{Entry}
 use Rattle.ring_points.specs.declared.unit.Config.{Config}
@@ -48,7 +49,7 @@ append_held epoch lsn bytes s e =
     held (is_older epoch s.promised) (Older s.promised) s _
     (held (is_ahead epoch lsn s) (Gap (length s.log)) s _
     (held_already (nat_lt lsn (length s.log + 1)) s _
-    (held (length s.log == 100000) LogFull s (Ok New, written entry s) (λ f. not_held s (written entry s) f))))
+    (held (length s.log == most_log_entries) LogFull s (Ok New, written entry s) (λ f. not_held s (written entry s) f))))
     e
 
 stays : {A : Type 0} (b : Bool) (why : ReplicaRefusal) (s : Replica) (next : Outcome A) → next.1.log ≡ s.log → (unless b why s next).1.log ≡ s.log

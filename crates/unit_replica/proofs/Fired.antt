@@ -10,6 +10,7 @@ use Rattle.unit_rules.specs.Deeds.{Deed, frames_of}
 use Rattle.unit_rules.specs.ReplicaStates.{ReplicaState}
 use Rattle.unit_rules.specs.Writes.{state_fired}
 use Rattle.unit_desk.proofs.Deeds.{frames_of-append}
+use Rattle.unit_replica.specs.Limits.{most_peers}
 use Rattle.unit_replica.specs.Tables.{ReplicaStates, fired}
 
 -- the numbers do not count
@@ -27,14 +28,10 @@ one_fired me s rest before now is =
     ∙ (append_assoc before (from_all me (frames_of (state_fired s))) (from_all me (frames_of (flat_map state_fired rest)))
     ∙ ap (λ (ms : List Message). before ++ ms) (sym one))
 
-pub as_many_values : (states : ReplicaStates) → length (values_of states) ≡ length states
-as_many_values [] = refl
-as_many_values (e ∷ states) = ap (λ (n : ℕ). suc n) (as_many_values states)
-
--- one more sends at most six
+-- one more sends little
 pub few_fired : (me : Who) (s : ReplicaState) (left rest : List ReplicaState) (all : ℕ) (now next : List Message) (clear out : List (Who × Body)) → left ≡ s ∷ rest
-    → next ≡ now ++ from_all me out → clear ≡ [] → length out ≤ length clear + 6 → length now + 6 * length left ≤ all
-    → length next + 6 * length rest ≤ all
+    → next ≡ now ++ from_all me out → clear ≡ [] → length out ≤ length clear + most_peers → length now + most_peers * length left ≤ all
+    → length next + most_peers * length rest ≤ all
 few_fired me s left rest all now next clear out steps behind none few so_far =
     let many : length next ≡ length now + length out =
     ap (λ (ms : List Message). length ms) behind ∙ (length-append now (from_all me out) ∙ ap (λ (n : ℕ). length now + n) (length-map {B = Message} out _)) in

@@ -3,6 +3,7 @@ use Rattle.std.proofs.Common.{◌≡◌, ◌==◌, ℕ, Bool, true, false, cond,
 use Rattle.std.proofs.lemmas.Bool.{eqb-true}
 use Rattle.std.specs.Prelude.{◌+◌, ◌||◌, length, map, nat_le, nat_lt, unwrap_or, ◌&&◌}
 use Rattle.std.specs.Map.{values_of}
+use Rattle.ring_points.specs.Limits.{most_log_entries}
 use Rattle.ring_points.specs.declared.unit.Epoch.{Epoch}
 use Rattle.ring_points.specs.Epochs.{is_older, same_epoch}
 use Rattle.fabric_lemmas.specs.Maps.{at, put, put_here, rises, rises_from}
@@ -41,7 +42,7 @@ append_same e lsn text r =
     unless_same (is_older e r.promised) (Older r.promised) r _
     (unless_same (is_ahead e lsn r) (Gap (length r.log)) r _
     (held_same (nat_lt lsn (length r.log + 1)) r _
-    (unless_same (length r.log == 100000) LogFull r (Ok New, written (record { epoch = e; lsn = lsn; bytes = text }) r) refl)))
+    (unless_same (length r.log == most_log_entries) LogFull r (Ok New, written (record { epoch = e; lsn = lsn; bytes = text }) r) refl)))
 
 own_same : (e : Epoch) (last : ℕ) (r : Replica) → (adopt_own_call e last r).1.partition ≡ r.partition
 own_same e last r =

@@ -4,6 +4,7 @@ use Rattle.std.specs.Prelude.{◌==◌, IfSome, nat_lt}
 use Rattle.std.specs.FinMap.{empty}
 use Rattle.std.proofs.lemmas.Bool.{cases_lt}
 use Rattle.std.proofs.lemmas.List.{append-nil, take_all, take_more, take-append-le}
+use Rattle.ring_points.specs.Limits.{most_log_entries}
 use Rattle.ring_points.specs.declared.unit.Epoch.{Epoch}
 use Rattle.ring_points.specs.Epochs.{is_older}
 use Rattle.replica_core.specs.declared.entry.Entry.{Entry}
@@ -44,7 +45,7 @@ same_log log = record { more = []; is = sym (append-nil log) }
 append_longer : (e : Epoch) (lsn : ℕ) (bytes : List ℕ) (r : Replica) → Longer r.log (append_call e lsn bytes r).1.log
 append_longer e lsn bytes r =
     refuses (is_older e r.promised) _ _
-    (refuses (is_ahead e lsn r) _ _ (holds (nat_lt lsn (length r.log + 1)) _ (refuses (length r.log == 100000) _ _ one)))
+    (refuses (is_ahead e lsn r) _ _ (holds (nat_lt lsn (length r.log + 1)) _ (refuses (length r.log == most_log_entries) _ _ one)))
   where
     entry : Entry
     entry = record { epoch = e; lsn = lsn; bytes = bytes }

@@ -2,19 +2,20 @@
 use Rattle.std.proofs.Common.{◌≡◌, ℕ, Bool, true, false, cond, List, [], ◌∷◌, Option, Some, None, Result, Ok, Err, refl, sym, subst, ap, ◌∙◌, arith}
 use Rattle.std.proofs.lemmas.Bool.Decides.{nat_tests}
 use Rattle.std.proofs.lemmas.List.{append-nil}
+use Rattle.std.proofs.lemmas.Map.Steps.{set_value_same}
 use Rattle.std.specs.Prelude.{◌==◌, IfOk, OnErr, is_some, nat_lt, unwrap_or}
 use Rattle.std.specs.BTreeMap.{is_at}
-use Rattle.std.specs.Map.{remove_entry, set_value}
+use Rattle.std.specs.Map.{lookup, remove_entry, set_value}
 use Rattle.std.specs.Ordering.{nat_cmp}
 use Rattle.fabric_lemmas.specs.Maps.{at, put, put_here, rises}
-use Rattle.fabric_lemmas.proofs.Maps.{at-put, rises-put}
-use Rattle.fabric_lemmas.proofs.SameMaps.{same_maps}
 use Rattle.keep_log.proofs.MapEntries.{at-put_here, lookup-is, put-put, set-is}
-use Rattle.unit_rules.specs.Deeds.{Acted, still}
+use Rattle.unit_rules.specs.Deeds.{Deed, Acted, acted}
 use Rattle.unit_rules.specs.ReplicaStates.{ReplicaState, first_state}
 use Rattle.unit_desk.specs.declared.unit_effects.UnitEffects.{UnitEffects}
-use Rattle.unit_desk.specs.UnitEffects.{Does}
-use Rattle.unit_replica.specs.Tables.{ReplicaStates, at_found, at_state, at_standing, by_state}
+use Rattle.unit_desk.specs.UnitEffects.{Does, Left}
+use Rattle.unit_desk.proofs.Puts.{free_behind}
+use Rattle.unit_replica.specs.Tables.{IsTable, ReplicaStates, at_found, at_state, at_standing, by_state}
+use Rattle.unit_replica.proofs.Counts.{set_fits}
 
 same_test : (a b : Bool) → ◌≡◌ {A = Option ℕ} (cond a (Some 0) None) (cond b (Some 0) None) → a ≡ b
 same_test true true e = refl
@@ -29,48 +30,65 @@ own_key : (k : ℕ) → is_at (nat_cmp k) k ≡ true
 own_key k = key_is k k ∙ (let same : (k == k) ≡ true = grind (arith, nat_tests) in same)
 
 module _ {X : Type 0} where
-  -- what stands at a number is put there again
-  pub put-same : (k : ℕ) (x : X) (es : List (ℕ × X)) → rises es ≡ true → at k es ≡ Some x → put k x es ≡ es
-  put-same k x es up there = same_maps (put k x es) es (rises-put k x es up) up (λ q. at-put k x es q ∙ over q (k == q) refl)
-    where
-      over : (q : ℕ) (b : Bool) → (k == q) ≡ b → cond b (Some x) (at q es) ≡ at q es
-      over q true e = let here : k ≡ q = grind (arith, nat_tests, e) in sym there ∙ ap (λ (n : ℕ). at n es) here
-      over q false e = refl
-
   -- what was put at a free number is taken out again
   pub remove-put : (k : ℕ) (x : X) (es : List (ℕ × X)) → at k es ≡ None → remove_entry (is_at (nat_cmp k)) (put k x es) ≡ es
-  remove-put k x [] none = rw (own_key k) refl
-  remove-put k x (e ∷ es) none = by (nat_lt k e.0) (k == e.0) refl none (λ h. remove-put k x es h)
+  remove-put k x [] free = rw (own_key k) refl
+  remove-put k x (e ∷ es) free =
+      let behind : ((e.0 == k) ≡ false) × (at k es ≡ None) = free_behind k e es free in
+      by (nat_lt k e.0) (k == e.0) refl behind.0 (remove-put k x es behind.1)
     where
-      by : (lt same : Bool) → (k == e.0) ≡ same → at k (e ∷ es) ≡ None → (at k es ≡ None → remove_entry (is_at (nat_cmp k)) (put k x es) ≡ es)
+      by : (lt same : Bool) → (k == e.0) ≡ same → (e.0 == k) ≡ false → remove_entry (is_at (nat_cmp k)) (put k x es) ≡ es
           → remove_entry (is_at (nat_cmp k)) (put_here k x e es (put k x es) lt same) ≡ e ∷ es
-      by true same g none rest = rw (own_key k) refl
-      by false true g none rest =
-          let here : (e.0 == k) ≡ true = grind (arith, nat_tests, g) in
-          let some : Some e.1 ≡ None = rw here at none in
-          absurd (cc)
-      by false false g none rest =
-          let other : (e.0 == k) ≡ false = grind (arith, nat_tests, g) in
-          let free : at k es ≡ None = rw other at none in
-          rw (key_is k e.0, other) (ap (λ (l : List (ℕ × X)). e ∷ l) (rest free))
+      by true same is other rest = rw (own_key k) refl
+      by false true is other rest = absurd (grind (arith, nat_tests, is, other))
+      by false false is other rest = rw (key_is k e.0, other) (ap (λ (l : List (ℕ × X)). e ∷ l) rest)
 
--- a row at the replica that stands there
-pub does_there : (k : ℕ) (row : ReplicaState → Acted ReplicaState) (none : Acted ReplicaStates) (old new : ReplicaStates) (x w : ReplicaState) (before after : UnitEffects)
-    → rises old ≡ true → at k old ≡ Some x → new ≡ set_value (is_at (nat_cmp k)) old w → Does (row x) w before after
-    → Does (at_standing k row none old) new before after
-does_there k row none old new x w before after up found is d =
-    subst (λ (o : Option ReplicaState). Does (at_found k row none old o) new before after) (sym found)
-    (record { state = is ∙ (set-is k w old x up found ∙ ap (λ (s : ReplicaState). put k s old) d.state); left = d.left })
+-- what a look-up in the entries of a map says of the map
+looked_up : (k : ℕ) (es old : ReplicaStates) (o : Option ReplicaState) → es ≡ old → lookup (is_at (nat_cmp k)) es ≡ o → at k old ≡ o
+looked_up k es old o view found = ap (λ (m : ReplicaStates). at k m) (sym view) ∙ (sym (lookup-is k es) ∙ found)
 
-pub does_nowhere : (k : ℕ) (row : ReplicaState → Acted ReplicaState) (none : Acted ReplicaStates) (old new : ReplicaStates) (before after : UnitEffects)
-    → at k old ≡ None → Does none new before after → Does (at_standing k row none old) new before after
-does_nowhere k row none old new before after nothing d =
-    subst (λ (o : Option ReplicaState). Does (at_found k row none old o) new before after) (sym nothing) d
+pub stands_if : (k : ℕ) (es old : ReplicaStates) (b : Bool) → es ≡ old → is_some (lookup (is_at (nat_cmp k)) es) ≡ b → is_some (at k old) ≡ b
+stands_if k es old b view found = ap is_some (looked_up k es old (lookup (is_at (nat_cmp k)) es) view refl) ∙ found
 
--- a replica that is left as it was leaves the map so
-pub stays_there : (k : ℕ) (old new : ReplicaStates) (x w : ReplicaState) → rises old ≡ true → at k old ≡ Some x → new ≡ set_value (is_at (nat_cmp k)) old w → w ≡ x → new ≡ old
-stays_there k old new x w up found is same =
-    is ∙ (set-is k w old x up found ∙ (ap (λ (s : ReplicaState). put k s old) same ∙ put-same k x old up found))
+-- the partition's replica was looked up in the entries of a map, and was written back there as it is then
+pub record Written (k : ℕ) (es old new : ReplicaStates) (x w : ReplicaState) : Type 0 where
+  pub view : es ≡ old
+  pub table : IsTable es
+  pub found : lookup (is_at (nat_cmp k)) es ≡ Some x
+  pub set : new ≡ set_value (is_at (nat_cmp k)) es w
+
+module _ {k : ℕ} {es old new : ReplicaStates} {x w : ReplicaState} (it : Written k es old new x w) where
+  pub stands : at k old ≡ Some x
+  stands = looked_up k es old (Some x) it.view it.found
+
+  pub fits : IsTable new
+  fits = set_fits k w es new it.set it.table
+
+  -- a row at the replica that stands there
+  pub does_there : (row : ReplicaState → Acted ReplicaState) (none : Acted ReplicaStates) (before after : UnitEffects) → Does (row x) w before after
+      → Does (at_standing k row none old) new before after
+  does_there row none before after d =
+      let written : new ≡ put k w old =
+      it.set ∙ (set-is k w es x it.table.rise (sym (lookup-is k es) ∙ it.found) ∙ ap (λ (m : ReplicaStates). put k w m) it.view) in
+      subst (λ (o : Option ReplicaState). Does (at_found k row none old o) new before after) (sym stands)
+      (record { state = written ∙ ap (λ (s : ReplicaState). put k s old) d.state; left = d.left })
+
+  -- a replica that is left as it was leaves the map so
+  pub stays_there : w ≡ x → new ≡ old
+  stays_there same =
+      it.set ∙ (ap (λ (s : ReplicaState). set_value (is_at (nat_cmp k)) es s) same
+      ∙ (set_value_same (is_at (nat_cmp k)) es x it.found ∙ it.view))
+
+-- where no replica stands, these deeds are done, and the map stays
+pub does_nowhere : (k : ℕ) (row : ReplicaState → Acted ReplicaState) (deeds : List Deed) (es old new : ReplicaStates) (before after : UnitEffects)
+    → es ≡ old → lookup (is_at (nat_cmp k)) es ≡ None → new ≡ es → Left deeds before after
+    → Does (at_standing k row (acted old deeds) old) new before after
+does_nowhere k row deeds es old new before after view nothing same left =
+    subst (λ (o : Option ReplicaState). Does (at_found k row (acted old deeds) old o) new before after) (sym (looked_up k es old None view nothing))
+    (record { state = same ∙ view; left = left })
+
+pub left_nothing : (d : UnitEffects) → Left [] d d
+left_nothing d = record { records = sym (append-nil d.records); sent = sym (append-nil d.out); told = sym (append-nil d.told) }
 
 -- a replica that stands need not be made
 pub does_standing : (k : ℕ) (row : ReplicaState → Acted ReplicaState) (none : Acted ReplicaStates) (old new : ReplicaStates) (before after : UnitEffects)
@@ -108,11 +126,3 @@ on_err (Err e) f p = f p
 pub none_of : {X : Type 0} (o : Option X) → is_some o ≡ false → o ≡ None
 none_of (Some x) h = absurd (cc)
 none_of None h = refl
-
--- nothing was done
-
-pub does_same : {S : Type 0} (s new : S) (d : UnitEffects) → new ≡ s → Does (still s) new d d
-does_same s new d same = record {
-  state = same;
-  left = record { records = sym (append-nil d.records); sent = sym (append-nil d.out); told = sym (append-nil d.told) };
-}

@@ -1,12 +1,14 @@
--- Seats of which some are gone rise as all of them did.
-use Rattle.std.proofs.Common.{◌≡◌, ℕ, suc, ◌+◌, ◌≤◌, Bool, true, false, cond, List, [], ◌∷◌, filter, length, map, refl, ap, ◌∙◌, arith}
+-- Replica states of which some are gone rise as all of them did.
+use Rattle.std.proofs.Common.{◌≡◌, ℕ, ◌+◌, ◌≤◌, Bool, true, false, cond, List, [], ◌∷◌, filter, length, map, refl, ◌∙◌, arith}
 use Rattle.std.proofs.lemmas.Bool.{and_parts, and_from}
 use Rattle.std.proofs.lemmas.Bool.Decides.{nat_tests}
+use Rattle.std.proofs.lemmas.List.{length-map}
 use Rattle.std.specs.Prelude.{nat_le}
 use Rattle.fabric_lemmas.specs.Maps.{rises, rises_from}
 use Rattle.fabric_lemmas.proofs.Maps.{rises_from-lower}
 use Rattle.keep_log.proofs.MapEntries.{rises-mapped}
 use Rattle.unit_rules.specs.ReplicaStates.{ReplicaState}
+use Rattle.unit_desk.proofs.Puts.{fewer_kept}
 use Rattle.unit_replica.specs.Starts.{is_recorded, state_again, states_again}
 use Rattle.unit_replica.specs.Tables.{ReplicaStates}
 
@@ -25,24 +27,9 @@ pub rises-again : (es : ReplicaStates) → rises es ≡ true → rises (states_a
 rises-again es up =
     rises_from-filter 0 (λ e. is_recorded e.1.replica) (map (λ e. (e.0, state_again e.1)) es) (rises-mapped state_again 0 es ∙ up)
 
-fewer_kept : {X : Type 0} (test : X → Bool) (xs : List X) → length (filter test xs) ≤ length xs
-fewer_kept test [] = omega arith
-fewer_kept test (x ∷ xs) = by (test x) (fewer_kept test xs)
-  where
-    by : (b : Bool) → length (filter test xs) ≤ length xs → length (cond b (x ∷ filter test xs) (filter test xs)) ≤ suc (length xs)
-    by true less = omega (arith, less)
-    by false less = omega (arith, less)
-
--- each replica begins again
-abbrev all_again : ReplicaStates → ReplicaStates
-all_again es = map (λ e. (e.0, state_again e.1)) es
-
-as_many_again : (es : ReplicaStates) → length (all_again es) ≡ length es
-as_many_again [] = refl
-as_many_again (e ∷ es) = ap (λ (n : ℕ). suc n) (as_many_again es)
-
 pub fewer_again : (es : ReplicaStates) → length (states_again es) ≤ length es
 fewer_again es =
-    let less = fewer_kept (λ (e : ℕ × ReplicaState). is_recorded e.1.replica) (all_again es) in
-    let same = as_many_again es in
+    let all : ReplicaStates = map (λ e. (e.0, state_again e.1)) es in
+    let less = fewer_kept (λ (e : ℕ × ReplicaState). is_recorded e.1.replica) all in
+    let same : length all ≡ length es = length-map es _ in
     omega (arith, less, same)

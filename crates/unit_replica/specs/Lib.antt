@@ -1,4 +1,5 @@
 pub mod Laws
+pub mod Limits
 pub mod Memory
 pub mod Names
 pub mod Rows

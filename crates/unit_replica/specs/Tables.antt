@@ -5,6 +5,7 @@ use Rattle.fabric_terms.specs.declared.message.Body.{Body}
 use Rattle.fabric_terms.specs.declared.message.Body.TheVariants as body
 use Rattle.fabric_terms.specs.declared.report.Reason.TheVariants as reason
 use Rattle.fabric_terms.specs.declared.report.Verb.TheVariants as verb
+use Rattle.ring_points.specs.Limits.{most_partitions}
 use Rattle.ring_points.specs.declared.interval.Interval.{Interval}
 use Rattle.ring_points.specs.declared.who.Who.{Who}
 use Rattle.unit_rules.specs.Deeds.{Deed, Acted, acted, refuse, still}
@@ -23,7 +24,7 @@ ReplicaStates = List (ℕ × ReplicaState)
 -- they rise by partition, and are no more than there are partitions
 pub record IsTable (states : ReplicaStates) : Type 0 where
   pub rise : rises states ≡ true
-  pub few : length states ≤ 65536
+  pub few : length states ≤ most_partitions
 
 abbrev pub replica_of_state : Option ReplicaState → Option Replica
 replica_of_state None = None

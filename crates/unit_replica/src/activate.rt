@@ -24,7 +24,8 @@ fn say_activated(asker: Who, config: &Config, effects: &mut UnitEffects)
     effects.out.send(asker, body);
 }
 
-/// The replica has its role from now on. A new primary says so, and begins to lead.
+/// The replica begins its new role, and answers Activated. A new primary reports itself too, and begins to track the
+/// other members.
 fn begin_role(
     me: u16,
     asker: Who,
@@ -53,9 +54,9 @@ fn begin_role(
     say_activated(asker, config, effects);
 }
 
-/// Activate: the replica takes its role of a configuration. Where it has that role already, it only says so.
+/// Activate: the replica takes its role in a configuration. A replica that has the role already only answers again.
 #[tactic(auto, using(crate::proofs::Calls::calls_stay), unfolding(unit_rules::specs::Activations::activate_received))]
-pub fn activate_received(
+pub(crate) fn activate_received(
     me: u16,
     asker: Who,
     config: &Config,

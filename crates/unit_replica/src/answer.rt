@@ -14,7 +14,7 @@ use ring_points::Interval;
 use std::alloc::Global;
 use unit_desk::UnitEffects;
 
-/// How many entries of its log a primary has reported committed since its activation, or why it answers nothing.
+/// How many entries of its log a primary has reported committed since its activation, or why it answers no question.
 fn ready(state: &ReplicaState) -> Result<u32, Reason>
     ensures { result ≡ ready (progress_of state.now) }
 {
@@ -32,7 +32,7 @@ fn ready(state: &ReplicaState) -> Result<u32, Reason>
     }
 }
 
-/// What a name stands for is told.
+/// Reports the value of a name, or that the name has none.
 fn tell_found(partition: u16, name: &NameText, found: Option<NameValue>, effects: &mut UnitEffects)
     requires { HasRoomFor 0 0 1 effects.old }
     ensures left { Left (Tell (resolved partition name.now found) ∷ []) effects.old effects.new }
@@ -48,7 +48,7 @@ fn tell_found(partition: u16, name: &NameText, found: Option<NameValue>, effects
     }
 }
 
-/// The names of a range are told.
+/// Reports the names of a range.
 fn tell_names(partition: u16, names: NameTexts, effects: &mut UnitEffects)
     requires { HasRoomFor 0 0 1 effects.old }
     ensures left { Left (Tell (NameList partition names) ∷ []) effects.old effects.new }
@@ -57,11 +57,11 @@ fn tell_names(partition: u16, names: NameTexts, effects: &mut UnitEffects)
     effects.told.push(Report::NameList(partition, names));
 }
 
-/// Resolve: a primary tells what a name stands for by the entries that it reported committed. It is refused at a
-/// replica that takes no writes, and before the first commit of its activation. It is an error where memory is short
-/// for an answer, and then nothing is changed.
+/// Resolve: a primary reports the value of a name after the entries that it has reported committed. It refuses if it
+/// takes no writes, and before the first commit since its activation. It is an error if memory is short for an answer,
+/// and then nothing changes.
 #[tactic(auto, unfolding(unit_rules::specs::Answers::resolve_commanded))]
-pub fn resolve_commanded(
+pub(crate) fn resolve_commanded(
     alloc: Global,
     name: &NameText,
     state: &mut ReplicaState,
@@ -88,10 +88,10 @@ pub fn resolve_commanded(
     }
 }
 
-/// Names: a primary tells the first names with a point in the range by the entries that it reported committed. It is
-/// refused, and an error, where `resolve_commanded` is.
+/// Names: a primary reports the first names with a point in the range, after the entries that it has reported
+/// committed. It is refused, or an error, where `resolve_commanded` is.
 #[tactic(auto, unfolding(unit_rules::specs::Answers::names_commanded))]
-pub fn names_commanded(
+pub(crate) fn names_commanded(
     alloc: Global,
     range: &Interval,
     state: &mut ReplicaState,

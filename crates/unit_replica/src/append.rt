@@ -11,7 +11,7 @@ use replica_core::{Done, ReplicaRefusal};
 use ring_points::{Epoch, Who};
 use unit_desk::UnitEffects;
 
-/// A new entry is recorded, and told as accepted.
+/// Records a new entry, and reports it accepted.
 pub(crate) fn accept(
     partition: u16,
     epoch: Epoch,
@@ -45,10 +45,10 @@ fn say_appended(asker: Who, epoch: Epoch, replica: &NamedReplica, effects: &mut 
     effects.out.send(asker, body);
 }
 
-/// Append: the entry is added where it is the next. The last entry is answered, where the log is of the epoch. It is an
-/// error where memory is short for a new entry, and then nothing is changed.
+/// Append: the replica adds the entry if it is the next one, and answers with its last entry if its log is of the
+/// epoch. It is an error if memory is short for a new entry, and then nothing changes.
 #[tactic(auto, using(crate::proofs::Calls::calls_stay, crate::proofs::Stored::entry_stored), unfolding(unit_rules::specs::Writes::append_received))]
-pub fn append_received(
+pub(crate) fn append_received(
     asker: Who,
     epoch: Epoch,
     lsn: u32,

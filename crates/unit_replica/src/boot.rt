@@ -12,7 +12,7 @@ use ring_points::MAX_PARTITIONS;
 use std::alloc::Global;
 use std::collections::BTreeMap;
 
-/// A replica is put among others. Where memory is short, it comes back.
+/// Puts a replica among the others. If memory is short, the replica comes back.
 fn state_one(map: &mut BTreeMap<u16, ReplicaState>, replica: Replica) -> Result<(), Replica>
     ensures replica_put { OnOk result (map.new.entries ≡ with_replica replica map.old.entries) }
     ensures refused { IfErr result (λ same. (same ≡ replica) × (map.new.entries ≡ map.old.entries)) }
@@ -30,7 +30,7 @@ fn state_one(map: &mut BTreeMap<u16, ReplicaState>, replica: Replica) -> Result<
     }
 }
 
-/// Replicas are put in, from the last one on, in front of those that are. Where memory is short, the first ones stay.
+/// Puts replicas in front of those in the map, the last one first. If memory is short, the first ones stay in the list.
 fn state_all(
     map: &mut BTreeMap<u16, ReplicaState>,
     replicas: &mut Vec<Replica>,
@@ -50,7 +50,7 @@ fn state_all(
     Ok(())
 }
 
-/// The replicas of states are moved behind a list that has room for them, by rising partition.
+/// Moves the replicas of the map behind a list that has room for them, by rising partition.
 fn give_back(map: BTreeMap<u16, ReplicaState>, replicas: &mut Vec<Replica>)
     requires { vec_len replicas.old + length map.entries ≤ vec_capacity replicas.old }
     ensures { replicas.new.items ≡ replicas.old.items ++ replicas_in map.entries }
@@ -60,7 +60,7 @@ fn give_back(map: BTreeMap<u16, ReplicaState>, replicas: &mut Vec<Replica>)
     }
 }
 
-/// A start ends every collection.
+/// Forgets all collected entries, as every start does.
 fn end_collections(map: &mut BTreeMap<u16, ReplicaState>)
     ensures { map.new.entries ≡ states_uncollected map.old.entries }
 {
@@ -71,9 +71,9 @@ fn end_collections(map: &mut BTreeMap<u16, ReplicaState>)
 }
 
 impl ReplicaStates {
-    /// The replicas of a node at the start of an instance, rising by partition, as its records amount to: what they
-    /// collected is forgotten, and none knows anything as a primary. They are taken out of the list. It is an error
-    /// where memory is short, and then the list is as it was.
+    /// The replica states with which an instance starts. The list has the replicas to which the node's records amount,
+    /// rising by partition; they are taken out of it. Collected entries are forgotten, and no replica has progress as a
+    /// primary. It is an error if memory is short, and then the list is as before.
     pub fn begun(alloc: Global, replicas: &mut Vec<Replica>) -> Result<Self, OutOfMemory>
         requires { IsTrue (rises (states_of replicas.old.items)) }
         ensures begun { IfOk result (λ states. states ≡ states_from replicas.old.items) }

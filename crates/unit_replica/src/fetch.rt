@@ -10,7 +10,7 @@ use replica_core::Entry;
 use ring_points::{Epoch, Who};
 use unit_desk::UnitEffects;
 
-/// The entry of this number, which counts from 1.
+/// The entry with this number. Numbers begin at 1.
 pub(crate) fn entry_at(lsn: u64, log: &[Entry]) -> Option<&Entry>
     ensures { option_copied result ≡ entry_at lsn log.now }
 {
@@ -20,9 +20,9 @@ pub(crate) fn entry_at(lsn: u64, log: &[Entry]) -> Option<&Entry>
     log.get((lsn - 1) as usize)
 }
 
-/// Fetch: an entry of the log is given to who asks in the promised epoch.
+/// Fetch: the replica sends an entry of its log to whoever asks in the promised epoch.
 #[tactic(auto, unfolding(unit_rules::specs::Copies::fetch_received))]
-pub fn fetch_received(
+pub(crate) fn fetch_received(
     asker: Who,
     epoch: Epoch,
     lsn: u32,

@@ -17,8 +17,8 @@ use ring_points::Who;
 use unit_desk::UnitEffects;
 use unit_rules::CatchUp;
 
-/// The row of a frame to a replica; a frame of another kind changes nothing. It is an error where memory is
-/// short for an entry, and then nothing is changed.
+/// The row of a frame at a replica. A frame of another kind changes nothing. It is an error if memory is short for an
+/// entry, and then nothing changes.
 pub(crate) fn row_of(
     me: u16,
     from: Who,

@@ -1,11 +1,11 @@
 ghost use Rattle.unit_replica.specs.Laws.{StartsAreOfRecords, StopsAreTaken};
 
-/// A node that takes the replicas to which its records amount begins with the replica states of the rules.
+/// A node that starts with the replicas to which its records amount has the replica states of the rules.
 pub fn starts_are_of_records()
     ensures { StartsAreOfRecords }
 {}
 
-/// So does a node that takes what a stop gave, where nothing but the records is left of the instance before.
+/// So has a node that starts with the replicas that a stop gave, if the stop kept only what records say.
 pub fn stops_are_taken()
     ensures { StopsAreTaken }
 {}

@@ -9,7 +9,7 @@ use replica_core::Entry;
 use ring_points::Interval;
 use std::alloc::Global;
 
-/// The names that the first entries of a log leave, kept along as the log grows, and how many entries these are.
+/// The names that the first `count` entries of a log define. They are brought up to date when somebody asks.
 #[derive(Drop)]
 pub(crate) struct LogNames {
     pub(crate) names: Names,
@@ -49,7 +49,7 @@ impl LogNames {
         }
     }
 
-    /// These names, if they are of no more than so many entries, or else those of none.
+    /// These names, if they are those of at most `count` entries, or else the names of no entries.
     #[tactic(auto, using(crate::proofs::Naming::none_named))]
     pub(crate) fn or_none(self, alloc: Global, log: &[Entry], count: usize) -> Self
         requires { AreOf log.now self.count self.names }
@@ -63,7 +63,7 @@ impl LogNames {
         }
     }
 
-    /// Applies what is missing up to so many entries of the log, or up to its end. Where memory is short, the names are
+    /// Applies the missing entries up to entry `count`, or up to the end of the log. If memory is short, the names are
     /// those of fewer entries.
     #[tactic(auto, using(crate::proofs::Naming::names_next, crate::proofs::Naming::named_least))]
     fn go_on(&mut self, log: &[Entry], count: usize) -> Result<(), OutOfMemory>
@@ -80,7 +80,7 @@ impl LogNames {
         Ok(())
     }
 
-    /// What the name stands for after so many entries of the log.
+    /// The value of the name after the first `count` entries of the log.
     pub(crate) fn resolve(
         &mut self,
         alloc: Global,
@@ -97,7 +97,7 @@ impl LogNames {
         value_of(alloc, self.names.get(name))
     }
 
-    /// The first names with a point in the range, after so many entries of the log.
+    /// The first names with a point in the range, after the first `count` entries of the log.
     pub(crate) fn list(
         &mut self,
         alloc: Global,

@@ -14,12 +14,12 @@ use ring_points::{Config, Epoch, Interval, MAX_LOG_ENTRIES, MAX_WRITE};
 use std::alloc::Global;
 use std::marker::Model;
 
-/// A replica with the names that its log leaves. They are kept along, so that an answer costs no walk of the log; a
-/// call that may make another log forgets them. Contracts see the replica alone.
+/// A replica, and the names that its log defines. The names are kept between questions, so an answer need not walk the
+/// log. A call that may replace the log forgets them. Contracts see the replica alone.
 #[derive(Drop)]
-pub struct NamedReplica {
+pub(crate) struct NamedReplica {
     replica: Replica,
-    /// Those of some first entries of the log, once they were asked for.
+    /// The names of some first entries of the log, once somebody asked for names.
     names: Option<LogNames>,
 }
 
@@ -37,13 +37,13 @@ impl Model for NamedReplica {
 
 impl NamedReplica {
     /// A new replica. Its log grows by this allocator.
-    pub fn new(alloc: Global, partition: u16) -> Self
+    pub(crate) fn new(alloc: Global, partition: u16) -> Self
         ensures { result ≡ first_replica partition }
     {
         NamedReplica::of(Replica::new(alloc, partition))
     }
 
-    /// This replica, of whose names nobody has asked yet.
+    /// This replica, before anybody asks for its names.
     pub(crate) fn of(replica: Replica) -> Self
         ensures { result ≡ replica }
     {
@@ -60,44 +60,44 @@ impl NamedReplica {
         self.replica
     }
 
-    pub fn replica(&self) -> &Replica
+    pub(crate) fn replica(&self) -> &Replica
         ensures { result.now ≡ self.now }
     {
         &self.replica
     }
 
-    pub fn partition(&self) -> u16
+    pub(crate) fn partition(&self) -> u16
         ensures { result ≡ self.now.partition }
     {
         self.replica.partition()
     }
 
-    pub fn promised(&self) -> Epoch
+    pub(crate) fn promised(&self) -> Epoch
         ensures { result ≡ self.now.promised }
     {
         self.replica.promised()
     }
 
-    pub fn at(&self) -> Epoch
+    pub(crate) fn at(&self) -> Epoch
         ensures { result ≡ self.now.at }
     {
         self.replica.at()
     }
 
-    pub fn log(&self) -> &[Entry]
+    pub(crate) fn log(&self) -> &[Entry]
         ensures log { result.now ≡ self.now.log }
         ensures sound { IsSound self.now }
     {
         self.replica.log()
     }
 
-    pub fn role(&self) -> Role
+    pub(crate) fn role(&self) -> Role
         ensures { result ≡ self.now.role }
     {
         self.replica.role()
     }
 
-    pub fn collected(&self) -> u32
+    pub(crate) fn collected(&self) -> u32
         ensures count { result ≡ length self.now.collected }
         ensures sound { IsSound self.now }
     {
@@ -151,7 +151,7 @@ impl NamedReplica {
         self.replica.adopt_bytes(e, epoch, lsn, bytes, last)
     }
 
-    /// The names stay: an entry comes behind those that they are of.
+    /// Appends an entry. The names stay, because they are those of entries before it.
     pub(crate) fn append(
         &mut self,
         e: Epoch,
@@ -179,8 +179,8 @@ impl NamedReplica {
         self.replica.begin_again();
     }
 
-    /// The names that are kept, if they are of no more than so many entries, or else those of none. They are to be put
-    /// back.
+    /// Takes the kept names out, if they are those of at most `count` entries, or else the names of no entries. The
+    /// caller puts them back.
     #[tactic(auto, using(crate::proofs::Naming::none_named))]
     fn take_names(&mut self, alloc: Global, count: usize) -> LogNames
         ensures same { self.new ≡ self.old }
@@ -193,7 +193,7 @@ impl NamedReplica {
         }
     }
 
-    /// What a name stands for after the first `count` entries of the log. Where memory is short, it is an error.
+    /// The value of a name after the first `count` entries of the log. It is an error if memory is short.
     pub(crate) fn resolve(
         &mut self,
         alloc: Global,
@@ -209,8 +209,8 @@ impl NamedReplica {
         found
     }
 
-    /// The first names with a point in the range, after the first `count` entries of the log. Where memory is short, it
-    /// is an error.
+    /// The first names with a point in the range, after the first `count` entries of the log. It is an error if memory
+    /// is short.
     pub(crate) fn list(
         &mut self,
         alloc: Global,

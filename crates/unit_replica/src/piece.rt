@@ -14,14 +14,14 @@ use ring_points::{Epoch, MAX_LOG_ENTRIES};
 use unit_desk::UnitEffects;
 use unit_rules::CatchUp;
 
-/// Whether an entry of this epoch and number is one of the Sync's log, which is not taken yet.
+/// Whether the replica still needs an entry of this epoch and number for its Sync.
 fn is_wanted(catch_up: CatchUp, epoch: Epoch, lsn: u32, replica: &NamedReplica) -> bool
     ensures { result ≡ is_wanted catch_up epoch lsn replica.now }
 {
     catch_up.epoch == epoch && replica.at() != epoch && 1 <= lsn && lsn <= catch_up.last
 }
 
-/// What follows an entry that was collected: with the last one the log is adopted, else the next is asked for.
+/// Goes on after an entry was collected: adopts the log after the last entry, and else asks for the next one.
 fn go_on(catch_up: CatchUp, lsn: u32, replica: &NamedReplica, effects: &mut UnitEffects)
     requires { HasRoomFor 1 1 1 effects.old }
     ensures left { Left (copy_goes_on catch_up lsn replica.now) effects.old effects.new }
@@ -34,8 +34,8 @@ fn go_on(catch_up: CatchUp, lsn: u32, replica: &NamedReplica, effects: &mut Unit
     }
 }
 
-/// An entry of these parts is collected, and the copy goes on. It is an error where memory is short for it, and then
-/// nothing is changed.
+/// Collects an entry, and goes on with the copy. It is an error if memory is short for the entry, and then nothing
+/// changes.
 #[tactic(auto, using(crate::proofs::Stored::entry_stored))]
 fn collect(
     catch_up: CatchUp,
@@ -48,11 +48,13 @@ fn collect(
     requires lsn { lsn ≤ MAX_LOG_ENTRIES }
     requires room { HasRoomFor 2 1 1 effects.old }
     ensures does { let entry : Entry = record { epoch = entry_epoch; lsn = lsn; bytes = text.now } in
-        IfOk result (λ _. Does (piece_collected catch_up entry state.old (adopt_call catch_up.epoch entry catch_up.last state.old.replica)) state.new effects.old effects.new) }
+        IfOk result (λ _. Does (piece_collected catch_up entry state.old
+        (adopt_call catch_up.epoch entry catch_up.last state.old.replica)) state.new effects.old effects.new) }
     ensures few { length effects.new.out ≤ length effects.old.out + 1 }
     ensures refused { OnErr result ((state.new ≡ state.old) × (effects.new ≡ effects.old)) }
     ensures memory { let entry : Entry = record { epoch = entry_epoch; lsn = lsn; bytes = text.now } in
-        OnErr result (stores (piece_collected catch_up entry state.old (adopt_call catch_up.epoch entry catch_up.last state.old.replica)) ≡ true) }
+        OnErr result (stores (piece_collected catch_up entry state.old
+        (adopt_call catch_up.epoch entry catch_up.last state.old.replica)) ≡ true) }
 {
     let adopted = state.replica.adopt_bytes(
         catch_up.epoch,
@@ -78,10 +80,10 @@ fn collect(
     }
 }
 
-/// Piece: an entry of the Sync that was taken last is collected; with the last one, what is collected becomes the log.
-/// It is an error where memory is short for the entry, and then nothing is changed.
+/// Piece: the replica collects an entry of the log that its last Sync named. With the last entry the collected entries
+/// become its log. It is an error if memory is short for the entry, and then nothing changes.
 #[tactic(auto, unfolding(unit_rules::specs::Copies::piece_received))]
-pub fn piece_received(
+pub(crate) fn piece_received(
     epoch: Epoch,
     lsn: u32,
     entry_epoch: Epoch,

@@ -9,29 +9,34 @@ use ring_points::{Config, MAX_MEMBERS};
 use std::marker::Model;
 use unit_rules::PeerProgress;
 
-/// What a primary knows: of each other member, rising, the last entry that it had at its activation, and the last
-/// committed one. A configuration has at most seven members, of which the primary is one.
+/// The most other members of a partition's configuration.
+pub const MAX_PEERS: usize = MAX_MEMBERS - 1;
+
+/// What a primary knows of its partition's log.
 #[derive(Drop)]
-pub struct ReplicationProgress {
-    /// At most six, though there is room for each member.
+pub(crate) struct ReplicationProgress {
+    /// The other members, rising by node. There are at most `MAX_PEERS`, though there is room for one more.
     peers: ArrayVec<PeerProgress, MAX_MEMBERS>,
+    /// The last entry at the primary's activation.
     begun: u32,
+    /// The last committed entry.
     committed: u32,
 }
 
 impl Model for ReplicationProgress {
     ghost use Rattle.std.specs.Prelude.{◌≤◌, length};
     ghost use Rattle.unit_rules.specs.ReplicaStates.{ReplicationProgress};
+    ghost use Rattle.unit_replica.specs.Limits.{most_peers};
 
     ghost Value = { ReplicationProgress };
 
     ghost view = { λ l. record { peers = l.peers.items; begun = l.begun; committed = l.committed } };
 
-    ghost invariant = { λ l. length l.peers.items ≤ 6 };
+    ghost invariant = { λ l. length l.peers.items ≤ most_peers };
 }
 
-/// A member, once this node has its entries up to `last`: it is sent the next one. An entry that the primary has not is
-/// not confirmed.
+/// A member, once the node has confirmed the entries up to `last`: the entry behind them is its next one. Entries
+/// beyond the primary's own last one do not count as confirmed.
 fn confirmed_peer(peer: PeerProgress, node: u16, last: u32, own: u32) -> PeerProgress
     ensures { result ≡ peer_confirms node last own peer }
 {
@@ -50,16 +55,16 @@ fn confirmed_peer(peer: PeerProgress, node: u16, last: u32, own: u32) -> PeerPro
     }
 }
 
-/// The members, once this node has its entries up to `last`.
+/// The members, once the node has confirmed the entries up to `last`.
 fn confirmed_peers(
     peers: &[PeerProgress],
     node: u16,
     last: u32,
     own: u32,
 ) -> ArrayVec<PeerProgress, MAX_MEMBERS>
-    requires { length peers.now ≤ 6 }
+    requires { length peers.now ≤ MAX_PEERS }
     ensures peers { result.items ≡ map (peer_confirms node last own) peers.now }
-    ensures few { length result.items ≤ 6 }
+    ensures few { length result.items ≤ MAX_PEERS }
 {
     let mut told = ArrayVec::new();
     for peer in peers {
@@ -68,7 +73,7 @@ fn confirmed_peers(
     told
 }
 
-/// Whether a majority has confirmed the entry.
+/// Whether a majority has confirmed the entry `lsn`.
 fn is_confirmed(confirmed: &[u32], lsn: u32) -> bool
     requires { length confirmed.now ≤ MAX_MEMBERS }
     ensures { result ≡ is_confirmed confirmed.now lsn }
@@ -89,9 +94,9 @@ fn greater_confirmed(most: u32, confirmed: &[u32], lsn: u32) -> u32
     }
 }
 
-/// The greatest entry that a majority has confirmed, of what each member has confirmed.
+/// The greatest entry that a majority has confirmed. `confirmed` has the last confirmed entry of each member.
 #[tactic(auto, using(crate::proofs::Confirmed::greatest_more))]
-pub fn most_confirmed(confirmed: &[u32]) -> u32
+fn most_confirmed(confirmed: &[u32]) -> u32
     requires { length confirmed.now ≤ MAX_MEMBERS }
     ensures { result ≡ most_confirmed confirmed.now }
 {
@@ -103,9 +108,9 @@ pub fn most_confirmed(confirmed: &[u32]) -> u32
 }
 
 impl ReplicationProgress {
-    /// At its activation a primary knows of no confirmed entry; all that it has is committed, and what comes next is
-    /// sent.
-    pub fn first(me: u16, config: &Config, last: u32) -> Self
+    /// The progress of a primary at its activation. Its own entries up to `last` are committed. No member has confirmed
+    /// an entry yet, and the next entry of each is the one behind `last`.
+    pub(crate) fn first(me: u16, config: &Config, last: u32) -> Self
         requires few { length config.now.members ≤ MAX_MEMBERS }
         requires member { is_member me config.now ≡ true }
         ensures { result ≡ first_progress me config.now last }
@@ -128,22 +133,22 @@ impl ReplicationProgress {
     }
 
     /// The other members, rising.
-    pub fn peers(&self) -> &[PeerProgress]
+    pub(crate) fn peers(&self) -> &[PeerProgress]
         ensures peers { result.now ≡ self.now.peers }
-        ensures few { length result.now ≤ 6 }
+        ensures few { length result.now ≤ MAX_PEERS }
     {
         self.peers.as_slice()
     }
 
     /// The last committed entry.
-    pub fn committed(&self) -> u32
+    pub(crate) fn committed(&self) -> u32
         ensures { result ≡ self.now.committed }
     {
         self.committed
     }
 
-    /// The last entry that it reported committed since its activation, 0 where it reported none.
-    pub fn reported(&self) -> u32
+    /// The last entry that the primary reported committed since its activation, or 0 if it reported none.
+    pub(crate) fn reported(&self) -> u32
         ensures { result ≡ reported_of self.now }
     {
         if self.begun < self.committed {
@@ -153,22 +158,22 @@ impl ReplicationProgress {
         }
     }
 
-    /// A member says that it has its entries up to `last`; `own` is the primary's last entry.
-    pub fn confirm(&mut self, node: u16, last: u32, own: u32)
+    /// A member confirms its entries up to `last`. The primary's last entry is `own`.
+    pub(crate) fn confirm(&mut self, node: u16, last: u32, own: u32)
         ensures { self.new ≡ confirmed_by node last own self.old }
     {
         self.peers = confirmed_peers(self.peers.as_slice(), node, last, own);
     }
 
-    /// All entries up to this one are committed.
-    pub fn commit(&mut self, lsn: u32)
+    /// Commits the entries up to `lsn`.
+    pub(crate) fn commit(&mut self, lsn: u32)
         ensures { self.new ≡ record self.old { committed = lsn } }
     {
         self.committed = lsn;
     }
 
-    /// The greatest entry that a majority of the members has confirmed, the primary with its last entry among them.
-    pub fn most_confirmed(&self, own: u32) -> u32
+    /// The greatest entry that a majority of the members has confirmed. The primary counts with its last entry, `own`.
+    pub(crate) fn most_confirmed(&self, own: u32) -> u32
         ensures { result ≡ most_confirmed (confirmed_of self.now own) }
     {
         let mut confirmed: ArrayVec<u32, MAX_MEMBERS> = ArrayVec::new();

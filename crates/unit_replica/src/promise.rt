@@ -12,7 +12,7 @@ use replica_core::{Done, ReplicaRefusal};
 use ring_points::{Epoch, Who};
 use unit_desk::UnitEffects;
 
-/// A replica that has promised a greater epoch says so; no other refusal is answered.
+/// Answers Older where a greater epoch is promised. No other refusal is answered.
 pub(crate) fn say_older(
     asker: Who,
     partition: u16,
@@ -34,7 +34,7 @@ pub(crate) fn say_older(
     }
 }
 
-/// A promise that is raised is recorded and told.
+/// Records and reports a promise, if it is a new one.
 pub(crate) fn tell_raised(partition: u16, epoch: Epoch, done: Done, effects: &mut UnitEffects)
     requires { HasRoomFor 1 0 1 effects.old }
     ensures left { Left (raise_told partition epoch done) effects.old effects.new }
@@ -48,7 +48,7 @@ pub(crate) fn tell_raised(partition: u16, epoch: Epoch, done: Done, effects: &mu
     }
 }
 
-/// The epoch of the log and its last entry are answered.
+/// Answers with the epoch of the log and its last entry.
 fn say_promised(asker: Who, epoch: Epoch, replica: &NamedReplica, effects: &mut UnitEffects)
     requires { HasRoomFor 0 1 0 effects.old }
     ensures left { Left (Deed.Send asker
@@ -64,9 +64,9 @@ fn say_promised(asker: Who, epoch: Epoch, replica: &NamedReplica, effects: &mut 
     effects.out.send(asker, body);
 }
 
-/// Promise: the replica takes no call of a lower epoch any more, and says what its log is.
+/// Promise: the replica refuses every lower epoch from now on, and answers with the state of its log.
 #[tactic(auto, unfolding(unit_rules::specs::Promises::promise_received))]
-pub fn promise_received(
+pub(crate) fn promise_received(
     asker: Who,
     epoch: Epoch,
     state: &mut ReplicaState,

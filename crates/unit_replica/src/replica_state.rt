@@ -5,19 +5,18 @@ ghost use Rattle.unit_replica.specs.Starts.{state_again, state_uncollected};
 
 use crate::named_replica::NamedReplica;
 use crate::progress::ReplicationProgress;
-use replica_core::Replica;
 use ring_points::MAX_LOG_ENTRIES;
 use std::alloc::Global;
 use std::marker::Model;
 use unit_rules::CatchUp;
 
-/// A replica at its node. Contracts see it as the rules' record of that name.
+/// A replica at its node, with what the node knows for it. Contracts see the record that the rules call `ReplicaState`.
 #[derive(Drop)]
-pub struct ReplicaState {
+pub(crate) struct ReplicaState {
     pub(crate) replica: NamedReplica,
-    /// The Sync that it took last.
+    /// The Sync that the replica took last.
     pub(crate) catch_up: Option<CatchUp>,
-    /// What it knows as a primary.
+    /// What the replica knows as a primary.
     pub(crate) progress: Option<ReplicationProgress>,
 }
 
@@ -35,7 +34,7 @@ impl Model for ReplicaState {
 
 impl ReplicaState {
     /// The state of a new replica. Its log grows by this allocator.
-    pub fn new(alloc: Global, partition: u16) -> Self
+    pub(crate) fn new(alloc: Global, partition: u16) -> Self
         ensures { result ≡ first_state partition }
     {
         ReplicaState {
@@ -45,21 +44,15 @@ impl ReplicaState {
         }
     }
 
-    /// The replica.
-    pub fn replica(&self) -> &Replica
-        ensures { result.now ≡ self.now.replica }
-    {
-        self.replica.replica()
-    }
-
-    /// What is collected is forgotten.
+    /// Forgets the collected entries.
     pub(crate) fn drop_collected(&mut self)
         ensures { self.new ≡ state_uncollected self.old }
     {
         self.replica.drop_collected();
     }
 
-    /// Begins again with the next instance of its node: what was known as a primary is lost, and which Sync was taken.
+    /// Begins again with the next instance of the node: the role, the collected entries, the Sync and the progress are
+    /// lost.
     pub(crate) fn begin_again(&mut self)
         ensures { self.new ≡ state_again self.old }
     {
@@ -69,7 +62,7 @@ impl ReplicaState {
     }
 }
 
-/// The number of a replica's last entry, 0 where there is none.
+/// The number of a replica's last entry, or 0 if the log is empty.
 pub(crate) fn last_of(replica: &NamedReplica) -> u32
     ensures last { result ≡ last_of replica.now }
     ensures few { result ≤ MAX_LOG_ENTRIES }

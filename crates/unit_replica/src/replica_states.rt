@@ -10,6 +10,7 @@ ghost use Rattle.unit_replica.specs.Tables.{write_at};
 
 use crate::answer::{names_commanded, resolve_commanded};
 use crate::frame::row_of;
+use crate::progress::MAX_PEERS;
 use crate::replica_state::ReplicaState;
 use crate::write::{refuse, write_commanded};
 use fabric_terms::{Body, NameText, OutOfMemory, Payload, Reason, Verb};
@@ -20,7 +21,7 @@ use std::collections::BTreeMap;
 use std::marker::Model;
 use unit_desk::UnitEffects;
 
-/// The replicas of a node. Contracts see the map from partitions, as the list that rises by partition.
+/// The replicas of a node. Contracts see a map from partitions, as a list that rises by partition.
 #[derive(Drop)]
 pub struct ReplicaStates {
     pub(crate) alloc: Global,
@@ -66,7 +67,7 @@ impl ReplicaStates {
         }
     }
 
-    /// The row of a frame at the partition's replica, where one stands.
+    /// The row of a frame at the partition's replica, if the node has one.
     fn at_standing(
         &mut self,
         me: u16,
@@ -91,7 +92,7 @@ impl ReplicaStates {
         row_of(me, from, body, state, effects)
     }
 
-    /// The row of a frame at the partition's first state, which is made for it.
+    /// The row of a frame at a new replica of the partition.
     #[tactic(auto, using(crate::proofs::Stored::state_made))]
     fn at_first(
         &mut self,
@@ -110,7 +111,7 @@ impl ReplicaStates {
         ensures refused { OnErr result ((self.new ≡ self.old) × (effects.new ≡ effects.old)) }
         ensures memory { OnErr result (grows self.old (at_state partition (row_of me from body.now) self.old) ≡ true) }
     {
-        // This never comes, since there are no more numbers of partitions.
+        // This never happens: a map with all partitions has this one too.
         if self.map.len() >= MAX_PARTITIONS {
             return Err(OutOfMemory);
         }
@@ -125,7 +126,7 @@ impl ReplicaStates {
         }
     }
 
-    /// The row of a frame at the partition's replica, which is made where none stands.
+    /// The row of a frame at the partition's replica. It is made if the node has none.
     fn at_state(
         &mut self,
         me: u16,
@@ -149,9 +150,9 @@ impl ReplicaStates {
         }
     }
 
-    /// A frame to the replica of its partition. Promise, Sync, Activate and Append make the replica where none stands;
-    /// other frames do nothing then. It is an error where memory is short for a new entry or a new replica, and then
-    /// nothing is changed: no other frame wants memory.
+    /// A frame to the replica of its partition. If the node has none, Promise, Sync, Activate and Append make it, and
+    /// other frames do nothing. It is an error if memory is short for a new entry or a new replica, and then nothing
+    /// changes. No other frame needs memory.
     pub fn frame_received(
         &mut self,
         me: u16,
@@ -180,9 +181,9 @@ impl ReplicaStates {
         }
     }
 
-    /// Write: the partition's primary adds an entry. It is refused where the node has no replica of the partition, at a
-    /// replica that takes no writes, and where its log is full. It is an error where memory is short for a new entry,
-    /// and then nothing is changed.
+    /// Write: the partition's primary adds an entry. It is refused if the node has no replica of the partition, if the
+    /// replica takes no writes, and if its log is full. It is an error if memory is short for a new entry, and then
+    /// nothing changes.
     pub fn write(
         &mut self,
         partition: u16,
@@ -191,7 +192,7 @@ impl ReplicaStates {
     ) -> Result<(), OutOfMemory>
         requires { HasRoom effects.old }
         ensures does { IfOk result (λ _. Does (write_at partition text.now self.old) self.new effects.old effects.new) }
-        ensures few { length effects.new.out ≤ length effects.old.out + 6 }
+        ensures few { length effects.new.out ≤ length effects.old.out + MAX_PEERS }
         ensures refused { OnErr result ((self.new ≡ self.old) × (effects.new ≡ effects.old)) }
         ensures memory { OnErr result (stores (write_at partition text.now self.old) ≡ true) }
     {
@@ -202,9 +203,9 @@ impl ReplicaStates {
         write_commanded(text, state, effects)
     }
 
-    /// Resolve: the partition's primary tells what a name stands for. It is refused where the node has no replica of
-    /// the partition, and where that answers nothing. It is an error where memory is short for an answer, and then
-    /// nothing is changed.
+    /// Resolve: the partition's primary reports the value of a name. It is refused if the node has no replica of the
+    /// partition, and if that replica answers no questions. It is an error if memory is short for an answer, and then
+    /// nothing changes.
     pub fn resolve(
         &mut self,
         partition: u16,
@@ -212,7 +213,8 @@ impl ReplicaStates {
         effects: &mut UnitEffects,
     ) -> Result<(), OutOfMemory>
         requires { HasRoom effects.old }
-        ensures does { IfOk result (λ _. Does (resolve_at partition name.now self.old) self.new effects.old effects.new) }
+        ensures does { IfOk result (λ _. Does (resolve_at partition name.now self.old)
+            self.new effects.old effects.new) }
         ensures few { length effects.new.out ≤ length effects.old.out }
         ensures refused { OnErr result ((self.new ≡ self.old) × (effects.new ≡ effects.old)) }
         ensures memory { OnErr result (is_ready_at partition self.old ≡ true) }
@@ -224,7 +226,7 @@ impl ReplicaStates {
         resolve_commanded(self.alloc, name, state, effects)
     }
 
-    /// Names: the partition's primary tells the first names with a point in the range. It is refused, and an error,
+    /// Names: the partition's primary reports the first names with a point in the range. It is refused, or an error,
     /// where `resolve` is.
     pub fn list_names(
         &mut self,

@@ -5,7 +5,7 @@ use crate::named_replica::NamedReplica;
 use crate::replica_states::ReplicaStates;
 use ring_points::Epoch;
 
-/// Whether the records of a node say anything of this replica. It is so once it has promised an epoch, or has an entry.
+/// Whether the records of a node mention this replica: it has promised an epoch, or has an entry.
 fn is_recorded(replica: &NamedReplica) -> bool
     ensures { result ≡ is_recorded replica.now }
 {
@@ -17,8 +17,8 @@ fn is_recorded(replica: &NamedReplica) -> bool
 }
 
 impl ReplicaStates {
-    /// The next instance of the node begins with these replicas: all roles are lost, what was collected, and what was
-    /// known as a primary. A replica of which nothing is recorded is gone. It takes no memory.
+    /// Makes these the replicas with which the next instance of the node begins. Roles, collected entries and the
+    /// progress of primaries are lost, and so is a replica that no record mentions. It takes no memory.
     pub fn begin_again(&mut self)
         ensures { self.new ≡ states_again self.old }
     {

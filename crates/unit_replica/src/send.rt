@@ -7,20 +7,21 @@ ghost use Rattle.unit_rules.specs.Writes.{append_to, entry_sent, state_fired};
 
 use crate::fetch::entry_at;
 use crate::named_replica::NamedReplica;
+use crate::progress::MAX_PEERS;
 use crate::replica_state::ReplicaState;
 use fabric_terms::{Body, Outbox, Payload};
 use replica_core::Role;
 use ring_points::{Epoch, MAX_WRITE, OUTBOX_LIMIT, Who};
 use unit_rules::PeerProgress;
 
-/// Whether a replica takes writes: it is a primary, and has promised nothing higher than its epoch.
+/// Whether a replica takes writes: it is a primary, and has promised no epoch above its own.
 pub(crate) fn takes_writes(replica: &NamedReplica) -> bool
     ensures { result ≡ (is_primary replica.now.role && not (is_older replica.now.at replica.now.promised)) }
 {
     replica.role() == Role::Primary && !(replica.at() < replica.promised())
 }
 
-/// A member is sent an entry.
+/// Sends an entry to a member.
 pub(crate) fn append_to(
     epoch: Epoch,
     replica: &NamedReplica,
@@ -46,7 +47,7 @@ pub(crate) fn append_to(
     out.send(to, body);
 }
 
-/// Each of these members is sent the entry.
+/// Sends an entry to each of these members.
 pub(crate) fn append_to_all(
     epoch: Epoch,
     replica: &NamedReplica,
@@ -65,7 +66,7 @@ pub(crate) fn append_to_all(
     }
 }
 
-/// A member is sent the entry that is next for it, where there is one.
+/// Sends a member its next entry, if the log has that entry.
 fn send_next(replica: &NamedReplica, peer: &PeerProgress, out: &mut Outbox)
     requires room { length out.old + 1 ≤ OUTBOX_LIMIT }
     ensures sent { out.new ≡ out.old ++ frames_of
@@ -84,7 +85,7 @@ fn send_next(replica: &NamedReplica, peer: &PeerProgress, out: &mut Outbox)
     }
 }
 
-/// Each of these members is sent the entry that is next for it, where there is one.
+/// Sends each of these members its next entry, if the log has that entry.
 #[tactic(auto, using(unit_desk::proofs::Deeds::deeds_append))]
 fn send_all_next(replica: &NamedReplica, peers: &[PeerProgress], out: &mut Outbox)
     requires { length out.old + length peers.now ≤ OUTBOX_LIMIT }
@@ -97,13 +98,13 @@ fn send_all_next(replica: &NamedReplica, peers: &[PeerProgress], out: &mut Outbo
     }
 }
 
-/// A firing: the primary sends each other member the entry that is next for it, where there is one. These are at most
-/// six messages.
+/// A firing: a primary sends each other member its next entry, if the log has that entry. Each other member is sent at
+/// most one message.
 #[tactic(auto, unfolding(unit_rules::specs::Writes::state_fired))]
-pub fn state_fired(state: &ReplicaState, out: &mut Outbox)
-    requires { length out.old + 6 ≤ OUTBOX_LIMIT }
+pub(crate) fn state_fired(state: &ReplicaState, out: &mut Outbox)
+    requires { length out.old + MAX_PEERS ≤ OUTBOX_LIMIT }
     ensures sent { out.new ≡ out.old ++ frames_of (state_fired state.now) }
-    ensures few { length out.new ≤ length out.old + 6 }
+    ensures few { length out.new ≤ length out.old + MAX_PEERS }
 {
     if !takes_writes(&state.replica) {
         return;

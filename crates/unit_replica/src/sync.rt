@@ -10,12 +10,12 @@ use crate::named_replica::NamedReplica;
 use crate::promise::{say_older, tell_raised};
 use crate::replica_state::{ReplicaState, last_of};
 use fabric_terms::{Body, Record, Report};
-use ring_points::{Epoch, MAX_LOG_ENTRIES, Who};
+use ring_points::{MAX_LOG_ENTRIES, Who};
 use unit_desk::UnitEffects;
 use unit_rules::CatchUp;
 
-/// The log is that of the epoch now, which is recorded, told and answered. An empty log is not told, and is nobody's
-/// own.
+/// Records, reports and answers that the log is now that of the epoch. An empty log is not reported, and does not count
+/// as the replica's own.
 pub(crate) fn tell_adopted(partition: u16, catch_up: CatchUp, own: bool, effects: &mut UnitEffects)
     requires { HasRoomFor 1 1 1 effects.old }
     ensures left { Left (adoption partition catch_up own) effects.old effects.new }
@@ -49,7 +49,7 @@ fn say_adopted(catch_up: CatchUp, partition: u16, last: u32, effects: &mut UnitE
     effects.out.send(catch_up.asker, body);
 }
 
-/// The next entry of the log is asked for at its origin.
+/// Asks the origin for the next entry of its log.
 pub(crate) fn fetch_next(catch_up: CatchUp, replica: &NamedReplica, effects: &mut UnitEffects)
     requires { HasRoomFor 0 1 0 effects.old }
     ensures left { Left (fetch_next catch_up replica.now ∷ []) effects.old effects.new }
@@ -67,7 +67,7 @@ pub(crate) fn fetch_next(catch_up: CatchUp, replica: &NamedReplica, effects: &mu
     effects.out.send(origin, body);
 }
 
-/// The own log is adopted, or none. Where the own log has another end, nothing comes of it.
+/// Adopts the replica's own log, or the empty log. Nothing happens if the own log has another last entry.
 fn adopt_own(catch_up: CatchUp, state: &mut ReplicaState, effects: &mut UnitEffects)
     requires { HasRoomFor 1 1 1 effects.old }
     ensures does { Does (own_adopted catch_up state.old (adopt_own_call catch_up.epoch catch_up.last state.old.replica))
@@ -84,7 +84,7 @@ fn adopt_own(catch_up: CatchUp, state: &mut ReplicaState, effects: &mut UnitEffe
     }
 }
 
-/// The replica is idle until it has its role, and its log is taken: the own one or none at once, that of another node
+/// The replica is idle until it gets a role, and takes a log: its own or an empty one at once, that of another node
 /// entry by entry.
 fn begin_copy(me: u16, catch_up: CatchUp, state: &mut ReplicaState, effects: &mut UnitEffects)
     requires last { catch_up.last ≤ MAX_LOG_ENTRIES }
@@ -101,9 +101,9 @@ fn begin_copy(me: u16, catch_up: CatchUp, state: &mut ReplicaState, effects: &mu
     }
 }
 
-/// Sync: the epoch is promised, and its log is taken. Where the log is of the epoch already, that is answered.
+/// Sync: the replica promises the epoch, and takes its log. If it has that log already, it only answers so.
 #[tactic(auto, unfolding(unit_rules::specs::Copies::sync_received))]
-pub fn sync_received(
+pub(crate) fn sync_received(
     me: u16,
     catch_up: CatchUp,
     state: &mut ReplicaState,

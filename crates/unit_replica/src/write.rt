@@ -10,7 +10,7 @@ ghost use Rattle.unit_replica.specs.Rows.{spread};
 
 use crate::append::accept;
 use crate::named_replica::NamedReplica;
-use crate::progress::ReplicationProgress;
+use crate::progress::{MAX_PEERS, ReplicationProgress};
 use crate::replica_state::{ReplicaState, last_of};
 use crate::send::{append_to_all, takes_writes};
 use fabric_terms::{OutOfMemory, Payload, Reason, Report, Verb};
@@ -18,7 +18,7 @@ use replica_core::ReplicaRefusal;
 use ring_points::Epoch;
 use unit_desk::UnitEffects;
 
-/// What a majority has confirmed is committed, and told where it is more than before.
+/// Commits what a majority has confirmed, and reports it if it is more than before.
 fn commit(state: &mut ReplicaState, effects: &mut UnitEffects)
     requires { HasRoomFor 0 0 1 effects.old }
     ensures does { (l : states.ReplicationProgress) → state.old.progress ≡ Some l →
@@ -38,9 +38,9 @@ fn commit(state: &mut ReplicaState, effects: &mut UnitEffects)
     }
 }
 
-/// Appended: the primary of the epoch notes what the member has.
+/// Appended: the primary of the epoch notes which entries the member has.
 #[tactic(auto, unfolding(unit_rules::specs::Writes::appended_received))]
-pub fn appended_received(
+pub(crate) fn appended_received(
     node: u16,
     epoch: Epoch,
     last: u32,
@@ -62,7 +62,7 @@ pub fn appended_received(
     commit(state, effects);
 }
 
-/// The new last entry is recorded and told, and sent to each other member.
+/// Records and reports the new last entry, and sends it to each other member.
 fn tell_written(
     text: &Payload,
     progress: &ReplicationProgress,
@@ -73,7 +73,7 @@ fn tell_written(
     ensures left { Left (accepted replica.now.partition replica.now.at (last_of replica.now) text.now ++ map
         (append_to replica.now.at replica.now (last_of replica.now) text.now) progress.now.peers)
         effects.old effects.new }
-    ensures few { length effects.new.out ≤ length effects.old.out + 6 }
+    ensures few { length effects.new.out ≤ length effects.old.out + MAX_PEERS }
     ensures room { HasRoomFor 0 0 1 effects.new }
 {
     let epoch = replica.at();
@@ -89,11 +89,11 @@ fn tell_written(
     );
 }
 
-/// The new last entry is told, sent to each other member, and committed where the primary alone is a majority.
+/// Reports the new last entry, sends it to each other member, and commits it if the primary alone is a majority.
 fn spread(text: &Payload, state: &mut ReplicaState, effects: &mut UnitEffects)
     requires { HasRoom effects.old }
     ensures does { Does (spread text.now state.old.progress state.old) state.new effects.old effects.new }
-    ensures few { length effects.new.out ≤ length effects.old.out + 6 }
+    ensures few { length effects.new.out ≤ length effects.old.out + MAX_PEERS }
 {
     let Some(progress) = &state.progress else {
         return;
@@ -102,7 +102,7 @@ fn spread(text: &Payload, state: &mut ReplicaState, effects: &mut UnitEffects)
     commit(state, effects);
 }
 
-/// A command is refused, and changes nothing.
+/// Refuses a command, which then changes nothing.
 pub(crate) fn refuse(question: Verb, reason: Reason, effects: &mut UnitEffects)
     requires { HasRoomFor 0 0 1 effects.old }
     ensures left { Left (Tell (Refused question reason) ∷ []) effects.old effects.new }
@@ -111,18 +111,17 @@ pub(crate) fn refuse(question: Verb, reason: Reason, effects: &mut UnitEffects)
     effects.told.push(Report::Refused(question, reason));
 }
 
-/// Write: the primary adds an entry, and sends it to each other member. It is refused at a replica that takes no
-/// writes, and where the log is full. It is an error where memory is short for a new entry, and then nothing is
-/// changed.
+/// Write: the primary adds an entry, and sends it to each other member. It is refused if the replica takes no writes,
+/// and if the log is full. It is an error if memory is short for a new entry, and then nothing changes.
 #[tactic(auto, unfolding(unit_rules::specs::Writes::write_commanded))]
-pub fn write_commanded(
+pub(crate) fn write_commanded(
     text: &Payload,
     state: &mut ReplicaState,
     effects: &mut UnitEffects,
 ) -> Result<(), OutOfMemory>
     requires { HasRoom effects.old }
     ensures does { IfOk result (λ _. Does (write_commanded text.now state.old) state.new effects.old effects.new) }
-    ensures few { length effects.new.out ≤ length effects.old.out + 6 }
+    ensures few { length effects.new.out ≤ length effects.old.out + MAX_PEERS }
     ensures refused { OnErr result ((state.new ≡ state.old) × (effects.new ≡ effects.old)) }
     ensures memory { OnErr result (stores (write_commanded text.now state.old) ≡ true) }
 {

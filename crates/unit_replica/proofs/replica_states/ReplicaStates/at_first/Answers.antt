@@ -5,6 +5,7 @@ use Rattle.std.specs.Map.{remove_entry}
 use Rattle.std.specs.Ordering.{nat_cmp}
 use Rattle.fabric_lemmas.specs.Maps.{at, put}
 use Rattle.keep_log.proofs.MapEntries.{insert-is}
+use Rattle.ring_points.specs.Limits.{most_partitions}
 use Rattle.unit_rules.specs.Deeds.{still}
 use Rattle.unit_rules.specs.ReplicaStates.{ReplicaState, first_state}
 use Rattle.unit_desk.specs.UnitEffects.{Does}
@@ -18,7 +19,7 @@ invariant_of-self-2 c =
     let es = c.self.inside.map.entries in
     let made : c.insert.new.self.entries ≡ put c.args.partition c.new-state.result es =
     c.in_ok-insert.ensures.entries ∙ insert-is c.args.partition c.new-state.result es in
-    let room : length es < 65536 = grind (arith, nat_tests, c.len.ensures.len, c.if-len-ge-MAX_PARTITIONS.false) in
+    let room : length es < most_partitions = grind (arith, nat_tests, c.len.ensures.len, c.if-len-ge-MAX_PARTITIONS.false) in
     put_fits c.args.partition c.new-state.result es c.insert.new.self.entries made room c.self.invariant
 
 -- what the refused row left is what stood before the replica was made

@@ -1,62 +1,40 @@
-use Rattle.std.proofs.Common.{◌≡◌, ◌∙◌, Some, None, ap, sym, subst}
+use Rattle.std.proofs.Common.{◌∙◌, [], ap, sym}
 use Rattle.std.specs.Option.{option_copied_mut}
-use Rattle.fabric_lemmas.specs.Maps.{at}
-use Rattle.keep_log.proofs.MapEntries.{lookup-is}
 use Rattle.unit_rules.specs.Deeds.{still}
-use Rattle.unit_desk.specs.UnitEffects.{Does}
-use Rattle.unit_replica.specs.Tables.{ReplicaStates, at_standing, row_of}
-use Rattle.unit_replica.proofs.Counts.{set_fits}
-use Rattle.unit_replica.proofs.Places.{does_nowhere, does_same, does_there, if_ok, on_err, stays_there}
-use Rattle.unit_replica.proofs.Stored.{grows-there}
+use Rattle.unit_replica.specs.Tables.{row_of}
+use Rattle.unit_replica.proofs.Places.{Written, does_nowhere, does_there, fits, if_ok, left_nothing, on_err, stays_there}
+use Rattle.unit_replica.proofs.Stored.{grows_there}
 use Rattle.unit_replica.proofs.replica_states.ReplicaStates.at_standing.Goals as goal
+use Rattle.unit_replica.proofs.replica_states.ReplicaStates.at_standing.Goals.{After-row_of}
+
+written : (c : After-row_of) → Written c.args.partition c.self.inside.map.entries c.args.self.now (c.get_mut.follows.lender c.row_of.new.state).entries c.in-Some.state.now c.row_of.new.state
+written c = record {
+  view = c.self.view_is;
+  table = c.self.invariant;
+  found = sym c.get_mut.ensures.value ∙ ap option_copied_mut c.in-Some.is;
+  set = (c.get_mut.follows.holds c.row_of.new.state).0;
+}
 
 pub invariant_of-self-2 : goal.invariant_of-self-2
-invariant_of-self-2 c =
-    let es = c.self.inside.map.entries in
-    let w = c.row_of.new.state in
-    set_fits c.args.partition w es (c.get_mut.follows.lender w).entries (c.get_mut.follows.holds w).0 c.self.invariant
+invariant_of-self-2 c = fits (written (goal.at.invariant_of-self-2 c).After-row_of)
 
 pub returns-clause-does : goal.returns-clause-does
 returns-clause-does c =
-    let es = c.self.inside.map.entries in
-    let w = c.row_of.new.state in
-    let new : ReplicaStates = (c.get_mut.follows.lender w).entries in
-    let row = row_of c.args.me c.args.from c.args.body.now in
-    let found : at c.args.partition es ≡ Some c.in-Some.state.now =
-    sym (lookup-is c.args.partition es) ∙ (sym c.get_mut.ensures.value ∙ ap option_copied_mut c.in-Some.is) in
-    if_ok c.row_of.result
-    (λ d. subst (λ (m : ReplicaStates). Does (at_standing c.args.partition row (still m) m) new c.args.effects.now c.row_of.new.effects) c.self.view_is
-    (does_there c.args.partition row (still es) es new c.in-Some.state.now w c.args.effects.now c.row_of.new.effects c.self.invariant.rise found (c.get_mut.follows.holds w).0 d))
-    c.row_of.ensures.does
+    let it = written (goal.at.returns-clause-does c).After-row_of in
+    if_ok c.row_of.result (does_there it (row_of c.args.me c.args.from c.args.body.now) (still c.args.self.now) c.args.effects.now c.row_of.new.effects) c.row_of.ensures.does
 
 pub returns-clause-refused : goal.returns-clause-refused
 returns-clause-refused c =
-    let es = c.self.inside.map.entries in
-    let w = c.row_of.new.state in
-    let new : ReplicaStates = (c.get_mut.follows.lender w).entries in
-    let found : at c.args.partition es ≡ Some c.in-Some.state.now =
-    sym (lookup-is c.args.partition es) ∙ (sym c.get_mut.ensures.value ∙ ap option_copied_mut c.in-Some.is) in
-    on_err c.row_of.result
-    (λ d. (stays_there c.args.partition es new c.in-Some.state.now w c.self.invariant.rise found (c.get_mut.follows.holds w).0 d.0 ∙ c.self.view_is, d.1))
-    c.row_of.ensures.refused
-
-pub returns-in_default-clause-does : goal.returns-in_default-clause-does
-returns-in_default-clause-does c =
-    let es = c.self.inside.map.entries in
-    let row = row_of c.args.me c.args.from c.args.body.now in
-    let new : ReplicaStates = c.get_mut.follows.lender-at-none.entries in
-    let same : new ≡ c.args.self.now = ap (λ m. m.entries) c.get_mut.follows.holds-at-none ∙ c.self.view_is in
-    let none : at c.args.partition c.args.self.now ≡ None =
-    ap (λ (m : ReplicaStates). at c.args.partition m) (sym c.self.view_is)
-    ∙ (sym (lookup-is c.args.partition es) ∙ (sym c.get_mut.ensures.value ∙ ap option_copied_mut c.in_default.is)) in
-    does_nowhere c.args.partition row (still c.args.self.now) c.args.self.now new c.args.effects.now c.args.effects.now none
-    (does_same c.args.self.now new c.args.effects.now same)
+    let it = written (goal.at.returns-clause-refused c).After-row_of in
+    on_err c.row_of.result (λ d. (stays_there it d.0, d.1)) c.row_of.ensures.refused
 
 pub returns-clause-memory : goal.returns-clause-memory
 returns-clause-memory c =
-    let es = c.self.inside.map.entries in
-    let row = row_of c.args.me c.args.from c.args.body.now in
-    let found : at c.args.partition c.args.self.now ≡ Some c.in-Some.state.now =
-    ap (λ (m : ReplicaStates). at c.args.partition m) (sym c.self.view_is)
-    ∙ (sym (lookup-is c.args.partition es) ∙ (sym c.get_mut.ensures.value ∙ ap option_copied_mut c.in-Some.is)) in
-    on_err c.row_of.result (λ h. grows-there c.args.partition row (still c.args.self.now) c.args.self.now c.in-Some.state.now found h) c.row_of.ensures.memory
+    let it = written (goal.at.returns-clause-memory c).After-row_of in
+    on_err c.row_of.result (grows_there it (row_of c.args.me c.args.from c.args.body.now) (still c.args.self.now)) c.row_of.ensures.memory
+
+pub returns-in_default-clause-does : goal.returns-in_default-clause-does
+returns-in_default-clause-does c =
+    does_nowhere c.args.partition (row_of c.args.me c.args.from c.args.body.now) [] c.self.inside.map.entries c.args.self.now c.get_mut.follows.lender-at-none.entries
+    c.args.effects.now c.args.effects.now c.self.view_is (sym c.get_mut.ensures.value ∙ ap option_copied_mut c.in_default.is)
+    (ap (λ m. m.entries) c.get_mut.follows.holds-at-none) (left_nothing c.args.effects.now)

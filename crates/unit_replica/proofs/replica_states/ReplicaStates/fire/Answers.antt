@@ -1,4 +1,5 @@
 use Rattle.std.proofs.Common.{◌≡◌, ◌+◌, ◌*◌, ◌++◌, ◌∙◌, List, length, refl, ap, sym, arith}
+use Rattle.std.proofs.lemmas.List.{length-map}
 use Rattle.std.specs.Prelude.{flat_map}
 use Rattle.std.specs.Map.{values_of}
 use Rattle.ring_points.specs.declared.who.Who.{Who}
@@ -8,8 +9,9 @@ use Rattle.fabric_terms.specs.Sent.{from_all}
 use Rattle.unit_rules.specs.Deeds.{Deed, frames_of}
 use Rattle.unit_rules.specs.ReplicaStates.{ReplicaState}
 use Rattle.unit_rules.specs.Writes.{state_fired}
+use Rattle.unit_replica.specs.Limits.{most_peers}
 use Rattle.unit_replica.specs.Tables.{ReplicaStates, fired}
-use Rattle.unit_replica.proofs.Fired.{as_many_values, few_fired, fired_values, one_fired}
+use Rattle.unit_replica.proofs.Fired.{few_fired, fired_values, one_fired}
 use Rattle.unit_replica.proofs.replica_states.ReplicaStates.fire.Goals as goal
 
 pub loop-state-init : goal.loop-state-init
@@ -19,7 +21,7 @@ loop-state-init c =
     let all : flat_map state_fired c.into_iter-state-iterator.result ≡ fired c.args.self.now =
     ap (λ (l : List ReplicaState). flat_map state_fired l) states ∙ (sym (fired_values es) ∙ ap fired c.self.view_is) in
     let many : length c.into_iter-state-iterator.result ≡ length c.args.self.now =
-    ap (λ (l : List ReplicaState). length l) states ∙ (as_many_values es ∙ ap (λ (m : ReplicaStates). length m) c.self.view_is) in
+    ap (λ (l : List ReplicaState). length l) states ∙ (length-map es _ ∙ ap (λ (m : ReplicaStates). length m) c.self.view_is) in
     record {
       so_far = ap (λ (ds : List Deed). c.args.frames.now.items ++ from_all c.args.from (frames_of ds)) all;
       few = omega (arith, many);
@@ -30,7 +32,7 @@ loop-state-init c =
 pub loop-state-preserved : goal.loop-state-preserved
 loop-state-preserved c =
     let s : ReplicaState = c.in-Some.state.now in
-    let all = length c.args.frames.now.items + 6 * length c.args.self.now in
+    let all = length c.args.frames.now.items + most_peers * length c.args.self.now in
     let now = c.loop-state.frames.items in
     let next = c.hand_over.new.frames.items in
     let own : List Message = from_all c.args.from (frames_of (state_fired s)) in
