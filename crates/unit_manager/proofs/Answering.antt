@@ -4,6 +4,7 @@ use Rattle.std.specs.Prelude.{is_some}
 use Rattle.std.proofs.lemmas.List.{length-map, length-set}
 use Rattle.fabric_lemmas.specs.Maps.{at, put, rises, without}
 use Rattle.fabric_lemmas.proofs.Maps.{rises-put}
+use Rattle.ring_points.specs.Limits.{most_partitions}
 use Rattle.fabric_terms.specs.declared.message.Message.{Message}
 use Rattle.failover_units.specs.Units.{Table, changed, noted, seen_at}
 use Rattle.fabric_terms.specs.Messages.{is_sound_body}
@@ -20,7 +21,7 @@ use Rattle.reconfig_phases.specs.Views.{step_with, reconfig_of}
 use Rattle.reconfig_phases.specs.declared.reconfig.Reconfig.{Reconfig}
 use Rattle.reconfig_phases.specs.declared.step.Progress.{Progress}
 use Rattle.reconfig_phases.specs.declared.step.Progress.TheVariants.{Stays, Finished, Superseded, Refused}
-use Rattle.unit_manager.specs.Managers.{HasOwn, IsManaged, IsOwnEnd, answer_taken, concluded, managed, most_reconfigs, place, reconfigs_of}
+use Rattle.unit_manager.specs.Managers.{HasOwn, IsManaged, IsOwnEnd, answer_taken, concluded, managed, place, reconfigs_of}
 use Rattle.unit_manager.proofs.Asking.{receiving}
 use Rattle.unit_manager.proofs.Keeping.{goes_on_managed, over_managed, refused_managed}
 use Rattle.unit_manager.proofs.Owning.{EndsOwn, received_own}
@@ -52,7 +53,7 @@ module _ (units : Table) (es : List (ℕ × Reconfig)) (k i : ℕ) (e : ℕ × R
   rise_there next =
       subst (λ (rs : List (ℕ × rules.Reconfig)). rises rs ≡ true) (sym (written_is next)) (rises-put k (reconfig_of next) (reconfigs_of es) whole.rise)
 
-  few_there : (next : Reconfig) → length (put k (reconfig_of next) (reconfigs_of es)) ≤ most_reconfigs
+  few_there : (next : Reconfig) → length (put k (reconfig_of next) (reconfigs_of es)) ≤ most_partitions
   few_there next =
       let was : length (reconfigs_of es) ≡ length es = length-map es _ in
       let same : length (put k (reconfig_of next) (reconfigs_of es)) ≡ length es = ap length (sym (written_is next)) ∙ length-map (written next) _ ∙ length-set es i (e.0, next) in

@@ -3,6 +3,7 @@ use Rattle.std.proofs.Common.{◌≡◌, ℕ, ◌<◌, Bool, true, false, cond, 
 use Rattle.std.specs.Prelude.{is_some}
 use Rattle.std.proofs.lemmas.Bool.Decides.{nat_tests}
 use Rattle.std.proofs.lemmas.Option.{same_Some}
+use Rattle.ring_points.specs.Limits.{most_partitions}
 use Rattle.ring_points.specs.declared.unit.Config.{Config}
 use Rattle.ring_points.specs.declared.unit.Epoch.{Epoch}
 use Rattle.ring_points.specs.declared.who.Who.{Who}
@@ -24,9 +25,10 @@ use Rattle.unit_rules.specs.Polls.{arbiters_to}
 use Rattle.unit_rules.specs.Questions.{asks}
 use Rattle.unit_rules.specs.Reconfigs.{Reconfig, task_of}
 use Rattle.unit_rules.specs.Transitions.{begun}
-use Rattle.unit_manager.specs.Managers.{Begins, HasOwn, IsManaged, begins_one, most_reconfigs, reason_at_end, refusal_in}
+use Rattle.unit_desk.proofs.Puts.{one_more}
+use Rattle.unit_manager.specs.Managers.{Begins, HasOwn, IsManaged, begins_one, reason_at_end, refusal_in}
 use Rattle.unit_manager.proofs.Asking.{asking}
-use Rattle.unit_manager.proofs.Keeping.{begins_managed, one_more}
+use Rattle.unit_manager.proofs.Keeping.{begins_managed}
 
 -- the first epoch is far from its end
 first_is_early : (kind : Kind) → is_past_end (epoch_of kind nothing.highest) ≡ false
@@ -85,7 +87,7 @@ begins_if_free arbitrators partition kind s epoch is inside free none =
 
 -- what is entered is changed, or stays as it is
 pub begun_whole : (kind : Kind) (k : ℕ) (r : Reconfig) (s : Managed) (units : Table) → IsManaged s → entered kind k s.units ≡ Ok units
-    → (task_of r).partition ≡ k → HasOwn r → length s.reconfigs < most_reconfigs → IsManaged (record { units = units; reconfigs = put k r s.reconfigs })
+    → (task_of r).partition ≡ k → HasOwn r → length s.reconfigs < most_partitions → IsManaged (record { units = units; reconfigs = put k r s.reconfigs })
 begun_whole (Create count) k r s units whole is own configs room = by (is_some (unit_of k s.units).config) is
   where
     by : (b : Bool) → ◌≡◌ {A = Result Table UnitRefusal} (cond b (Err refusal.Exists) (changed k (λ unit. unit) s.units)) (Ok units)
@@ -114,7 +116,7 @@ module _ (arbitrators partition : ℕ) (kind : Kind) (epoch : Epoch) (s : Manage
         (out, asking (begun (task arbitrators partition (epoch_of kind (unit_of partition s.units).highest) kind)) (arbiters_to arbitrators)),
       )
 
-  pub begins_whole : IsManaged s → length s.reconfigs < most_reconfigs → IsManaged (record { units = units; reconfigs = rs })
+  pub begins_whole : IsManaged s → length s.reconfigs < most_partitions → IsManaged (record { units = units; reconfigs = rs })
   begins_whole whole room =
       subst (λ (xs : List (ℕ × Reconfig)). IsManaged (record { units = units; reconfigs = xs })) (sym put_is)
       (begun_whole kind partition r s units whole is (ap (λ (x : Reconfig). (task_of x).partition) new) (subst HasOwn (sym new) tt) room)

@@ -2,6 +2,7 @@
 use Rattle.std.proofs.Common.{◌≡◌, ℕ, ◌+◌, ◌*◌, ◌<◌, ◌≤◌, List, [], ◌∷◌, ◌++◌, length, take, get_or, refl, sym, ap, ◌∙◌, arith, length-append}
 use Rattle.std.proofs.lemmas.List.{append-nil, length-map, map-append, take_all, take_more}
 use Rattle.ring_points.specs.declared.who.Who.{Who}
+use Rattle.ring_points.specs.Limits.{most_arbiters}
 use Rattle.fabric_terms.specs.declared.message.Body.{Body}
 use Rattle.fabric_terms.specs.declared.message.Message.{Message}
 use Rattle.fabric_terms.specs.Sent.{from_all}
@@ -52,7 +53,7 @@ fired_next me es i e before now next clear out inside there is behind none sent 
     behind ∙ ap (λ (ms : List (Who × Body)). now ++ from_all me ms) alone ∙ fired_more me es i e before now inside is
 
 pub few_next : (me : Who) (i : ℕ) (before now next : List Message) (clear out : List (Who × Body)) → next ≡ now ++ from_all me out → clear ≡ []
-    → length out ≤ length clear + 9 → length now ≤ length before + 9 * i → length next ≤ length before + 9 * (i + 1)
+    → length out ≤ length clear + most_arbiters → length now ≤ length before + most_arbiters * i → length next ≤ length before + most_arbiters * (i + 1)
 few_next me i before now next clear out behind none few so_far =
     let many : length next ≡ length now + length out =
     ap length behind ∙ length-append now (from_all me out) ∙ ap (λ n. length now + n) (length-map {B = Message} out _) in

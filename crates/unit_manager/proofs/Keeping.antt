@@ -1,17 +1,19 @@
 -- Changes of what is managed that keep it whole.
-use Rattle.std.proofs.Common.{◌≡◌, ℕ, suc, ◌+◌, ◌≤◌, ◌<◌, Bool, true, false, cond, not, List, [], ◌∷◌, length, nat_lt, Some, None, Result, Ok, Err, refl, sym, subst, ap, ◌∙◌, arith}
+use Rattle.std.proofs.Common.{◌≡◌, ℕ, ◌≤◌, ◌<◌, Bool, true, false, cond, not, List, [], length, Some, None, Result, Ok, Err, refl, sym, subst, ap, ◌∙◌, arith}
 use Rattle.std.specs.Prelude.{◌==◌, is_some}
 use Rattle.std.proofs.lemmas.Bool.Decides.{nat_tests}
 use Rattle.std.proofs.lemmas.Option.{same_Some}
-use Rattle.fabric_lemmas.specs.Maps.{at, put, put_here, without}
+use Rattle.fabric_lemmas.specs.Maps.{at, put, without}
 use Rattle.fabric_lemmas.proofs.Maps.{at-put, at-without, rises-put, rises-without}
+use Rattle.ring_points.specs.Limits.{most_partitions}
 use Rattle.failover_units.specs.declared.unit.KnownUnit.{KnownUnit}
 use Rattle.failover_units.specs.declared.refusal.UnitRefusal.{UnitRefusal}
 use Rattle.failover_units.specs.declared.refusal.UnitRefusal.TheVariants.{Full}
 use Rattle.failover_units.specs.Units.{Table, changed, is_full_for, unit_of}
 use Rattle.unit_rules.specs.Manager.{Managed, table_or}
 use Rattle.unit_rules.specs.Reconfigs.{Reconfig, task_of}
-use Rattle.unit_manager.specs.Managers.{HasOwn, IsManaged, most_reconfigs}
+use Rattle.unit_desk.proofs.Puts.{fewer_kept, length-put}
+use Rattle.unit_manager.specs.Managers.{HasOwn, IsManaged}
 
 module _ {X : Type 0} (P : ℕ → X → Type 0) (k : ℕ) where
   -- what holds of each entry, and of what is put, holds of each entry after it
@@ -66,49 +68,15 @@ changed_there k f units new is = by (is_full_for k units) is
         let same : put k (f (unit_of k units)) units ≡ new = ap (λ (t : Result Table UnitRefusal). table_or units t) e in
         subst (λ (t : Table). is_some (at k t) ≡ true) same (put_there k (f (unit_of k units)) units)
 
--- how many entries there are
-
-module _ {X : Type 0} (k : ℕ) where
-  length-put_here : (x : X) (e : ℕ × X) (es behind : List (ℕ × X)) (lt same : Bool) → length behind ≤ length es + 1 → length (put_here k x e es behind lt same) ≤ length es + 2
-  length-put_here x e es behind true same few = omega arith
-  length-put_here x e es behind false true few = omega arith
-  length-put_here x e es behind false false few = omega arith
-
-  pub length-put : (x : X) (es : List (ℕ × X)) → length (put k x es) ≤ length es + 1
-  length-put x [] = omega arith
-  length-put x (e ∷ es) = let few = length-put_here x e es (put k x es) (nat_lt k e.0) (k == e.0) (length-put x es) in omega (arith, few)
-
-  -- a number that does not stand yet is one more
-  pub one_more : (x : X) (es : List (ℕ × X)) → at k es ≡ None → length es < length (put k x es)
-  one_more x [] none = omega arith
-  one_more x (e ∷ es) none = by (nat_lt k e.0) (k == e.0) refl none (λ h. one_more x es h)
-    where
-      by : (lt same : Bool) → (k == e.0) ≡ same → at k (e ∷ es) ≡ None → (at k es ≡ None → length es < length (put k x es))
-          → suc (length es) < length (put_here k x e es (put k x es) lt same)
-      by true same g none rest = omega arith
-      by false true g none rest =
-          let here : (e.0 == k) ≡ true = grind (arith, nat_tests, g) in
-          let some : Some e.1 ≡ None = rw here at none in
-          absurd (cc)
-      by false false g none rest =
-          let other : (e.0 == k) ≡ false = grind (arith, nat_tests, g) in
-          let free : at k es ≡ None = rw other at none in
-          omega (arith, rest free)
-
-  without_fewer : (es : List (ℕ × X)) → length (without k es) ≤ length es
-  without_fewer [] = omega arith
-  without_fewer (e ∷ es) = by (not (e.0 == k)) (without_fewer es)
-    where
-      by : (b : Bool) → length (without k es) ≤ length es → length (cond b (e ∷ without k es) (without k es)) ≤ suc (length es)
-      by true few = omega (arith, few)
-      by false few = omega (arith, few)
+without_fewer : {X : Type 0} (k : ℕ) (es : List (ℕ × X)) → length (without k es) ≤ length es
+without_fewer {X = X} k es = fewer_kept (λ (e : ℕ × X). not (e.0 == k)) es
 
 -- what is managed stays whole
 
 pub nothing_managed : IsManaged (record { units = []; reconfigs = [] })
 nothing_managed = record { rise = refl; own = λ k r there. absurd (cc); configs = λ k r there. absurd (cc); known = λ k r there. absurd (cc); few = omega arith }
 
-pub goes_on_managed : (k : ℕ) (r next : Reconfig) (s : Managed) → IsManaged s → at k s.reconfigs ≡ Some r → task_of next ≡ task_of r → HasOwn next → length (put k next s.reconfigs) ≤ most_reconfigs
+pub goes_on_managed : (k : ℕ) (r next : Reconfig) (s : Managed) → IsManaged s → at k s.reconfigs ≡ Some r → task_of next ≡ task_of r → HasOwn next → length (put k next s.reconfigs) ≤ most_partitions
     → IsManaged (record s { reconfigs = put k next s.reconfigs })
 goes_on_managed k r next s whole there task own few = record {
   rise = rises-put k next s.reconfigs whole.rise;
@@ -139,7 +107,7 @@ refused_managed k s whole = record {
 }
 
 pub begins_managed : (k : ℕ) (f : KnownUnit → KnownUnit) (r : Reconfig) (s : Managed) (units : Table) → IsManaged s → changed k f s.units ≡ Ok units
-    → (task_of r).partition ≡ k → HasOwn r → length s.reconfigs < most_reconfigs → IsManaged (record { units = units; reconfigs = put k r s.reconfigs })
+    → (task_of r).partition ≡ k → HasOwn r → length s.reconfigs < most_partitions → IsManaged (record { units = units; reconfigs = put k r s.reconfigs })
 begins_managed k f r s units whole is own configs room = record {
   rise = rises-put k r s.reconfigs whole.rise;
   own = each_put (λ q x. (task_of x).partition ≡ q) k r s.reconfigs own whole.own;

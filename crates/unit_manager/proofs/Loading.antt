@@ -49,9 +49,3 @@ pub loaded_none : (units : Table) (xs : List NodeLoad) → xs ≡ loaded_to unit
 unfolding loaded_to
 loaded_none units [] = refl
 loaded_none units (x ∷ xs) = refl
-
-pub loaded_length : (units : Table) (xs : List NodeLoad) (i : ℕ) → length (loaded_to units i xs) ≡ length xs
-unfolding loaded_to
-loaded_length units [] i = refl
-loaded_length units (x ∷ xs) zero = refl
-loaded_length units (x ∷ xs) (suc i) = ap suc (loaded_length units xs i)

@@ -116,17 +116,7 @@ module _ {X : Type 0} where
           rw (here k e es is, is) (sym (without_below k (e.0 + 1) es same parts.1))
       by false is rest = rw (later k e es is, is) (ap (λ (fs : List (ℕ × X)). e ∷ fs) (rest (omega (arith, later k e es is, some))))
 
-  -- a change and then another at one number
-
-  pub put-put : (k : ℕ) (x y : X) (es : List (ℕ × X)) → rises es ≡ true → put k y (put k x es) ≡ put k y es
-  put-put k x y es up =
-      same_maps (put k y (put k x es)) (put k y es) (rises-put k y (put k x es) (rises-put k x es up)) (rises-put k y es up)
-      (λ q. at-put k y (put k x es) q ∙ over q (k == q) (at-put k x es q) ∙ sym (at-put k y es q))
-    where
-      over : (q : ℕ) (b : Bool) → at q (put k x es) ≡ cond b (Some x) (at q es) → cond b (Some y) (at q (put k x es)) ≡ cond b (Some y) (at q es)
-      over q true e = refl
-      over q false e = e
-
+  -- what was put is taken out again
   pub without-put : (k : ℕ) (x : X) (es : List (ℕ × X)) → rises es ≡ true → without k (put k x es) ≡ without k es
   without-put k x es up =
       same_maps (without k (put k x es)) (without k es) (rises-without k (put k x es) (rises-put k x es up)) (rises-without k es up)

@@ -1,6 +1,7 @@
 -- What contracts see of a manager, and what its calls say of it.
 use Rattle.std.specs.Prelude.{◌≡◌, ℕ, ◌≤◌, ◌+◌, Bool, true, ◌==◌, List, [], ◌∷◌, ◌++◌, All, length, map, flat_map, nat_lt, Option, Some, None, is_some, Result, Ok, Err, if◌then◌else◌}
 use Rattle.std.specs.List.{position_or_len}
+use Rattle.ring_points.specs.Limits.{most_arbiters, most_partitions}
 use Rattle.ring_points.specs.declared.unit.Config.{Config}
 use Rattle.ring_points.specs.declared.unit.Epoch.{Epoch}
 use Rattle.ring_points.specs.declared.who.Who.{Who}
@@ -43,10 +44,6 @@ HasOwn (rules.Phase3 p) = p.config.partition ≡ p.task.partition
 HasOwn (rules.Phase4 p) = p.config.partition ≡ p.task.partition
 HasOwn _ = Unit {0}
 
--- there are no more partitions
-abbrev pub most_reconfigs : ℕ
-most_reconfigs = 65536
-
 -- they rise by partition, each is of the partition at which it stands, as its configurations are, and its partition
 -- stands in the units
 pub record IsManaged (s : Managed) : Type 0 where
@@ -54,7 +51,7 @@ pub record IsManaged (s : Managed) : Type 0 where
   pub own : (k : ℕ) (r : rules.Reconfig) → at k s.reconfigs ≡ Some r → (task_of r).partition ≡ k
   pub configs : (k : ℕ) (r : rules.Reconfig) → at k s.reconfigs ≡ Some r → HasOwn r
   pub known : (k : ℕ) (r : rules.Reconfig) → at k s.reconfigs ≡ Some r → is_some (at k s.units) ≡ true
-  pub few : length s.reconfigs ≤ most_reconfigs
+  pub few : length s.reconfigs ≤ most_partitions
 
 -- a node with its load by the known units, and all of them
 abbrev pub load_node : Table → NodeLoad → NodeLoad
@@ -75,10 +72,10 @@ manager_received nodes m s = manager_received_in nodes m s (answered_unit m.body
 abbrev pub managed_fired : List (ℕ × rules.Reconfig) → List Deed
 managed_fired es = flat_map (λ e. reconfig_fired e.1) es
 
--- a row leaves at most nine messages and one report behind what was there, and records nothing
+-- a row leaves at most one message to each arbitrator and one report behind what was there, and records nothing
 pub record Few (before after : UnitEffects) : Type 0 where
   pub records : after.records ≡ before.records
-  pub sent : length after.out ≤ length before.out + 9
+  pub sent : length after.out ≤ length before.out + most_arbiters
   pub told : length after.told ≤ length before.told + 1
 
 -- An answer, step by step.

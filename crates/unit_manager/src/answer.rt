@@ -19,8 +19,8 @@ use fabric_terms::{Message, Outbox, Reason, Report, Verb};
 use failover_units::{UnitRefusal, Units};
 use reconfig_phases::{Progress, Reconfig, answered_unit};
 use replica_place::NodeLoad;
-use ring_points::{Config, Epoch, OUTBOX_LIMIT};
-use unit_desk::UnitEffects;
+use ring_points::{Config, Epoch, MAX_ARBITRATORS, OUTBOX_LIMIT};
+use unit_desk::{MAX_ROW_REPORTS, UnitEffects};
 use unit_rules::{Kind, Task};
 
 /// The first word of the command that began a reconfiguration.
@@ -35,7 +35,7 @@ pub(crate) fn verb_of(kind: Kind) -> Verb
     }
 }
 
-/// Why a command is refused, as it is told.
+/// The reason that is reported for a refusal.
 pub(crate) fn reason_of(refusal: UnitRefusal) -> Reason
     ensures { result ≡ reason_of refusal }
 {
@@ -49,7 +49,7 @@ pub(crate) fn reason_of(refusal: UnitRefusal) -> Reason
     }
 }
 
-/// Notes an active configuration of a partition that stands, which takes no memory.
+/// Notes an active configuration of a known partition, which takes no memory.
 fn note(units: &mut Units, config: &Config)
     requires { is_some (at config.now.partition units.old) ≡ true }
     ensures { units.new ≡ table_or units.old (changed config.now.partition (noted config.now) units.old) }
@@ -60,7 +60,7 @@ fn note(units: &mut Units, config: &Config)
     }
 }
 
-/// Sees an epoch of a partition that stands, which takes no memory.
+/// Notes an epoch of a known partition, which takes no memory.
 fn see(units: &mut Units, partition: u16, epoch: Epoch)
     requires { is_some (at partition units.old) ≡ true }
     ensures { units.new ≡ table_or units.old (changed partition (seen_at epoch) units.old) }
@@ -71,7 +71,7 @@ fn see(units: &mut Units, partition: u16, epoch: Epoch)
     }
 }
 
-/// A reconfiguration takes an answer. How loaded the nodes are is read in its first phase alone.
+/// A reconfiguration takes an answer. Only its first phase reads the loads of the nodes.
 #[tactic(auto, using(crate::proofs::Asking::received_alike, crate::proofs::Loading::loaded_again))]
 fn go_on(
     units: &Units,
@@ -80,7 +80,7 @@ fn go_on(
     nodes: &mut [NodeLoad],
     out: &mut Outbox,
 ) -> Progress
-    requires { length out.old + 9 ≤ OUTBOX_LIMIT }
+    requires { length out.old + MAX_ARBITRATORS ≤ OUTBOX_LIMIT }
     ensures does { phases.Does (received (loaded units.now nodes.old) answer.now (reconfig_of reconfig.old))
         (step_with reconfig.new result) out.old out.new }
     ensures task { task_of (reconfig_of reconfig.new) ≡ task_of (reconfig_of reconfig.old) }
@@ -93,7 +93,7 @@ fn go_on(
     reconfig.answer(answer, nodes, out)
 }
 
-/// What becomes of the reconfiguration at this place, once it has gone on so far.
+/// Does what the progress of the reconfiguration at place `i` calls for: an end is noted and reported.
 fn conclude(
     units: &mut Units,
     reconfigs: &mut Vec<(u16, Reconfig)>,
@@ -102,7 +102,7 @@ fn conclude(
     progress: Progress,
     effects: &mut UnitEffects,
 )
-    requires room { length effects.old.told + 2 ≤ 4 }
+    requires room { length effects.old.told < MAX_ROW_REPORTS }
     requires place { i ≡ place task.partition reconfigs.old.items }
     requires inside { i < length reconfigs.old.items }
     requires rise { rises (reconfigs_of reconfigs.old.items) ≡ true }
@@ -136,7 +136,7 @@ fn conclude(
     }
 }
 
-/// The partition's reconfiguration, if one stands, takes an answer, and what becomes of it is known then.
+/// The partition's reconfiguration, if there is one, takes an answer, and ends if that was the last one it needs.
 fn answered_by(
     units: &mut Units,
     reconfigs: &mut Vec<(u16, Reconfig)>,
@@ -167,9 +167,9 @@ fn answered_by(
 
 impl Manager {
     /// Takes a message: an answer goes to the reconfiguration of its partition and epoch, and every other message
-    /// changes nothing. The nodes are all that are configured, as placement sees them, but for their loads, which are
-    /// filled in here where they are needed. At most nine messages are sent, and one report is told. It takes no
-    /// memory: each configuration that it comes to is of a partition that stands.
+    /// changes nothing. `nodes` are all configured nodes, as placement sees them. Their loads are filled in here if
+    /// they are needed. At most `MAX_ARBITRATORS` messages are sent, and one report is made. It takes no memory,
+    /// because each configuration that it notes is of a known partition.
     #[tactic(auto, using(crate::proofs::Taking::received_is))]
     pub fn answered(&mut self, answer: &Message, nodes: &mut [NodeLoad], effects: &mut UnitEffects)
         requires sound { IsTrue (is_sound_body answer.now.body) }

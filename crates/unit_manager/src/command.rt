@@ -7,7 +7,7 @@ ghost use Rattle.reconfig_phases.specs.Tasks.{replicas_of};
 ghost use Rattle.unit_desk.specs.UnitEffects.{Does, HasRoom, HasRoomFor, Left};
 ghost use Rattle.unit_rules.specs.Deeds.{Tell};
 ghost use Rattle.unit_rules.specs.Manager.{begins_in, entered, reconfig_commanded, task_commanded, verb_of};
-ghost use Rattle.unit_manager.specs.Managers.{Begins, Few, IsManaged, begins_one, managed, most_reconfigs, no_place};
+ghost use Rattle.unit_manager.specs.Managers.{Begins, Few, IsManaged, begins_one, managed, no_place};
 ghost use Rattle.unit_manager.specs.Managers.{reason_at_end, reconfigs_of, refusal_in};
 
 use crate::answer::verb_of;
@@ -21,13 +21,13 @@ use ring_points::{Epoch, MAX_ARBITRATORS, MAX_MEMBERS, MAX_PARTITIONS, OUTBOX_LI
 use unit_desk::UnitEffects;
 use unit_rules::Kind;
 
-/// The epoch that every partition has seen.
+/// The epoch that every partition starts from.
 const FIRST_EPOCH: Epoch = Epoch {
     data_loss: 0,
     configuration: 0,
 };
 
-/// A new partition may find no place.
+/// Why the units have no place for a partition, if they have none.
 fn no_place(units: &Units, partition: u16) -> Option<Reason>
     ensures { result ≡ no_place partition units.now }
 {
@@ -38,8 +38,7 @@ fn no_place(units: &Units, partition: u16) -> Option<Reason>
     }
 }
 
-/// Why a partition does not enter the units, if it does not: a create finds a known configuration, or it finds no
-/// place.
+/// Why a partition cannot enter the units, if it cannot: a create finds a known configuration, or there is no place.
 fn refusal_in(units: &Units, partition: u16, kind: Kind) -> Option<Reason>
     ensures { result ≡ refusal_in (entered kind partition units.now) }
 {
@@ -52,7 +51,7 @@ fn refusal_in(units: &Units, partition: u16, kind: Kind) -> Option<Reason>
     }
 }
 
-/// The partition enters the units; a create finds no known configuration there.
+/// Enters the partition in the units. A create must find no known configuration there.
 fn enter_units(units: &mut Units, partition: u16, kind: Kind) -> Result<(), UnitRefusal>
     ensures { Answers (entered kind partition units.old) units.old units.new result }
 {
@@ -62,8 +61,8 @@ fn enter_units(units: &mut Units, partition: u16, kind: Kind) -> Result<(), Unit
     }
 }
 
-/// A partition that nothing refuses enters the units, and there is room for its reconfiguration. It is an error where
-/// memory is short, and then nothing is changed.
+/// Enters a partition that nothing refuses in the units, and makes room for its reconfiguration. It is an error if
+/// memory is short, and then the units stay.
 fn take_place(
     units: &mut Units,
     reconfigs: &mut Vec<(u16, Reconfig)>,
@@ -73,11 +72,11 @@ fn take_place(
     requires free { refusal_in (entered kind partition units.old) ≡ None }
     ensures entered { OnOk result (entered kind partition units.old ≡ Ok units.new) }
     ensures room { OnOk result (vec_len reconfigs.new < vec_capacity reconfigs.new) }
-    ensures few { OnOk result (length reconfigs.old.items < most_reconfigs) }
+    ensures few { OnOk result (length reconfigs.old.items < MAX_PARTITIONS) }
     ensures same { reconfigs.new.items ≡ reconfigs.old.items }
     ensures refused { OnErr result (units.new ≡ units.old) }
 {
-    // Where none of this partition stands, there is room for one more.
+    // This never happens: with all partitions under way, this one is too.
     if reconfigs.len() >= MAX_PARTITIONS {
         return Err(OutOfMemory);
     }
@@ -88,7 +87,7 @@ fn take_place(
     }
 }
 
-/// Why a command is refused whose epoch would be past its end.
+/// Why a command is refused that would need an epoch past the last one.
 fn reason_at_end(units: &Units, partition: u16, kind: Kind) -> Reason
     ensures { result ≡ reason_at_end kind (unit_of partition units.now).config }
 {
@@ -101,48 +100,63 @@ fn reason_at_end(units: &Units, partition: u16, kind: Kind) -> Reason
     }
 }
 
-/// Begins what is commanded of a partition of which no reconfiguration stands, or gives the reason why it is refused,
-/// and then changes nothing. It is an error where memory is short for what begins, and then nothing is changed either.
+/// A reconfiguration that is commanded.
+#[derive(Clone, Copy)]
+struct Wanted {
+    partition: u16,
+    kind: Kind,
+    /// How many arbitrators there are.
+    arbitrators: u8,
+    /// In whose name they are asked.
+    me: Who,
+}
+
+/// Begins the wanted reconfiguration of a partition that has none under way, or gives the reason why it is refused. A
+/// refusal changes nothing. It is an error if memory is short for what begins, and then nothing changes either.
 #[tactic(auto, using(crate::proofs::Beginning::refused_at_end, crate::proofs::Beginning::refused_in))]
 fn begin(
     units: &mut Units,
     reconfigs: &mut Vec<(u16, Reconfig)>,
-    arbitrators: u8,
-    partition: u16,
-    kind: Kind,
-    me: Who,
+    wanted: Wanted,
     out: &mut Outbox,
 ) -> Result<Option<Reason>, OutOfMemory>
-    requires arbitrators { arbitrators ≤ MAX_ARBITRATORS }
-    requires replicas { replicas_of kind ≤ MAX_MEMBERS }
-    requires room { length out.old + 9 ≤ OUTBOX_LIMIT }
-    requires none { at partition (reconfigs_of reconfigs.old.items) ≡ None }
+    requires arbitrators { wanted.arbitrators ≤ MAX_ARBITRATORS }
+    requires replicas { replicas_of wanted.kind ≤ MAX_MEMBERS }
+    requires room { length out.old + MAX_ARBITRATORS ≤ OUTBOX_LIMIT }
+    requires none { at wanted.partition (reconfigs_of reconfigs.old.items) ≡ None }
     requires whole { IsManaged (managed units.old reconfigs.old.items) }
-    ensures begins { IfOk result (λ reason. Begins kind
-        (begins_in (task_commanded arbitrators partition kind units.old) (managed units.old reconfigs.old.items)
-        (entered kind partition units.old)) (managed units.old reconfigs.old.items)
-        (managed units.new reconfigs.new.items) out.old out.new reason) }
+    ensures begins { IfOk result (λ reason. Begins wanted.kind
+        (begins_in (task_commanded wanted.arbitrators wanted.partition wanted.kind units.old)
+        (managed units.old reconfigs.old.items) (entered wanted.kind wanted.partition units.old))
+        (managed units.old reconfigs.old.items) (managed units.new reconfigs.new.items) out.old out.new reason) }
     ensures whole { IsManaged (managed units.new reconfigs.new.items) }
     ensures refused { OnErr result ((units.new ≡ units.old) × (reconfigs.new.items ≡ reconfigs.old.items) ×
         (out.new ≡ out.old)) }
     ensures memory { OnErr result (begins_one (managed units.old reconfigs.old.items)
-        (begins_in (task_commanded arbitrators partition kind units.old) (managed units.old reconfigs.old.items)
-        (entered kind partition units.old)) ≡ true) }
-    ensures few { length out.new ≤ length out.old + 9 }
+        (begins_in (task_commanded wanted.arbitrators wanted.partition wanted.kind units.old)
+        (managed units.old reconfigs.old.items) (entered wanted.kind wanted.partition units.old)) ≡ true) }
+    ensures few { length out.new ≤ length out.old + MAX_ARBITRATORS }
 {
-    let Some(epoch) = epoch_after(kind, units.highest(partition)) else {
-        return Ok(Some(reason_at_end(units, partition, kind)));
+    let Some(epoch) = epoch_after(wanted.kind, units.highest(wanted.partition)) else {
+        return Ok(Some(reason_at_end(units, wanted.partition, wanted.kind)));
     };
-    if let Some(reason) = refusal_in(units, partition, kind) {
+    if let Some(reason) = refusal_in(units, wanted.partition, wanted.kind) {
         return Ok(Some(reason));
     }
-    take_place(units, reconfigs, partition, kind)?;
-    let begun = Reconfig::begin(partition, epoch, kind, me, arbitrators, out);
-    enter(reconfigs, partition, begun);
+    take_place(units, reconfigs, wanted.partition, wanted.kind)?;
+    let begun = Reconfig::begin(
+        wanted.partition,
+        epoch,
+        wanted.kind,
+        wanted.me,
+        wanted.arbitrators,
+        out,
+    );
+    enter(reconfigs, wanted.partition, begun);
     Ok(None)
 }
 
-/// A command is refused for this reason.
+/// Refuses a command for this reason.
 fn refuse(kind: Kind, reason: Reason, effects: &mut UnitEffects)
     requires { HasRoomFor 0 0 1 effects.old }
     ensures { Left (Tell (Refused (verb_of kind) reason) ∷ []) effects.old effects.new }
@@ -151,12 +165,12 @@ fn refuse(kind: Kind, reason: Reason, effects: &mut UnitEffects)
 }
 
 impl Manager {
-    /// A command to the manager: a new reconfiguration of the partition begins, and all arbitrators are asked to
-    /// prepare its epoch, in the name of `me`. It is refused, which is told and changes nothing else, where the node is
-    /// not the manager; where a reconfiguration of the partition stands; where a create finds a known configuration;
-    /// where a new partition finds no place; or where the epoch would have a number past its end; in this order. At
-    /// most nine messages are sent, and one report is told. It is an error where memory is short for the new
-    /// reconfiguration, and then nothing is changed: no refusal needs memory.
+    /// A command to the manager: begins a new reconfiguration of the partition, and asks all arbitrators in the name of
+    /// `me` to prepare its epoch. The command is refused if the node is not the manager; if a reconfiguration of the
+    /// partition is under way; if a create finds a known configuration; if a new partition finds no place; or if the
+    /// epoch would be past the last one. The first of these that holds is reported, and nothing else changes. At most
+    /// `MAX_ARBITRATORS` messages are sent, and one report is made. It is an error if memory is short for the new
+    /// reconfiguration, and then nothing changes. No refusal needs memory.
     #[tactic(auto, unfolding(unit_rules::specs::Manager::reconfig_commanded))]
     pub fn commanded(
         &mut self,
@@ -185,13 +199,16 @@ impl Manager {
             refuse(kind, Reason::Busy, effects);
             return Ok(());
         }
+        let wanted = Wanted {
+            partition,
+            kind,
+            arbitrators,
+            me,
+        };
         let begun = begin(
             &mut self.units,
             &mut self.reconfigs,
-            arbitrators,
-            partition,
-            kind,
-            me,
+            wanted,
             &mut effects.out,
         )?;
         if let Some(reason) = begun {

@@ -16,7 +16,7 @@ fn position_of(reconfigs: &[(u16, Reconfig)], partition: u16) -> Option<usize>
         .position(|reconfig| reconfig.0 == partition)
 }
 
-/// Where the partition's reconfiguration stands, if there is one.
+/// The place of the partition's reconfiguration, if there is one.
 #[tactic(auto, using(reconfig_phases::proofs::Polled::found, crate::proofs::Places::none_seen, crate::proofs::Places::some_seen))]
 pub(crate) fn find(reconfigs: &[(u16, Reconfig)], partition: u16) -> Option<usize>
     ensures place { IfSome result (λ i. i ≡ place partition reconfigs.now) }
@@ -49,11 +49,12 @@ fn place_above(reconfigs: &[(u16, Reconfig)], partition: u16) -> usize
     }
 }
 
-/// Puts a partition's reconfiguration in its place, for which there is room, and where none stands.
+/// Puts a partition's reconfiguration in its place. There is room for it, and the partition has none yet.
 pub(crate) fn enter(reconfigs: &mut Vec<(u16, Reconfig)>, partition: u16, reconfig: Reconfig)
     requires room { vec_len reconfigs.old < vec_capacity reconfigs.old }
     requires new { at partition (reconfigs_of reconfigs.old.items) ≡ None }
-    ensures { reconfigs_of reconfigs.new.items ≡ put partition (reconfig_of reconfig) (reconfigs_of reconfigs.old.items) }
+    ensures { reconfigs_of reconfigs.new.items ≡
+        put partition (reconfig_of reconfig) (reconfigs_of reconfigs.old.items) }
 {
     let i = place_above(reconfigs, partition);
     match reconfigs.insert(i, (partition, reconfig)) {
@@ -62,7 +63,7 @@ pub(crate) fn enter(reconfigs: &mut Vec<(u16, Reconfig)>, partition: u16, reconf
     }
 }
 
-/// Takes a partition's reconfiguration out of its place.
+/// Takes a partition's reconfiguration out.
 pub(crate) fn take_out(reconfigs: &mut Vec<(u16, Reconfig)>, i: usize, partition: u16)
     requires rise { rises (reconfigs_of reconfigs.old.items) ≡ true }
     requires place { i ≡ place partition reconfigs.old.items }

@@ -5,7 +5,7 @@ ghost use Rattle.unit_rules.specs.Manager.{epoch_of};
 use ring_points::Epoch;
 use unit_rules::Kind;
 
-/// The epoch after this one, if its number is not past the last one.
+/// The epoch after this one, if there is one.
 #[tactic(auto, using(crate::proofs::Ends::past_next, crate::proofs::Ends::next_inside))]
 fn next(highest: Epoch) -> Option<Epoch>
     ensures next { IfSome result (λ epoch. (epoch ≡ next_epoch highest) × (is_past_end epoch ≡ false)) }
@@ -20,7 +20,7 @@ fn next(highest: Epoch) -> Option<Epoch>
     })
 }
 
-/// The first epoch after a loss of data, if its number is not past the last one.
+/// The first epoch after a loss of data, if there is one.
 #[tactic(auto, using(crate::proofs::Ends::past_loss, crate::proofs::Ends::loss_inside))]
 fn after_loss(highest: Epoch) -> Option<Epoch>
     ensures next { IfSome result (λ epoch. (epoch ≡ epoch_after_loss highest) × (is_past_end epoch ≡ false)) }
@@ -35,7 +35,7 @@ fn after_loss(highest: Epoch) -> Option<Epoch>
     })
 }
 
-/// The epoch of what is commanded, after the highest one that is known. There is none where a number of it would be
+/// The epoch of a commanded reconfiguration, after the highest known one. There is none if one of its numbers would be
 /// past the last one.
 pub(crate) fn epoch_after(kind: Kind, highest: Epoch) -> Option<Epoch>
     ensures next { IfSome result (λ epoch. (epoch ≡ epoch_of kind highest) × (is_past_end epoch ≡ false)) }

@@ -1,11 +1,11 @@
 //! The manager of partitions at a node: what its commands, the answers to it and a firing do.
 //!
 //! The node that holds ring point 0 is the manager. It knows configurations of partitions, and has at most one
-//! reconfiguration of each partition on its way. A command begins one, an answer takes it on and at last ends it, and a
-//! firing asks those again that have not answered. Each row of the rules of partitions is a call here that changes the
-//! manager, and leaves in effects what it sends and reports. This crate promises that a call does exactly what its rule
-//! says, and that want of memory changes nothing. It does not know the ring: whether the node is the manager, and which
-//! nodes are up, is handed in.
+//! reconfiguration of each partition under way. A command begins one, answers carry it on to its end, and a firing asks
+//! again whoever has not answered. Each row of the rules of partitions is a call here. It changes the manager, and adds
+//! what it sends and reports to the step's effects. Each call does exactly what its rule says. Where memory is short, a
+//! call changes nothing. This crate does not know the ring: callers say whether the node is the manager, and which
+//! nodes are up.
 #![tactic(auto)]
 
 mod answer;

@@ -10,8 +10,8 @@ use ring_points::Interval;
 use unit_desk::UnitEffects;
 
 impl Manager {
-    /// Tells the partitions in a range whose configurations are known, rising. It is an error where memory is short,
-    /// and then nothing is told.
+    /// Reports the partitions in a range whose configurations are known, rising. It is an error if memory is short, and
+    /// then nothing is reported.
     pub fn list_units(&self, range: &Interval, effects: &mut UnitEffects) -> Result<(), OutOfMemory>
         requires { HasRoomFor 0 0 1 effects.old }
         ensures listed { IfOk result (λ _. Left (Tell (UnitList (partitions_in range.now self.now.units)) ∷ [])

@@ -4,7 +4,7 @@ ghost use Rattle.unit_manager.specs.Managers.{loaded};
 use failover_units::Units;
 use replica_place::NodeLoad;
 
-/// Gives each node its load by the known units.
+/// Fills in the load of each node, by the known units.
 #[tactic(auto, using(crate::proofs::Loading::loaded_more, crate::proofs::Loading::loaded_all, crate::proofs::Loading::loaded_none))]
 pub(crate) fn fill(units: &Units, nodes: &mut [NodeLoad])
     ensures { nodes.new ≡ loaded units.now nodes.old }

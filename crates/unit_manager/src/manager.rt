@@ -1,13 +1,13 @@
 ghost use Rattle.std.specs.Prelude.{◌≡◌, ◌≤◌, [], length};
-ghost use Rattle.unit_manager.specs.Managers.{most_reconfigs};
 
 use failover_units::Units;
 use reconfig_phases::Reconfig;
+use ring_points::MAX_PARTITIONS;
 use std::alloc::Global;
 use std::marker::Model;
 
-/// The partitions that a node knows of, and the reconfigurations that it has on their way, at most one of a partition.
-/// Contracts see it as the rules' record of what is managed.
+/// The partitions that a node knows of, and the reconfigurations under way, at most one of a partition. Contracts see
+/// the record that the rules call `Managed`.
 #[derive(Drop)]
 pub struct Manager {
     pub(crate) units: Units,
@@ -27,7 +27,7 @@ impl Model for Manager {
 }
 
 impl Manager {
-    /// Nothing is known yet, and nothing is on its way. Both grow by this allocator.
+    /// A manager that knows no partition. It grows by this allocator.
     #[tactic(auto, using(crate::proofs::Keeping::nothing_managed))]
     pub fn new(alloc: Global) -> Self
         ensures { result ≡ record { units = []; reconfigs = [] } }
@@ -38,10 +38,10 @@ impl Manager {
         }
     }
 
-    /// How many reconfigurations are on their way.
+    /// How many reconfigurations are under way.
     pub fn reconfig_count(&self) -> usize
         ensures count { result ≡ length self.now.reconfigs }
-        ensures few { result ≤ most_reconfigs }
+        ensures few { result ≤ MAX_PARTITIONS }
     {
         self.reconfigs.len()
     }

@@ -6,16 +6,16 @@ ghost use Rattle.unit_manager.specs.Managers.{managed_fired, reconfigs_of};
 use crate::manager::Manager;
 use fabric_terms::{Message, Outbox};
 use reconfig_phases::Reconfig;
-use ring_points::Who;
+use ring_points::{MAX_ARBITRATORS, Who};
 
-/// Each reconfiguration asks again, one after the other.
+/// Each reconfiguration repeats its questions, one reconfiguration after the other.
 #[tactic(auto, using(crate::proofs::Firing::fired_more, crate::proofs::Firing::fired_all, crate::proofs::Firing::fired_none))]
 fn fire_all(reconfigs: &[(u16, Reconfig)], me: Who, out: &mut Outbox, frames: &mut Vec<Message>)
     requires clear { out.old ≡ [] }
-    requires room { vec_len frames.old + 9 * length reconfigs.now ≤ vec_capacity frames.old }
+    requires room { vec_len frames.old + MAX_ARBITRATORS * length reconfigs.now ≤ vec_capacity frames.old }
     ensures sent { frames.new.items ≡ frames.old.items ++ from_all me
         (frames_of (managed_fired (reconfigs_of reconfigs.now))) }
-    ensures few { length frames.new.items ≤ length frames.old.items + 9 * length reconfigs.now }
+    ensures few { length frames.new.items ≤ length frames.old.items + MAX_ARBITRATORS * length reconfigs.now }
     ensures room { vec_capacity frames.new ≡ vec_capacity frames.old }
     ensures clear { out.new ≡ [] }
 {
@@ -26,14 +26,15 @@ fn fire_all(reconfigs: &[(u16, Reconfig)], me: Who, out: &mut Outbox, frames: &m
 }
 
 impl Manager {
-    /// A firing: by rising partition, each reconfiguration asks those again that have not answered, in the name of
-    /// `me`. The messages stand behind those that are there, at most nine of a reconfiguration, for which there is
-    /// room. The outbox is lent for one of them at a time.
+    /// A firing: by rising partition, each reconfiguration asks again whoever has not answered, in the name of `me`.
+    /// The messages are appended to `frames`, at most `MAX_ARBITRATORS` for a reconfiguration, and `frames` has room
+    /// for these. The outbox is used for one reconfiguration at a time.
     pub fn fire(&self, me: Who, out: &mut Outbox, frames: &mut Vec<Message>)
         requires clear { out.old ≡ [] }
-        requires room { vec_len frames.old + 9 * length self.now.reconfigs ≤ vec_capacity frames.old }
-        ensures sent { frames.new.items ≡ frames.old.items ++ from_all me (frames_of (managed_fired self.now.reconfigs)) }
-        ensures few { length frames.new.items ≤ length frames.old.items + 9 * length self.now.reconfigs }
+        requires room { vec_len frames.old + MAX_ARBITRATORS * length self.now.reconfigs ≤ vec_capacity frames.old }
+        ensures sent { frames.new.items ≡ frames.old.items ++ from_all me
+            (frames_of (managed_fired self.now.reconfigs)) }
+        ensures few { length frames.new.items ≤ length frames.old.items + MAX_ARBITRATORS * length self.now.reconfigs }
         ensures room { vec_capacity frames.new ≡ vec_capacity frames.old }
         ensures clear { out.new ≡ [] }
     {
