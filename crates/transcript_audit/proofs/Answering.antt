@@ -1,5 +1,5 @@
 -- What is answered, and written, at each status.
-use Rattle.std.proofs.Common.{◌≡◌, ◌≢◌, ℕ, List, [], Option, Some, Result, Ok, Err, refl, ap, sym, subst, ◌∙◌, ⊎_elim}
+use Rattle.std.proofs.Common.{◌≡◌, ◌≢◌, ℕ, true, List, [], Option, Some, Result, Ok, Err, refl, ap, sym, subst, ◌∙◌, ⊎_elim}
 use Rattle.std.proofs.lemmas.List.{append-nil}
 use Rattle.edge_io.specs.Edge.{Grew, HasRisen}
 use Rattle.fabric_status.specs.Codes.{status_of}
@@ -14,6 +14,7 @@ use Rattle.transcript_audit.specs.declared.transcript.Transcript.TheVariants.{Go
 use Rattle.transcript_audit.specs.Audits.{IsAnswer, IsAnswerTo, IsEnd, IsVerdictLine, Writes, WritesFront, WritesAnswer, nothing, answer, fault}
 use Rattle.transcript_audit.specs.Places.{LeavesNone}
 use Rattle.transcript_audit.specs.Groups.{Group}
+use Rattle.transcript_audit.specs.Statuses.{MayRead, may_end_audit}
 use Rattle.transcript_audit.specs.Transcript.{transcript_of}
 
 pub answered_refusal : (bytes : List ℕ) (f : Refusal) (ended : Status) (text : List ℕ) → transcript_of bytes ≡ Err f → ended ≡ status_of f → text ≡ fault_line (status_of f) → IsAnswer bytes ended text
@@ -61,21 +62,20 @@ module _ (bytes : List ℕ) (failed : Type 0) (ended : Status) (text : List ℕ)
       short)
       wrote
 
--- how an answer ends: never with the status of words, or of a device
+-- how an answer ends: never with the status of a device
 pub record EndsWell (ended : Status) : Type 0 where
-  pub words : ended ≢ status.Usage
   pub source : ended ≢ status.ReadFault
   pub sink : ended ≢ status.WriteFault
 
 ok_well : EndsWell status.Ok
-ok_well = record { words = λ e. cc (e); source = λ e. cc (e); sink = λ e. cc (e) }
+ok_well = record { source = λ e. cc (e); sink = λ e. cc (e) }
 
 refusal_well : (f : Refusal) → EndsWell (status_of f)
-refusal_well (BadConfig x) = record { words = λ e. cc (e); source = λ e. cc (e); sink = λ e. cc (e) }
-refusal_well (BadLine x) = record { words = λ e. cc (e); source = λ e. cc (e); sink = λ e. cc (e) }
-refusal_well (DriftBroken x) = record { words = λ e. cc (e); source = λ e. cc (e); sink = λ e. cc (e) }
-refusal_well (NoSuch x) = record { words = λ e. cc (e); source = λ e. cc (e); sink = λ e. cc (e) }
-refusal_well (TooLarge x) = record { words = λ e. cc (e); source = λ e. cc (e); sink = λ e. cc (e) }
+refusal_well (BadConfig x) = record { source = λ e. cc (e); sink = λ e. cc (e) }
+refusal_well (BadLine x) = record { source = λ e. cc (e); sink = λ e. cc (e) }
+refusal_well (DriftBroken x) = record { source = λ e. cc (e); sink = λ e. cc (e) }
+refusal_well (NoSuch x) = record { source = λ e. cc (e); sink = λ e. cc (e) }
+refusal_well (TooLarge x) = record { source = λ e. cc (e); sink = λ e. cc (e) }
 
 not_good : (f : Refusal) → status_of f ≡ status.Ok → ⊥
 not_good (BadConfig x) e = cc (e)
@@ -103,8 +103,12 @@ module _ (t : Transcript) (ended last : Status) (text : List ℕ) (old new : Opt
       short)
       wrote
 
-  pub no_usage : last ≢ status.Usage
-  no_usage e = well.words (ends_as status.Usage e (λ x. cc (x)) (λ x. cc (x)))
+  pub may_end : MayRead t → may_end_audit last ≡ true
+  may_end may = ⊎_elim (λ all. ap may_end_audit all.0 ∙ by t is may) (λ short. ⊎_elim (λ m. ap may_end_audit m.0) (λ f. ap may_end_audit f.0) short) wrote
+    where
+      by : (u : Transcript) → IsEnd u ended → MayRead u → may_end_audit ended ≡ true
+      by (Good bytes places) e m = ap may_end_audit e
+      by (Refused f) e m = ap may_end_audit e ∙ m
 
   pub no_read_fault : last ≢ status.ReadFault
   no_read_fault e = well.source (ends_as status.ReadFault e (λ x. cc (x)) (λ x. cc (x)))

@@ -4,3 +4,4 @@ pub mod Transcript
 pub mod Places
 pub mod Verdicts
 pub mod Audits
+pub mod Statuses

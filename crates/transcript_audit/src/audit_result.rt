@@ -1,9 +1,10 @@
-ghost use Rattle.std.specs.Prelude.{◌≡◌, ◌≢◌, ℕ, List, [], Some, IfOk};
+ghost use Rattle.std.specs.Prelude.{◌≡◌, ℕ, List, [], Some, IfOk, IsTrue};
 ghost use Rattle.edge_io.specs.Edge.{HasRisen};
 ghost use Rattle.fabric_status.specs.Codes.{status_of};
 ghost use Rattle.fabric_status.specs.Faults.{fault_line};
 ghost use Rattle.transcript_audit.specs.Audits.{IsAnswer, IsEnd, Writes};
 ghost use Rattle.transcript_audit.specs.Places.{IsTranscript, Stands};
+ghost use Rattle.transcript_audit.specs.Statuses.{may_end_audit};
 ghost use Rattle.transcript_audit.specs.Transcript.{transcript_of};
 
 use crate::transcript::{Transcript, read_transcript};
@@ -54,11 +55,11 @@ pub fn answer_to(alloc: Global, transcript: Transcript) -> Result<AuditResult, O
 }
 
 /// Reads a transcript line by line to its end and writes one line: the verdict on its run, with status Ok; or reads it
-/// up to the line that is refused, and writes how it is refused. `ReadFault` and `WriteFault` come only where that
-/// device's count of faults rose; at `OutOfMemory` and `WriteFault` the sink has a front of what would have been
-/// written.
+/// up to the line that is refused, and writes how it is refused: `BadLine` or `TooLarge`. `ReadFault` and `WriteFault`
+/// come only where that device's count of faults rose; at `OutOfMemory` and `WriteFault` the sink has a front of what
+/// would have been written.
 pub fn audit<S: Source, K: Sink>(alloc: Global, source: &mut S, sink: &mut K) -> Status
-    ensures usage { result ≢ Status.Usage }
+    ensures statuses { IsTrue (may_end_audit result) }
     ensures read { result ≡ Status.Ok → (bytes : List ℕ) → S.left source.old ≡ Some bytes →
         S.left source.new ≡ Some [] }
     ensures written { (bytes : List ℕ) → S.left source.old ≡ Some bytes →

@@ -4,6 +4,7 @@ ghost use Rattle.edge_io.specs.Edge.{HasCauseOf};
 ghost use Rattle.line_format.specs.Lines.{lines_of};
 ghost use Rattle.source_lines.specs.Lines.{is_ignored};
 ghost use Rattle.transcript_audit.specs.Said.{said_of};
+ghost use Rattle.transcript_audit.specs.Statuses.{MayRead, MayRefuse};
 ghost use Rattle.transcript_audit.specs.Transcript.{Reading, is_large, line_read, most_bytes, most_line, placed_if};
 ghost use Rattle.transcript_audit.specs.Transcript.{short_read, transcript_of};
 ghost use Rattle.transcript_audit.specs.Places.{Keeps, IsPlaced, IsRead, IsTaken, IsTranscript, LeavesNone, Stands};
@@ -75,6 +76,7 @@ fn take_line(
         IfOk result (λ refused. IsRead bytes ls places.new refused (short_read number line.now r)) }
     ensures within { (n : ℕ) → at ≤ n → Within n places.old → IfOk result (λ refused. Within n places.new) }
     ensures memory { OnErr result (is_ignored line.now ≡ false) }
+    ensures refusal { IfOk result MayRefuse }
 {
     if is_ignored(line) {
         return Ok(None);
@@ -123,6 +125,7 @@ fn take_next(
         IfOk result (λ refused. IsRead bytes ls places.new refused (line_read number end reader.now.line r)) }
     ensures within { (n : ℕ) → length text.old.items ≤ n → Within n places.old →
         IfOk result (λ refused. Within n places.new) }
+    ensures refusal { IfOk result MayRefuse }
 {
     let at = text.len();
     let line = reader.line();
@@ -140,6 +143,7 @@ pub fn read_transcript<S: Source>(alloc: Global, source: &mut S) -> Result<Trans
     ensures read { (bytes : List ℕ) → S.left source.old ≡ Some bytes →
         IfOk result (λ t. IsTranscript bytes t (transcript_of bytes) × LeavesNone t (S.left source.new)) }
     ensures stands { IfOk result Stands }
+    ensures refusal { IfOk result MayRead }
     ensures cause { HasCauseOf EdgeRefusal.Failed (S.faults source.old) (S.faults source.new) result }
 {
     let mut reader = match LineReader::new(alloc) {

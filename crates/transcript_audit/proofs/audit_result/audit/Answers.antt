@@ -1,11 +1,11 @@
 use Rattle.std.proofs.Common.{List, ℕ, subst}
 use Rattle.edge_io.specs.Edge.{HasRisen}
 use Rattle.fabric_status.specs.Writes.{Wrote}
-use Rattle.transcript_audit.proofs.Answering.{all_read, no_read_fault, no_usage, sink_failed, wrote_answer}
+use Rattle.transcript_audit.proofs.Answering.{all_read, may_end, no_read_fault, sink_failed, wrote_answer}
 use Rattle.transcript_audit.proofs.audit_result.audit.Goals as goal
 
-pub returns-in-Ok-answer_to-clause-usage : goal.returns-in-Ok-answer_to-clause-usage
-returns-in-Ok-answer_to-clause-usage g c = no_usage c.in-Ok.transcript c.in-Ok-answer_to.answer.status c.write_last-in-Ok-answer_to.result _ _ _ _ _ c.in-Ok-answer_to.ensures.status c.write_last-in-Ok-answer_to.ensures
+pub returns-in-Ok-answer_to-clause-statuses : goal.returns-in-Ok-answer_to-clause-statuses
+returns-in-Ok-answer_to-clause-statuses g c = may_end c.in-Ok.transcript c.in-Ok-answer_to.answer.status c.write_last-in-Ok-answer_to.result _ _ _ _ _ c.in-Ok-answer_to.ensures.status c.write_last-in-Ok-answer_to.ensures c.in-Ok.ensures.refusal
 
 pub returns-in-Ok-answer_to-clause-read_fault : goal.returns-in-Ok-answer_to-clause-read_fault
 returns-in-Ok-answer_to-clause-read_fault g c e = absurd (no_read_fault c.in-Ok.transcript c.in-Ok-answer_to.answer.status c.write_last-in-Ok-answer_to.result _ _ _ _ _ c.in-Ok-answer_to.ensures.status c.write_last-in-Ok-answer_to.ensures e)
