@@ -17,3 +17,4 @@ pub mod Turning
 pub mod Frames
 pub mod Counting
 pub mod Summing
+pub mod Ends

@@ -7,3 +7,4 @@ pub mod Texts
 pub mod Goes
 pub mod Tallies
 pub mod Laws
+pub mod Statuses

@@ -1,7 +1,8 @@
-ghost use Rattle.std.specs.Prelude.{◌≡◌, ◌++◌, ◌+◌, ◌≤◌, ◌<◌, ℕ, IfOk, OnOk, count_by};
+ghost use Rattle.std.specs.Prelude.{◌≡◌, ◌++◌, ◌+◌, ◌≤◌, ◌<◌, ℕ, IfOk, IsTrue, OnOk, count_by};
 ghost use Rattle.fabric_status.specs.Writes.{Wrote};
 ghost use Rattle.schedule_generate.specs.Goes.{IsSettled};
 ghost use Rattle.schedule_generate.specs.Laws.{judged_of};
+ghost use Rattle.schedule_generate.specs.Statuses.{may_end_generate};
 ghost use Rattle.schedule_rules.specs.Schedule.{judge};
 ghost use Rattle.ring_world.specs.Answers.{StandsFor};
 ghost use Rattle.schedule_generate.specs.Settings.{generated_config};
@@ -131,9 +132,11 @@ impl CourseObserver for DrillCounts {
 /// were sent, how many take-overs and leaves were reported, and how many instances hold a point at the end; or the
 /// fault of the line that is too large. At `OutOfMemory` and `WriteFault` the sink has a front of that; `WriteFault`
 /// comes only where the sink's count of faults rose.
+#[tactic(auto, using(crate::proofs::Ends::may_end))]
 pub fn drill<K: Sink>(alloc: Global, seed: u64, nodes: u16, rounds: u32, sink: &mut K) -> Status
     requires some { 1 ≤ nodes }
     requires few { nodes ≤ 16 }
+    ensures statuses { IsTrue (may_end_generate result) }
     ensures judged { IsSettled result → judge (gen_text seed nodes rounds) ≡ judged_of nodes
         (generated seed nodes rounds) }
     ensures wrote { Wrote (ended (generated seed nodes rounds))

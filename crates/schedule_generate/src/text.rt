@@ -1,7 +1,8 @@
-ghost use Rattle.std.specs.Prelude.{◌≡◌, ◌≤◌};
+ghost use Rattle.std.specs.Prelude.{◌≡◌, ◌≤◌, IsTrue};
 ghost use Rattle.fabric_status.specs.Writes.{Wrote};
 ghost use Rattle.schedule_generate.specs.Goes.{IsSettled};
 ghost use Rattle.schedule_generate.specs.Laws.{judged_of};
+ghost use Rattle.schedule_generate.specs.Statuses.{may_end_generate};
 ghost use Rattle.schedule_rules.specs.Schedule.{judge};
 ghost use Rattle.schedule_generate.specs.Texts.{all_written, ended, gen_text, generate_writing, generated};
 
@@ -61,9 +62,11 @@ impl CourseObserver for Lines {
 /// Writes the schedule of a seed, so many nodes and so many rounds: its text, or the lines before the one that is too
 /// large, and its fault. At `OutOfMemory` and `WriteFault` the sink has a front of that; `WriteFault` comes only where
 /// the sink's count of faults rose.
+#[tactic(auto, using(crate::proofs::Ends::may_end))]
 pub fn generate<K: Sink>(alloc: Global, seed: u64, nodes: u16, rounds: u32, sink: &mut K) -> Status
     requires some { 1 ≤ nodes }
     requires few { nodes ≤ 16 }
+    ensures statuses { IsTrue (may_end_generate result) }
     ensures judged { IsSettled result → judge (gen_text seed nodes rounds) ≡ judged_of nodes
         (generated seed nodes rounds) }
     ensures wrote { Wrote (ended (generated seed nodes rounds))
