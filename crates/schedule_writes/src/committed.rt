@@ -1,5 +1,6 @@
-ghost use Rattle.std.specs.Prelude.{◌≡◌, ◌≢◌, ℕ, List, [], Some, None};
+ghost use Rattle.std.specs.Prelude.{◌≡◌, ℕ, List, [], Some, None, IsTrue};
 ghost use Rattle.edge_io.specs.Edge.{HasRisen};
+ghost use Rattle.schedule_replay.specs.Statuses.{may_end_replay};
 ghost use Rattle.schedule_rules.specs.Replays.{IsDone};
 ghost use Rattle.schedule_rules.specs.Schedule.{judge};
 ghost use Rattle.write_safety.specs.Fed.{HasCommitted};
@@ -54,7 +55,7 @@ impl RunObserver for Committed {
 /// rose; at `OutOfMemory` and `WriteFault` the sink has a front of what would have been written. An entry is kept once,
 /// however many reports are about it.
 pub fn writes<S: Source, K: Sink>(alloc: Global, source: &mut S, sink: &mut K) -> Status
-    ensures usage { result ≢ Status.Usage }
+    ensures statuses { IsTrue (may_end_replay result) }
     ensures read { result ≡ Status.Ok → (bytes : List ℕ) → S.left source.old ≡ Some bytes →
         S.left source.new ≡ Some [] }
     ensures written { (bytes : List ℕ) → S.left source.old ≡ Some bytes →
