@@ -28,6 +28,8 @@ class Box(NamedTuple):
     note: str
 
 
+# A good run has fewer boxes at one time: 64 nodes with 32 intervals each, and flights. A grid shows the last of more.
+MOST_ACTIVE = 3_000
 # A box that is narrower is left out, and counted.
 THINNEST = 0.02
 
@@ -174,16 +176,21 @@ def grid(boxes, points, axis, cell):
     Gives runs of cells (x, y, width, height) by holder and kind. A cell shows what has its middle. Runs of one column
     that go on in the next one are one.
     """
+    strips = [strip(box, points, cell) for box in boxes]
     runs, previous, starts, active, at = {}, {}, {}, [], 0
     columns = int((axis.right() - axis.left) / cell)
     for column in range(columns + 1):
         middle = axis.left + (column + 0.5) * cell
         while at < len(boxes) and boxes[at].x0 <= middle:
-            heapq.heappush(active, (boxes[at].x1, at))
+            if boxes[at].x1 > middle and strips[at][0] < strips[at][1]:
+                heapq.heappush(active, (boxes[at].x1, at))
             at += 1
         while active and active[0][0] <= middle:
             heapq.heappop(active)
-        present = pieces([boxes[i] for _, i in active], points, cell) if column < columns else {}
+        if len(active) > MOST_ACTIVE:
+            active = sorted(active, key=lambda it: it[1])[-MOST_ACTIVE // 2:]
+            heapq.heapify(active)
+        present = pieces(sorted(strips[i] for _, i in active)) if column < columns else {}
         for key in previous:
             if key not in present:
                 y0, y1, node, kind = key
@@ -195,18 +202,20 @@ def grid(boxes, points, axis, cell):
     return runs
 
 
-def pieces(boxes, points, cell):
-    """The boxes of one column, cut to the grid's rows: neighbours of one holder are one piece."""
+def strip(box, points, cell):
+    """The rows of a box on the grid, as y from and to, with its node and kind."""
+    y0 = points.top + round((points.y(box.hi + 1) - points.top) / cell) * cell
+    y1 = points.top + round((points.y(box.lo) - points.top) / cell) * cell
+    return y0, y1, node_of(box.who), box.kind
+
+
+def pieces(strips):
+    """The strips of one column, downwards: neighbours of one holder are one piece."""
     found, last = {}, None
-    for box in sorted(boxes, key=lambda it: -it.lo):
-        y0 = points.top + round((points.y(box.hi + 1) - points.top) / cell) * cell
-        y1 = points.top + round((points.y(box.lo) - points.top) / cell) * cell
-        if y1 <= y0:
-            continue
-        node = node_of(box.who)
-        if last and last[1] >= y0 and last[2:] == (node, box.kind):
+    for y0, y1, node, kind in strips:
+        if last and last[1] >= y0 and last[2:] == (node, kind):
             found.pop(last)
-            y0 = last[0]
-        last = (y0, max(y1, last[1] if last and last[0] == y0 else y1), node, box.kind)
+            y0, y1 = last[0], max(y1, last[1])
+        last = (y0, y1, node, kind)
         found[last] = True
     return found
