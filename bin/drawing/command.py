@@ -64,6 +64,8 @@ def draw(words):
     window, files, wants_fences = words_read(words)
     if files:
         sources = [Source(open(name, "rb"), name) for name, _ in files]
+    elif sys.stdin is None:
+        raise OSError("standard input is closed")
     else:
         sources = [Source(sys.stdin.buffer)]
     given = {i: begun for i, (_, begun) in enumerate(files) if begun is not None}
@@ -92,6 +94,8 @@ def main(words):
         print(f"draw: {failed}", file=sys.stderr)
         return 3
     try:
+        if sys.stdout is None:
+            raise OSError("standard output is closed")
         sys.stdout.write(text)
         sys.stdout.flush()
     except OSError as failed:
