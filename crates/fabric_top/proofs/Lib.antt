@@ -1,8 +1,8 @@
 pub mod Safe
 pub mod Audited
 pub mod Clusters
-pub mod Generated
 pub mod NoMemory
+pub mod Statuses
 pub mod Splits
 pub mod Values
 pub mod CrewCauses

@@ -23,31 +23,31 @@ use Rattle.fabric_top.proofs.Safe.{accepted_is_safe}
 
 no_replay : (a : Seen) → IsReplay a status.OutOfMemory a
 no_replay a = record {
-  replays = record { read = λ e. cc; written = λ bytes left. accepted (nothing_sent a.told.held _); no_usage = λ e. cc; read_fault = λ e. cc; write_fault = λ e. cc; complete = λ bytes left good source sink. inr refl };
+  replays = record { read = λ e. cc; written = λ bytes left. accepted (nothing_sent a.told.held _); statuses = refl; read_fault = λ e. cc; write_fault = λ e. cc; complete = λ bytes left good source sink. inr refl };
   rest = refl;
 }
 
 no_trace : (a : Seen) → IsTrace a status.OutOfMemory a
 no_trace a = record {
-  traces = record { read = λ e. cc; written = λ bytes left. accepted (nothing_sent a.told.held _); no_usage = λ e. cc; read_fault = λ e. cc; write_fault = λ e. cc; complete = λ bytes left good source sink. inr refl };
+  traces = record { read = λ e. cc; written = λ bytes left. accepted (nothing_sent a.told.held _); statuses = refl; read_fault = λ e. cc; write_fault = λ e. cc; complete = λ bytes left good source sink. inr refl };
   rest = refl;
 }
 
 no_writes : (a : Seen) → IsWrites a status.OutOfMemory a
 no_writes a = record {
-  writes = record { read = λ e. cc; written = λ bytes left. accepted (nothing_sent a.told.held _); no_usage = λ e. cc; read_fault = λ e. cc; write_fault = λ e. cc; complete = λ bytes left good source sink. inr refl };
+  writes = record { read = λ e. cc; written = λ bytes left. accepted (nothing_sent a.told.held _); statuses = refl; read_fault = λ e. cc; write_fault = λ e. cc; complete = λ bytes left good source sink. inr refl };
   rest = refl;
 }
 
 no_audit : (a : Seen) → IsAudit a status.OutOfMemory a
 no_audit a = record {
-  audits = record { read = λ e. cc; written = λ bytes left. nothing (grew_none a.told.held); no_usage = λ e. cc; read_fault = λ e. cc; write_fault = λ e. cc; complete = λ bytes groups left good source sink. inr refl };
+  audits = record { read = λ e. cc; written = λ bytes left. nothing (grew_none a.told.held); statuses = refl; read_fault = λ e. cc; write_fault = λ e. cc; complete = λ bytes groups left good source sink. inr refl };
   rest = refl;
 }
 
 no_made : (writing : ℕ → Writing) (seed nodes rounds : ℕ) (a : Seen) → Generates writing seed nodes rounds a status.OutOfMemory a
 no_made writing seed nodes rounds a = record {
-  made = record { wrote = inr (inl (refl, nothing_sent a.told.held _)); judged = λ settled. absurd settled; no_usage = λ e. cc };
+  made = record { wrote = inr (inl (refl, nothing_sent a.told.held _)); judged = λ settled. absurd settled; statuses = refl };
   safe = accepted_is_safe _;
   rest = refl;
 }

@@ -1,5 +1,5 @@
 -- What `audit` does.
-use Rattle.std.specs.Prelude.{◌≡◌, ◌≢◌, ℕ, List, [], Option, Some, Ok}
+use Rattle.std.specs.Prelude.{◌≡◌, ℕ, List, [], IsTrue, Option, Some, Ok}
 use Rattle.fabric_top.specs.CrewRuns.{Seen}
 use Rattle.edge_io.specs.Edge.{HasRisen}
 use Rattle.fabric_status.specs.declared.status.Status.{Status}
@@ -7,13 +7,15 @@ use Rattle.fabric_status.specs.declared.status.Status.TheVariants as status
 use Rattle.schedule_rules.specs.Replays.{IsDone}
 use Rattle.transcript_audit.specs.Audits.{Writes}
 use Rattle.transcript_audit.specs.Groups.{Group}
+use Rattle.transcript_audit.specs.Statuses.{may_end_audit}
 use Rattle.transcript_audit.specs.Transcript.{transcript_of}
 
 -- by what the source has left before and after, how often it failed, and the same of the sink
 pub record Audits (ended : Status) (left left' : Option (List ℕ)) (failed failed' : ℕ) (held held' : Option (List ℕ)) (refused refused' : ℕ) : Type 0 where
   pub read : ended ≡ status.Ok → (bytes : List ℕ) → left ≡ Some bytes → left' ≡ Some []
   pub written : (bytes : List ℕ) → left ≡ Some bytes → Writes ended bytes (HasRisen failed failed') held held'
-  pub no_usage : ended ≢ status.Usage
+  -- its status is one of these, whatever the devices tell
+  pub statuses : IsTrue (may_end_audit ended)
   pub read_fault : ended ≡ status.ReadFault → HasRisen failed failed'
   pub write_fault : ended ≡ status.WriteFault → HasRisen refused refused'
   -- a good transcript is judged, or memory was short, where no device failed

@@ -1,9 +1,10 @@
 -- What `replay` does.
-use Rattle.std.specs.Prelude.{◌≡◌, ◌≢◌, ℕ, List, [], Option, Some, None}
+use Rattle.std.specs.Prelude.{◌≡◌, ℕ, List, [], IsTrue, Option, Some, None}
 use Rattle.fabric_top.specs.CrewRuns.{Seen}
 use Rattle.edge_io.specs.Edge.{HasRisen}
 use Rattle.fabric_status.specs.declared.status.Status.{Status}
 use Rattle.fabric_status.specs.declared.status.Status.TheVariants as status
+use Rattle.schedule_replay.specs.Statuses.{may_end_replay}
 use Rattle.schedule_rules.specs.Replays.{IsDone, Writes}
 use Rattle.schedule_rules.specs.Schedule.{judge}
 
@@ -12,7 +13,8 @@ pub record Replays (ended : Status) (left left' : Option (List ℕ)) (failed fai
   -- what was read and written of a schedule, where the devices tell
   pub read : ended ≡ status.Ok → (bytes : List ℕ) → left ≡ Some bytes → left' ≡ Some []
   pub written : (bytes : List ℕ) → left ≡ Some bytes → Writes ended (judge bytes) left' (HasRisen failed failed') held held'
-  pub no_usage : ended ≢ status.Usage
+  -- its status is one of these, whatever the devices tell
+  pub statuses : IsTrue (may_end_replay ended)
   pub read_fault : ended ≡ status.ReadFault → HasRisen failed failed'
   pub write_fault : ended ≡ status.WriteFault → HasRisen refused refused'
   -- a good schedule is done, or memory was short, where no device failed

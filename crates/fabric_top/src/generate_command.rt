@@ -8,7 +8,6 @@ use schedule_generate::{drill, generate};
 use std::alloc::Global;
 
 /// Writes the schedule of a seed, of so many nodes and rounds.
-#[tactic(auto, using(crate::proofs::Generated::no_usage))]
 pub fn generate_schedule<K: Sink>(
     alloc: Global,
     seed: u64,
@@ -25,7 +24,6 @@ pub fn generate_schedule<K: Sink>(
 }
 
 /// Runs that schedule, and writes its summary.
-#[tactic(auto, using(crate::proofs::Generated::no_usage))]
 pub fn drill_schedule<K: Sink>(
     alloc: Global,
     seed: u64,

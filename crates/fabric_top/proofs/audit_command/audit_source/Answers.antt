@@ -7,7 +7,7 @@ returns g c =
     record {
       read = e.read;
       written = e.written;
-      no_usage = e.usage;
+      statuses = e.statuses;
       read_fault = e.read_fault;
       write_fault = e.write_fault;
       complete = λ bytes groups left good source sink.

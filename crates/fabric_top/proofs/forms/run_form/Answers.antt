@@ -2,7 +2,11 @@ use Rattle.std.proofs.Common.{refl}
 use Rattle.edge_io.specs.Told.{Loans}
 use Rattle.fabric_top.proofs.Clusters.{cluster_runs}
 use Rattle.fabric_top.proofs.Safe.{accepted_is_safe}
+use Rattle.fabric_top.proofs.Statuses.{never_usage}
 use Rattle.fabric_top.proofs.forms.run_form.Goals as goal
+use Rattle.schedule_generate.specs.Statuses.{may_end_generate}
+use Rattle.schedule_replay.specs.Statuses.{may_end_replay}
+use Rattle.transcript_audit.specs.Statuses.{may_end_audit}
 
 pub returns-in-Replay-clause-does : goal.returns-in-Replay-clause-does
 returns-in-Replay-clause-does g c =
@@ -42,3 +46,21 @@ pub returns-in-Drill-clause-does : goal.returns-in-Drill-clause-does
 returns-in-Drill-clause-does g c =
     let loans : Loans = record { sink = c.args.sink.ghost_name; links = c.args.links.ghost_name; keeps = c.args.keeps.ghost_name; clock = c.args.clock.ghost_name } in
     (loans, rw c.in-Drill.is (record { made = c.drill_schedule.ensures; safe = accepted_is_safe _; rest = refl }))
+
+pub returns-in-Replay-clause-usage : goal.returns-in-Replay-clause-usage
+returns-in-Replay-clause-usage g c = never_usage may_end_replay c.replay_source.result c.replay_source.ensures.statuses refl
+
+pub returns-in-Trace-clause-usage : goal.returns-in-Trace-clause-usage
+returns-in-Trace-clause-usage g c = never_usage may_end_replay c.trace_source.result c.trace_source.ensures.statuses refl
+
+pub returns-in-Audit-clause-usage : goal.returns-in-Audit-clause-usage
+returns-in-Audit-clause-usage g c = never_usage may_end_audit c.audit_source.result c.audit_source.ensures.statuses refl
+
+pub returns-in-Writes-clause-usage : goal.returns-in-Writes-clause-usage
+returns-in-Writes-clause-usage g c = never_usage may_end_replay c.writes_source.result c.writes_source.ensures.statuses refl
+
+pub returns-in-Generate-clause-usage : goal.returns-in-Generate-clause-usage
+returns-in-Generate-clause-usage g c = never_usage may_end_generate c.generate_schedule.result c.generate_schedule.ensures.statuses refl
+
+pub returns-in-Drill-clause-usage : goal.returns-in-Drill-clause-usage
+returns-in-Drill-clause-usage g c = never_usage may_end_generate c.drill_schedule.result c.drill_schedule.ensures.statuses refl
