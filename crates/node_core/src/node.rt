@@ -63,6 +63,11 @@ impl Model for NodeCore {
         IfSome n.effects (λ d. IsReady (most_frames (core_of n.ring n.units).state) d.value) };
 }
 
+/// Drops the room of a step. It is never inlined: effects are moved to the stack where they are dropped, and whoever calls
+/// that inline pays for a quarter of a megabyte each time.
+#[inline(never)]
+fn drop_room(_effects: Box<NodeEffects>) {}
+
 /// The most frames of a step with this above the ring: what the ring sends, and nine of a reconfiguration and six of a
 /// replica.
 fn most_frames_of(units: &UnitNode) -> usize
@@ -187,9 +192,7 @@ impl NodeCore {
         }
     }
 
-    /// Keeps the room of a step for the next one where it is wanted, and is large enough or can be made so. It is never
-    /// inlined into a step, which would then pay for the room in which effects are dropped.
-    #[inline(never)]
+    /// Keeps the room of a step for the next one where it is wanted, and is large enough or can be made so.
     #[tactic(auto, unfolding(crate::specs::Nodes::most_frames))]
     fn keep_room(&mut self, mut effects: Box<NodeEffects>, is_wanted: bool)
         requires taken { self.old.has_room ≡ false }
@@ -200,11 +203,15 @@ impl NodeCore {
         ensures dropped { is_wanted ≡ false → self.new.has_room ≡ false }
     {
         if !is_wanted {
+            drop_room(effects);
             return;
         }
         match effects.make_room(most_frames_of(&self.units)) {
-            Ok(()) => self.effects = Some(effects),
-            Err(_) => {}
+            Ok(()) => match self.effects.replace(effects) {
+                None => {}
+                Some(former) => drop_room(former),
+            },
+            Err(_) => drop_room(effects),
         }
     }
 
