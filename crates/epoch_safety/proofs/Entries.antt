@@ -13,7 +13,7 @@ use Rattle.world_rules.specs.Above.{is_ring_report}
 use Rattle.world_rules.specs.Events.{world_step}
 use Rattle.world_rules.specs.Runs.{History, world_after}
 use Rattle.epoch_refinement.specs.Nodes.{IsRealIn, AllReal}
-use Rattle.ring_apart.specs.Apart.{is_unit_report}
+use Rattle.epoch_safety.specs.RingApart.{is_unit_report}
 use Rattle.epoch_safety.proofs.Sending.{none_passes}
 use Rattle.epoch_safety.proofs.Telling.{none_of}
 

@@ -1,3 +1,7 @@
+pub mod ApartSaying
+pub mod ApartSessions
+pub mod ApartCommands
+pub mod ApartSteps
 pub mod Members
 pub mod Lasting
 pub mod Telling

@@ -15,7 +15,7 @@ use Rattle.world_rules.specs.Runs.{History, world_after}
 use Rattle.world_rules.specs.Worlds.{World, Stepped}
 use Rattle.epoch_refinement.specs.Nodes.{is_told_of, tells_of}
 use Rattle.epoch_refinement.specs.Told.{tells}
-use Rattle.ring_apart.specs.Apart.{is_unit_report}
+use Rattle.epoch_safety.specs.RingApart.{is_unit_report}
 use Rattle.run_promises.specs.Reports.{log_in}
 
 -- what is told of each partition, the newest first

@@ -1,2 +1,4 @@
+pub mod RingApart
+pub mod RingStaysApart
 pub mod Answers
 pub mod Laws

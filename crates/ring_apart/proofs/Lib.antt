@@ -1,4 +1,0 @@
-pub mod Saying
-pub mod Sessions
-pub mod Commands
-pub mod Steps
