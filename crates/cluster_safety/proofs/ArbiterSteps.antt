@@ -3,8 +3,8 @@ use Rattle.std.proofs.Common.{arith, ◌≡◌, ◌≤◌, ◌<◌, ◌+◌, ◌
 use Rattle.std.specs.Prelude.{◌==◌, nat_lt, slice_get, slice_set}
 use Rattle.std.proofs.lemmas.Bool.{and_parts, eqb-true}
 use Rattle.std.proofs.lemmas.Bool.Decides.{nat_tests}
-use Rattle.cluster_schedule.specs.Events.{FitsInstance, Hears, arbiter_did, arbiter_does, frame_of, hears, hears_as, kept_by}
-use Rattle.cluster_schedule.specs.Moments.{arbiter_acts_in, heard_in, hears_in}
+use Rattle.ring_safety.specs.ClusterEvents.{FitsInstance, Hears, arbiter_did, arbiter_does, frame_of, hears, hears_as, kept_by}
+use Rattle.ring_safety.specs.ClusterMoments.{arbiter_acts_in, heard_in, hears_in}
 use Rattle.unit_rules.specs.Fabric.{fabric}
 use Rattle.fabric_lemmas.specs.Maps.{at, put}
 use Rattle.fabric_terms.specs.declared.message.Message.{Message}

@@ -4,8 +4,8 @@ use Rattle.std.specs.Prelude.{Contains, ◌==◌, unwrap_or, if◌then◌else◌
 use Rattle.std.proofs.lemmas.Bool.{eqb-true}
 use Rattle.std.proofs.lemmas.List.{append-nil}
 use Rattle.std.proofs.lemmas.List.Elements.{All-contains, All-nil}
-use Rattle.cluster_schedule.specs.Events.{Comes, cluster_after, kept_by}
-use Rattle.cluster_schedule.specs.Moments.{entry_for}
+use Rattle.ring_safety.specs.ClusterEvents.{Comes, cluster_after, kept_by}
+use Rattle.ring_safety.specs.ClusterMoments.{entry_for}
 use Rattle.unit_rules.specs.Fabric.{fabric}
 use Rattle.fabric_lemmas.specs.Maps.{at, put}
 use Rattle.fabric_terms.specs.declared.config.FabricConfig.{FabricConfig}

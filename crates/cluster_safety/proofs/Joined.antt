@@ -1,8 +1,8 @@
 -- A process goes with a cluster: the same actors in the same states, the same frames, and the same is seen.
 use Rattle.std.proofs.Common.{arith, ◌≡◌, ◌≤◌, ◌+◌, ℕ, Bool, true, false, List, [], ◌∷◌, ◌++◌, length, Option, Some, None, refl, ap, sym, subst, ◌∙◌}
 use Rattle.std.specs.Prelude.{◌==◌, find, option_map, if◌then◌else◌}
-use Rattle.cluster_schedule.specs.Events.{Cluster, Comes, IsCluster, MayArrive, Turns, cluster_after, comes, events_of, kept_by}
-use Rattle.cluster_schedule.specs.Moments.{clocks_at, entry_for, last_line, moments, seen_in}
+use Rattle.ring_safety.specs.ClusterEvents.{Cluster, Comes, IsCluster, MayArrive, Turns, cluster_after, comes, events_of, kept_by}
+use Rattle.ring_safety.specs.ClusterMoments.{clocks_at, entry_for, last_line, moments, seen_in}
 use Rattle.unit_rules.specs.Fabric.{fabric}
 use Rattle.fabric_lemmas.specs.Maps.{at}
 use Rattle.fabric_terms.specs.declared.message.Body.{Body}

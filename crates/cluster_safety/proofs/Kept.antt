@@ -1,11 +1,11 @@
 -- What is promised of writes over the runs of schedules holds of a cluster's steps.
 use Rattle.std.proofs.Common.{◌≡◌, ◌≤◌, ℕ, false, List, [], ◌∷◌, drop, length, take, Option, Some, Ok, ap, sym, subst, ◌∙◌}
 use Rattle.std.specs.Prelude.{slice_get}
-use Rattle.cluster_schedule.proofs.Following.{Follows, all_followed}
-use Rattle.cluster_schedule.proofs.Fronts.{Front, cluster_front, front_of, kept_then}
-use Rattle.cluster_schedule.proofs.Mirrors.{RunsAs, runs_as}
-use Rattle.cluster_schedule.proofs.Moments.{entry_seen, newest_entry}
-use Rattle.cluster_schedule.specs.Events.{Comes, IsCluster, events_of}
+use Rattle.ring_safety.proofs.ClusterFollowing.{Follows, all_followed}
+use Rattle.ring_safety.proofs.ClusterFronts.{Front, cluster_front, front_of, kept_then}
+use Rattle.ring_safety.proofs.ClusterMirrors.{RunsAs, runs_as}
+use Rattle.ring_safety.proofs.ClusterMoments.{entry_seen, newest_entry}
+use Rattle.ring_safety.specs.ClusterEvents.{Comes, IsCluster, events_of}
 use Rattle.epoch_safety.proofs.Naming.{names_covered_lem}
 use Rattle.unit_rules.specs.Fabric.{fabric}
 use Rattle.fabric_lemmas.specs.Maps.{at}

@@ -2,7 +2,7 @@
 use Rattle.std.proofs.Common.{◌≡◌, ℕ, Bool, true, false, List, [], ◌∷◌, Option, Some, None, refl, ap, sym, subst, ◌∙◌}
 use Rattle.std.specs.Prelude.{Contains, slice_get, if◌then◌else◌}
 use Rattle.std.proofs.lemmas.Bool.{eq-eqb}
-use Rattle.cluster_schedule.proofs.Mirrors.{RunsAs}
+use Rattle.ring_safety.proofs.ClusterMirrors.{RunsAs}
 use Rattle.epoch_safety.specs.Answers.{named_at}
 use Rattle.epoch_safety.proofs.Asked.{answers_by_entries_lem}
 use Rattle.epoch_safety.proofs.Resting.{own_partition}

@@ -4,9 +4,9 @@ use Rattle.std.specs.Prelude.{Contains, ◌==◌, ◌&&◌, ◌||◌, slice_get,
 use Rattle.std.proofs.lemmas.Bool.{and_parts, eqb-true, eq-eqb}
 use Rattle.std.proofs.lemmas.Bool.Decides.{nat_tests}
 use Rattle.std.proofs.lemmas.Option.{slice_get-get_or}
-use Rattle.cluster_schedule.proofs.Strange.{strange_frames}
-use Rattle.cluster_schedule.specs.Events.{Bids, Cluster, Comes, Fires, FitsInstance, Hears, MayArrive, comes, frame_of, hears, hears_as, kept_by, node_did, node_does}
-use Rattle.cluster_schedule.specs.Moments.{entry_for, heard_in, hears_in, node_acts_in, node_entry}
+use Rattle.ring_safety.proofs.StrangeFrames.{strange_frames}
+use Rattle.ring_safety.specs.ClusterEvents.{Bids, Cluster, Comes, Fires, FitsInstance, Hears, MayArrive, comes, frame_of, hears, hears_as, kept_by, node_did, node_does}
+use Rattle.ring_safety.specs.ClusterMoments.{entry_for, heard_in, hears_in, node_acts_in, node_entry}
 use Rattle.unit_rules.specs.Fabric.{fabric, fabric_stays}
 use Rattle.fabric_lemmas.specs.Maps.{at, put}
 use Rattle.fabric_terms.specs.declared.command.Command.{Command}

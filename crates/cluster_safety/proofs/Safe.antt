@@ -1,11 +1,11 @@
 -- A cluster in one process is safe.
 use Rattle.std.proofs.Common.{false, subst}
-use Rattle.cluster_schedule.proofs.Schedules.{cluster_is_schedule}
-use Rattle.cluster_schedule.proofs.Seen.{told_steps}
-use Rattle.cluster_schedule.specs.Events.{events_of}
-use Rattle.cluster_schedule.specs.Laws.{IsSchedule}
-use Rattle.cluster_schedule.specs.Moments.{moments}
-use Rattle.cluster_schedule.specs.Steps.{steps_of}
+use Rattle.ring_safety.proofs.ClusterSchedules.{cluster_is_schedule}
+use Rattle.ring_safety.proofs.ClusterSeen.{told_steps}
+use Rattle.ring_safety.specs.ClusterEvents.{events_of}
+use Rattle.ring_safety.specs.ClusterSchedule.{IsSchedule}
+use Rattle.ring_safety.specs.ClusterMoments.{moments}
+use Rattle.ring_safety.specs.ClusterSteps.{steps_of}
 use Rattle.epoch_safety.proofs.Written.{writes_kept_lem}
 use Rattle.unit_rules.specs.Fabric.{fabric, fabric_stays}
 use Rattle.fabric_terms.specs.Primaries.{Safe}

@@ -3,8 +3,8 @@ use Rattle.std.proofs.Common.{arith, ◌≡◌, ◌≤◌, ◌<◌, ◌+◌, ℕ
 use Rattle.std.specs.Prelude.{◌==◌, unwrap_or}
 use Rattle.std.proofs.lemmas.Bool.Decides.{nat_tests}
 use Rattle.std.specs.Prelude.{slice_get}
-use Rattle.cluster_schedule.specs.Events.{Begins, Cluster, Stands, kept_by, node_did}
-use Rattle.cluster_schedule.specs.Moments.{node_entry}
+use Rattle.ring_safety.specs.ClusterEvents.{Begins, Cluster, Stands, kept_by, node_did}
+use Rattle.ring_safety.specs.ClusterMoments.{node_entry}
 use Rattle.edge_io.specs.declared.endpoint.Endpoint.{Endpoint}
 use Rattle.unit_rules.specs.Fabric.{fabric}
 use Rattle.fabric_lemmas.specs.Maps.{at, put}

@@ -13,3 +13,12 @@ pub mod Followed
 pub mod Holders
 pub mod Most
 pub mod Safe
+pub mod ClusterEvens
+pub mod ClusterMirrors
+pub mod ClusterAllowed
+pub mod ClusterSeen
+pub mod ClusterFollowing
+pub mod ClusterMoments
+pub mod ClusterFronts
+pub mod ClusterSchedules
+pub mod StrangeFrames

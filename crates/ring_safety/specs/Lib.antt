@@ -1,1 +1,6 @@
 pub mod Laws
+pub mod ClusterEvents
+pub mod ClusterSteps
+pub mod ClusterMoments
+pub mod ClusterSchedule
+pub mod StrangeFrames

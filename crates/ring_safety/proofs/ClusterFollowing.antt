@@ -4,9 +4,9 @@ use Rattle.fabric_terms.specs.declared.config.FabricConfig.{FabricConfig}
 use Rattle.world_rules.specs.Runs.{History, world_after}
 use Rattle.world_rules.specs.Schedules.{Valid}
 use Rattle.world_rules.specs.Uppers.{Upper}
-use Rattle.cluster_schedule.specs.Events.{Cluster, Comes, Begins, Stands, Turns, Bids, Hears, Fires, MayArrive, IsCluster, cluster_after, comes, events_for, events_of, on_lines}
-use Rattle.cluster_schedule.proofs.Allowed.{fire_may, bid_may, give_may, start_may, stand_may}
-use Rattle.cluster_schedule.proofs.Mirrors.{Mirrors, mirrors_first, tick_mirrors, tick_may, fire_mirrors, bid_mirrors, give_mirrors, begin_mirrors, stand_mirrors}
+use Rattle.ring_safety.specs.ClusterEvents.{Cluster, Comes, Begins, Stands, Turns, Bids, Hears, Fires, MayArrive, IsCluster, cluster_after, comes, events_for, events_of, on_lines}
+use Rattle.ring_safety.proofs.ClusterAllowed.{fire_may, bid_may, give_may, start_may, stand_may}
+use Rattle.ring_safety.proofs.ClusterMirrors.{Mirrors, mirrors_first, tick_mirrors, tick_may, fire_mirrors, bid_mirrors, give_mirrors, begin_mirrors, stand_mirrors}
 
 -- the world mirrors the cluster, and the schedule is valid
 pub record Follows (a : Upper) (is_frame : List ℕ → Bool) (c : FabricConfig) (p : Cluster a) (h : History) : Type 0 where

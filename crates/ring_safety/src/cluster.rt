@@ -1,5 +1,5 @@
-ghost use Rattle.cluster_schedule.specs.Laws.{ClusterIsSchedule};
-ghost use Rattle.cluster_schedule.specs.Strange.{StrangeFrames};
+ghost use Rattle.ring_safety.specs.ClusterSchedule.{ClusterIsSchedule};
+ghost use Rattle.ring_safety.specs.StrangeFrames.{StrangeFrames};
 
 use world_rules::Above;
 

@@ -16,13 +16,13 @@ use Rattle.world_rules.specs.Nodes.{NodeState, node_begun, node_step}
 use Rattle.world_rules.specs.Runs.{moment_of, run_of, world_after}
 use Rattle.world_rules.specs.Uppers.{Upper, Did}
 use Rattle.world_rules.specs.Worlds.{Running, Stepped, World, arbiter_who, clocks_in, kept_of, numbers_of}
-use Rattle.cluster_schedule.specs.Events.{Begins, Bids, Cluster, Comes, Fires, FitsInstance, Hears, IsCluster, MayArrive, Stands, Turns, cluster_after, comes, events_of, frame_of, kept_by, tick_to}
-use Rattle.cluster_schedule.specs.Moments.{arbiter_acts_in, clocks_at, clocks_by, entry_for, heard_in, hears_in, last_line, moments, node_acts_in, node_entry, seen_in}
-use Rattle.cluster_schedule.specs.Steps.{steps_of}
-use Rattle.cluster_schedule.proofs.Evens.{AllEven, even_at}
-use Rattle.cluster_schedule.proofs.Mirrors.{Mirrors, RunsAs, frame_same, kept_same, none_runs, number_of, runs_as, seen, tick_mirrors}
-use Rattle.cluster_schedule.proofs.Following.{all_followed}
-use Rattle.cluster_schedule.proofs.Seen.{kept_if, steps_more}
+use Rattle.ring_safety.specs.ClusterEvents.{Begins, Bids, Cluster, Comes, Fires, FitsInstance, Hears, IsCluster, MayArrive, Stands, Turns, cluster_after, comes, events_of, frame_of, kept_by, tick_to}
+use Rattle.ring_safety.specs.ClusterMoments.{arbiter_acts_in, clocks_at, clocks_by, entry_for, heard_in, hears_in, last_line, moments, node_acts_in, node_entry, seen_in}
+use Rattle.ring_safety.specs.ClusterSteps.{steps_of}
+use Rattle.ring_safety.proofs.ClusterEvens.{AllEven, even_at}
+use Rattle.ring_safety.proofs.ClusterMirrors.{Mirrors, RunsAs, frame_same, kept_same, none_runs, number_of, runs_as, seen, tick_mirrors}
+use Rattle.ring_safety.proofs.ClusterFollowing.{all_followed}
+use Rattle.ring_safety.proofs.ClusterSeen.{kept_if, steps_more}
 
 -- Clocks.
 

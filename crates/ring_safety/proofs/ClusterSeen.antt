@@ -5,7 +5,7 @@ use Rattle.ring_points.specs.declared.who.Who.{Who}
 use Rattle.fabric_terms.specs.Reports.{told, told_in}
 use Rattle.fabric_terms.specs.Runs.{Entry, Holds, Moment, RingSafe, Run, clocks_of, own_in, own_of, reading_of}
 use Rattle.fabric_terms.specs.TakeOvers.{TakenAfterLeave, was_taken_over}
-use Rattle.cluster_schedule.specs.Steps.{is_step, steps_of}
+use Rattle.ring_safety.specs.ClusterSteps.{is_step, steps_of}
 
 -- the moment and the rest, or the rest alone
 abbrev pub kept_if : Moment → Run → Bool → Run

@@ -1,7 +1,7 @@
 -- A frame that a node does not take: it leaves where its fence is past, as at a firing, and else does nothing.
 use Rattle.std.proofs.Common.{◌≡◌, ℕ, Bool, true, false, not, ◌&&◌, refl, ap, sym, ◌∙◌, inl, inr}
 use Rattle.std.specs.Prelude.{◌⊎◌}
-use Rattle.cluster_schedule.specs.Strange.{StrangeFrames}
+use Rattle.ring_safety.specs.StrangeFrames.{StrangeFrames}
 use Rattle.fabric_terms.specs.declared.config.FabricConfig.{FabricConfig}
 use Rattle.fabric_terms.specs.declared.message.Message.{Message}
 use Rattle.fabric_terms.specs.declared.report.Why.TheVariants.{Fence}

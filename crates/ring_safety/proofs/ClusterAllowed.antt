@@ -13,8 +13,8 @@ use Rattle.world_rules.specs.Nodes.{NodeState}
 use Rattle.world_rules.specs.Schedules.{MayCome, is_there, keeps_bound, is_configured_node, is_configured_arbiter, command_names}
 use Rattle.world_rules.specs.Uppers.{Upper}
 use Rattle.world_rules.specs.Worlds.{World}
-use Rattle.cluster_schedule.specs.Events.{Cluster}
-use Rattle.cluster_schedule.proofs.Mirrors.{Mirrors, runs_as, none_runs, number_of}
+use Rattle.ring_safety.specs.ClusterEvents.{Cluster}
+use Rattle.ring_safety.proofs.ClusterMirrors.{Mirrors, runs_as, none_runs, number_of}
 
 both : (x y : Bool) → x ≡ true → y ≡ true → (x && y) ≡ true
 both x y e f = rw (e, f) refl

@@ -4,11 +4,11 @@ use Rattle.world_rules.specs.Above.{StaysAbove}
 use Rattle.ring_safety.proofs.Safe.{ring_is_safe_lem, leaves_before_take_over_lem}
 use Rattle.world_rules.specs.Runs.{run_of}
 use Rattle.world_rules.specs.Uppers.{Upper}
-use Rattle.cluster_schedule.specs.Events.{cluster_after, events_of}
-use Rattle.cluster_schedule.specs.Laws.{ClusterIsSchedule}
-use Rattle.cluster_schedule.proofs.Following.{Follows, all_followed}
-use Rattle.cluster_schedule.proofs.Moments.{all_seen}
-use Rattle.cluster_schedule.proofs.Seen.{steps_ring_safe, steps_taken}
+use Rattle.ring_safety.specs.ClusterEvents.{cluster_after, events_of}
+use Rattle.ring_safety.specs.ClusterSchedule.{ClusterIsSchedule}
+use Rattle.ring_safety.proofs.ClusterFollowing.{Follows, all_followed}
+use Rattle.ring_safety.proofs.ClusterMoments.{all_seen}
+use Rattle.ring_safety.proofs.ClusterSeen.{steps_ring_safe, steps_taken}
 
 pub cluster_is_schedule : (a : Upper) → StaysAbove a → ClusterIsSchedule a
 cluster_is_schedule a stays c xs sound k =

@@ -16,8 +16,8 @@ use Rattle.world_rules.specs.Nodes.{NodeState, node_begun, node_step}
 use Rattle.world_rules.specs.Schedules.{MayCome, is_there, keeps_bound}
 use Rattle.world_rules.specs.Uppers.{Upper, Did}
 use Rattle.world_rules.specs.Worlds.{World, Running, Stepped, empty_world, kept_of, frame_in, posted, node_acted, arbiter_acted, arbiter_who}
-use Rattle.cluster_schedule.specs.Events.{Cluster, no_cluster, Begins, Stands, Bids, Hears, Fires, kept_by, frame_of, node_did, arbiter_did, node_does, arbiter_does, hears, hears_as, comes, all_show, tick_to, FitsInstance}
-use Rattle.cluster_schedule.proofs.Evens.{AllEven, EvenPairs, even_at, even_put, even_tick, all_have, same_nodes, fit_all, all_show_u}
+use Rattle.ring_safety.specs.ClusterEvents.{Cluster, no_cluster, Begins, Stands, Bids, Hears, Fires, kept_by, frame_of, node_did, arbiter_did, node_does, arbiter_does, hears, hears_as, comes, all_show, tick_to, FitsInstance}
+use Rattle.ring_safety.proofs.ClusterEvens.{AllEven, EvenPairs, even_at, even_put, even_tick, all_have, same_nodes, fit_all, all_show_u}
 
 -- a running node as the cluster has it
 abbrev pub seen : {a : Upper} → ℕ × Running a → ℕ × NodeState a

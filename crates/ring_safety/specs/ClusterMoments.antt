@@ -12,7 +12,7 @@ use Rattle.world_rules.specs.Nodes.{NodeState, node_begun, node_step}
 use Rattle.world_rules.specs.Runs.{History}
 use Rattle.world_rules.specs.Uppers.{Upper, Did}
 use Rattle.world_rules.specs.Worlds.{arbiter_who, numbers_of}
-use Rattle.cluster_schedule.specs.Events.{Cluster, Comes, Begins, Stands, Turns, Bids, Hears, Fires, cluster_after, events_of, frame_of, kept_by}
+use Rattle.ring_safety.specs.ClusterEvents.{Cluster, Comes, Begins, Stands, Turns, Bids, Hears, Fires, cluster_after, events_of, frame_of, kept_by}
 
 -- each of these nodes' clocks shows this reading
 abbrev pub clocks_at : {a : Upper} → ℕ → List (ℕ × NodeState a) → Clocks

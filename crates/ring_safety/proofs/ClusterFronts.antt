@@ -4,9 +4,9 @@ use Rattle.fabric_terms.specs.declared.config.FabricConfig.{FabricConfig}
 use Rattle.world_rules.specs.Runs.{world_after}
 use Rattle.world_rules.specs.Uppers.{Upper}
 use Rattle.world_rules.specs.Worlds.{kept_of}
-use Rattle.cluster_schedule.specs.Events.{Begins, Bids, Comes, Fires, Hears, IsCluster, Stands, Turns, cluster_after, events_of, kept_by}
-use Rattle.cluster_schedule.proofs.Following.{all_followed}
-use Rattle.cluster_schedule.proofs.Mirrors.{kept_same}
+use Rattle.ring_safety.specs.ClusterEvents.{Begins, Bids, Comes, Fires, Hears, IsCluster, Stands, Turns, cluster_after, events_of, kept_by}
+use Rattle.ring_safety.proofs.ClusterFollowing.{all_followed}
+use Rattle.ring_safety.proofs.ClusterMirrors.{kept_same}
 
 -- the events up to that moment
 pub record Front (a : Upper) (c : FabricConfig) (xs : List Comes) (back : ℕ) : Type 0 where

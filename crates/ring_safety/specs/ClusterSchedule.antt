@@ -7,9 +7,9 @@ use Rattle.fabric_terms.specs.TakeOvers.{TakenAfterLeave}
 use Rattle.world_rules.specs.Runs.{world_after, run_of}
 use Rattle.world_rules.specs.Schedules.{Valid}
 use Rattle.world_rules.specs.Uppers.{Upper}
-use Rattle.cluster_schedule.specs.Moments.{moments}
-use Rattle.cluster_schedule.specs.Steps.{steps_of}
-use Rattle.cluster_schedule.specs.Events.{Comes, IsCluster, cluster_after, events_of}
+use Rattle.ring_safety.specs.ClusterMoments.{moments}
+use Rattle.ring_safety.specs.ClusterSteps.{steps_of}
+use Rattle.ring_safety.specs.ClusterEvents.{Comes, IsCluster, cluster_after, events_of}
 
 -- Of what comes to a cluster there is a valid schedule that leaves each actor the same, with the clock's reading as the
 -- true time and as the reading of every running node; and its run is safe.
