@@ -23,7 +23,7 @@ use Rattle.run_promises.specs.Covered.{NamesCovered}
 use Rattle.run_promises.specs.Writes.{CommitsAgree, WritesKept}
 use Rattle.run_safety.proofs.Safe.{runs_are_safe_lem}
 use Rattle.write_safety.proofs.Agreed.{commits_agree_lem}
-use Rattle.ring_world.specs.Answers.{is_frame}
+use Rattle.frame_format.specs.Kinds.{is_frame}
 use Rattle.world_rules.specs.Runs.{History}
 use Rattle.schedule_rules.specs.Laws.{IsValidHistory}
 use Rattle.schedule_rules.specs.Output.{run_judged}

@@ -1,5 +1,5 @@
 -- What is read as a frame.
-use Rattle.std.specs.Prelude.{ℕ, List, Option, Some, None, ◌==◌, if◌then◌else◌}
+use Rattle.std.specs.Prelude.{ℕ, Bool, List, Option, Some, None, ◌==◌, if◌then◌else◌, is_some}
 use Rattle.fabric_terms.specs.declared.message.Message.{Message}
 use Rattle.fabric_terms.specs.declared.message.Body.{Body}
 use Rattle.frame_format.specs.declared.frame_head.FrameHead.{FrameHead}
@@ -22,3 +22,7 @@ unfoldable pub message_of : List ℕ → Option Message
 message_of bytes =
     head_at bytes >>= λ x. body_of x.0.version x.0.kind x.1 >>= λ body.
     Some (record { from = x.0.from; to = x.0.to; body = body })
+
+-- the bytes are a frame
+abbrev pub is_frame : List ℕ → Bool
+is_frame bytes = is_some (message_of bytes)

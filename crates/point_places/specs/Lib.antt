@@ -4,3 +4,4 @@ pub mod Spots
 pub mod Lines
 pub mod Steps
 pub mod Laws
+pub mod Holders

@@ -18,7 +18,7 @@ use Rattle.world_rules.specs.Uppers.{Did}
 use Rattle.world_rules.specs.Worlds.{World as RuledWorld, arbiter_acted, arbiter_who, kept_of, numbers_of, posted}
 use Rattle.ring_world.specs.Answers.{entry_of}
 use Rattle.ring_world.specs.Moves.{Moves, placed_by}
-use Rattle.ring_world.specs.EventLimits.{most_events, most_frames}
+use Rattle.world_rules.specs.EventLimits.{most_events, most_frames}
 use Rattle.ring_world.specs.Rulings.{HeardAt, Hears, ruled_by}
 use Rattle.ring_world.specs.Running.{last_node}
 use Rattle.ring_world.specs.ConfiguredArbiters.{IsSeat, state_of, state_where}

@@ -12,7 +12,7 @@ use Rattle.unit_rules.specs.Fabric.{fabric}
 use Rattle.world_rules.specs.Uppers.{Did}
 use Rattle.world_rules.specs.Worlds.{World as RuledWorld, posted}
 use Rattle.ring_world.specs.Commits.{posted_all}
-use Rattle.ring_world.specs.EventLimits.{most_frames}
+use Rattle.world_rules.specs.EventLimits.{most_frames}
 use Rattle.ring_world.specs.Seen.{Seen}
 use Rattle.ring_world.specs.Stands.{FramesStand}
 use Rattle.ring_world.proofs.Growth.{posted_is, posted-length, from-length}

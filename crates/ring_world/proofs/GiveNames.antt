@@ -10,7 +10,9 @@ use Rattle.unit_rules.specs.Fabric.{fabric}
 use Rattle.world_rules.specs.Schedules.{is_there}
 use Rattle.world_rules.specs.Worlds.{World as RuledWorld, Stepped, frame_in}
 use Rattle.world_rules.proofs.Rows.{is_there-give, world_step-give}
-use Rattle.ring_world.specs.Answers.{IsWorld, is_frame, ruled}
+use Rattle.ring_world.specs.Answers.{IsWorld}
+use Rattle.frame_format.specs.Kinds.{is_frame}
+use Rattle.unit_rules.specs.Ruled.{ruled}
 use Rattle.ring_world.specs.Stands.{Stands}
 use Rattle.ring_world.specs.Steps.{IsSoundFrame, LeavesSound}
 use Rattle.ring_world.specs.declared.world.World.{World}

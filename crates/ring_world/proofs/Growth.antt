@@ -17,7 +17,7 @@ use Rattle.unit_rules.specs.Fabric.{fabric}
 use Rattle.world_rules.specs.Worlds.{World as RuledWorld, kept_of, posted, numbers_of}
 use Rattle.fabric_lemmas.proofs.Maps.{at-put}
 use Rattle.ring_world.specs.Commits.{posted_all, numbers_after}
-use Rattle.ring_world.specs.EventLimits.{most_events}
+use Rattle.world_rules.specs.EventLimits.{most_events}
 use Rattle.ring_world.specs.ConfiguredArbiters.{IsSeat}
 use Rattle.ring_world.specs.Seen.{Seen}
 use Rattle.ring_world.specs.declared.configured_arbiter.ConfiguredArbiter.{ConfiguredArbiter}

@@ -15,9 +15,10 @@ use Rattle.world_rules.specs.Events.{world_step}
 use Rattle.unit_rules.specs.Fabric.{fabric}
 use Rattle.world_rules.specs.Runs.{History, run_of}
 use Rattle.world_rules.specs.Worlds.{World as RuledWorld}
-use Rattle.ring_world.specs.Answers.{Accepts, Answers, AnswersTick, IsWorld, Refuses, StandsFor, Stays, Takes, ruled}
+use Rattle.ring_world.specs.Answers.{Accepts, Answers, AnswersTick, IsWorld, Refuses, StandsFor, Stays, Takes}
+use Rattle.unit_rules.specs.Ruled.{ruled}
 use Rattle.ring_world.specs.Moves.{Comes, ComesTick, MayCome, MayNot, Moves, Same, placed_by, placed_in}
-use Rattle.ring_world.specs.EventLimits.{has_room}
+use Rattle.world_rules.specs.EventLimits.{has_room}
 use Rattle.ring_world.specs.Seen.{Seen}
 use Rattle.ring_world.specs.Stands.{SeenStands, Stands}
 use Rattle.ring_world.specs.declared.world.Acted.{Acted}

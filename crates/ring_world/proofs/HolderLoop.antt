@@ -9,7 +9,8 @@ use Rattle.std.proofs.lemmas.Slice.Zip.{get_or-zip, length-zip}
 use Rattle.point_places.specs.declared.unheld.Holder.{Holder}
 use Rattle.node_core.specs.Nodes.{Core}
 use Rattle.ring_points.specs.declared.who.Who.{Who}
-use Rattle.ring_world.specs.Holders.{held_now, is_some_range}
+use Rattle.ring_world.specs.Holders.{held_now}
+use Rattle.point_places.specs.Holders.{is_some_range}
 use Rattle.ring_world.specs.declared.running.Running.{Running}
 use Rattle.ring_world.proofs.Holders.{Clocked, holder_here, holders_here, holds_some}
 

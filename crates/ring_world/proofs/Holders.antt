@@ -23,8 +23,10 @@ use Rattle.run_facts.proofs.Orderly.{last_own_is_held_lem}
 use Rattle.fabric_lemmas.specs.Maps.{at, rises}
 use Rattle.world_rules.specs.Nodes.{NodeState}
 use Rattle.world_rules.specs.Runs.{History, run_of}
-use Rattle.ring_world.specs.Answers.{StandsFor, ruled}
-use Rattle.ring_world.specs.Holders.{held_by, held_now, held_ranges, holder_of, holders_in, holders_of, holds_in, is_some_range}
+use Rattle.ring_world.specs.Answers.{StandsFor}
+use Rattle.unit_rules.specs.Ruled.{ruled}
+use Rattle.ring_world.specs.Holders.{held_now}
+use Rattle.point_places.specs.Holders.{held_by, held_ranges, holder_of, holders_in, holders_of, holds_in, is_some_range}
 use Rattle.ring_world.specs.Running.{AllRun, RunsAs}
 use Rattle.ring_world.specs.declared.running.Running.{Running}
 use Rattle.ring_world.specs.declared.world.World.{World}

@@ -9,7 +9,7 @@ use Rattle.unit_rules.specs.Fabric.{fabric}
 use Rattle.world_rules.specs.Schedules.{is_there, command_names}
 use Rattle.world_rules.specs.Worlds.{World as RuledWorld}
 use Rattle.world_rules.proofs.Rows.{world_step-fire, world_step-do, is_there-fire, is_there-do}
-use Rattle.ring_world.specs.Answers.{is_frame}
+use Rattle.frame_format.specs.Kinds.{is_frame}
 use Rattle.ring_world.specs.Finds.{IsAt}
 use Rattle.ring_world.specs.declared.world.World.{World}
 use Rattle.ring_world.proofs.Limits.{bound-fire, bound-do}

@@ -4,10 +4,9 @@ use Rattle.std.specs.Prelude.{is_some, IsTrue}
 use Rattle.fabric_terms.specs.declared.message.Message.{Message}
 use Rattle.fabric_terms.specs.Messages.{is_sound}
 use Rattle.frame_format.specs.Frames.{spelling}
-use Rattle.frame_format.specs.Kinds.{message_of}
+use Rattle.frame_format.specs.Kinds.{is_frame, message_of}
 use Rattle.frame_format.proofs.FrameLaws.{message_again, message_found}
 use Rattle.wire_fields.proofs.Numbers.{AreBytes}
-use Rattle.ring_world.specs.Answers.{is_frame}
 
 pub frame_is : (bytes : List ℕ) (m : Message) → IsTrue (is_sound m) → spelling m ≡ bytes → is_frame bytes ≡ true
 frame_is bytes m sound same = ap (λ o. is_some o) (ap message_of (sym same) ∙ message_again m sound)

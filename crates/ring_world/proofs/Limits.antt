@@ -9,7 +9,7 @@ use Rattle.unit_rules.specs.Fabric.{fabric}
 use Rattle.world_rules.specs.Schedules.{keeps_bound}
 use Rattle.world_rules.specs.Worlds.{World as RuledWorld}
 use Rattle.ring_world.specs.Moves.{Same}
-use Rattle.ring_world.specs.EventLimits.{has_room, is_room, acts, time_after, most_events, most_frames, most_time}
+use Rattle.world_rules.specs.EventLimits.{has_room, is_room, acts, time_after, most_events, most_frames, most_time}
 use Rattle.ring_world.specs.Stands.{Stands}
 use Rattle.ring_world.specs.declared.world.World.{World}
 

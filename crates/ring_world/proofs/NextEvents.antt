@@ -12,10 +12,12 @@ use Rattle.unit_rules.specs.Fabric.{fabric}
 use Rattle.world_rules.specs.Runs.{History}
 use Rattle.world_rules.specs.Schedules.{is_there, keeps_bound}
 use Rattle.world_rules.specs.Worlds.{World as RuledWorld, Running as RuledRunning, Stepped}
-use Rattle.ring_world.specs.Answers.{IsWorld, StandsFor, is_frame, ruled}
+use Rattle.ring_world.specs.Answers.{IsWorld, StandsFor}
+use Rattle.frame_format.specs.Kinds.{is_frame}
+use Rattle.unit_rules.specs.Ruled.{ruled}
 use Rattle.ring_world.specs.Finds.{IsAt}
 use Rattle.ring_world.specs.Moves.{MayCome, MayNot, Moves, Same}
-use Rattle.ring_world.specs.EventLimits.{acts, time_after}
+use Rattle.world_rules.specs.EventLimits.{acts, time_after}
 use Rattle.ring_world.specs.Stands.{Stands}
 use Rattle.ring_world.specs.Steps.{LeavesSound, CanStep}
 use Rattle.ring_world.specs.declared.world.Acted.{Acted}

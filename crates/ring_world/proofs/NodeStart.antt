@@ -29,7 +29,7 @@ use Rattle.world_rules.proofs.Rows.{node_begun-is}
 use Rattle.ring_world.specs.Answers.{entry_of}
 use Rattle.ring_world.specs.Commits.{numbers_after, posted_all}
 use Rattle.ring_world.specs.Moves.{Moves, Same, placed_by}
-use Rattle.ring_world.specs.EventLimits.{most_events, most_frames, most_time}
+use Rattle.world_rules.specs.EventLimits.{most_events, most_frames, most_time}
 use Rattle.ring_world.specs.Running.{AllRun, RunsAs, last_node}
 use Rattle.ring_world.specs.Seen.{Seen, seen_of}
 use Rattle.ring_world.specs.Stands.{IsKeptAs, SeenStands, Stands}

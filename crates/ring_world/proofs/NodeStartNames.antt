@@ -9,7 +9,7 @@ use Rattle.unit_rules.specs.Fabric.{fabric}
 use Rattle.world_rules.specs.Schedules.{is_configured_node, is_there, node_runs}
 use Rattle.world_rules.specs.Worlds.{World as RuledWorld, kept_of, node_acted, Stepped}
 use Rattle.world_rules.proofs.Rows.{is_there-start, world_step-start}
-use Rattle.ring_world.specs.Answers.{is_frame}
+use Rattle.frame_format.specs.Kinds.{is_frame}
 use Rattle.ring_world.specs.Finds.{IsPlaceOf}
 use Rattle.fabric_terms.specs.declared.config.FabricConfig.{FabricConfig}
 use Rattle.ring_world.specs.Moves.{MayNot, Moves, Same, placed_in}

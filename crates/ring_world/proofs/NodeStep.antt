@@ -28,7 +28,7 @@ use Rattle.fabric_lemmas.proofs.Maps.{rises-put}
 use Rattle.ring_world.specs.Answers.{entry_of}
 use Rattle.ring_world.specs.Commits.{posted_all, numbers_after}
 use Rattle.ring_world.specs.Moves.{Moves, Same, placed_by}
-use Rattle.ring_world.specs.EventLimits.{most_events, most_frames}
+use Rattle.world_rules.specs.EventLimits.{most_events, most_frames}
 use Rattle.ring_world.specs.Running.{AllRun, RunsAs}
 use Rattle.ring_world.specs.Seen.{Seen, seen_of}
 use Rattle.ring_world.specs.Stands.{IsKeptAs, KeptStand, NodesStand, SeenStands, Stands}

@@ -12,7 +12,7 @@ use Rattle.world_rules.specs.Worlds.{World as RuledWorld, Running as RuledRunnin
 use Rattle.fabric_lemmas.proofs.Maps.{rises-without}
 use Rattle.ring_world.specs.Answers.{entry_of}
 use Rattle.ring_world.specs.Moves.{Moves}
-use Rattle.ring_world.specs.EventLimits.{most_events}
+use Rattle.world_rules.specs.EventLimits.{most_events}
 use Rattle.node_core.specs.Nodes.{kept_in}
 use Rattle.node_core.specs.declared.kept.NodeKept.{NodeKept}
 use Rattle.ring_world.specs.declared.running.Running.{Running}

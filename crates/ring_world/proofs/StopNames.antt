@@ -9,7 +9,7 @@ use Rattle.unit_rules.specs.Fabric.{fabric}
 use Rattle.world_rules.specs.Schedules.{is_there, runs, runs_as}
 use Rattle.world_rules.specs.Worlds.{World as RuledWorld}
 use Rattle.world_rules.proofs.Rows.{world_step-stop, is_there-stop, is_there-junk}
-use Rattle.ring_world.specs.Answers.{is_frame}
+use Rattle.frame_format.specs.Kinds.{is_frame}
 use Rattle.ring_world.specs.declared.world.World.{World}
 
 module _ (a : World) (w : RuledWorld fabric) where

@@ -15,7 +15,7 @@ use Rattle.fabric_lemmas.specs.Maps.{at, rises_from}
 use Rattle.unit_rules.specs.Fabric.{fabric}
 use Rattle.world_rules.specs.Schedules.{are_of, fits_pairs, readings_fit}
 use Rattle.world_rules.specs.Worlds.{World as RuledWorld}
-use Rattle.ring_world.specs.EventLimits.{most_time}
+use Rattle.world_rules.specs.EventLimits.{most_time}
 use Rattle.ring_world.specs.Running.{AllRun, RunsAs}
 use Rattle.ring_world.specs.Stands.{Stands}
 use Rattle.ring_world.specs.Ticks.{Shows, after_tick}

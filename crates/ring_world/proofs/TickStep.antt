@@ -12,10 +12,10 @@ use Rattle.unit_rules.specs.Fabric.{fabric}
 use Rattle.world_rules.specs.Schedules.{are_of, is_there, keeps_bound, readings_fit}
 use Rattle.world_rules.specs.Worlds.{World as RuledWorld, Stepped}
 use Rattle.world_rules.proofs.Rows.{is_there-tick, keeps_bound-tick, world_step-tick}
-use Rattle.ring_world.specs.Answers.{is_frame}
+use Rattle.frame_format.specs.Kinds.{is_frame}
 use Rattle.ring_world.specs.Drifts.{drift_broken, first_broken}
 use Rattle.ring_world.specs.Moves.{Moves}
-use Rattle.ring_world.specs.EventLimits.{has_room, most_events, most_time}
+use Rattle.world_rules.specs.EventLimits.{has_room, most_events, most_time}
 use Rattle.ring_world.specs.Seen.{Seen, seen_of}
 use Rattle.ring_world.specs.Stands.{SeenStands, Stands}
 use Rattle.ring_world.specs.Ticks.{Shows, after_tick, are_of_clocks}

@@ -1,31 +1,24 @@
 -- Which histories a world stands for, and what it answers to an event.
-use Rattle.std.specs.Prelude.{◌≡◌, ℕ, Bool, true, false, List, ◌∷◌, Option, Some, None, Result, Ok, Err, All, is_some, length}
+use Rattle.std.specs.Prelude.{◌≡◌, ℕ, Bool, true, false, ◌∷◌, Option, Some, None, Result, Ok, Err, All, is_some, length}
 use Rattle.fabric_terms.specs.Runs.{Entry}
 use Rattle.fabric_terms.specs.Sound.{IsSound}
 use Rattle.fabric_terms.specs.declared.config.FabricConfig.{FabricConfig}
 use Rattle.fabric_terms.specs.declared.event.Event.{Event}
-use Rattle.frame_format.specs.Kinds.{message_of}
+use Rattle.frame_format.specs.Kinds.{is_frame}
 use Rattle.fabric_terms.specs.Ranges.{Fits}
 use Rattle.world_rules.specs.Events.{world_step}
 use Rattle.unit_rules.specs.Fabric.{fabric}
-use Rattle.world_rules.specs.Runs.{History, world_after}
+use Rattle.unit_rules.specs.Ruled.{ruled}
+use Rattle.world_rules.specs.Runs.{History}
 use Rattle.world_rules.specs.Schedules.{Valid, is_there, keeps_bound}
 use Rattle.world_rules.specs.Worlds.{World as RuledWorld}
 use Rattle.ring_world.specs.Drifts.{drift_broken}
 use Rattle.ring_world.specs.Keeps.{Keeps}
-use Rattle.ring_world.specs.EventLimits.{has_room}
+use Rattle.world_rules.specs.EventLimits.{has_room}
 use Rattle.ring_world.specs.declared.world.Acted.{Acted}
 use Rattle.ring_world.specs.declared.world.EventRefusal.{EventRefusal}
 use Rattle.ring_world.specs.declared.world.EventRefusal.TheVariants.{NoSuch, DriftBroken as BrokenDrift, TooLarge, OutOfMemory}
 use Rattle.ring_world.specs.declared.world.World.{World}
-
--- the bytes are a frame
-abbrev pub is_frame : List ℕ → Bool
-is_frame bytes = is_some (message_of bytes)
-
--- the world of the rules after a history
-abbrev pub ruled : FabricConfig → History → RuledWorld fabric
-ruled c h = world_after fabric c h
 
 -- The world stands for a valid history of a sound configuration, whose events are in the ranges of schedules.
 pub record StandsFor (a : World) (c : FabricConfig) (h : History) : Type 0 where

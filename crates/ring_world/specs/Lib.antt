@@ -1,4 +1,3 @@
-pub mod EventLimits
 pub mod Drifts
 pub mod Holders
 pub mod Running

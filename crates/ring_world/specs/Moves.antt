@@ -11,9 +11,10 @@ use Rattle.world_rules.specs.Events.{world_step}
 use Rattle.unit_rules.specs.Fabric.{fabric}
 use Rattle.world_rules.specs.Schedules.{is_there, keeps_bound}
 use Rattle.world_rules.specs.Worlds.{World as RuledWorld, Stepped}
-use Rattle.ring_world.specs.Answers.{is_frame, entry_of, wants_memory, IsSeenAt}
+use Rattle.ring_world.specs.Answers.{entry_of, wants_memory, IsSeenAt}
+use Rattle.frame_format.specs.Kinds.{is_frame}
 use Rattle.ring_world.specs.Drifts.{drift_broken}
-use Rattle.ring_world.specs.EventLimits.{has_room}
+use Rattle.world_rules.specs.EventLimits.{has_room}
 use Rattle.ring_world.specs.Seen.{seen_of}
 use Rattle.ring_world.specs.Stands.{Stands}
 use Rattle.ring_world.specs.declared.world.Acted.{Acted}

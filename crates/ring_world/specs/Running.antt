@@ -5,7 +5,7 @@ use Rattle.fabric_terms.specs.declared.config.FabricConfig.{FabricConfig}
 use Rattle.node_core.specs.Nodes.{GoesBy}
 use Rattle.unit_rules.specs.Fabric.{fabric}
 use Rattle.world_rules.specs.Worlds.{Running as RuledRunning}
-use Rattle.ring_world.specs.EventLimits.{most_time}
+use Rattle.world_rules.specs.EventLimits.{most_time}
 use Rattle.ring_world.specs.declared.running.Running.{Running}
 
 -- the greatest number of a node

@@ -11,7 +11,7 @@ use Rattle.unit_rules.specs.Fabric.{fabric}
 use Rattle.unit_rules.specs.Steps.{Failover}
 use Rattle.world_rules.specs.Nodes.{NodeState}
 use Rattle.world_rules.specs.Worlds.{World as RuledWorld, Running as RuledRunning, clocks_in, kept_of}
-use Rattle.ring_world.specs.EventLimits.{most_events, most_frames, most_time}
+use Rattle.world_rules.specs.EventLimits.{most_events, most_frames, most_time}
 use Rattle.ring_world.specs.Running.{AllRun, last_node}
 use Rattle.ring_world.specs.ConfiguredArbiters.{IsSeat}
 use Rattle.ring_world.specs.Seen.{Seen, seen_of}

@@ -7,7 +7,7 @@ ghost use Rattle.ring_points.specs.Whos.{arbiter_actor};
 ghost use Rattle.fabric_terms.specs.Ranges.{Fits};
 ghost use Rattle.ring_world.specs.Answers.{IsWorld};
 ghost use Rattle.ring_world.specs.Moves.{Comes, Delivers};
-ghost use Rattle.ring_world.specs.EventLimits.{most_events, most_frames};
+ghost use Rattle.world_rules.specs.EventLimits.{most_events, most_frames};
 ghost use Rattle.ring_world.specs.Stands.{Stands};
 ghost use Rattle.ring_world.specs.Steps.{IsSoundFrame, LeavesSound};
 

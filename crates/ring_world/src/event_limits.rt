@@ -1,5 +1,5 @@
 ghost use Rattle.std.specs.Prelude.{◌≡◌, false, true};
-ghost use Rattle.ring_world.specs.EventLimits.{is_room};
+ghost use Rattle.world_rules.specs.EventLimits.{is_room};
 
 use crate::world::World;
 

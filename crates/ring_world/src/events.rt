@@ -2,9 +2,10 @@ ghost use Rattle.std.specs.Prelude.{◌≡◌, ◌<◌, ℕ, None};
 ghost use Rattle.fabric_terms.specs.Ranges.{Fits};
 ghost use Rattle.unit_rules.specs.Fabric.{fabric};
 ghost use Rattle.world_rules.specs.Worlds.{World as RuledWorld, quiet};
-ghost use Rattle.ring_world.specs.Answers.{IsWorld, is_frame};
+ghost use Rattle.ring_world.specs.Answers.{IsWorld};
+ghost use Rattle.frame_format.specs.Kinds.{is_frame};
 ghost use Rattle.ring_world.specs.Moves.{Comes, Moves};
-ghost use Rattle.ring_world.specs.EventLimits.{most_events};
+ghost use Rattle.world_rules.specs.EventLimits.{most_events};
 ghost use Rattle.ring_world.specs.Stands.{Stands};
 
 use crate::world::{Acted, EventRefusal, World};

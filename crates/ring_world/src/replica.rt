@@ -1,7 +1,8 @@
 ghost use Rattle.std.specs.Option.{option_copied};
 ghost use Rattle.std.specs.Prelude.{◌≡◌};
 ghost use Rattle.fabric_terms.specs.declared.config.FabricConfig.{FabricConfig as Configuration};
-ghost use Rattle.ring_world.specs.Answers.{StandsFor, ruled};
+ghost use Rattle.ring_world.specs.Answers.{StandsFor};
+ghost use Rattle.unit_rules.specs.Ruled.{ruled};
 ghost use Rattle.ring_world.specs.Replicas.{replica_in};
 ghost use Rattle.world_rules.specs.Runs.{History};
 

@@ -9,7 +9,7 @@ ghost use Rattle.fabric_lemmas.specs.Maps.{at, rises};
 ghost use Rattle.unit_rules.specs.Fabric.{fabric};
 ghost use Rattle.world_rules.specs.Worlds.{World as RuledWorld, arbiter_acted, numbers_of, posted};
 ghost use Rattle.ring_world.specs.Moves.{Same, Steps};
-ghost use Rattle.ring_world.specs.EventLimits.{most_events, most_frames};
+ghost use Rattle.world_rules.specs.EventLimits.{most_events, most_frames};
 ghost use Rattle.ring_world.specs.Rulings.{CanRule, HeardAt, Hears};
 ghost use Rattle.ring_world.specs.Stands.{Stands};
 

@@ -5,7 +5,8 @@ ghost use Rattle.fabric_terms.specs.declared.config.FabricConfig.{FabricConfig a
 ghost use Rattle.point_places.specs.Lines.{IsAppended};
 ghost use Rattle.ring_points.specs.Whos.{node_instance};
 ghost use Rattle.ring_world.specs.Answers.{StandsFor};
-ghost use Rattle.ring_world.specs.Holders.{held_now, holders_in, holders_of, holds_in, is_some_range};
+ghost use Rattle.ring_world.specs.Holders.{held_now};
+ghost use Rattle.point_places.specs.Holders.{holders_in, holders_of, holds_in, is_some_range};
 ghost use Rattle.unit_rules.specs.Fabric.{fabric};
 ghost use Rattle.world_rules.specs.Runs.{History, run_of};
 

@@ -7,7 +7,7 @@ ghost use Rattle.unit_rules.specs.Fabric.{fabric};
 ghost use Rattle.world_rules.specs.Schedules.{is_configured_node};
 ghost use Rattle.world_rules.specs.Worlds.{World as RuledWorld, kept_of, node_acted};
 ghost use Rattle.ring_world.specs.Moves.{Comes, Same, Steps};
-ghost use Rattle.ring_world.specs.EventLimits.{most_events, most_frames};
+ghost use Rattle.world_rules.specs.EventLimits.{most_events, most_frames};
 ghost use Rattle.ring_world.specs.Running.{last_node};
 ghost use Rattle.ring_world.specs.Stands.{Stands};
 ghost use Rattle.ring_world.specs.Starts.{place_for};

@@ -5,7 +5,7 @@ ghost use Rattle.fabric_lemmas.specs.Maps.{at};
 ghost use Rattle.unit_rules.specs.Fabric.{fabric};
 ghost use Rattle.world_rules.specs.Worlds.{World as RuledWorld, Running as RuledRunning};
 ghost use Rattle.ring_world.specs.Moves.{Same, Steps};
-ghost use Rattle.ring_world.specs.EventLimits.{most_events, most_frames};
+ghost use Rattle.world_rules.specs.EventLimits.{most_events, most_frames};
 ghost use Rattle.ring_world.specs.Stands.{Stands};
 ghost use Rattle.ring_world.specs.Steps.{CanStep};
 

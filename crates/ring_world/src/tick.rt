@@ -5,7 +5,7 @@ ghost use Rattle.world_rules.specs.Schedules.{are_of, readings_fit};
 ghost use Rattle.world_rules.specs.Worlds.{World as RuledWorld};
 ghost use Rattle.ring_world.specs.Drifts.{first_broken};
 ghost use Rattle.ring_world.specs.Moves.{ComesTick};
-ghost use Rattle.ring_world.specs.EventLimits.{most_time};
+ghost use Rattle.world_rules.specs.EventLimits.{most_time};
 ghost use Rattle.ring_world.specs.Stands.{Stands};
 ghost use Rattle.ring_world.specs.Ticks.{Shows, are_of_clocks};
 

@@ -11,7 +11,9 @@ use Rattle.fabric_terms.specs.declared.config.FabricConfig.{FabricConfig}
 use Rattle.fabric_terms.specs.declared.event.Event.{Event}
 use Rattle.fabric_terms.specs.declared.event.Event.TheVariants.{Fire, Give}
 use Rattle.ring_rules.specs.declared.input.Input.{Input}
-use Rattle.ring_world.specs.Answers.{Refuses, is_frame, ruled}
+use Rattle.ring_world.specs.Answers.{Refuses}
+use Rattle.frame_format.specs.Kinds.{is_frame}
+use Rattle.unit_rules.specs.Ruled.{ruled}
 use Rattle.ring_world.specs.declared.world.EventRefusal.{EventRefusal}
 use Rattle.ring_world.specs.declared.world.EventRefusal.TheVariants as refusal
 use Rattle.run_facts.proofs.Happens.{by_cases}

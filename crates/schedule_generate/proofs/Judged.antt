@@ -10,8 +10,9 @@ use Rattle.fabric_status.specs.declared.status.Refusal.TheVariants.{TooLarge}
 use Rattle.fabric_terms.specs.Ranges.{Fits}
 use Rattle.fabric_terms.specs.declared.config.FabricConfig.{FabricConfig}
 use Rattle.fabric_terms.specs.declared.event.Event.{Event}
-use Rattle.ring_world.specs.Answers.{is_frame, ruled}
-use Rattle.ring_world.specs.EventLimits.{acts, has_room, is_room}
+use Rattle.frame_format.specs.Kinds.{is_frame}
+use Rattle.unit_rules.specs.Ruled.{ruled}
+use Rattle.world_rules.specs.EventLimits.{acts, has_room, is_room}
 use Rattle.line_format.proofs.LineLaws.{spelled_is_read}
 use Rattle.line_format.specs.Lines.{event_text, lines_of, onto_first}
 use Rattle.source_lines.proofs.Cuts.{lines_cut}

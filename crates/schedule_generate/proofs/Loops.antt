@@ -10,7 +10,7 @@ use Rattle.schedule_rules.proofs.Fronts.{front_behind, front_of, grew_none}
 use Rattle.world_rules.specs.Runs.{History}
 use Rattle.fabric_terms.specs.Ranges.{Fits}
 use Rattle.fabric_terms.specs.declared.event.Event.{Event}
-use Rattle.ring_world.specs.Answers.{ruled}
+use Rattle.unit_rules.specs.Ruled.{ruled}
 use Rattle.schedule_generate.specs.Course.{Course, considered_next, considers, is_full, next_line, round, round_unless, rounds, running, taken, taken_all}
 use Rattle.schedule_generate.specs.Due.{AreDue}
 use Rattle.schedule_generate.specs.Shown.{nodes_of}

@@ -8,8 +8,9 @@ use Rattle.fabric_terms.specs.declared.config.FabricConfig.{FabricConfig}
 use Rattle.fabric_terms.specs.declared.event.Event.{Event}
 use Rattle.fabric_terms.specs.declared.event.Event.TheVariants.{Give}
 use Rattle.rand_pcg.specs.Pcg.{pcg32}
-use Rattle.ring_world.specs.Answers.{is_frame, ruled}
-use Rattle.ring_world.specs.EventLimits.{has_room}
+use Rattle.frame_format.specs.Kinds.{is_frame}
+use Rattle.unit_rules.specs.Ruled.{ruled}
+use Rattle.world_rules.specs.EventLimits.{has_room}
 use Rattle.schedule_rules.specs.Schedule.{judge}
 use Rattle.world_rules.specs.Runs.{History}
 use Rattle.world_rules.specs.Schedules.{is_there, keeps_bound, node_runs}

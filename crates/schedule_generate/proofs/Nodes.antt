@@ -12,7 +12,9 @@ use Rattle.fabric_terms.specs.declared.config.FabricConfig.{FabricConfig}
 use Rattle.fabric_terms.specs.declared.event.Event.{Event}
 use Rattle.fabric_terms.specs.declared.event.Event.TheVariants.{Start}
 use Rattle.ring_points.specs.declared.who.Who.{Who}
-use Rattle.ring_world.specs.Answers.{StandsFor, is_frame, ruled}
+use Rattle.ring_world.specs.Answers.{StandsFor}
+use Rattle.frame_format.specs.Kinds.{is_frame}
+use Rattle.unit_rules.specs.Ruled.{ruled}
 use Rattle.ring_world.specs.Running.{AllRun}
 use Rattle.ring_world.specs.declared.running.Running.{Running as CodeRunning}
 use Rattle.ring_world.specs.declared.world.World.{World as CodeWorld}

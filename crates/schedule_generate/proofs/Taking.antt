@@ -5,7 +5,8 @@ use Rattle.fabric_terms.specs.declared.config.FabricConfig.{FabricConfig}
 use Rattle.fabric_terms.specs.declared.event.Event.{Event}
 use Rattle.fabric_terms.specs.declared.event.Event.TheVariants.{Tick}
 use Rattle.fabric_terms.specs.Ranges.{Fits}
-use Rattle.ring_world.specs.Answers.{Refuses, StandsFor, Takes, ruled}
+use Rattle.ring_world.specs.Answers.{Refuses, StandsFor, Takes}
+use Rattle.unit_rules.specs.Ruled.{ruled}
 use Rattle.ring_world.specs.declared.world.Acted.{Acted}
 use Rattle.ring_world.specs.declared.world.EventRefusal.{EventRefusal}
 use Rattle.ring_world.specs.declared.world.EventRefusal.TheVariants as refusal

@@ -5,7 +5,8 @@ use Rattle.fabric_terms.specs.Ranges.{AreReadings}
 use Rattle.fabric_terms.specs.Runs.{clocks_of}
 use Rattle.fabric_terms.specs.declared.event.Event.TheVariants.{Tick}
 use Rattle.ring_points.specs.declared.who.Who.{Who}
-use Rattle.ring_world.specs.Answers.{Takes, ruled}
+use Rattle.ring_world.specs.Answers.{Takes}
+use Rattle.unit_rules.specs.Ruled.{ruled}
 use Rattle.ring_world.specs.declared.world.Acted.{Acted}
 use Rattle.world_rules.specs.Events.{world_step}
 use Rattle.world_rules.specs.Runs.{run_of}

@@ -10,7 +10,8 @@ use Rattle.fabric_lemmas.specs.Maps.{at, put, without}
 use Rattle.fabric_terms.specs.declared.config.FabricConfig.{FabricConfig}
 use Rattle.fabric_terms.specs.declared.event.Event.{Event}
 use Rattle.fabric_terms.specs.declared.event.Event.TheVariants.{Tick}
-use Rattle.ring_world.specs.Answers.{is_frame, ruled}
+use Rattle.frame_format.specs.Kinds.{is_frame}
+use Rattle.unit_rules.specs.Ruled.{ruled}
 use Rattle.run_facts.proofs.Happens.{by_cases}
 use Rattle.world_rules.specs.Events.{shows, ticked, ticks as ticks_in, world_step}
 use Rattle.world_rules.specs.Nodes.{NodeState, node_begun, node_step}

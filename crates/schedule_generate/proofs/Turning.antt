@@ -5,7 +5,7 @@ use Rattle.std.proofs.lemmas.Bool.{eq-eqb}
 use Rattle.fabric_terms.specs.declared.config.FabricConfig.{FabricConfig}
 use Rattle.rand_pcg.specs.Lcg.{Lcg}
 use Rattle.rand_pcg.specs.Pcg.{pcg32}
-use Rattle.ring_world.specs.Answers.{ruled}
+use Rattle.unit_rules.specs.Ruled.{ruled}
 use Rattle.world_rules.specs.Schedules.{node_runs}
 use Rattle.schedule_generate.specs.Course.{Course, taken, taken_all, turn_of, turns, with_turn}
 use Rattle.schedule_generate.specs.Goes.{At, Known}

@@ -9,8 +9,9 @@ use Rattle.unit_rules.specs.Fabric.{fabric}
 use Rattle.rand_core.specs.Pcg32Seed.{pcg32_seed}
 use Rattle.rand_pcg.specs.Lcg.{Lcg}
 use Rattle.rand_pcg.specs.Pcg.{pcg32, pcg32_of_seed}
-use Rattle.ring_world.specs.Answers.{is_frame, ruled}
-use Rattle.ring_world.specs.EventLimits.{has_room}
+use Rattle.frame_format.specs.Kinds.{is_frame}
+use Rattle.unit_rules.specs.Ruled.{ruled}
+use Rattle.world_rules.specs.EventLimits.{has_room}
 use Rattle.world_rules.specs.Runs.{History}
 use Rattle.world_rules.specs.Schedules.{is_there, keeps_bound, node_runs}
 use Rattle.world_rules.specs.Worlds.{World}

@@ -6,7 +6,9 @@ use Rattle.fabric_terms.specs.Ranges.{Fits}
 use Rattle.fabric_terms.specs.declared.config.FabricConfig.{FabricConfig}
 use Rattle.fabric_status.specs.declared.status.Status.{Status}
 use Rattle.fabric_status.specs.declared.status.Status.TheVariants as status
-use Rattle.ring_world.specs.Answers.{StandsFor, is_frame, ruled}
+use Rattle.ring_world.specs.Answers.{StandsFor}
+use Rattle.frame_format.specs.Kinds.{is_frame}
+use Rattle.unit_rules.specs.Ruled.{ruled}
 use Rattle.ring_world.specs.declared.world.EventRefusal.{EventRefusal}
 use Rattle.schedule_rules.specs.Halts.{Wrote}
 use Rattle.world_rules.specs.Runs.{History}

@@ -11,8 +11,8 @@ use Rattle.unit_rules.specs.Fabric.{fabric}
 use Rattle.fabric_status.specs.Faults.{fault_line}
 use Rattle.fabric_status.specs.declared.status.Status.{Status}
 use Rattle.fabric_status.specs.declared.status.Status.TheVariants as status
-use Rattle.ring_world.specs.Answers.{ruled}
-use Rattle.ring_world.specs.Holders.{holders_in}
+use Rattle.unit_rules.specs.Ruled.{ruled}
+use Rattle.point_places.specs.Holders.{holders_in}
 use Rattle.line_format.specs.Lines.{event_text, reading_text}
 use Rattle.world_rules.specs.Runs.{History, run_of}
 use Rattle.schedule_generate.specs.Course.{Course, course_of, next_line}

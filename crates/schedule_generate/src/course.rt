@@ -1,6 +1,6 @@
 // A round of a generated schedule.
 ghost use Rattle.std.specs.Prelude.{◌≡◌, ◌+◌, ◌≤◌, ◌<◌, ◌^◌, ℕ, List, OnOk, map};
-ghost use Rattle.ring_world.specs.Answers.{ruled};
+ghost use Rattle.unit_rules.specs.Ruled.{ruled};
 ghost use Rattle.fabric_terms.specs.Ranges.{AreReadings};
 ghost use Rattle.schedule_generate.specs.Course.{Course, considered_next, fires, round, running, with_firings};
 ghost use Rattle.schedule_generate.specs.Course.{with_gives, with_tick, with_turn};

@@ -1,3 +1,6 @@
+pub mod Lines
+pub mod Words
+pub mod Along
 mod Beginning
 mod Faults
 pub mod ShortLines

@@ -3,16 +3,18 @@ use Rattle.std.proofs.Common.{◌≡◌, ℕ, Bool, true, List, ◌∷◌, ◌++
 use Rattle.fabric_terms.specs.declared.config.FabricConfig.{FabricConfig}
 use Rattle.fabric_terms.specs.declared.event.Event.{Event}
 use Rattle.fabric_status.specs.declared.status.Refusal.{Refusal}
-use Rattle.ring_world.specs.Answers.{Accepts, Refuses, Takes, ruled}
-use Rattle.ring_world.specs.EventLimits.{has_room}
+use Rattle.ring_world.specs.Answers.{Accepts, Refuses, Takes}
+use Rattle.unit_rules.specs.Ruled.{ruled}
+use Rattle.world_rules.specs.EventLimits.{has_room}
 use Rattle.ring_world.specs.declared.world.Acted.{Acted}
 use Rattle.ring_world.specs.declared.world.EventRefusal.{EventRefusal}
 use Rattle.ring_world.specs.declared.world.EventRefusal.TheVariants.{NoSuch, DriftBroken, TooLarge, OutOfMemory}
 use Rattle.ring_world.specs.declared.world.World.{World}
 use Rattle.world_rules.specs.Runs.{History}
 use Rattle.world_rules.specs.Schedules.{keeps_bound}
-use Rattle.schedule_rules.specs.Follows.{At, Follows, Known}
-use Rattle.schedule_rules.specs.Schedule.{Accepted, refusal_at, run_verdict, unless_there}
+use Rattle.schedule_replay.specs.Follows.{At, Follows, Known}
+use Rattle.schedule_rules.specs.Schedule.{Accepted, run_verdict, unless_there}
+use Rattle.schedule_replay.specs.Refusals.{refusal_at}
 use Rattle.schedule_rules.specs.Telling.{Telling}
 
 accepts : (c : FabricConfig) (h : History) (n : ℕ) (e : Event) → Accepts c h e → run_verdict c (ruled c h) (length h) n e ≡ Accepted e

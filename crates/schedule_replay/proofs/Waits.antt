@@ -13,12 +13,12 @@ use Rattle.line_format.specs.Lines.{lines_of}
 use Rattle.ring_world.specs.declared.world.World.{World}
 use Rattle.source_lines.specs.Lines.{most_first_line}
 use Rattle.schedule_rules.specs.Endings.{EndsSo, accepted}
-use Rattle.schedule_rules.specs.Follows.{Known}
+use Rattle.schedule_replay.specs.Follows.{Known}
 use Rattle.schedule_rules.specs.Schedule.{Judged, judge, judge_lines, judge_first, judge_rest}
 use Rattle.schedule_rules.specs.Telling.{Telling, IsTold, lines_told, lines_judged}
-use Rattle.schedule_rules.proofs.Along.{Along, all_of}
+use Rattle.schedule_replay.proofs.Along.{Along, all_of}
 use Rattle.schedule_rules.proofs.Fronts.{grew_none, front_of, front_behind}
-use Rattle.schedule_rules.proofs.Lines.{reaches}
+use Rattle.schedule_replay.proofs.Lines.{reaches}
 use Rattle.schedule_replay.specs.Waits.{FrontOf}
 
 -- between two lines

@@ -1,3 +1,6 @@
+pub mod Refusals
+pub mod Follows
+pub mod Acts
 pub mod Begins
 pub mod Brief
 pub mod Statuses

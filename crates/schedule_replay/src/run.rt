@@ -9,7 +9,7 @@ ghost use Rattle.schedule_replay.specs.Begins.{Begins};
 ghost use Rattle.schedule_replay.specs.Statuses.{may_end_replay};
 ghost use Rattle.schedule_replay.specs.Waits.{FrontOf};
 ghost use Rattle.schedule_rules.specs.Endings.{EndsSo};
-ghost use Rattle.schedule_rules.specs.Follows.{At, TakesNext};
+ghost use Rattle.schedule_replay.specs.Follows.{At, TakesNext};
 ghost use Rattle.schedule_rules.specs.Halts.{EndsLines, HaltsAt};
 ghost use Rattle.schedule_rules.specs.Schedule.{judge, judge_from};
 ghost use Rattle.schedule_rules.specs.Telling.{IsTold, lines_judged};

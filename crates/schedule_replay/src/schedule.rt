@@ -1,13 +1,15 @@
 // One line of a schedule: how it is judged, and what is told of it.
 ghost use Rattle.std.specs.Prelude.{◌≡◌, Some, IfOk, OnErr, length};
 ghost use Rattle.fabric_terms.specs.declared.config.FabricConfig.{FabricConfig as Configuration};
-ghost use Rattle.ring_world.specs.Answers.{IsWorld, ruled};
+ghost use Rattle.ring_world.specs.Answers.{IsWorld};
+ghost use Rattle.unit_rules.specs.Ruled.{ruled};
 ghost use Rattle.fabric_terms.specs.Ranges.{Fits};
 ghost use Rattle.line_format.specs.Lines.{event_of};
 ghost use Rattle.text_fields.specs.Texts.{Keeps};
 ghost use Rattle.world_rules.specs.Runs.{History};
-ghost use Rattle.schedule_rules.specs.Follows.{At, Follows};
-ghost use Rattle.schedule_rules.specs.Schedule.{line_verdict, event_verdict, run_verdict, refusal_at};
+ghost use Rattle.schedule_replay.specs.Follows.{At, Follows};
+ghost use Rattle.schedule_rules.specs.Schedule.{line_verdict, event_verdict, run_verdict};
+ghost use Rattle.schedule_replay.specs.Refusals.{refusal_at};
 
 use crate::brief::{Brief, read_brief};
 use crate::run_observer::RunObserver;

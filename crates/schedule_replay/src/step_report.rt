@@ -2,7 +2,7 @@ ghost use Rattle.std.specs.Prelude.{◌≡◌, ◌++◌, Some, OnOk};
 ghost use Rattle.ring_world.specs.Answers.{entry_of};
 ghost use Rattle.line_format.specs.Reports.{lines_of_reports};
 ghost use Rattle.schedule_rules.specs.Output.{entry_lines, sent_lines};
-ghost use Rattle.schedule_rules.specs.Acts.{told_lines};
+ghost use Rattle.schedule_replay.specs.Acts.{told_lines};
 ghost use Rattle.text_fields.specs.Texts.{Keeps};
 
 use fabric_terms::{Head, OutOfMemory, Report};

@@ -8,8 +8,9 @@ use Rattle.fabric_config.proofs.Soundness.{line_sound}
 use Rattle.fabric_terms.specs.declared.config.FabricConfig.{FabricConfig}
 use Rattle.fabric_terms.specs.declared.event.Event.{Event}
 use Rattle.fabric_terms.specs.Sound.{IsSound}
-use Rattle.ring_world.specs.Answers.{is_frame, ruled}
-use Rattle.ring_world.specs.EventLimits.{has_room}
+use Rattle.frame_format.specs.Kinds.{is_frame}
+use Rattle.unit_rules.specs.Ruled.{ruled}
+use Rattle.world_rules.specs.EventLimits.{has_room}
 use Rattle.fabric_terms.specs.Ranges.{Fits}
 use Rattle.line_format.specs.Lines.{event_of, lines_of}
 use Rattle.line_format.proofs.LineLaws.{read_is_spelled}

@@ -1,7 +1,7 @@
 -- How a line is judged, and what is judged after it.
 use Rattle.std.proofs.Common.{◌≡◌, ℕ, ◌+◌, List, ◌∷◌, length, Some, refl}
 use Rattle.fabric_terms.specs.declared.config.FabricConfig.{FabricConfig}
-use Rattle.ring_world.specs.Answers.{ruled}
+use Rattle.unit_rules.specs.Ruled.{ruled}
 use Rattle.world_rules.specs.Runs.{History}
 use Rattle.schedule_rules.specs.Schedule.{LineVerdict, Ignored, Accepted, Refused, Judged, line_verdict, judge_from, judged_at}
 

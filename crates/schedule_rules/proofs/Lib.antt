@@ -2,9 +2,6 @@ pub mod Judging
 pub mod Accepted
 pub mod OneOutput
 pub mod Fronts
-pub mod Lines
-pub mod Along
 pub mod Closing
 pub mod Endings
-pub mod Words
 pub mod First

@@ -5,8 +5,8 @@ use Rattle.fabric_terms.specs.Reports.{told}
 use Rattle.fabric_terms.specs.declared.config.FabricConfig.{FabricConfig}
 use Rattle.point_places.proofs.OneText.{one_text}
 use Rattle.ring_points.specs.Whos.{node_instance}
-use Rattle.ring_world.specs.Answers.{ruled}
-use Rattle.ring_world.specs.Holders.{holds_in}
+use Rattle.unit_rules.specs.Ruled.{ruled}
+use Rattle.point_places.specs.Holders.{holds_in}
 use Rattle.unit_rules.specs.Fabric.{fabric}
 use Rattle.world_rules.specs.Runs.{History, run_of}
 use Rattle.schedule_rules.specs.Laws.{OneOutput}

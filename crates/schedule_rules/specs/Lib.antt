@@ -5,7 +5,5 @@ pub mod Endings
 pub mod Replays
 pub mod Traces
 pub mod Tellings
-pub mod Acts
-pub mod Follows
 pub mod Halts
 pub mod Laws

@@ -7,8 +7,8 @@ use Rattle.fabric_terms.specs.declared.config.FabricConfig.{FabricConfig}
 use Rattle.fabric_terms.specs.declared.report.Head.{Head}
 use Rattle.point_places.specs.Lines.{IsText}
 use Rattle.ring_points.specs.Whos.{node_instance}
-use Rattle.ring_world.specs.Answers.{ruled}
-use Rattle.ring_world.specs.Holders.{holds_in}
+use Rattle.unit_rules.specs.Ruled.{ruled}
+use Rattle.point_places.specs.Holders.{holds_in}
 use Rattle.line_format.specs.Reports.{lines_of_reports, sent_line}
 use Rattle.text_fields.specs.Texts.{spaced}
 use Rattle.unit_rules.specs.Fabric.{fabric}

@@ -5,9 +5,9 @@ use Rattle.fabric_config.specs.declared.error.ConfigError.{ConfigError}
 use Rattle.fabric_config.specs.declared.error.ConfigError.TheVariants.{NotJson}
 use Rattle.fabric_terms.specs.declared.config.FabricConfig.{FabricConfig}
 use Rattle.fabric_terms.specs.declared.event.Event.{Event}
-use Rattle.ring_world.specs.Answers.{is_frame, ruled}
-use Rattle.ring_world.specs.EventLimits.{has_room}
-use Rattle.ring_world.specs.declared.world.EventRefusal.{EventRefusal}
+use Rattle.frame_format.specs.Kinds.{is_frame}
+use Rattle.unit_rules.specs.Ruled.{ruled}
+use Rattle.world_rules.specs.EventLimits.{has_room}
 use Rattle.line_format.specs.Lines.{lines_of, event_of}
 use Rattle.source_lines.specs.Lines.{is_ignored, most_line, most_first_line, most_lines}
 use Rattle.unit_rules.specs.Fabric.{fabric}
@@ -21,13 +21,6 @@ pub data LineVerdict : Type 0 where
   Ignored : LineVerdict
   Accepted : (event : Event) → LineVerdict
   Refused : (refusal : Refusal) → LineVerdict
-
--- how an event at line n is refused, but for want of memory
-abbrev pub refusal_at : EventRefusal → ℕ → Option Refusal
-refusal_at EventRefusal.NoSuch n = Some (NoSuch n)
-refusal_at (EventRefusal.DriftBroken broken) n = Some (DriftBroken n)
-refusal_at EventRefusal.TooLarge n = Some (TooLarge n)
-refusal_at EventRefusal.OutOfMemory n = None
 
 -- the first of these refusals whose test fails, and else the event
 abbrev pub unless_room : ℕ → Event → Bool → LineVerdict

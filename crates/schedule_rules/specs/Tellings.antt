@@ -4,7 +4,7 @@ use Rattle.fabric_terms.specs.Runs.{Moment, Run}
 use Rattle.fabric_terms.specs.declared.config.FabricConfig.{FabricConfig}
 use Rattle.unit_rules.specs.Fabric.{fabric}
 use Rattle.fabric_terms.specs.Ranges.{IsWord}
-use Rattle.ring_world.specs.Answers.{ruled}
+use Rattle.unit_rules.specs.Ruled.{ruled}
 use Rattle.world_rules.specs.Runs.{History, run_of}
 use Rattle.schedule_rules.specs.Output.{IsPlaces, end_line, entry_lines}
 use Rattle.schedule_rules.specs.Telling.{Telling}

@@ -16,7 +16,8 @@ use Rattle.world_rules.specs.Events.{world_step}
 use Rattle.world_rules.specs.Runs.{History, world_after}
 use Rattle.world_rules.specs.Schedules.{Valid}
 use Rattle.run_promises.specs.Reports.{IsAmong, log_in}
-use Rattle.ring_world.specs.Answers.{Takes, is_frame}
+use Rattle.ring_world.specs.Answers.{Takes}
+use Rattle.frame_format.specs.Kinds.{is_frame}
 use Rattle.ring_world.specs.declared.world.Acted.{Acted}
 use Rattle.ring_world.specs.declared.world.World.{World}
 use Rattle.write_safety.specs.Books.{Agree, Commits, KeptLog, entries_of}

@@ -8,7 +8,7 @@ use Rattle.unit_rules.specs.Fabric.{fabric}
 use Rattle.fabric_terms.specs.declared.config.FabricConfig.{FabricConfig}
 use Rattle.replica_core.specs.Replicas.{Replica}
 use Rattle.replica_core.specs.declared.entry.Entry.{Entry}
-use Rattle.ring_world.specs.Answers.{ruled}
+use Rattle.unit_rules.specs.Ruled.{ruled}
 use Rattle.ring_world.specs.Replicas.{replica_in, replica_of_running}
 use Rattle.unit_replica.specs.Tables.{replica_of_state}
 use Rattle.unit_rules.specs.ReplicaStates.{ReplicaState, first_state}

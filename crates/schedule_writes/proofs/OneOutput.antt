@@ -2,7 +2,7 @@
 use Rattle.std.proofs.Common.{◌≡◌, List, ℕ, ◌++◌, Option, None, Some, sym, ap, ◌∙◌, length}
 use Rattle.fabric_status.specs.declared.status.Refusal.{Refusal}
 use Rattle.fabric_terms.specs.declared.config.FabricConfig.{FabricConfig}
-use Rattle.ring_world.specs.Answers.{ruled}
+use Rattle.unit_rules.specs.Ruled.{ruled}
 use Rattle.schedule_rules.specs.Output.{end_line}
 use Rattle.schedule_rules.specs.Schedule.{Judged}
 use Rattle.world_rules.specs.Runs.{History}

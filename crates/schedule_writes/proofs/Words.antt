@@ -8,7 +8,7 @@ use Rattle.fabric_status.specs.declared.status.Refusal.TheVariants as refusal
 use Rattle.fabric_status.specs.declared.status.Status.{Status}
 use Rattle.fabric_status.specs.declared.status.Status.TheVariants as status
 use Rattle.fabric_terms.specs.declared.config.FabricConfig.{FabricConfig}
-use Rattle.ring_world.specs.Answers.{ruled}
+use Rattle.unit_rules.specs.Ruled.{ruled}
 use Rattle.schedule_rules.specs.Endings.{EndsSo, WritesText}
 use Rattle.schedule_rules.specs.Output.{end_line}
 use Rattle.schedule_rules.specs.Replays.{IsDone}

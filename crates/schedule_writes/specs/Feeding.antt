@@ -3,7 +3,7 @@ use Rattle.std.specs.Prelude.{ℕ, List, [], ◌∷◌}
 use Rattle.fabric_terms.specs.declared.config.FabricConfig.{FabricConfig}
 use Rattle.fabric_terms.specs.declared.report.Report.{Report}
 use Rattle.replica_core.specs.declared.entry.Entry.{Entry}
-use Rattle.ring_world.specs.Answers.{ruled}
+use Rattle.unit_rules.specs.Ruled.{ruled}
 use Rattle.world_rules.specs.Runs.{History}
 use Rattle.write_safety.specs.Beside.{running_log}
 use Rattle.write_safety.specs.Books.{KeptLog}

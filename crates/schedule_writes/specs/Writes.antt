@@ -5,7 +5,7 @@ use Rattle.fabric_status.specs.Faults.{fault_line}
 use Rattle.fabric_status.specs.declared.status.Refusal.{Refusal}
 use Rattle.fabric_status.specs.declared.status.Status.{Status}
 use Rattle.fabric_terms.specs.declared.config.FabricConfig.{FabricConfig}
-use Rattle.ring_world.specs.Answers.{ruled}
+use Rattle.unit_rules.specs.Ruled.{ruled}
 use Rattle.schedule_rules.specs.Endings.{EndsSo}
 use Rattle.schedule_rules.specs.Output.{end_line}
 use Rattle.schedule_rules.specs.Schedule.{Judged}

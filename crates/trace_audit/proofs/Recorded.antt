@@ -17,8 +17,9 @@ use Rattle.frames_fit.specs.Laws.{EntryFits}
 use Rattle.frames_fit.proofs.Valid.{world_in_range}
 use Rattle.frames_fit.proofs.Worlds.{RunningInRange}
 use Rattle.ring_points.specs.declared.who.Who.{Who}
-use Rattle.ring_world.specs.Answers.{is_frame, ruled}
-use Rattle.ring_world.specs.EventLimits.{has_room, is_room, acts, most_time, time_after}
+use Rattle.frame_format.specs.Kinds.{is_frame}
+use Rattle.unit_rules.specs.Ruled.{ruled}
+use Rattle.world_rules.specs.EventLimits.{has_room, is_room, acts, most_time, time_after}
 use Rattle.run_audit.specs.Breaches.{is_below}
 use Rattle.run_audit.specs.Clocks.{comes_after}
 use Rattle.run_facts.proofs.Clocks.{rising}

@@ -22,3 +22,4 @@ pub mod Units
 pub mod Stays
 pub mod Laws
 pub mod Fabric
+pub mod Ruled

@@ -7,3 +7,4 @@ pub mod Worlds
 pub mod Events
 pub mod Runs
 pub mod Schedules
+pub mod EventLimits

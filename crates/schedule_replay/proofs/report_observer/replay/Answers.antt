@@ -1,6 +1,6 @@
 use Rattle.edge_io.specs.Edge.{HasRisen}
 use Rattle.schedule_rules.specs.Schedule.{judge}
-use Rattle.schedule_rules.proofs.Words.{replay_writes}
+use Rattle.schedule_replay.proofs.Words.{replay_writes}
 use Rattle.schedule_replay.proofs.report_observer.replay.Goals as goal
 
 pub returns-clause-written : goal.returns-clause-written

@@ -8,7 +8,7 @@ use Rattle.source_lines.specs.declared.next_line.NextLine.{NextLine}
 use Rattle.schedule_rules.specs.Halts.{HaltsAt}
 use Rattle.schedule_rules.specs.Schedule.{judge, judge_rest}
 use Rattle.schedule_rules.specs.declared.halt.Halt.TheVariants as halt
-use Rattle.schedule_rules.proofs.Lines.{none_right}
+use Rattle.schedule_replay.proofs.Lines.{none_right}
 use Rattle.schedule_rules.proofs.First.{first_none, first_long, first_read, first_refusal, first_failure, first_good}
 use Rattle.schedule_replay.specs.Waits.{FrontOf}
 use Rattle.schedule_replay.proofs.Beginning.{first_halts, begins_as}

@@ -1,12 +1,12 @@
 use Rattle.std.proofs.Common.{◌++◌, ◌∷◌, length, Option, Some, Ok, refl, ap, sym, subst, ◌∙◌}
-use Rattle.ring_world.specs.Answers.{ruled}
+use Rattle.unit_rules.specs.Ruled.{ruled}
 use Rattle.fabric_status.specs.declared.status.Refusal.{Refusal}
 use Rattle.line_format.specs.Lines.{lines_of}
 use Rattle.source_lines.specs.Reading.{TakesOf}
 use Rattle.source_lines.specs.declared.next_line.NextLine.{NextLine}
-use Rattle.schedule_rules.specs.Follows.{Follows}
+use Rattle.schedule_replay.specs.Follows.{Follows}
 use Rattle.schedule_rules.specs.Schedule.{judge_from, line_verdict}
-use Rattle.schedule_rules.proofs.Lines.{took, long_refused, none_right}
+use Rattle.schedule_replay.proofs.Lines.{took, long_refused, none_right}
 use Rattle.schedule_replay.proofs.run.take_next.Goals as goal
 
 pub returns-in-Ok-End-clause-next : goal.returns-in-Ok-End-clause-next

@@ -1,8 +1,8 @@
 use Rattle.std.proofs.Common.{◌≡◌, ◌++◌, ℕ, List, Bool, Result, Ok, Err, OnErr, arith, ap, sym, subst, ◌∙◌}
-use Rattle.schedule_rules.specs.Follows.{TakesNext, TookNone}
+use Rattle.schedule_replay.specs.Follows.{TakesNext, TookNone}
 use Rattle.schedule_rules.specs.declared.halt.Halt.{Halt}
 use Rattle.schedule_rules.specs.declared.halt.Halt.TheVariants as halt
-use Rattle.schedule_rules.proofs.Along.{all_of, along_first, along_took, along_sent, short_memory, short_sink, at_halt, at_last}
+use Rattle.schedule_replay.proofs.Along.{all_of, along_first, along_took, along_sent, short_memory, short_sink, at_halt, at_last}
 use Rattle.schedule_replay.specs.Waits.{FrontOf}
 use Rattle.schedule_replay.proofs.Waits.{waits_along, none_waits}
 use Rattle.schedule_replay.proofs.run.take_rest.Goals as goal

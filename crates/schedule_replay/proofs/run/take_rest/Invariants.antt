@@ -1,7 +1,7 @@
 use Rattle.std.proofs.Common.{◌≤◌, []}
 use Rattle.fabric_terms.specs.declared.config.FabricConfig.{FabricConfig}
-use Rattle.schedule_rules.specs.Follows.{At}
-use Rattle.schedule_rules.proofs.Along.{Along}
+use Rattle.schedule_replay.specs.Follows.{At}
+use Rattle.schedule_replay.proofs.Along.{Along}
 use Rattle.schedule_replay.proofs.run.take_rest.Given as goal
 
 abbrev pub invariant-loop-number : goal.invariant-loop-number

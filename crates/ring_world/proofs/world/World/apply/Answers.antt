@@ -3,7 +3,7 @@ use Rattle.std.specs.Prelude.{Ok, Err}
 use Rattle.std.proofs.lemmas.Result.{err_from_is_err_and}
 use Rattle.fabric_terms.specs.declared.event.Event.TheVariants.{Start, Stop, Tick, Fire, Give, Do, Junk}
 use Rattle.fabric_terms.specs.Ranges.{Fits}
-use Rattle.ring_world.specs.Answers.{ruled}
+use Rattle.unit_rules.specs.Ruled.{ruled}
 use Rattle.ring_world.proofs.HistoryAnswers.{answered_as, answered_tick_as, ruled_by_some}
 use Rattle.ring_world.proofs.world.World.apply.Goals as goal
 

@@ -4,7 +4,7 @@ use Rattle.unit_rules.specs.Fabric.{fabric}
 use Rattle.world_rules.specs.Schedules.{runs}
 use Rattle.world_rules.specs.Worlds.{Stepped}
 use Rattle.world_rules.proofs.Rows.{world_step-junk}
-use Rattle.ring_world.specs.Answers.{is_frame}
+use Rattle.frame_format.specs.Kinds.{is_frame}
 use Rattle.ring_world.specs.Moves.{Moves}
 use Rattle.ring_world.proofs.Limits.{room_is, room_test, same_world, bound-junk}
 use Rattle.ring_world.proofs.StopNames.{junk_runs}

@@ -7,7 +7,7 @@ use Rattle.point_places.specs.Spots.{place_at}
 use Rattle.ring_points.specs.Whos.{node_instance}
 use Rattle.unit_rules.specs.Fabric.{fabric}
 use Rattle.world_rules.specs.Runs.{run_of}
-use Rattle.ring_world.specs.Holders.{holds_in}
+use Rattle.point_places.specs.Holders.{holds_in}
 use Rattle.ring_world.proofs.Holders.{has_held}
 use Rattle.ring_world.proofs.PlaceLines.{appended_too}
 use Rattle.ring_world.proofs.world.World.push_place_lines.Goals as goal

@@ -4,7 +4,7 @@ use Rattle.unit_rules.specs.Fabric.{fabric}
 use Rattle.node_core.specs.Nodes.{Core}
 use Rattle.unit_replica.specs.Tables.{replica_at}
 use Rattle.world_rules.specs.Nodes.{NodeState}
-use Rattle.ring_world.specs.Answers.{ruled}
+use Rattle.unit_rules.specs.Ruled.{ruled}
 use Rattle.ring_world.specs.Replicas.{replica_of_running}
 use Rattle.ring_world.specs.declared.running.Running.{Running}
 use Rattle.ring_world.proofs.NodePlaces.{placed, read_at}

@@ -1,5 +1,5 @@
 use Rattle.fabric_terms.specs.declared.event.Event.TheVariants.{Tick}
-use Rattle.ring_world.specs.Answers.{ruled}
+use Rattle.unit_rules.specs.Ruled.{ruled}
 use Rattle.ring_world.proofs.HistoryAnswers.{answered_tick}
 use Rattle.ring_world.proofs.world.World.tick.Goals as goal
 

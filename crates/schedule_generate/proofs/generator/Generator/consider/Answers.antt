@@ -1,7 +1,7 @@
 use Rattle.std.proofs.Common.{◌≡◌, ◌+◌, ℕ, Ok, refl, ap, sym, subst, ◌∙◌}
 use Rattle.rand_pcg.specs.Lcg.{Lcg}
 use Rattle.rand_pcg.specs.Pcg.{pcg32}
-use Rattle.ring_world.specs.Answers.{ruled}
+use Rattle.unit_rules.specs.Ruled.{ruled}
 use Rattle.schedule_generate.specs.Course.{Course}
 use Rattle.schedule_generate.specs.Goes.{Went}
 use Rattle.schedule_generate.specs.Settings.{generated_config}

@@ -1,5 +1,5 @@
 use Rattle.std.proofs.Common.{◌≡◌, ◌+◌, ◌-◌, ◌<◌, ◌≤◌, ℕ, suc, Err, refl, sym, subst, ◌∙◌, arith, ⊎_elim, inl, inr}
-use Rattle.ring_world.specs.Answers.{ruled}
+use Rattle.unit_rules.specs.Ruled.{ruled}
 use Rattle.schedule_generate.specs.Course.{considered_next, considers}
 use Rattle.schedule_generate.specs.Goes.{At, Went}
 use Rattle.schedule_generate.specs.Settings.{generated_config}

@@ -1,7 +1,7 @@
 use Rattle.std.proofs.Common.{◌≡◌, ℕ, List, All, Err, map, ap, sym, subst, ◌∙◌}
 use Rattle.fabric_terms.specs.Ranges.{Fits}
 use Rattle.fabric_terms.specs.declared.event.Event.{Event}
-use Rattle.ring_world.specs.Answers.{ruled}
+use Rattle.unit_rules.specs.Ruled.{ruled}
 use Rattle.schedule_generate.specs.Course.{firings, fires, taken_all, with_firings, with_gives, with_turn}
 use Rattle.schedule_generate.specs.Due.{AreDue, ShowsTime}
 use Rattle.schedule_generate.specs.Goes.{Went}

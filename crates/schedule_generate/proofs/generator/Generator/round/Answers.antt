@@ -1,5 +1,5 @@
 use Rattle.std.proofs.Common.{◌≡◌, ℕ, subst}
-use Rattle.ring_world.specs.Answers.{ruled}
+use Rattle.unit_rules.specs.Ruled.{ruled}
 use Rattle.schedule_generate.specs.Course.{running, with_firings, with_gives, with_tick, with_turn}
 use Rattle.schedule_generate.specs.Goes.{At, Went}
 use Rattle.schedule_generate.specs.Settings.{generated_config}

@@ -1,6 +1,7 @@
 use Rattle.std.proofs.Common.{◌+◌, ◌∷◌, [], refl, sym, subst, ◌∙◌, Err}
 use Rattle.fabric_terms.specs.declared.event.Event.{Event}
-use Rattle.ring_world.specs.Answers.{Refuses, Takes, ruled}
+use Rattle.ring_world.specs.Answers.{Refuses, Takes}
+use Rattle.unit_rules.specs.Ruled.{ruled}
 use Rattle.schedule_generate.specs.Course.{taken}
 use Rattle.schedule_generate.specs.Goes.{Went}
 use Rattle.schedule_generate.specs.Moves.{event_for}

@@ -2,7 +2,8 @@ use Rattle.std.proofs.Common.{◌≡◌, ◌+◌, ◌++◌, ◌∷◌, ℕ, List
 use Rattle.fabric_terms.specs.Ranges.{Fits}
 use Rattle.fabric_terms.specs.declared.event.Event.{Event}
 use Rattle.fabric_terms.specs.declared.event.Event.TheVariants.{Tick}
-use Rattle.ring_world.specs.Answers.{Refuses, Takes, ruled}
+use Rattle.ring_world.specs.Answers.{Refuses, Takes}
+use Rattle.unit_rules.specs.Ruled.{ruled}
 use Rattle.schedule_generate.specs.Course.{taken, tick_of}
 use Rattle.schedule_generate.specs.Goes.{Went}
 use Rattle.schedule_generate.specs.Settings.{generated_config}

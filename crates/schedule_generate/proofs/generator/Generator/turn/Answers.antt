@@ -6,7 +6,8 @@ use Rattle.fabric_terms.specs.declared.event.Event.{Event}
 use Rattle.fabric_terms.specs.declared.event.Event.TheVariants.{Start}
 use Rattle.rand_pcg.specs.Lcg.{Lcg}
 use Rattle.rand_pcg.specs.Pcg.{pcg32}
-use Rattle.ring_world.specs.Answers.{is_frame, ruled}
+use Rattle.frame_format.specs.Kinds.{is_frame}
+use Rattle.unit_rules.specs.Ruled.{ruled}
 use Rattle.world_rules.specs.Schedules.{MayCome, node_runs}
 use Rattle.schedule_generate.specs.Course.{Course, taken, turn_of, with_turn}
 use Rattle.schedule_generate.specs.Goes.{Went}

@@ -1,5 +1,5 @@
 use Rattle.std.proofs.Common.{Result, Ok, Err, OnOk}
-use Rattle.schedule_rules.proofs.Words.{traced}
+use Rattle.schedule_replay.proofs.Words.{traced}
 use Rattle.schedule_replay.proofs.transcript_observer.TranscriptObserverRunObserver.tell.Goals as goal
 
 on_ok : {E : Type 0} (r : Result (Unit {0}) E) (P Q : Type 0) → (P → Q) → OnOk r P → OnOk r Q

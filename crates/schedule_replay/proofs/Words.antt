@@ -7,12 +7,13 @@ use Rattle.fabric_status.specs.declared.status.Refusal.{Refusal}
 use Rattle.fabric_status.specs.declared.status.Status.{Status}
 use Rattle.fabric_status.specs.Codes.{status_of}
 use Rattle.fabric_status.specs.Faults.{fault_line}
-use Rattle.ring_world.specs.Answers.{Takes, entry_of, ruled}
+use Rattle.ring_world.specs.Answers.{Takes, entry_of}
+use Rattle.unit_rules.specs.Ruled.{ruled}
 use Rattle.ring_world.specs.declared.world.Acted.{Acted}
 use Rattle.ring_world.specs.declared.world.World.{World}
 use Rattle.world_rules.specs.Events.{world_step}
 use Rattle.world_rules.specs.Runs.{History, run_of, moment_of}
-use Rattle.schedule_rules.specs.Acts.{told_lines}
+use Rattle.schedule_replay.specs.Acts.{told_lines}
 use Rattle.schedule_rules.specs.Endings.{EndsSo}
 use Rattle.schedule_rules.specs.Output.{IsOutput, IsOutputAt, IsWhole, entry_lines, lines_of_run}
 use Rattle.schedule_rules.specs.Replays.{run_lines, Writes}

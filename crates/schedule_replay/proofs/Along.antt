@@ -7,14 +7,14 @@ use Rattle.ring_world.specs.Answers.{StandsFor}
 use Rattle.ring_world.specs.declared.world.World.{World}
 use Rattle.line_format.specs.Lines.{lines_of}
 use Rattle.world_rules.specs.Runs.{History}
-use Rattle.schedule_rules.specs.Follows.{Known, At, LeadsTo, TookLine, TookNone, RefusesLine, FailsBefore, TakesNext}
+use Rattle.schedule_replay.specs.Follows.{Known, At, LeadsTo, TookLine, TookNone, RefusesLine, FailsBefore, TakesNext}
 use Rattle.schedule_rules.specs.Halts.{Wrote, HaltsAt, EndsLines}
 use Rattle.schedule_rules.specs.Schedule.{Judged, judge_from, judged_at}
 use Rattle.schedule_rules.specs.Telling.{Telling, lines_told, lines_judged}
 use Rattle.schedule_rules.specs.declared.halt.Halt.{Halt}
 use Rattle.schedule_rules.specs.declared.halt.Halt.TheVariants as halt
 use Rattle.schedule_rules.proofs.Fronts.{grew_none, front_of, front_behind, wrote_more, wrote_as, wrote_sent}
-use Rattle.schedule_rules.proofs.Lines.{reaches}
+use Rattle.schedule_replay.proofs.Lines.{reaches}
 
 -- Some history is done, what is told of it is written or waits, and the lines that are left lead to the same end as all
 -- lines.

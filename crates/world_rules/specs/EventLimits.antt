@@ -1,4 +1,4 @@
--- The limits of a schedule.
+-- The limits of a schedule: whether one more event has room.
 use Rattle.std.specs.Prelude.{ℕ, ◌+◌, ◌^◌, Bool, true, false, not, ◌&&◌, ◌||◌, nat_le, nat_lt}
 use Rattle.fabric_terms.specs.declared.event.Event.{Event}
 use Rattle.fabric_terms.specs.declared.event.Event.TheVariants.{Start, Tick, Fire, Give, Do}

@@ -5,7 +5,7 @@ use Rattle.std.proofs.lemmas.List.{append-nil}
 use Rattle.fabric_terms.specs.declared.config.FabricConfig.{FabricConfig}
 use Rattle.fabric_status.specs.declared.status.Refusal.{Refusal}
 use Rattle.fabric_status.specs.declared.status.Refusal.TheVariants.{TooLarge}
-use Rattle.ring_world.specs.Answers.{ruled}
+use Rattle.unit_rules.specs.Ruled.{ruled}
 use Rattle.ring_world.specs.declared.world.World.{World}
 use Rattle.line_format.specs.Lines.{lines_of}
 use Rattle.source_lines.specs.Lines.{most_line}
@@ -13,7 +13,7 @@ use Rattle.source_lines.specs.Reading.{BeginsLonger}
 use Rattle.world_rules.specs.Runs.{History}
 use Rattle.world_rules.specs.Worlds.{World as RuledWorld}
 use Rattle.unit_rules.specs.Fabric.{fabric}
-use Rattle.schedule_rules.specs.Follows.{Known, At, Follows}
+use Rattle.schedule_replay.specs.Follows.{Known, At, Follows}
 use Rattle.schedule_rules.specs.Schedule.{LineVerdict, Ignored, Accepted, Refused, judge_from, judged_at, line_verdict}
 use Rattle.schedule_rules.specs.Telling.{Telling, lines_told, lines_judged}
 use Rattle.schedule_rules.proofs.Judging.{judge_on, judge_line}
