@@ -6,12 +6,13 @@ use Rattle.ring_safety.specs.ClusterEvents.{events_of}
 use Rattle.ring_safety.specs.ClusterSchedule.{IsSchedule}
 use Rattle.ring_safety.specs.ClusterMoments.{moments}
 use Rattle.ring_safety.specs.ClusterSteps.{steps_of}
+use Rattle.epoch_safety.proofs.Primaries.{no_older_lem, one_primary_lem}
 use Rattle.epoch_safety.proofs.Written.{writes_kept_lem}
 use Rattle.unit_rules.specs.Fabric.{fabric, fabric_stays}
 use Rattle.fabric_terms.specs.Primaries.{Safe}
 use Rattle.fabric_terms.specs.Runs.{Run}
 use Rattle.fabric_terms.specs.Sound.{IsSound}
-use Rattle.run_safety.proofs.Safe.{runs_are_safe_lem}
+use Rattle.ring_safety.proofs.Safe.{leaves_before_take_over_lem, ring_is_safe_lem}
 use Rattle.turn_rules.specs.Plans.{Setting}
 use Rattle.turn_rules.specs.Process.{Process, after}
 use Rattle.world_rules.specs.Runs.{History, run_of}
@@ -29,8 +30,15 @@ run_is_safe : (s : Setting) (p : Process) → IsSound s.plan.config → JoinedBy
 run_is_safe s p sound j =
     let c = s.plan.config in
     let is_schedule : IsSchedule fabric c j.xs = cluster_is_schedule fabric fabric_stays c j.xs sound j.is_cluster in
-    let run : Run = run_of fabric c (events_of fabric c j.xs) in
-    let safe : Safe run = runs_are_safe_lem (λ bytes. false) c (events_of fabric c j.xs) sound (is_schedule.valid (λ bytes. false)) in
+    let schedule : History = events_of fabric c j.xs in
+    let run : Run = run_of fabric c schedule in
+    let valid = is_schedule.valid (λ bytes. false) in
+    let safe : Safe run = record {
+      ring = ring_is_safe_lem fabric fabric_stays (λ bytes. false) c schedule sound valid;
+      take_overs = leaves_before_take_over_lem fabric fabric_stays (λ bytes. false) c schedule sound valid;
+      primaries = one_primary_lem (λ bytes. false) c schedule sound valid;
+      epochs = no_older_lem (λ bytes. false) c schedule sound valid;
+    } in
     let steps : Safe (steps_of run) = tells_alike (steps_of run) run (told_steps run) is_schedule.steps_ring is_schedule.steps_taken safe in
     safe_shown (moments_of p.steps) (moments fabric c j.xs) j.shows (subst Safe is_schedule.steps steps)
 

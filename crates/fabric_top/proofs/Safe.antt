@@ -11,17 +11,18 @@ use Rattle.fabric_terms.specs.Reports.{told}
 use Rattle.ring_points.specs.declared.unit.Epoch.{Epoch}
 use Rattle.ring_points.specs.declared.who.Who.{Who}
 use Rattle.unit_rules.specs.Fabric.{fabric_stays, fabric}
-use Rattle.ring_safety.proofs.Safe.{answers_exclude_lem, one_heir_lem, places_are_kept_lem}
+use Rattle.ring_safety.proofs.Safe.{answers_exclude_lem, leaves_before_take_over_lem, one_heir_lem}
+use Rattle.ring_safety.proofs.Safe.{places_are_kept_lem, ring_is_safe_lem}
 use Rattle.epoch_safety.specs.Laws.{OverValidRuns}
 use Rattle.epoch_safety.proofs.Answers.{valid_drop}
 use Rattle.epoch_safety.proofs.Naming.{names_covered_lem}
+use Rattle.epoch_safety.proofs.Primaries.{no_older_lem, one_primary_lem}
 use Rattle.epoch_safety.proofs.Resting.{answers_of_committed_lem}
 use Rattle.epoch_safety.proofs.Written.{writes_kept_lem}
 use Rattle.run_promises.specs.Answers.{AnswersOfCommitted}
 use Rattle.run_promises.specs.Arbitrators.{AnswersExclude, OneHeir}
 use Rattle.run_promises.specs.Covered.{NamesCovered}
 use Rattle.run_promises.specs.Writes.{CommitsAgree, WritesKept}
-use Rattle.run_safety.proofs.Safe.{runs_are_safe_lem}
 use Rattle.write_safety.proofs.Agreed.{commits_agree_lem}
 use Rattle.frame_format.specs.Kinds.{is_frame}
 use Rattle.world_rules.specs.Runs.{History}
@@ -66,13 +67,12 @@ module _ (o : Option FabricConfig) (h : History) (valid : (c : FabricConfig) →
       }
       by (Some c) is =
           let v = valid c is in
-          let safe = runs_are_safe_lem is_frame c h v.sound v.valid in
           record {
-            ring = safe.ring;
-            taken = safe.take_overs;
+            ring = ring_is_safe_lem fabric fabric_stays is_frame c h v.sound v.valid;
+            taken = leaves_before_take_over_lem fabric fabric_stays is_frame c h v.sound v.valid;
             places = places_are_kept_lem fabric fabric_stays is_frame c h v.sound v.valid;
-            primaries = safe.primaries;
-            epochs = safe.epochs;
+            primaries = one_primary_lem is_frame c h v.sound v.valid;
+            epochs = no_older_lem is_frame c h v.sound v.valid;
           }
 
   -- what holds over every valid run holds at each moment, since each front of a valid history is valid

@@ -1,3 +1,4 @@
+pub mod SafeRuns
 pub mod Lines
 pub mod Taking
 pub mod Saying

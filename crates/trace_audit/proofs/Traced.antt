@@ -7,7 +7,7 @@ use Rattle.fabric_terms.specs.declared.config.FabricConfig.{FabricConfig}
 use Rattle.fabric_terms.specs.Primaries.{Safe}
 use Rattle.fabric_terms.specs.Runs.{Run}
 use Rattle.frame_format.specs.Kinds.{is_frame}
-use Rattle.run_safety.proofs.Safe.{runs_are_safe_lem}
+use Rattle.trace_audit.proofs.SafeRuns.{runs_are_safe_lem}
 use Rattle.schedule_rules.specs.Laws.{IsValidHistory}
 use Rattle.schedule_rules.specs.Schedule.{judge}
 use Rattle.schedule_rules.specs.Telling.{IsToldAt, IsToldWhole, lines_told}

@@ -1,3 +1,4 @@
+pub mod SafeRuns
 pub mod Recordings
 pub mod Traced
 pub mod Laws

@@ -3,7 +3,7 @@ use Rattle.unit_rules.specs.Stays.{units_stay}
 use Rattle.unit_rules.specs.Units.{units}
 use Rattle.ring_safety.proofs.Safe.{ring_is_safe_lem, leaves_before_take_over_lem}
 use Rattle.epoch_safety.proofs.Primaries.{one_primary_lem, no_older_lem}
-use Rattle.run_safety.specs.Laws.{RunsAreSafe}
+use Rattle.trace_audit.specs.SafeRuns.{RunsAreSafe}
 
 pub runs_are_safe_lem : RunsAreSafe
 runs_are_safe_lem is_frame c h sound valid = record {
