@@ -2,6 +2,7 @@
 use Rattle.std.proofs.Common.{lit<, ◌≡◌, ℕ, ◌-◌, ◌≤◌, ◌<◌, true, false, nat_lt, ⊎_elim, inl, inr, List, ◌++◌, None, arith, refl, ap, sym}
 use Rattle.std.specs.Prelude.{decimal, codes}
 use Rattle.std.proofs.lemmas.Bool.Decides.{nat_tests}
+use Rattle.ring_points.specs.Limits.{most_arbiters, most_node_number}
 use Rattle.ring_points.specs.Whos.{arbiter_actor}
 use Rattle.fabric_terms.specs.Ranges.{IsNode, IsArbiter, IsActor}
 use Rattle.text_fields.specs.Actors.{node_at, arbiter_at, actor_at, actor_text}
@@ -12,7 +13,7 @@ use Rattle.text_fields.proofs.FieldLaws.{last_is, made_at_is, choice_is}
 use Rattle.text_fields.proofs.NumberLaws.{number_is}
 
 pub node_is : IsField node_at IsNode decimal EndsNumber
-node_is = number_is 1 999 (lit< tt)
+node_is = number_is 1 most_node_number (lit< tt)
 
 pub last_node_is : IsRest (last node_at) IsNode decimal
 last_node_is = last_is node_is tt
@@ -22,7 +23,7 @@ arbiter_number a = decimal (a - arbiter_actor 0)
 
 pub arbiter_is : IsField arbiter_at IsArbiter arbiter_number EndsNumber
 arbiter_is =
-    made_at_is (number_is 1 9 (lit< tt)) arbiter_actor IsArbiter arbiter_number
+    made_at_is (number_is 1 most_arbiters (lit< tt)) arbiter_actor IsArbiter arbiter_number
     (λ a h.
     let back : a ≡ arbiter_actor a - arbiter_actor 0 = omega arith in
     ((omega (arith, h.0), omega (arith, h.1)), ap decimal back))

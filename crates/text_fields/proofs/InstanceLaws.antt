@@ -1,6 +1,7 @@
 -- Instances are read exactly where they are spelled.
 use Rattle.std.proofs.Common.{lit<, ◌≡◌, ⊎_elim, ℕ, inl, inr, List, ◌++◌, None, arith, refl, ap, sym}
 use Rattle.std.specs.Prelude.{decimal, codes}
+use Rattle.ring_points.specs.Limits.{most_counter}
 use Rattle.ring_points.specs.declared.who.Who.{Who}
 use Rattle.fabric_terms.specs.Ranges.{IsArbiter, IsInstance, IsWho}
 use Rattle.text_fields.specs.Actors.{arbiter_at}
@@ -17,7 +18,7 @@ instance_text w = decimal w.actor ++ (codes "." ++ decimal w.instance)
 
 instance_is : IsField instance_at IsInstance instance_text EndsNumber
 instance_is =
-    made_at_is (pair_is node_is (codes ".") (number_is 1 4294967295 (lit< tt)) (λ _. refl)) instance_made IsInstance instance_text
+    made_at_is (pair_is node_is (codes ".") (number_is 1 most_counter (lit< tt)) (λ _. refl)) instance_made IsInstance instance_text
     (λ w h. ((h.0, h.1.0, omega (arith, h.1.1)), refl))
     (λ w h. ((w.actor, w.instance), (h.0, (h.1, omega (arith, h.2))), refl))
 

@@ -1,8 +1,9 @@
 -- Intervals and ranges are read exactly where they are spelled.
-use Rattle.std.proofs.Common.{◌≡◌, ℕ, ◌+◌, ◌^◌, ◌≤◌, ◌<◌, true, cond, ⊎_elim, List, [], ◌∷◌, ◌++◌, length, All, None, Some, arith, refl, ap, subst, ◌∙◌}
+use Rattle.std.proofs.Common.{◌≡◌, ℕ, ◌+◌, ◌^◌, ◌≤◌, ◌<◌, true, cond, ⊎_elim, List, [], ◌∷◌, ◌++◌, length, All, None, Some, arith, refl, ap, subst, ◌∙◌, ◌-◌}
 use Rattle.std.specs.Prelude.{codes}
 use Rattle.std.proofs.lemmas.List.Elements.{All-nil, All-cons}
 use Rattle.std.proofs.lemmas.Bool.Decides.{nat_tests}
+use Rattle.ring_points.specs.Limits.{most_intervals}
 use Rattle.ring_points.specs.declared.interval.Interval.{Interval}
 use Rattle.ring_points.specs.Ranges.{is_proper, fits, rises_from}
 use Rattle.fabric_terms.specs.Ranges.{IsPoint, IsSpan, AreRanges}
@@ -48,23 +49,23 @@ rising_points low (i ∷ is) h =
     All-cons IsInterval i is (omega (arith, rising.0, rising.1), rising.1) (rising_points (i.hi + 2) is rising.2)
 
 AreIntervals : List Interval → Type 0
-AreIntervals ranges = (length ranges ≤ 32) × All IsInterval ranges
+AreIntervals ranges = (length ranges ≤ most_intervals) × All IsInterval ranges
 
 proper_intervals : (ranges : List Interval) → AreRanges ranges → AreIntervals ranges
 unfolding AreIntervals
 proper_intervals ranges h =
     let parts = both_true (fits ranges) (rises_from 0 ranges) h in
-    (within (length ranges) 32 parts.0, rising_points 0 ranges parts.1)
+    (within (length ranges) most_intervals parts.0, rising_points 0 ranges parts.1)
 
-intervals_are : IsField (list_at interval_at 31) AreIntervals ranges_text EndsList
+intervals_are : IsField (list_at interval_at (most_intervals - 1)) AreIntervals ranges_text EndsList
 unfolding AreIntervals
-intervals_are = list_is interval_is ends no_dash 31
+intervals_are = list_is interval_is ends no_dash (most_intervals - 1)
 
 pub ranges_is : IsField ranges_at AreRanges ranges_text EndsList
 unfolding ranges_at
 ranges_is = record {
   found = λ bytes f e.
-      let a = bind_some (list_at interval_at 31 bytes) (λ x. cond (is_proper x.0) (Some x) None) f e in
+      let a = bind_some (list_at interval_at (most_intervals - 1) bytes) (λ x. cond (is_proper x.0) (Some x) None) f e in
       let r = intervals_are.found bytes a.0 a.1 in
       let P : List Interval × List ℕ → Type 0 = λ q. AreRanges q.0 × (bytes ≡ ranges_text q.0 ++ q.1) in
       ⊎_elim (λ yes. subst P (some_same a.0 f yes.1) (yes.0, r.1)) (λ no. absurd (none_found f no.1)) (chosen (is_proper a.0.0) (Some a.0) None (Some f) a.2);

@@ -1,10 +1,11 @@
 -- Numbers are read exactly where they are spelled.
 use Rattle.std.proofs.Common.{lit<, ◌≡◌, ◌⊎◌, ℕ, ◌^◌, ◌≤◌, ◌<◌, nat_le, ◌&&◌, ⊎_elim, inl, inr, List, ◌++◌, Option, Some, None, arith, refl, ap, sym, subst, ◌∙◌}
 use Rattle.std.specs.Prelude.{decimal, codes}
+use Rattle.ring_points.specs.Limits.{most_counter}
 use Rattle.fabric_terms.specs.Ranges.{IsWord, IsLong, IsOptional}
 use Rattle.text_fields.specs.Fields.{◌>>=◌, made_at}
 use Rattle.text_fields.specs.Inverses.{IsField, EndsNumber}
-use Rattle.text_fields.specs.Numbers.{IsIn, number_at, in_range, number_in, long_at, optional_at, optional_text}
+use Rattle.text_fields.specs.Numbers.{IsIn, number_at, in_range, number_in, long_at, optional_at, optional_text, most_long}
 use Rattle.text_fields.proofs.Numbers.{Pair, number_found, number_again, chosen, some_same, none_found, within, not_above}
 use Rattle.text_fields.proofs.FieldLaws.{both_true, bind_some, given_is, made_at_is, choice_is}
 
@@ -45,9 +46,9 @@ number_up_to hi small =
     }
 
 -- numbers of 4 and of 8 bytes
-pub word_number_is : IsField (number_in 0 4294967295) IsWord decimal EndsNumber
+pub word_number_is : IsField (number_in 0 most_counter) IsWord decimal EndsNumber
 word_number_is =
-    let law = number_is 0 4294967295 (lit< tt) in
+    let law = number_is 0 most_counter (lit< tt) in
     record {
       found = λ bytes f e. let r = law.found bytes f e in (omega (arith, r.0.1), r.1);
       again = λ n rest h ends. law.again n rest (omega arith, omega (arith, h)) ends;
@@ -55,7 +56,7 @@ word_number_is =
 
 pub long_is : IsField long_at IsLong decimal EndsNumber
 long_is =
-    let law = number_is 0 18446744073709551615 (lit< tt) in
+    let law = number_is 0 most_long (lit< tt) in
     record {
       found = λ bytes f e. let r = law.found bytes f e in (omega (arith, r.0.1), r.1);
       again = λ n rest h ends. law.again n rest (omega arith, omega (arith, h)) ends;

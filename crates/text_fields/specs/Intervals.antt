@@ -1,5 +1,6 @@
 -- Intervals of points, and ranges as lists of them.
-use Rattle.std.specs.Prelude.{ℕ, Bool, List, ◌++◌, Option, Some, None, codes, nat_le, if◌then◌else◌}
+use Rattle.std.specs.Prelude.{ℕ, ◌-◌, Bool, List, ◌++◌, Option, Some, None, codes, nat_le, if◌then◌else◌}
+use Rattle.ring_points.specs.Limits.{most_intervals}
 use Rattle.ring_points.specs.declared.interval.Interval.{Interval}
 use Rattle.ring_points.specs.Ranges.{is_proper}
 use Rattle.text_fields.specs.Fields.{◌>>=◌, Field, last, made_at, pair_at, such_that}
@@ -25,9 +26,9 @@ span_of = such_that is_rising (last interval_at)
 abbrev pub interval_text : Interval → List ℕ
 interval_text i = point_text i.lo ++ (codes "-" ++ point_text i.hi)
 
--- the list of a range set: at most 32 intervals, with commas, or a dash
+-- the list of a range set: intervals with commas, or a dash
 unfoldable pub ranges_at : List ℕ → Field (List Interval)
-ranges_at bytes = list_at interval_at 31 bytes >>= λ x. if is_proper x.0 then Some x else None
+ranges_at bytes = list_at interval_at (most_intervals - 1) bytes >>= λ x. if is_proper x.0 then Some x else None
 
 abbrev pub ranges_text : List Interval → List ℕ
 ranges_text ranges = listed interval_text ranges

@@ -1,6 +1,7 @@
 -- That a reader and a text are each other's inverse.
 use Rattle.std.specs.Prelude.{◌≡◌, ℕ, List, [], ◌∷◌, ◌++◌, false, Option, Some, ◌==◌}
 use Rattle.std.specs.Char.{is_ascii_digit}
+use Rattle.text_fields.specs.Codes.{comma_code}
 use Rattle.text_fields.specs.Fields.{Field}
 
 -- what a field reads from the front is spelled so; what is spelled so is read, where nothing follows that would be a part of it
@@ -25,4 +26,4 @@ EndsNumber (b ∷ bs) = is_ascii_digit b ≡ false
 -- what does not begin with a comma
 abbrev pub EndsList : List ℕ → Type 0
 EndsList [] = Unit {0}
-EndsList (b ∷ bs) = (b == 44) ≡ false
+EndsList (b ∷ bs) = (b == comma_code) ≡ false

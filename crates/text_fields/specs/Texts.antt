@@ -1,10 +1,11 @@
 -- How fields are put together to a text.
 use Rattle.std.specs.Prelude.{◌≡◌, ℕ, List, [], ◌∷◌, length, take, codes}
 use Rattle.std.specs.List.{join_by, join_with_byte}
+use Rattle.text_fields.specs.Codes.{blank_code}
 
 -- words, with one blank between each two
 abbrev pub spaced : List (List ℕ) → List ℕ
-spaced words = join_with_byte 32 words
+spaced words = join_with_byte blank_code words
 
 -- a list with commas, or a dash where it is empty
 abbrev pub listed : {A : Type 0} → (A → List ℕ) → List A → List ℕ

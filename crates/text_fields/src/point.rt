@@ -56,7 +56,7 @@ pub fn push_point(into: &mut Vec<u8>, point: u64) -> Result<(), OutOfMemory>
     let mut digits = [0u8; POINT_DIGITS];
     let mut rest = point;
     for i in 0..POINT_DIGITS {
-        digits[15 - i] = hex_digit((rest % 16) as u8);
+        digits[POINT_DIGITS - 1 - i] = hex_digit((rest % 16) as u8);
         rest /= 16;
     }
     push_bytes(into, &digits)
