@@ -1,6 +1,8 @@
 use crate::pieces::repeated;
 use ring_points::Interval;
-use sched_text::{Command, Event, OutOfMemory, TickReadings, read_command, read_event, read_tick};
+use sched_text::{
+    Command, Event, EventLine, OutOfMemory, TickReadings, read_command, read_event, read_event_line,
+};
 use std::process::Abort;
 
 #[test]
@@ -43,12 +45,19 @@ fn is_tick(line: &[u8], wanted: &[(u16, u64)]) -> bool {
     }
 }
 
+fn tells_tick(line: &[u8], wanted: u64, readings: &mut TickReadings) -> bool {
+    match read_event_line(line, readings) {
+        Ok(EventLine::Tick { advance }) => advance == wanted,
+        _ => false,
+    }
+}
+
 #[test]
 fn ticks(rt: HostRuntime) {
     assert!(rt; is_tick(TICK, READINGS));
     let mut list = TickReadings::new();
-    assert!(rt; read_tick(b"tick 5 3:1", &mut list) == Ok(Some(5)));
-    assert!(rt; read_tick(TICK, &mut list) == Ok(Some(4082)));
+    assert!(rt; tells_tick(b"tick 5 3:1", 5, &mut list));
+    assert!(rt; tells_tick(TICK, 4082, &mut list));
     assert!(rt; list.as_slice() == READINGS);
 }
 

@@ -53,7 +53,7 @@ fn give_of(words: &[u8]) -> Result<Command, BadLine>
 }
 
 fn write_of(words: &[u8]) -> Result<Command, BadLine>
-    ensures { Gives (λ x. x) result (in_partition (text_of 1 512) Command.Write words.now) }
+    ensures { Gives (λ x. x) result (in_partition (text_of 1 MAX_WRITE) Command.Write words.now) }
 {
     let (partition, rest) = partition_word(words)?;
     Ok(Command::Write(partition, Payload::from_slice(text_of(MAX_WRITE, rest)?)))

@@ -9,9 +9,11 @@
 
 mod command;
 mod event;
+mod event_line;
 
 pub use command::read_command;
-pub use event::{TickReadings, read_event, read_tick};
+pub use event::read_event;
+pub use event_line::{EventLine, TickReadings, read_event_line, read_junk};
 pub use fabric_terms::{
     Command, Event, Head, JunkBytes, OutOfMemory, Payload, Readings, Reason, Report, Verb,
 };

@@ -3,7 +3,6 @@ pub mod Words
 pub mod Along
 mod Beginning
 mod Faults
-pub mod ShortLines
 mod Statuses
 mod Taking
 mod Waits

@@ -2,6 +2,6 @@ pub mod Refusals
 pub mod Follows
 pub mod Acts
 pub mod Begins
-pub mod Brief
+pub mod Fitting
 pub mod Statuses
 pub mod Waits

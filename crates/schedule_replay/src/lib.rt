@@ -7,7 +7,6 @@
 //! valid schedule.
 #![tactic(auto)]
 
-mod brief;
 mod clocks;
 mod ending;
 mod page;

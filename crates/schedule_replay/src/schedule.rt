@@ -4,19 +4,21 @@ ghost use Rattle.fabric_terms.specs.declared.config.FabricConfig.{FabricConfig a
 ghost use Rattle.ring_world.specs.Answers.{IsWorld};
 ghost use Rattle.unit_rules.specs.Ruled.{ruled};
 ghost use Rattle.fabric_terms.specs.Ranges.{Fits};
-ghost use Rattle.line_format.specs.Lines.{event_of};
+ghost use Rattle.line_format.specs.Commands.{command_of};
+ghost use Rattle.line_format.specs.Lines.{event_of, junk_bytes_of};
+ghost use Rattle.schedule_replay.specs.Fitting.{FitsIfRead};
+ghost use Rattle.text_fields.specs.Fields.{made};
 ghost use Rattle.text_fields.specs.Texts.{Keeps};
 ghost use Rattle.world_rules.specs.Runs.{History};
 ghost use Rattle.schedule_replay.specs.Follows.{At, Follows};
 ghost use Rattle.schedule_rules.specs.Schedule.{line_verdict, event_verdict, run_verdict};
 ghost use Rattle.schedule_replay.specs.Refusals.{refusal_at};
 
-use crate::brief::{Brief, read_brief};
 use crate::run_observer::RunObserver;
 use fabric_status::Refusal;
 use fabric_terms::{Event, OutOfMemory};
 use ring_world::{EventRefusal, World};
-use sched_text::{TickReadings, read_event, read_tick};
+use sched_text::{EventLine, TickReadings, read_command, read_event_line, read_junk};
 use source_lines::{MAX_LINE, MAX_LINES, is_ignored};
 
 /// How an event at this line is refused, or that memory was short.
@@ -82,52 +84,54 @@ fn take_tick<T: RunObserver>(
     }
 }
 
-/// Takes a line of an event of any kind but a tick.
-fn take_any<T: RunObserver>(
+/// Takes an operator's command to a node, in these words.
+fn take_command<T: RunObserver>(
     world: &mut World,
     teller: &mut T,
     number: u64,
-    line: &[u8],
+    node: u16,
+    words: &[u8],
     text: &mut Vec<u8>,
 ) -> Result<Option<Refusal>, OutOfMemory>
-    requires { IsWorld world.old }
+    requires world { IsWorld world.old }
+    requires fits { FitsIfRead (made (Event.Do node) command_of words.now) }
     ensures follows { (c : Configuration) (h : History) → At world.old (T.knows teller.old) c h →
         IfOk result (λ refused. Follows T.telling c h number
-        (event_verdict c (ruled c h) (length h) number (event_of line.now)) refused world.new (T.knows teller.new)
-        text.old.items text.new.items) }
+        (event_verdict c (ruled c h) (length h) number (made (Event.Do node) command_of words.now)) refused world.new
+        (T.knows teller.new) text.old.items text.new.items) }
     ensures kept { Keeps text.old.items text.new.items }
 {
-    match read_event(line) {
+    match read_command(words) {
         Err(_) => Ok(Some(Refusal::BadLine(number))),
-        Ok(event) => take_event(world, teller, number, &event, text),
+        Ok(command) => take_event(world, teller, number, &Event::Do { node, command }, text),
     }
 }
 
-/// Takes a line of a tick, or of another event that takes room. The list of readings serves each line, so that a tick
-/// is taken in place.
-fn take_longer<T: RunObserver>(
+/// Takes bytes that are no frame, in these digits, which come to an actor.
+fn take_junk<T: RunObserver>(
     world: &mut World,
     teller: &mut T,
     number: u64,
-    line: &[u8],
-    readings: &mut TickReadings,
+    actor: u16,
+    digits: &[u8],
     text: &mut Vec<u8>,
 ) -> Result<Option<Refusal>, OutOfMemory>
-    requires { IsWorld world.old }
+    requires world { IsWorld world.old }
+    requires fits { FitsIfRead (made (Event.Junk actor) junk_bytes_of digits.now) }
     ensures follows { (c : Configuration) (h : History) → At world.old (T.knows teller.old) c h →
         IfOk result (λ refused. Follows T.telling c h number
-        (event_verdict c (ruled c h) (length h) number (event_of line.now)) refused world.new (T.knows teller.new)
-        text.old.items text.new.items) }
+        (event_verdict c (ruled c h) (length h) number (made (Event.Junk actor) junk_bytes_of digits.now)) refused
+        world.new (T.knows teller.new) text.old.items text.new.items) }
     ensures kept { Keeps text.old.items text.new.items }
 {
-    match read_tick(line, readings) {
+    match read_junk(digits) {
         Err(_) => Ok(Some(Refusal::BadLine(number))),
-        Ok(Some(advance)) => take_tick(world, teller, number, advance, readings.as_slice(), text),
-        Ok(None) => take_any(world, teller, number, line, text),
+        Ok(bytes) => take_event(world, teller, number, &Event::Junk { actor, bytes }, text),
     }
 }
 
-/// Takes a line of an event. Firings and frames, which most lines are, are looked for first.
+/// Takes a line of an event. The event is made where its kind is known, so that no room is cleared or moved for kinds
+/// that are larger.
 fn take_words<T: RunObserver>(
     world: &mut World,
     teller: &mut T,
@@ -143,10 +147,31 @@ fn take_words<T: RunObserver>(
         text.old.items text.new.items) }
     ensures kept { Keeps text.old.items text.new.items }
 {
-    match read_brief(line) {
-        Some(Brief::Fire(node)) => take_event(world, teller, number, &Event::Fire { node }, text),
-        Some(Brief::Give(frame)) => take_event(world, teller, number, &Event::Give { frame }, text),
-        None => take_longer(world, teller, number, line, readings, text),
+    match read_event_line(line, readings) {
+        Err(_) => Ok(Some(Refusal::BadLine(number))),
+        Ok(EventLine::Fire { node }) => {
+            let event = Event::Fire { node };
+            take_event(world, teller, number, &event, text)
+        }
+        Ok(EventLine::Give { frame }) => {
+            let event = Event::Give { frame };
+            take_event(world, teller, number, &event, text)
+        }
+        Ok(EventLine::Tick { advance }) => {
+            take_tick(world, teller, number, advance, readings.as_slice(), text)
+        }
+        Ok(EventLine::Start { actor, reading }) => {
+            let event = Event::Start { actor, reading };
+            take_event(world, teller, number, &event, text)
+        }
+        Ok(EventLine::Stop { actor }) => {
+            let event = Event::Stop { actor };
+            take_event(world, teller, number, &event, text)
+        }
+        Ok(EventLine::Do { node, words }) => take_command(world, teller, number, node, words, text),
+        Ok(EventLine::Junk { actor, digits }) => {
+            take_junk(world, teller, number, actor, digits, text)
+        }
     }
 }
 

@@ -1,7 +1,7 @@
 use Rattle.std.proofs.Common.{◌≡◌, ◌+◌, ◌*◌, length}
 use Rattle.line_format.specs.Lines.{bytes_of}
 use Rattle.line_format.proofs.Lists.{put_before}
-use Rattle.sched_text.proofs.event.junk.junk_bytes_of.Given as goal
+use Rattle.sched_text.proofs.event_line.junk.read_junk.Given as goal
 
 -- the bytes so far, and then what is read of the rest
 abbrev pub invariant-loop-rest : goal.invariant-loop-rest

@@ -3,7 +3,7 @@ use Rattle.line_format.specs.Lines.{bytes_of}
 use Rattle.text_fields.proofs.Lists.{rest_is}
 use Rattle.line_format.proofs.Lists.{put_before}
 use Rattle.line_format.proofs.ByteSteps.{bytes_next}
-use Rattle.sched_text.proofs.event.junk.junk_bytes_of.Goals as goal
+use Rattle.sched_text.proofs.event_line.junk.read_junk.Goals as goal
 
 pub loop-rest-preserved : goal.loop-rest-preserved
 loop-rest-preserved c =

@@ -1,7 +1,7 @@
 ghost use Rattle.std.specs.Prelude.{◌≡◌, ◌≤◌, [], length};
 ghost use Rattle.fabric_terms.specs.declared.event.Event.{Event};
 ghost use Rattle.text_fields.specs.Fields.{Gives};
-ghost use Rattle.line_format.specs.Lines.{reading_at, readings_of, tick_of, ReadsTick};
+ghost use Rattle.line_format.specs.Lines.{reading_at, readings_of, tick_of};
 
 use super::count::count_at;
 use arrayvec::ArrayVec;
@@ -13,7 +13,7 @@ use text_fields::{BadField, after_word, node_at};
 /// Nodes, each with the reading of its clock, in a list that is used for many ticks.
 pub type TickReadings = ArrayVec<(u16, u64), MAX_NODES>;
 
-// A node and the reading of its clock, behind a blank, and what follows them.
+/// A node and the reading of its clock, behind a blank, and what follows them.
 #[tactic(auto, unfolding(line_format::specs::Lines::reading_at))]
 fn reading_at(bytes: &[u8]) -> Result<(u16, u64, &[u8]), BadField>
     ensures { Gives (λ x. ((x.0, x.1), x.2.now)) result (reading_at bytes.now) }
@@ -23,7 +23,7 @@ fn reading_at(bytes: &[u8]) -> Result<(u16, u64, &[u8]), BadField>
     Ok((node, reading, rest))
 }
 
-// Fills an empty list with the readings to the end of the line. A refusal leaves a front of them.
+/// Fills an empty list with the readings to the end of the line. A refusal leaves a front of them.
 fn fill(bytes: &[u8], readings: &mut TickReadings) -> Result<(), BadLine>
     requires { readings.old.items ≡ [] }
     ensures { Gives (λ _. readings.new.items) result (readings_of MAX_NODES bytes.now) }
@@ -40,7 +40,8 @@ fn fill(bytes: &[u8], readings: &mut TickReadings) -> Result<(), BadLine>
     Ok(())
 }
 
-fn copy_of(pairs: &[(u16, u64)]) -> Readings
+/// The readings as an event has them.
+pub fn copy_of(pairs: &[(u16, u64)]) -> Readings
     requires { length pairs.now ≤ MAX_NODES }
     ensures { result ≡ pairs.now }
 {
@@ -51,42 +52,14 @@ fn copy_of(pairs: &[(u16, u64)]) -> Readings
     readings
 }
 
-/// The readings to the end of the line.
-pub fn readings_of(bytes: &[u8]) -> Result<Readings, BadLine>
-    ensures { Gives (λ x. x) result (readings_of MAX_NODES bytes.now) }
-{
-    let mut readings = TickReadings::new();
-    fill(bytes, &mut readings)?;
-    Ok(copy_of(readings.as_slice()))
-}
-
-// The advance of a tick behind its word, and its readings in the list.
+/// Reads a tick behind its word: gives the advance, and leaves the readings in the list, in the place of what it had.
+/// A refusal leaves a front of them.
 #[tactic(auto, unfolding(line_format::specs::Lines::tick_of))]
-fn tick_into(words: &[u8], readings: &mut TickReadings) -> Result<u64, BadLine>
-    requires { readings.old.items ≡ [] }
+pub fn read_tick(words: &[u8], readings: &mut TickReadings) -> Result<u64, BadLine>
     ensures { Gives (λ advance. Event.Tick advance readings.new.items) result (tick_of words.now) }
 {
+    readings.clear();
     let (advance, rest) = count_at(words)?;
     fill(rest, readings)?;
     Ok(advance)
-}
-
-/// Reads a line that begins with the word `tick ` as `read_event` reads it, and makes no event: it gives
-/// the advance, and the list has the readings in the place of what it had. So one list serves any number
-/// of lines. None is for a line that begins otherwise. BadLine comes exactly where the line begins so and
-/// is no tick. In both cases the list is empty then.
-pub fn read_tick(line: &[u8], readings: &mut TickReadings) -> Result<Option<u64>, BadLine>
-    ensures { ReadsTick line.now readings.new.items result }
-{
-    readings.clear();
-    match after_word(b"tick ", line) {
-        Err(_) => Ok(None),
-        Ok(words) => match tick_into(words, readings) {
-            Ok(advance) => Ok(Some(advance)),
-            Err(_) => {
-                readings.clear();
-                Err(BadLine)
-            }
-        },
-    }
 }
