@@ -4,10 +4,12 @@ use Rattle.std.specs.Prelude.{codes, decimal}
 use Rattle.std.specs.List.{list_all}
 use Rattle.std.proofs.lemmas.List.{append_assoc, append-nil}
 use Rattle.std.proofs.lemmas.List.Sums.{AllPass-from_list_all, list_all-from_AllPass}
+use Rattle.ring_points.specs.Limits.{least_lease, most_lease, most_members, most_write}
 use Rattle.fabric_terms.specs.declared.command.Command.{Command}
 use Rattle.fabric_terms.specs.declared.command.Command.TheVariants.{Link, LinkFor, Part, GiveNear, GiveAll, Join, Find, Create, Swap, Heal, Lose, Write, Units, Resolve, Names}
 use Rattle.fabric_terms.specs.Ranges.{IsNode, IsPartition, IsMembers, IsLease, FitsCommand}
 use Rattle.text_fields.specs.Actors.{node_at}
+use Rattle.text_fields.specs.Codes.{blank_code, last_sign_code}
 use Rattle.text_fields.specs.Fields.{◌>>=◌, Field, after_word, whole_of, last, made, behind, nothing}
 use Rattle.text_fields.specs.Intervals.{span_of, interval_text}
 use Rattle.text_fields.specs.Inverses.{IsRest, EndsNumber}
@@ -25,22 +27,22 @@ use Rattle.line_format.proofs.CountLaws.{partition_is}
 use Rattle.line_format.proofs.NameLaws.{last_name_is}
 
 members_are : IsRest members_of IsMembers decimal
-members_are = last_is (number_is 1 7 (lit< tt)) tt
+members_are = last_is (number_is 1 most_members (lit< tt)) tt
 
 lease_is : IsRest lease_of IsLease decimal
-lease_is = last_is (number_is 10 1000000000 (lit< tt)) tt
+lease_is = last_is (number_is least_lease most_lease (lit< tt)) tt
 
 all_are : IsRest Some (λ _. Unit {0}) as_they_are
 all_are = record { found = λ bytes x e. (tt, some_same bytes x e); again = λ x h. refl }
 
 abbrev IsPrintable : ℕ → Type 0
-IsPrintable b = (32 ≤ b) × (b ≤ 126)
+IsPrintable b = (blank_code ≤ b) × (b ≤ last_sign_code)
 
 printable_is : (b : ℕ) → is_printable b ≡ true → IsPrintable b
-printable_is b h = let r = both_true (nat_le 32 b) (nat_le b 126) h in (within 32 b r.0, within b 126 r.1)
+printable_is b h = let r = both_true (nat_le blank_code b) (nat_le b last_sign_code) h in (within blank_code b r.0, within b last_sign_code r.1)
 
 is_printable_again : (b : ℕ) → IsPrintable b → is_printable b ≡ true
-is_printable_again b h = rw (not_above 32 b h.0, not_above b 126 h.1) refl
+is_printable_again b h = rw (not_above blank_code b h.0, not_above b last_sign_code h.1) refl
 
 -- lo to hi bytes that can be printed
 pub text_is : (lo hi : ℕ) → IsRest (text_of lo hi) (λ t. (lo ≤ length t) × (length t ≤ hi) × All IsPrintable t) as_they_are
@@ -75,8 +77,8 @@ give_found =
 units_found : IsCommand (codes "units ") (made Units span_of)
 units_found = made_found span_is FitsCommand command_text (codes "units ") Units (λ i h. (h, refl))
 
-write_found : IsCommand (codes "write ") (in_partition (text_of 1 512) Write)
-write_found = followed_found partition_is (text_is 1 512) FitsCommand command_text (codes "write ") Write (λ p t a b. ((a, b), refl))
+write_found : IsCommand (codes "write ") (in_partition (text_of 1 most_write) Write)
+write_found = followed_found partition_is (text_is 1 most_write) FitsCommand command_text (codes "write ") Write (λ p t a b. ((a, b), refl))
 
 resolve_found : IsCommand (codes "resolve ") (in_partition (last name_at) Resolve)
 resolve_found = followed_found partition_is last_name_is FitsCommand command_text (codes "resolve ") Resolve (λ p n a b. ((a, b), refl))
@@ -108,7 +110,7 @@ partition_command_found =
     or_behind (codes "swap ") (in_partition (last node_at) Swap) _ swap_found (
     or_behind (codes "heal ") (in_partition members_of Heal) _ heal_found (
     or_behind (codes "lose ") (in_partition (last node_at) Lose) _ lose_found (
-    or_behind (codes "write ") (in_partition (text_of 1 512) Write) _ write_found (
+    or_behind (codes "write ") (in_partition (text_of 1 most_write) Write) _ write_found (
     or_behind (codes "units ") (made Units span_of) _ units_found (
     or_behind (codes "resolve ") (in_partition (last name_at) Resolve) _ resolve_found (
     or_behind (codes "names ") (in_partition span_of Names) nothing names_found (found_nothing FitsCommand command_text [])
@@ -183,7 +185,7 @@ at_lose : (words : List ℕ) → command_of (codes "lose " ++ words) ≡ in_part
 unfolding command_of partition_command_of after_word
 at_lose words = refl
 
-at_write : (words : List ℕ) → command_of (codes "write " ++ words) ≡ in_partition (text_of 1 512) Write words
+at_write : (words : List ℕ) → command_of (codes "write " ++ words) ≡ in_partition (text_of 1 most_write) Write words
 unfolding command_of partition_command_of after_word
 at_write words = refl
 
@@ -252,7 +254,7 @@ command_again (Create p count) h = at_create (decimal p ++ (codes " " ++ decimal
 command_again (Swap p node) h = at_swap (decimal p ++ (codes " " ++ decimal node)) ∙ in_again last_node_is Swap p node h.0 h.1
 command_again (Heal p count) h = at_heal (decimal p ++ (codes " " ++ decimal count)) ∙ in_again members_are Heal p count h.0 h.1
 command_again (Lose p node) h = at_lose (decimal p ++ (codes " " ++ decimal node)) ∙ in_again last_node_is Lose p node h.0 h.1
-command_again (Write p text) h = at_write (decimal p ++ (codes " " ++ text)) ∙ in_again (text_is 1 512) Write p text h.0 h.1
+command_again (Write p text) h = at_write (decimal p ++ (codes " " ++ text)) ∙ in_again (text_is 1 most_write) Write p text h.0 h.1
 command_again (Units part) h = at_units (interval_text part) ∙ made_again span_is Units part h
 command_again (Resolve p name) h = at_resolve (decimal p ++ (codes " " ++ name)) ∙ in_again last_name_is Resolve p name h.0 h.1
 command_again (Names p part) h = at_names (decimal p ++ (codes " " ++ interval_text part)) ∙ in_again span_is Names p part h.0 h.1

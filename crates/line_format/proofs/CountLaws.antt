@@ -6,7 +6,7 @@ use Rattle.text_fields.specs.Fields.{after_word, last}
 use Rattle.text_fields.specs.Inverses.{IsField, IsRest, EndsNumber}
 use Rattle.text_fields.proofs.FieldLaws.{word_found, last_is}
 use Rattle.text_fields.proofs.NumberLaws.{number_up_to}
-use Rattle.line_format.specs.Commands.{partition_at}
+use Rattle.line_format.specs.Commands.{partition_at, most_partition}
 use Rattle.line_format.specs.Lines.{count_at}
 
 pub count_is : IsField count_at IsNumber decimal EndsNumber
@@ -16,7 +16,7 @@ pub last_count_is : IsRest (last count_at) IsNumber decimal
 last_count_is = last_is count_is tt
 
 pub partition_is : IsField partition_at IsPartition decimal EndsNumber
-partition_is = number_up_to 65535 (lit< tt)
+partition_is = number_up_to most_partition (lit< tt)
 
 -- what follows a partition is not longer than what it stands in
 pub behind_partition : (bytes : List ℕ) (p : ℕ) (rest : List ℕ) → partition_at bytes ≡ Some (p, rest) → length rest ≤ length bytes

@@ -1,16 +1,18 @@
 -- Each line is read exactly where it is spelled.
-use Rattle.std.proofs.Common.{◌≡◌, ℕ, List, [], ◌++◌, Option, Some, None, arith, ap, sym, ◌∙◌, refl}
+use Rattle.std.proofs.Common.{◌≡◌, ℕ, List, [], ◌++◌, Option, Some, None, arith, ap, sym, ◌∙◌, refl, ◌*◌}
 use Rattle.std.specs.Prelude.{codes, decimal}
+use Rattle.ring_points.specs.Limits.{most_frame, most_nodes}
 use Rattle.fabric_terms.specs.declared.command.Command.{Command}
 use Rattle.fabric_terms.specs.declared.event.Event.{Event}
 use Rattle.fabric_terms.specs.declared.event.Event.TheVariants.{Start, Stop, Tick, Fire, Give, Do, Junk}
 use Rattle.fabric_terms.specs.Ranges.{IsNumber, IsNode, IsArbiter, IsActor, FitsCommand, IsJunk, AreReadings, Fits}
 use Rattle.text_fields.specs.Actors.{node_at, arbiter_at, actor_at, actor_text}
+use Rattle.text_fields.specs.Codes.{blank_code}
 use Rattle.text_fields.specs.Fields.{◌>>=◌, Field, after_word, last, word_of, made, followed, behind, nothing}
 use Rattle.text_fields.specs.Inverses.{IsRest}
 use Rattle.text_fields.specs.Numbers.{number_in}
 use Rattle.text_fields.proofs.ActorLaws.{node_is, last_node_is, arbiter_is, actor_is, actor_text_arbiter, arbiter_number}
-use Rattle.text_fields.proofs.FieldLaws.{word_found, last_is, behind_again, behind_other, apart}
+use Rattle.text_fields.proofs.FieldLaws.{last_is, behind_again, behind_other, apart}
 use Rattle.text_fields.proofs.RestLaws.{IsSpelled, sized_is, refit, found_behind, found_nothing, headed_found, followed_found, followed_again, made_found, made_again}
 use Rattle.line_format.specs.Commands.{command_text}
 use Rattle.line_format.specs.Lines.{count_at, bytes_text, event_text, event_of, arbiter_start, node_start, start_of, tick_of, readings_of, reading_text, junk_bytes_of, do_of, junk_of, ReadIsSpelled, SpelledIsRead}
@@ -32,7 +34,7 @@ last_arbiter_is = last_is arbiter_is tt
 junk_bytes_are : IsRest junk_bytes_of IsJunk bytes_text
 unfolding junk_bytes_of
 junk_bytes_are =
-    refit (sized_is bytes_are 2 2400)
+    refit (sized_is bytes_are 2 (2 * most_frame))
     (λ bs h. let twice = length-bytes_text bs in (omega (arith, h.1), omega (arith, h.2), h.0))
     (λ bs h. let twice = length-bytes_text bs in (h.2, omega (arith, h.0), omega (arith, h.1)))
 
@@ -53,16 +55,16 @@ stop_found : IsEvent (codes "stop ") (made Stop (last actor_at))
 stop_found = made_found last_actor_is Fits event_text (codes "stop ") Stop (λ a h. (h, refl))
 
 tick_spelled : (advance : ℕ) (readings : List (ℕ × ℕ)) → event_text (Tick advance readings) ≡ codes "tick " ++ (decimal advance ++ readings_text readings)
-tick_spelled advance readings = ap (λ t. codes "tick " ++ t) (joined_is 32 (decimal advance) reading_text readings)
+tick_spelled advance readings = ap (λ t. codes "tick " ++ t) (joined_is blank_code (decimal advance) reading_text readings)
 
 ticked_of : ℕ → List ℕ → Option Event
-ticked_of advance = made (Tick advance) (readings_of 64)
+ticked_of advance = made (Tick advance) (readings_of most_nodes)
 
 tick_found : IsEvent (codes "tick ") tick_of
 unfolding tick_of ticked_of
 tick_found =
     headed_found count_is Fits event_text (codes "tick ") ticked_of
-    (λ advance h. made_found (readings_are 64) Fits event_text (codes "tick " ++ decimal advance) (Tick advance) (λ readings are. ((h, are), sym (tick_spelled advance readings))))
+    (λ advance h. made_found (readings_are most_nodes) Fits event_text (codes "tick " ++ decimal advance) (Tick advance) (λ readings are. ((h, are), sym (tick_spelled advance readings))))
 
 fire_found : IsEvent (codes "fire ") (made Fire (last node_at))
 fire_found = made_found last_node_is Fits event_text (codes "fire ") Fire (λ n h. (h, refl))
@@ -111,9 +113,6 @@ at_tick : (words : List ℕ) → event_of (codes "tick " ++ words) ≡ tick_of w
 unfolding event_of after_word
 at_tick words = refl
 
-pub tick_line : (line words : List ℕ) → after_word (codes "tick ") line ≡ Some words → event_of line ≡ tick_of words
-tick_line line words e = ap event_of (word_found (codes "tick ") line words e) ∙ at_tick words
-
 at_fire : (words : List ℕ) → event_of (codes "fire " ++ words) ≡ made Fire (last node_at) words
 unfolding event_of after_word
 at_fire words = refl
@@ -152,8 +151,8 @@ tick_again : (advance : ℕ) (readings : List (ℕ × ℕ)) → IsNumber advance
     → tick_of (decimal advance ++ readings_text readings) ≡ Some (Tick advance readings)
 unfolding tick_of
 tick_again advance readings h are =
-    ap (λ (o : Field ℕ). o >>= λ advance. made (Tick advance.0) (readings_of 64) advance.1) (count_is.again advance (readings_text readings) h (ends_readings readings))
-    ∙ made_again (readings_are 64) (Tick advance) readings are
+    ap (λ (o : Field ℕ). o >>= λ advance. made (Tick advance.0) (readings_of most_nodes) advance.1) (count_is.again advance (readings_text readings) h (ends_readings readings))
+    ∙ made_again (readings_are most_nodes) (Tick advance) readings are
 
 do_again : (node : ℕ) (command : Command) → IsNode node → FitsCommand command
     → do_of (decimal node ++ (codes " " ++ command_text command)) ≡ Some (Do node command)

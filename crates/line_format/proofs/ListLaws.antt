@@ -1,7 +1,8 @@
 -- The lists of partitions and of names are read exactly where they are spelled.
-use Rattle.std.proofs.Common.{◌≡◌, ℕ, suc, ◌≤◌, ◌<◌, ⊎_elim, List, [], ◌∷◌, ◌++◌, length, All, Option, Some, None, arith, refl, ap, sym, subst, ◌∙◌, length-append}
+use Rattle.std.proofs.Common.{◌≡◌, ℕ, suc, ◌≤◌, ◌<◌, ⊎_elim, List, [], ◌∷◌, ◌++◌, length, All, Option, Some, None, arith, refl, ap, sym, subst, ◌∙◌, length-append, ◌-◌}
 use Rattle.std.specs.Prelude.{codes, decimal}
 use Rattle.std.proofs.lemmas.List.Elements.{All-nil}
+use Rattle.ring_points.specs.Limits.{most_listed_names}
 use Rattle.fabric_terms.specs.Ranges.{IsPartition, IsName}
 use Rattle.text_fields.specs.Fields.{after_word, last, nothing}
 use Rattle.text_fields.specs.Inverses.{IsRest, EndsNumber}
@@ -53,18 +54,18 @@ partitions_are = record {
 names_end : EndsWith EndsName IsOver
 names_end = record { last = λ rest h. subst EndsName (sym h) tt; no_comma = over_no_comma; comma = λ rest. refl }
 
-some_are : IsRest (last (some_at name_at 63)) (AreSome IsName 64) (listed as_they_are)
-some_are = last_is (some_is name_is names_end 63) refl
+some_are : IsRest (last (some_at name_at (most_listed_names - 1))) (AreSome IsName most_listed_names) (listed as_they_are)
+some_are = last_is (some_is name_is names_end (most_listed_names - 1)) refl
 
 abbrev pub AreNames : List (List ℕ) → Type 0
-AreNames names = (length names ≤ 64) × All IsName names
+AreNames names = (length names ≤ most_listed_names) × All IsName names
 
 some_text : (names : List (List ℕ)) → 0 < length names → codes " " ++ listed as_they_are names ≡ names_text names
 some_text [] h = absurd (omega arith)
 some_text (n ∷ ns) h = refl
 
 abbrev behind_blank : List ℕ → Option (List (List ℕ))
-behind_blank = last (some_at name_at 63)
+behind_blank = last (some_at name_at (most_listed_names - 1))
 
 pub names_are : IsRest names_of AreNames names_text
 unfolding names_of

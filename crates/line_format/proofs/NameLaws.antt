@@ -3,6 +3,7 @@ use Rattle.std.proofs.Common.{◌≡◌, ℕ, suc, ◌≤◌, Bool, true, false,
 use Rattle.std.proofs.lemmas.Bool.Decides.{nat_tests}
 use Rattle.std.proofs.lemmas.List.{drop_at, take_at, take-append-drop, length-take}
 use Rattle.std.proofs.lemmas.List.Elements.{All-nil, All-cons, All-head, All-tail}
+use Rattle.ring_points.specs.Limits.{most_name}
 use Rattle.fabric_terms.specs.Ranges.{IsName, IsNameByte}
 use Rattle.text_fields.specs.Fields.{last}
 use Rattle.text_fields.specs.Inverses.{IsField, IsRest}
@@ -54,24 +55,24 @@ name_is = record {
       let read : List ℕ × List ℕ = (name, drop n bytes) in
       ⊎_elim
       (λ yes.
-      let b = both_true (nat_le 1 n) (nat_le n 64) yes.0 in
+      let b = both_true (nat_le 1 n) (nat_le n most_name) yes.0 in
       let low = within 1 n b.0 in
-      let high = within n 64 b.1 in
+      let high = within n most_name b.1 in
       let long : length name ≡ n = omega (arith, length-take n bytes, length_within bytes) in
       let P : List ℕ × List ℕ → Type 0 = λ q. IsName q.0 × (bytes ≡ q.0 ++ q.1) in
       subst P {x = read} (some_same read f yes.1) ((omega (arith, low, long), omega (arith, high, long), front_is bytes), sym (take-append-drop n bytes)))
       (λ no. absurd (none_found f no.1))
-      (chosen (nat_le 1 n && nat_le n 64) (Some read) None (Some f) e);
+      (chosen (nat_le 1 n && nat_le n most_name) (Some read) None (Some f) e);
   again = λ name rest h ends.
       let long = length_again name rest h.2 ends in
       again name rest h (name_length (name ++ rest)) long;
 }
   where
     again : (name rest : List ℕ) → IsName name → (n : ℕ) → n ≡ length name
-        → cond (nat_le 1 n && nat_le n 64) (Some (parted n (name ++ rest))) None ≡ Some (parts name rest)
+        → cond (nat_le 1 n && nat_le n most_name) (Some (parted n (name ++ rest))) None ≡ Some (parts name rest)
     again name rest h n long =
-        ap (λ b. cond (b && nat_le n 64) (Some (parted n (name ++ rest))) None) (not_above 1 n (omega (arith, long, h.0)))
-        ∙ (ap (λ b. cond b (Some (parted n (name ++ rest))) None) (not_above n 64 (omega (arith, long, h.1)))
+        ap (λ b. cond (b && nat_le n most_name) (Some (parted n (name ++ rest))) None) (not_above 1 n (omega (arith, long, h.0)))
+        ∙ (ap (λ b. cond b (Some (parted n (name ++ rest))) None) (not_above n most_name (omega (arith, long, h.1)))
         ∙ (ap (λ (t : List ℕ). Some (parts t (drop n (name ++ rest)))) (take_at name rest n (sym long))
         ∙ ap (λ (t : List ℕ). Some (parts name t)) (drop_at name rest n (sym long))))
 

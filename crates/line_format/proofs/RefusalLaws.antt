@@ -15,7 +15,7 @@ use Rattle.text_fields.proofs.ChoiceLaws.{first_is}
 use Rattle.text_fields.proofs.FieldLaws.{last_is, behind_found, behind_again, behind_other, apart}
 use Rattle.text_fields.proofs.NumberLaws.{number_is}
 use Rattle.text_fields.proofs.RestLaws.{made_found, made_again}
-use Rattle.line_format.specs.Refusals.{why_text, all_whys, why_of, verb_text, all_verbs, verb_at, reason_word, reason_text, plain_reasons, reason_of}
+use Rattle.line_format.specs.Refusals.{why_text, all_whys, why_of, verb_text, all_verbs, verb_at, reason_word, reason_text, plain_reasons, reason_of, most_domain_count}
 
 abbrev pub Anyone : {A : Type 0} → A → Type 0
 Anyone x = Unit {0}
@@ -95,15 +95,15 @@ all_plain = search rules
 plain_is : IsRest (last (first_of reason_word plain_reasons)) IsPlain reason_word
 plain_is = last_is (first_is reason_word IsPlain plain_reasons all_plain plain_again) tt
 
-domains_are : IsRest (last (number_in 0 255)) IsByte decimal
+domains_are : IsRest (last (number_in 0 most_domain_count)) IsByte decimal
 domains_are =
-    let law = last_is (number_is 0 255 (lit< tt)) tt in
+    let law = last_is (number_is 0 most_domain_count (lit< tt)) tt in
     record {
       found = λ bytes n e. let r = law.found bytes n e in (omega (arith, r.0.1), r.1);
       again = λ n h. law.again n (omega arith, omega (arith, h));
     }
 
-toofew_found : (bytes : List ℕ) (r : Reason) → made reason.TooFew (last (number_in 0 255)) bytes ≡ Some r
+toofew_found : (bytes : List ℕ) (r : Reason) → made reason.TooFew (last (number_in 0 most_domain_count)) bytes ≡ Some r
     → FitsReason r × (codes "toofew " ++ bytes ≡ reason_text r)
 toofew_found = made_found domains_are FitsReason reason_text (codes "toofew ") reason.TooFew (λ n h. (h, refl))
 
@@ -112,7 +112,7 @@ unfolding after_word
 no_toofew rest = refl
 
 abbrev toofew_of : List ℕ → Option Reason
-toofew_of = made reason.TooFew (last (number_in 0 255))
+toofew_of = made reason.TooFew (last (number_in 0 most_domain_count))
 
 abbrev plain_of : List ℕ → Option Reason
 plain_of = last (first_of reason_word plain_reasons)

@@ -1,6 +1,7 @@
 -- What a replica or a manager tells of its partition, and of its names, is read exactly where it is spelled.
 use Rattle.std.proofs.Common.{ℕ, List, [], ◌++◌, Option, refl}
 use Rattle.std.specs.Prelude.{codes, decimal}
+use Rattle.ring_points.specs.Limits.{most_name_value}
 use Rattle.fabric_terms.specs.declared.report.Report.{Report}
 use Rattle.fabric_terms.specs.declared.report.Report.TheVariants.{UnitList, Unresolved, NameList, Refused}
 use Rattle.fabric_terms.specs.Ranges.{IsWord, IsEpoch, IsPartition, IsName, IsNameValue, FitsReport}
@@ -97,7 +98,7 @@ named_text r = decimal r.0 ++ (codes " " ++ (r.1.0 ++ (codes " " ++ r.1.1)))
 
 pub named_is : IsRest named_of FitsNamed named_text
 unfolding named_of
-named_is = both_are partition_is (both_are name_is (text_is 1 400) (λ _. refl)) (λ _. refl)
+named_is = both_are partition_is (both_are name_is (text_is 1 most_name_value) (λ _. refl)) (λ _. refl)
 
 resolved_found : IsReport (codes "resolved ") (made resolved_made named_of)
 resolved_found = made_found named_is FitsReport report_text (codes "resolved ") resolved_made (λ r h. ((h.0, h.1.0, h.1.1), refl))

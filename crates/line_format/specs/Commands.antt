@@ -1,12 +1,13 @@
 -- The commands of a schedule: what is read as a command, and how a command is spelled.
-use Rattle.std.specs.Prelude.{◌≡◌, ℕ, ◌&&◌, Bool, List, [], ◌∷◌, Option, Some, codes, decimal, nat_le}
+use Rattle.std.specs.Prelude.{◌≡◌, ℕ, ◌-◌, ◌&&◌, Bool, List, [], ◌∷◌, Option, Some, codes, decimal, nat_le}
 use Rattle.std.specs.List.{list_all}
-use Rattle.ring_points.specs.Limits.{least_lease, most_lease, most_members, most_write}
+use Rattle.ring_points.specs.Limits.{least_lease, most_lease, most_members, most_partitions, most_write}
 use Rattle.ring_points.specs.declared.point.Point.{Point}
 use Rattle.fabric_terms.specs.declared.command.Command.{Command}
 use Rattle.fabric_terms.specs.declared.command.Command.TheVariants.{Link, LinkFor, Part, GiveNear, GiveAll, Join, Find, Create, Swap, Heal, Lose, Write, Units, Resolve, Names}
 use Rattle.fabric_terms.specs.Ranges.{FitsCommand}
 use Rattle.text_fields.specs.Actors.{node_at}
+use Rattle.text_fields.specs.Codes.{blank_code, last_sign_code}
 use Rattle.text_fields.specs.Fields.{◌>>=◌, Field, whole_of, word_of, last, made, followed, behind, nothing, such_that, sized}
 use Rattle.text_fields.specs.Intervals.{span_of, interval_text}
 use Rattle.text_fields.specs.Numbers.{number_in}
@@ -14,9 +15,12 @@ use Rattle.text_fields.specs.Points.{point_at, point_text}
 use Rattle.text_fields.specs.Texts.{spaced}
 use Rattle.line_format.specs.Names.{name_at}
 
--- a partition
+-- the greatest number of a partition
+abbrev pub most_partition : ℕ
+most_partition = most_partitions - 1
+
 abbrev pub partition_at : List ℕ → Field ℕ
-partition_at = number_in 0 65535
+partition_at = number_in 0 most_partition
 
 -- how many replicas
 abbrev pub members_of : List ℕ → Option ℕ
@@ -47,7 +51,7 @@ point_made p = record { 0 = p }
 
 -- a blank or a visible sign
 abbrev pub is_printable : ℕ → Bool
-is_printable b = nat_le 32 b && nat_le b 126
+is_printable b = nat_le blank_code b && nat_le b last_sign_code
 
 -- lo to hi such bytes, to the end of the line
 unfoldable pub text_of : ℕ → ℕ → List ℕ → Option (List ℕ)

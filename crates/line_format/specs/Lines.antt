@@ -1,16 +1,16 @@
 -- The lines of a schedule: what is read as an event, and how an event is spelled.
-use Rattle.std.specs.Prelude.{◌≡◌, ℕ, zero, suc, ◌+◌, ◌*◌, List, [], ◌∷◌, ◌++◌, map, Option, Some, None, Result, Ok, Err, IsSome, codes, decimal, ◌==◌, if◌then◌else◌}
+use Rattle.std.specs.Prelude.{◌≡◌, ℕ, zero, suc, ◌+◌, ◌*◌, List, [], ◌∷◌, ◌++◌, map, Option, Some, None, codes, decimal, ◌==◌, if◌then◌else◌}
 use Rattle.std.specs.List.{flat_map}
-use Rattle.ring_points.specs.Limits.{most_nodes}
+use Rattle.ring_points.specs.Limits.{most_frame, most_nodes}
 use Rattle.fabric_terms.specs.declared.event.Event.{Event}
 use Rattle.fabric_terms.specs.declared.event.Event.TheVariants.{Start, Stop, Tick, Fire, Give, Do, Junk}
 use Rattle.fabric_terms.specs.Ranges.{Fits, most}
 use Rattle.text_fields.specs.Actors.{node_at, arbiter_at, actor_at, actor_text}
+use Rattle.text_fields.specs.Codes.{line_feed_code}
 use Rattle.text_fields.specs.Fields.{◌>>=◌, Field, after_word, last, word_of, made, followed, pair_at, behind, nothing, sized}
 use Rattle.text_fields.specs.Numbers.{number_in}
 use Rattle.text_fields.specs.Points.{hex_value, hex_text}
 use Rattle.text_fields.specs.Texts.{spaced}
-use Rattle.line_format.specs.declared.bad_line.BadLine.{BadLine}
 use Rattle.line_format.specs.Commands.{command_of, command_text}
 
 -- the lines of some bytes: each ends with a line feed, and the last may end with the bytes
@@ -20,7 +20,7 @@ onto_first b (l ∷ ls) = (b ∷ l) ∷ ls
 
 abbrev pub lines_of : List ℕ → List (List ℕ)
 lines_of [] = []
-lines_of (b ∷ bs) = if b == 10 then [] ∷ lines_of bs else onto_first b (lines_of bs)
+lines_of (b ∷ bs) = if b == line_feed_code then [] ∷ lines_of bs else onto_first b (lines_of bs)
 
 -- ticks, a reading, or a frame's number
 abbrev pub count_at : List ℕ → Field ℕ
@@ -46,7 +46,7 @@ readings_of k [] = Some []
 readings_of zero (b ∷ bs) = None
 readings_of (suc k) (b ∷ bs) = reading_at (b ∷ bs) >>= λ first. readings_of k first.1 >>= λ more. Some (first.0 ∷ more)
 
--- behind `tick`: `ADVANCE N:READING ..`, with at most 64 readings
+-- behind `tick`: `ADVANCE N:READING ..`
 unfoldable pub tick_of : List ℕ → Option Event
 tick_of bytes = count_at bytes >>= λ advance. made (Tick advance.0) (readings_of most_nodes) advance.1
 
@@ -57,9 +57,9 @@ bytes_of (d ∷ []) = None
 bytes_of (d ∷ e ∷ rest) =
     hex_value d >>= λ high. hex_value e >>= λ low. bytes_of rest >>= λ more. Some ((16 * high + low) ∷ more)
 
--- 1 to 1,200 bytes in hexadecimal digits, to the end of the line
+-- one byte or more in hexadecimal digits, to the end of the line
 unfoldable pub junk_bytes_of : List ℕ → Option (List ℕ)
-junk_bytes_of = sized 2 2400 bytes_of
+junk_bytes_of = sized 2 (2 * most_frame) bytes_of
 
 -- behind `do`: `N COMMAND`
 unfoldable pub do_of : List ℕ → Option Event
@@ -85,12 +85,6 @@ event_of =
     )
     )
     )
-
--- what a reader of ticks gives of a line, and the list that it leaves: None where the line begins otherwise
-abbrev pub ReadsTick : List ℕ → List (ℕ × ℕ) → Result (Option ℕ) BadLine → Type 0
-ReadsTick line readings (Ok (Some advance)) = event_of line ≡ Some (Tick advance readings)
-ReadsTick line readings (Ok None) = (after_word (codes "tick ") line ≡ None) × (readings ≡ [])
-ReadsTick line readings (Err _) = IsSome (after_word (codes "tick ") line) × (event_of line ≡ None) × (readings ≡ [])
 
 -- How an event is spelled. Words are separated by one blank.
 

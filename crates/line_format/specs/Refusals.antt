@@ -71,5 +71,9 @@ plain_reasons =
     reason.NotRouting ∷ reason.Full ∷ reason.Linked ∷ reason.NotLinked ∷ reason.Busy ∷ reason.TooMany ∷ reason.Empty ∷ reason.NotManager ∷ reason.Exists
     ∷ reason.NoUnit ∷ reason.NotMember ∷ reason.NotPrimary ∷ reason.NotReady ∷ reason.Counters ∷ []
 
+-- how many domains a refusal can tell
+abbrev pub most_domain_count : ℕ
+most_domain_count = 255
+
 abbrev pub reason_of : List ℕ → Option Reason
-reason_of = behind (codes "toofew ") (made reason.TooFew (last (number_in 0 255))) (last (first_of reason_word plain_reasons))
+reason_of = behind (codes "toofew ") (made reason.TooFew (last (number_in 0 most_domain_count))) (last (first_of reason_word plain_reasons))
