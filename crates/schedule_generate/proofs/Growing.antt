@@ -1,5 +1,5 @@
 -- What is written of a course is a front of what is written of its end.
-use Rattle.std.proofs.Common.{◌≡◌, ℕ, ◌+◌, ◌-◌, zero, suc, Bool, true, false, List, [], ◌∷◌, ◌++◌, Option, Some, None, refl, ap, sym, subst, ◌∙◌, append_assoc, arith}
+use Rattle.std.proofs.Common.{◌≡◌, ◌≤◌, ℕ, ◌+◌, ◌-◌, zero, suc, Bool, true, false, List, [], ◌∷◌, ◌++◌, length, length-append, Option, Some, None, refl, ap, sym, subst, ◌∙◌, append_assoc, arith}
 use Rattle.std.specs.Prelude.{◌%◌}
 use Rattle.std.proofs.lemmas.List.{append-nil}
 use Rattle.unit_rules.specs.Ruled.{ruled}
@@ -29,17 +29,17 @@ unless_grows : (w : Writing) (c : FabricConfig) (e : Event) (g : Course) (refuse
 unless_grows w c e g None = if_grows w e g (may_come c g.history e)
 unless_grows w c e g (Some d) = grows_still w g.history
 
-taken_grows : (w : Writing) (c : FabricConfig) (e : Event) (g : Course) → Grows w g.history (taken c e g).history
+pub taken_grows : (w : Writing) (c : FabricConfig) (e : Event) (g : Course) → Grows w g.history (taken c e g).history
 taken_grows w c e g = unless_grows w c e g g.refused
 
 pub taken_all_grows : (w : Writing) (c : FabricConfig) (es : List Event) (g : Course) → Grows w g.history (taken_all c es g).history
 taken_all_grows w c [] g = grows_still w g.history
 taken_all_grows w c (e ∷ es) g = grows_on w g.history (taken c e g).history (taken_all c es (taken c e g)).history (taken_grows w c e g) (taken_all_grows w c es (taken c e g))
 
-consider_grows : (w : Writing) (c : FabricConfig) (g : Course) → Grows w g.history (considered_next c g).history
+pub consider_grows : (w : Writing) (c : FabricConfig) (g : Course) → Grows w g.history (considered_next c g).history
 consider_grows w c g = taken_all_grows w c (gives_of (g.considered + 1) ((pcg32 g.draws).0 % 8)) (record g { considered = g.considered + 1; draws = (pcg32 g.draws).1 })
 
-considers_grow : (w : Writing) (c : FabricConfig) (k : ℕ) (g : Course) → Grows w g.history (considers c k g).history
+pub considers_grow : (w : Writing) (c : FabricConfig) (k : ℕ) (g : Course) → Grows w g.history (considers c k g).history
 considers_grow w c zero g = grows_still w g.history
 considers_grow w c (suc k) g = grows_on w g.history (considers c k g).history (considered_next c (considers c k g)).history (considers_grow w c k g) (consider_grows w c (considers c k g))
 
@@ -68,3 +68,17 @@ rounds_grow w c n k (suc more) g =
     let e : suc (more + k) ≡ suc more + k = omega arith in
     subst (λ (j : ℕ). Grows w (rounds c n k g).history (rounds c n j g).history) e
     (grows_on w (rounds c n k g).history (rounds c n (more + k) g).history (rounds c n (suc (more + k)) g).history (rounds_grow w c n k more g) (next_grows w c n (more + k) g))
+
+-- A history that grows is no shorter: one byte is written of each event.
+
+abbrev pub counted : Writing
+counted = record { heading = []; line = λ e. 0 ∷ []; ending = λ h. [] }
+
+one_each : (h : History) → length (lines_written counted h) ≡ length h
+one_each [] = refl
+one_each (e ∷ h) = let before : length (lines_written counted h) ≡ length h = one_each h in omega (arith, before, length-append (lines_written counted h) (0 ∷ []))
+
+pub as_long : (h k : History) → Grows counted h k → length h ≤ length k
+as_long h k grows =
+    let all : length (lines_written counted k) ≡ length (lines_written counted h) + length grows.more = ap length grows.lines ∙ length-append (lines_written counted h) grows.more in
+    omega (arith, all, one_each h, one_each k)

@@ -1,5 +1,5 @@
 -- Parts of a course, one after the other.
-use Rattle.std.proofs.Common.{◌≡◌, ℕ, ◌+◌, ◌-◌, ◌≤◌, ◌<◌, zero, suc, Bool, true, false, List, [], ◌∷◌, ◌++◌, ◌⊎◌, length, get_or, take, drop, All, Option, Result, Ok, Err, refl, ap, sym, subst, ◌∙◌, arith, append_assoc, inl, inr}
+use Rattle.std.proofs.Common.{◌≡◌, ℕ, ◌+◌, ◌-◌, ◌≤◌, ◌<◌, zero, suc, Bool, true, false, List, [], ◌∷◌, ◌++◌, ◌⊎◌, length, get_or, take, drop, All, Option, None, Result, Ok, Err, refl, ap, sym, subst, ◌∙◌, arith, append_assoc, inl, inr}
 use Rattle.std.proofs.lemmas.List.{append-nil, map-append, take-append-drop, take_more}
 use Rattle.edge_io.specs.Edge.{Grew, GrewByFront}
 use Rattle.edge_io.specs.declared.refusal.EdgeRefusal.{EdgeRefusal}
@@ -14,7 +14,7 @@ use Rattle.unit_rules.specs.Ruled.{ruled}
 use Rattle.schedule_generate.specs.Course.{Course, considered_next, considers, is_full, next_line, round, round_unless, rounds, running, taken, taken_all}
 use Rattle.schedule_generate.specs.Due.{AreDue}
 use Rattle.schedule_generate.specs.Shown.{nodes_of}
-use Rattle.schedule_generate.specs.Goes.{At, HasMore, HasShown, IsAt, IsDue, Known, Passes, Rounded, Went, WentAll}
+use Rattle.schedule_generate.specs.Goes.{At, HasMore, HasShown, IsAt, IsDue, IsWantedAt, Known, Passes, Rounded, Went, WentAll}
 use Rattle.schedule_generate.specs.Moves.{event_for, events_for}
 use Rattle.schedule_generate.specs.Settings.{generated_config}
 use Rattle.schedule_generate.specs.Texts.{Writing, lines_written}
@@ -62,13 +62,13 @@ all_rest c moves i g =
     ∙ (ap (λ es. taken_all c es g) (map-append event_for (take i moves) (drop i moves)) ∙ taken_all-append c (events_for (take i moves)) (events_for (drop i moves)) g)
 
 -- a halt at one of the moves
-pub all_halt : (w : ℕ → Writing) (knows known : Known) (n : ℕ) (stop : CourseHalt) (a b : Generator) (text : List ℕ) (moves : List Move) (i : ℕ) (d : Move) (g : Course) (sent : List ℕ) → i < length moves
+pub all_halt : (w : ℕ → Writing) (knows known : Known) (n : ℕ) (stop : CourseHalt) (a : Generator) (text : List ℕ) (moves : List Move) (i : ℕ) (d : Move) (g : Course) (sent : List ℕ) → i < length moves
     → Went w knows n (Err stop) a text (taken (generated_config n) (event_for (get_or moves i d)) (taken_all (generated_config n) (events_for (take i moves)) g)) sent
-    → Went w known n (Err stop) b text (taken_all (generated_config n) (events_for moves) g) sent
-all_halt w knows known n stop a b text moves i d g sent lt went =
+    → Went w known n (Err stop) a text (taken_all (generated_config n) (events_for moves) g) sent
+all_halt w knows known n stop a text moves i d g sent lt went =
     let c = generated_config n in
-    subst (λ k. Went w known n (Err stop) b text k sent) (sym (all_rest c moves (i + 1) g))
-    (went_on w knows known n stop a b text (taken_all c (events_for (take (i + 1) moves)) g) sent (taken_all c (events_for (drop (i + 1) moves))) (taken_all_sticks c (events_for (drop (i + 1) moves)))
+    subst (λ k. Went w known n (Err stop) a text k sent) (sym (all_rest c moves (i + 1) g))
+    (went_on w knows known n stop a text (taken_all c (events_for (take (i + 1) moves)) g) sent (taken_all c (events_for (drop (i + 1) moves))) (taken_all_sticks c (events_for (drop (i + 1) moves)))
     (subst (λ k. Went w knows n (Err stop) a text k sent) (sym (all_more c moves i d g lt)) went))
 
 -- Frames.
@@ -77,15 +77,15 @@ considers_add : (c : FabricConfig) (more k : ℕ) (g : Course) → considers c (
 considers_add c zero k g = let e : 0 + k ≡ k = omega arith in ap (λ (j : ℕ). considers c j g) e
 considers_add c (suc more) k g = let e : suc more + k ≡ suc (more + k) = omega arith in ap (λ (j : ℕ). considers c j g) e ∙ ap (considered_next c) (considers_add c more k g)
 
-pub considers_halt : (w : ℕ → Writing) (knows known : Known) (n : ℕ) (stop : CourseHalt) (a b : Generator) (text : List ℕ) (k all : ℕ) (g : Course) (sent : List ℕ) → k < all
+pub considers_halt : (w : ℕ → Writing) (knows known : Known) (n : ℕ) (stop : CourseHalt) (a : Generator) (text : List ℕ) (k all : ℕ) (g : Course) (sent : List ℕ) → k < all
     → Went w knows n (Err stop) a text (considered_next (generated_config n) (considers (generated_config n) k g)) sent
-    → Went w known n (Err stop) b text (considers (generated_config n) all g) sent
-considers_halt w knows known n stop a b text k all g sent lt went =
+    → Went w known n (Err stop) a text (considers (generated_config n) all g) sent
+considers_halt w knows known n stop a text k all g sent lt went =
     let c = generated_config n in
     let more = all - suc k in
     let e : all ≡ more + suc k = omega arith in
-    subst (λ x. Went w known n (Err stop) b text x sent) (sym (ap (λ (j : ℕ). considers c j g) e ∙ considers_add c more (suc k) g))
-    (went_on w knows known n stop a b text (considers c (suc k) g) sent (considers c more) (considers_stick c more) went)
+    subst (λ x. Went w known n (Err stop) a text x sent) (sym (ap (λ (j : ℕ). considers c j g) e ∙ considers_add c more (suc k) g))
+    (went_on w knows known n stop a text (considers c (suc k) g) sent (considers c more) (considers_stick c more) went)
 
 -- Rounds.
 
@@ -115,12 +115,12 @@ front_more w c n k all g old mid new sent text le told first second =
     front_behind old mid new sent text on.0 _ (sym (append_assoc sent text on.0) ∙ (ap (λ t. t ++ on.0) told ∙ on.1)) first second
 
 -- memory was short in a round: before anything of it was sent, or behind it
-memory_halts : (w : Writing) (c : FabricConfig) (n k all : ℕ) (g : Course) (old mid new : Option (List ℕ)) (sent text : List ℕ) → k < all → Grew old mid sent → sent ++ text ≡ lines_written w (rounds c n k g).history
-    → ((new ≡ mid) ⊎ ((waits : List ℕ) × (sent ++ waits ≡ lines_written w (rounds c n (suc k) g).history) × GrewByFront mid new waits)) → GrewByFront old new (lines_written w (rounds c n all g).history)
-memory_halts w c n k all g old mid new sent text lt grew told (inl same) =
-    front_sent w c n k all g old new sent text (omega arith) told (subst (λ (o : Option (List ℕ)). Grew old o sent) (sym same) grew)
-memory_halts w c n k all g old mid new sent text lt grew told (inr some) =
-    front_more w c n (suc k) all g old mid new sent some.0 (omega arith) some.1 grew some.2
+memory_halts : (w : Writing) (line : ℕ) (after : Course) (c : FabricConfig) (n k all : ℕ) (g : Course) (old mid new : Option (List ℕ)) (sent text : List ℕ) → k < all → Grew old mid sent → sent ++ text ≡ lines_written w (rounds c n k g).history
+    → ((IsWantedAt line after × (new ≡ mid)) ⊎ ((after.refused ≡ None) × ((waits : List ℕ) × (sent ++ waits ≡ lines_written w (rounds c n (suc k) g).history) × GrewByFront mid new waits))) → GrewByFront old new (lines_written w (rounds c n all g).history)
+memory_halts w line after c n k all g old mid new sent text lt grew told (inl same) =
+    front_sent w c n k all g old new sent text (omega arith) told (subst (λ (o : Option (List ℕ)). Grew old o sent) (sym same.1) grew)
+memory_halts w line after c n k all g old mid new sent text lt grew told (inr some) =
+    front_more w c n (suc k) all g old mid new sent some.1.0 (omega arith) some.1.1 grew some.1.2
 
 -- a halt in a round
 pub rounded_halts : (w : ℕ → Writing) (knows known : Known) (n : ℕ) (stop : CourseHalt) (a b : Generator) (text old_text : List ℕ) (k all : ℕ) (g : Course) (old mid new : Option (List ℕ)) (sent : List ℕ) → k < all
@@ -144,7 +144,7 @@ rounded_halts w knows known n (halt.TooLarge line) a b text old_text k all g old
       (sent, subst (λ (o : Option (List ℕ)). Grew old o sent) (sym rounded.1) grew, r.told ∙ ap (lines_written (w n)) (sym history)),
     )
 rounded_halts w knows known n halt.OutOfMemory a b text old_text k all g old mid new sent lt grew told rounded =
-    memory_halts (w n) (generated_config n) n k all g old mid new sent old_text lt grew told rounded
+    memory_halts (w n) a.line (rounds (generated_config n) n (suc k) g) (generated_config n) n k all g old mid new sent old_text lt grew told rounded
 rounded_halts w knows known n halt.SinkFailed a b text old_text k all g old mid new sent lt grew told rounded =
     front_more (w n) (generated_config n) n (suc k) all g old mid new sent rounded.0 (omega arith) rounded.1 grew rounded.2
 
@@ -156,10 +156,10 @@ full_round w knows n a text g sent held u full is at =
     subst (λ b. Rounded w knows n (Ok u) a text (round_unless (generated_config n) n g b) sent held held) (sym is)
     ([], grew_none held, subst (λ s. At w knows n a text g s) (sym (append-nil sent)) at)
 
-halted : (w : ℕ → Writing) (knows known : Known) (n : ℕ) (stop : CourseHalt) (a b : Generator) (text : List ℕ) (g : Course) (sent : List ℕ) (held : Option (List ℕ)) → Went w knows n (Err stop) a text g sent → Rounded w known n (Err stop) b text g sent held held
-halted w knows known n (halt.TooLarge line) a b text g sent held went = (went, refl)
-halted w knows known n halt.OutOfMemory a b text g sent held went = inl refl
-halted w knows known n halt.SinkFailed a b text g sent held went = absurd went
+halted : (w : ℕ → Writing) (knows known : Known) (n : ℕ) (stop : CourseHalt) (a : Generator) (text : List ℕ) (g : Course) (sent : List ℕ) (held : Option (List ℕ)) → Went w knows n (Err stop) a text g sent → Rounded w known n (Err stop) a text g sent held held
+halted w knows known n (halt.TooLarge line) a text g sent held went = (went, refl)
+halted w knows known n halt.OutOfMemory a text g sent held went = inl (went, refl)
+halted w knows known n halt.SinkFailed a text g sent held went = absurd went
 
 -- a round alone sends nothing, so the sink does not fail in it
 pub no_failure : (w : ℕ → Writing) (knows : Known) (n : ℕ) (stop : CourseHalt) (a : Generator) (text : List ℕ) (g : Course) (sent : List ℕ) → ◌≡◌ {A = Result (Unit {0}) CourseHalt} (Err stop) (Err halt.SinkFailed) → Went w knows n (Err stop) a text g sent → ⊥
@@ -167,10 +167,10 @@ no_failure w knows n (halt.TooLarge line) a text g sent is went = cc
 no_failure w knows n halt.OutOfMemory a text g sent is went = cc
 no_failure w knows n halt.SinkFailed a text g sent is went = went
 
-pub round_halted : (w : ℕ → Writing) (knows known : Known) (n : ℕ) (stop : CourseHalt) (a b : Generator) (text : List ℕ) (g : Course) (sent : List ℕ) (held : Option (List ℕ)) (full : Bool) → full ≡ false → Went w knows n (Err stop) a text (round (generated_config n) n g) sent
-    → Rounded w known n (Err stop) b text (round_unless (generated_config n) n g full) sent held held
-round_halted w knows known n stop a b text g sent held full is went =
-    subst (λ f. Rounded w known n (Err stop) b text (round_unless (generated_config n) n g f) sent held held) (sym is) (halted w knows known n stop a b text (round (generated_config n) n g) sent held went)
+pub round_halted : (w : ℕ → Writing) (knows known : Known) (n : ℕ) (stop : CourseHalt) (a : Generator) (text : List ℕ) (g : Course) (sent : List ℕ) (held : Option (List ℕ)) (full : Bool) → full ≡ false → Went w knows n (Err stop) a text (round (generated_config n) n g) sent
+    → Rounded w known n (Err stop) a text (round_unless (generated_config n) n g full) sent held held
+round_halted w knows known n stop a text g sent held full is went =
+    subst (λ f. Rounded w known n (Err stop) a text (round_unless (generated_config n) n g f) sent held held) (sym is) (halted w knows known n stop a text (round (generated_config n) n g) sent held went)
 
 -- why a round halts, if it does, where its text is sent so
 abbrev pub sending : Result (Unit {0}) EdgeRefusal → Result (Unit {0}) CourseHalt
@@ -182,7 +182,7 @@ sent_on : (w : ℕ → Writing) (knows : Known) (n : ℕ) (r : Result (Unit {0})
 sent_on w knows n (Ok u) a text rest g sent old new at sends =
     (sends.0, sends.1, record { goes = at.goes; known = at.known; told = append_assoc sent sends.0 rest ∙ (ap (λ t. sent ++ t) sends.2 ∙ at.told) })
 sent_on w knows n (Err refusal.Failed) a text rest g sent old new at sends = (text, at.told, sends)
-sent_on w knows n (Err refusal.OutOfMemory) a text rest g sent old new at sends = inr (text, at.told, sends)
+sent_on w knows n (Err refusal.OutOfMemory) a text rest g sent old new at sends = inr (at.goes.going, (text, at.told, sends))
 
 pub round_sent : (w : ℕ → Writing) (knows : Known) (n : ℕ) (r : Result (Unit {0}) EdgeRefusal) (a : Generator) (text rest : List ℕ) (g : Course) (sent : List ℕ) (old new : Option (List ℕ)) (full : Bool) → full ≡ false → At w knows n a text (round (generated_config n) n g) sent → Sends r old new text rest
     → Rounded w knows n (sending r) a rest (round_unless (generated_config n) n g full) sent old new

@@ -1,11 +1,11 @@
 -- The world takes an event, or refuses it.
-use Rattle.std.proofs.Common.{◌≡◌, ℕ, ◌+◌, List, ◌∷◌, ◌++◌, Option, Some, None, Err, refl, ap, sym, subst, ◌∙◌, arith, append_assoc}
+use Rattle.std.proofs.Common.{◌≡◌, ℕ, ◌+◌, ◌<◌, List, ◌∷◌, ◌++◌, Option, Some, None, Err, refl, ap, sym, subst, ◌∙◌, arith, append_assoc}
 use Rattle.unit_rules.specs.Fabric.{fabric}
 use Rattle.fabric_terms.specs.declared.config.FabricConfig.{FabricConfig}
 use Rattle.fabric_terms.specs.declared.event.Event.{Event}
 use Rattle.fabric_terms.specs.declared.event.Event.TheVariants.{Tick}
 use Rattle.fabric_terms.specs.Ranges.{Fits}
-use Rattle.ring_world.specs.Answers.{Refuses, StandsFor, Takes}
+use Rattle.ring_world.specs.Answers.{Accepts, Refuses, StandsFor, Takes}
 use Rattle.unit_rules.specs.Ruled.{ruled}
 use Rattle.ring_world.specs.declared.world.Acted.{Acted}
 use Rattle.ring_world.specs.declared.world.EventRefusal.{EventRefusal}
@@ -14,7 +14,7 @@ use Rattle.run_facts.proofs.Happens.{by_cases}
 use Rattle.world_rules.specs.Events.{world_step}
 use Rattle.world_rules.specs.Worlds.{World}
 use Rattle.schedule_generate.specs.Course.{Course, next_line, running, taken}
-use Rattle.schedule_generate.specs.Goes.{At, Goes, Known, Refused, Went, halt_at}
+use Rattle.schedule_generate.specs.Goes.{At, Goes, IsLimit, IsWantedAt, Known, Refused, Went, halt_at}
 use Rattle.schedule_generate.specs.Moves.{event_for}
 use Rattle.schedule_generate.specs.Settings.{generated_config}
 use Rattle.schedule_generate.specs.Texts.{Writing}
@@ -93,6 +93,15 @@ took_on w knows known n a b text now g sent e acted at takes told nodes line tim
       told = ap (λ t. sent ++ t) told.1 ∙ (sym (append_assoc sent text ((w n).line e)) ∙ ap (λ t. t ++ (w n).line e) at.told);
     })
 
+-- Memory was short at an event that may come: the course has taken it.
+pub wanted_on : (n : ℕ) (a : Generator) (g : Course) (e : Event) → Goes n a g → Accepts (generated_config n) g.history e → IsWantedAt a.line (taken (generated_config n) e g)
+wanted_on n a g e goes accepts =
+    let c = generated_config n in
+    let h = g.history in
+    let here : a.line ≡ next_line h = goes.line in
+    let lt : a.line < next_line ((next_line h, e) ∷ h) = omega (arith, here) in
+    subst (λ k. IsWantedAt a.line k) (sym (taken_may c e g goes.going (accepts_may c h e accepts))) lt
+
 -- It was refused for a limit: the course ends there.
 refused_at : (w : ℕ → Writing) (knows : Known) (n : ℕ) (a b : Generator) (text : List ℕ) (g : Course) (sent : List ℕ) (e : Event)
     → At w knows n a text g sent → Fits e → Refuses refusal.TooLarge (generated_config n) g.history e → Refused w n a.line text (taken (generated_config n) e g) sent
@@ -103,8 +112,9 @@ refused_at w knows n a b text g sent e at fit f =
     (record { event = e; refused = refl; line = at.goes.line; passes = record { fits = fit; there = f.0; bound = f.1 }; fits = at.goes.world.fits; told = at.told })
 
 pub refused_on : (w : ℕ → Writing) (knows known : Known) (n : ℕ) (a b : Generator) (text : List ℕ) (g : Course) (sent : List ℕ) (e : Event) (r : EventRefusal)
-    → At w knows n a text g sent → Fits e → Refuses r (generated_config n) g.history e → Went w known n (Err (halt_at r a.line)) b text (taken (generated_config n) e g) sent
-refused_on w knows known n a b text g sent e refusal.NoSuch at fit f = tt
-refused_on w knows known n a b text g sent e (refusal.DriftBroken d) at fit f = tt
-refused_on w knows known n a b text g sent e refusal.TooLarge at fit f = refused_at w knows n a b text g sent e at fit f
-refused_on w knows known n a b text g sent e refusal.OutOfMemory at fit f = tt
+    → IsLimit r → b.line ≡ a.line → At w knows n a text g sent → Fits e → Refuses r (generated_config n) g.history e → Went w known n (Err (halt_at r a.line)) b text (taken (generated_config n) e g) sent
+refused_on w knows known n a b text g sent e refusal.NoSuch limit same at fit f = absurd limit
+refused_on w knows known n a b text g sent e (refusal.DriftBroken d) limit same at fit f = absurd limit
+refused_on w knows known n a b text g sent e refusal.TooLarge limit same at fit f = refused_at w knows n a b text g sent e at fit f
+refused_on w knows known n a b text g sent e refusal.OutOfMemory limit same at fit f =
+    subst (λ (l : ℕ). IsWantedAt l (taken (generated_config n) e g)) (sym same) (wanted_on n a g e at.goes f.0)

@@ -1,16 +1,20 @@
 -- The tick of a round, and the turn at its end.
-use Rattle.std.proofs.Common.{◌≡◌, ℕ, ◌+◌, ◌≤◌, List, ◌∷◌, map, Option, ap, sym, subst, ◌∙◌, arith}
+use Rattle.std.proofs.Common.{◌≡◌, ℕ, ◌+◌, ◌≤◌, Bool, true, false, ◌||◌, List, ◌∷◌, length, map, Option, refl, ap, sym, subst, ◌∙◌, arith}
+use Rattle.std.specs.Prelude.{nat_le, nat_lt}
+use Rattle.std.proofs.lemmas.Bool.Decides.{nat_tests}
 use Rattle.unit_rules.specs.Fabric.{fabric}
 use Rattle.fabric_terms.specs.Ranges.{AreReadings}
 use Rattle.fabric_terms.specs.Runs.{clocks_of}
 use Rattle.fabric_terms.specs.declared.event.Event.TheVariants.{Tick}
 use Rattle.ring_points.specs.declared.who.Who.{Who}
-use Rattle.ring_world.specs.Answers.{Takes}
+use Rattle.ring_world.specs.Answers.{Accepts, Takes}
 use Rattle.unit_rules.specs.Ruled.{ruled}
+use Rattle.world_rules.specs.EventLimits.{has_room, most_events, most_time}
 use Rattle.ring_world.specs.declared.world.Acted.{Acted}
 use Rattle.world_rules.specs.Events.{world_step}
 use Rattle.world_rules.specs.Runs.{run_of}
-use Rattle.schedule_generate.specs.Course.{Course, next_line, running, shown_at, tick_of, with_tick}
+use Rattle.world_rules.specs.Worlds.{World}
+use Rattle.schedule_generate.specs.Course.{Course, is_full, latest_round, many_events, many_frames, next_line, running, shown_at, tick_of, with_tick}
 use Rattle.schedule_generate.specs.Goes.{Goes}
 use Rattle.schedule_generate.specs.Settings.{generated_config}
 use Rattle.schedule_generate.specs.Shown.{nodes_of, shown}
@@ -18,6 +22,7 @@ use Rattle.schedule_generate.specs.declared.generator.Generator.{Generator}
 use Rattle.schedule_generate.proofs.Nodes.{nodes_shown, readings_in, shown_nodes}
 use Rattle.schedule_generate.proofs.Steps.{accepts_may, taken_may}
 use Rattle.schedule_generate.proofs.Taking.{tick_nodes, tick_time}
+use Rattle.schedule_generate.proofs.Truly.{tick_due}
 
 -- the readings that are shown
 pub readings_are : (n : ℕ) (a : Generator) (g : Course) (clocks : List (Who × ℕ)) (time : ℕ) (items : List (ℕ × ℕ)) → Goes n a g → clocks ≡ clocks_of (run_of fabric (generated_config n) g.history) → time ≡ a.time + 100
@@ -59,3 +64,29 @@ tick_after n a g time goes later =
     let c = generated_config n in
     let w = ruled c g.history in
     later ∙ (ap (λ (t : ℕ). t + 100) goes.time ∙ sym (tick_time c w 100 (map (shown_at (w.time + 100)) (running w))))
+
+-- Room.
+
+or_right : (x y : Bool) → (x || y) ≡ false → y ≡ false
+or_right false y e = e
+or_right true y e = let no : ⊥ = cc in absurd no
+
+room_left : (w : World fabric) (events : ℕ) (readings : List (ℕ × ℕ)) → (nat_lt many_frames w.count || nat_lt many_events events) ≡ false → w.time ≤ latest_round → has_room w events (Tick 100 readings) ≡ true
+unfolding has_room
+room_left w events readings not_full early =
+    let few : nat_lt many_events events ≡ false = or_right (nat_lt many_frames w.count) (nat_lt many_events events) not_full in
+    let more : nat_lt events most_events ≡ true = grind (arith, nat_tests) in
+    let later : nat_le (w.time + 100) most_time ≡ true = grind (arith, nat_tests) in
+    rw (more, later) refl
+
+-- where a round may begin, its tick may come
+pub tick_accepted : (n : ℕ) (a : Generator) (g : Course) → a.time ≤ latest_round → Goes n a g → is_full (generated_config n) g ≡ false → Accepts (generated_config n) g.history (tick_of (ruled (generated_config n) g.history))
+tick_accepted n a g early goes not_full =
+    let w = ruled (generated_config n) g.history in
+    let due = tick_due n w goes.clocks in
+    let time : w.time ≤ latest_round = let same = goes.time in omega (arith, same, early) in
+    record {
+      there = due.there;
+      bound = due.bound;
+      room = room_left w (length g.history) (map (shown_at (w.time + 100)) (running w)) not_full time;
+    }

@@ -133,12 +133,23 @@ abbrev pub with_turn : FabricConfig → ℕ → Course → Course
 with_turn c n g =
     let draw = pcg32 g.draws in taken_all c (turns (ruled c g.history) n draw.0) (record g { draws = draw.1 })
 
+-- a round begins at this true time at the latest, since there are fewer than 2^32 of them
+abbrev pub latest_round : ℕ
+latest_round = 100000000000000
+
 abbrev pub round : FabricConfig → ℕ → Course → Course
 round c n g = with_turn c n (with_gives c (with_firings c (with_tick c g)))
 
--- no round begins where one of these was passed
+-- no round begins where more frames were sent, or more events taken
+
+abbrev pub many_frames : ℕ
+many_frames = 190000
+
+abbrev pub many_events : ℕ
+many_events = 900000
+
 abbrev pub is_full : FabricConfig → Course → Bool
-is_full c g = nat_lt 190000 (ruled c g.history).count || nat_lt 900000 (length g.history)
+is_full c g = nat_lt many_frames (ruled c g.history).count || nat_lt many_events (length g.history)
 
 abbrev pub round_unless : FabricConfig → ℕ → Course → Bool → Course
 round_unless c n g true = g

@@ -77,11 +77,15 @@ pub record Refused (w : ℕ → Writing) (n number : ℕ) (text : List ℕ) (g :
   pub fits : All (λ e. Fits e.1) g.history
   pub told : sent ++ text ≡ lines_written (w n) g.history
 
+-- memory was wanted at the event of this line, which the limits let come: the course has taken it
+abbrev pub IsWantedAt : ℕ → Course → Type 0
+IsWantedAt line g = line < next_line g.history
+
 -- what a part of a course came to
 abbrev pub Went : (ℕ → Writing) → Known → ℕ → Result (Unit {0}) CourseHalt → Generator → List ℕ → Course → List ℕ → Type 0
 Went w knows n (Ok u) a text g sent = At w knows n a text g sent
 Went w knows n (Err (halt.TooLarge line)) a text g sent = Refused w n line text g sent
-Went w knows n (Err halt.OutOfMemory) a text g sent = Unit {0}
+Went w knows n (Err halt.OutOfMemory) a text g sent = IsWantedAt a.line g
 Went w knows n (Err halt.SinkFailed) a text g sent = ⊥
 
 -- an event of a course is refused for a limit or for want of memory, since what it names is there and its clocks are true
@@ -96,13 +100,13 @@ abbrev pub halt_at : EventRefusal → ℕ → CourseHalt
 halt_at EventRefusal.TooLarge line = halt.TooLarge line
 halt_at _ line = halt.OutOfMemory
 
--- what a round came to, by what the sink has more: what waited was sent in part; or nothing was sent before a refused event;
--- or a front of what waited was, if anything
+-- What a round came to, by what the sink has more: what waited was sent in part; or nothing was sent before a refused event,
+-- or before one at which memory was wanted; or no event was refused, and a front of what waited was sent.
 abbrev pub Rounded : (ℕ → Writing) → Known → ℕ → Result (Unit {0}) CourseHalt → Generator → List ℕ → Course → List ℕ → Option (List ℕ) → Option (List ℕ) → Type 0
 Rounded w knows n (Ok u) a text g sent old new = (more : List ℕ) × Grew old new more × At w knows n a text g (sent ++ more)
 Rounded w knows n (Err (halt.TooLarge line)) a text g sent old new = Refused w n line text g sent × (new ≡ old)
 Rounded w knows n (Err halt.OutOfMemory) a text g sent old new =
-    (new ≡ old) ⊎ ((waits : List ℕ) × (sent ++ waits ≡ lines_written (w n) g.history) × GrewByFront old new waits)
+    (IsWantedAt a.line g × (new ≡ old)) ⊎ ((g.refused ≡ None) × ((waits : List ℕ) × (sent ++ waits ≡ lines_written (w n) g.history) × GrewByFront old new waits))
 Rounded w knows n (Err halt.SinkFailed) a text g sent old new =
     (waits : List ℕ) × (sent ++ waits ≡ lines_written (w n) g.history) × GrewByFront old new waits
 

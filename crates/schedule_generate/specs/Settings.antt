@@ -5,6 +5,10 @@ use Rattle.fabric_terms.specs.declared.config.FabricConfig.{FabricConfig}
 use Rattle.fabric_terms.specs.declared.config.NodeEntry.{NodeEntry}
 use Rattle.text_fields.specs.Points.{point_text}
 
+-- the nodes that a generated schedule has at most
+abbrev pub most_generated_nodes : ℕ
+most_generated_nodes = 16
+
 -- the numbers from this one on, so many
 abbrev pub numbers_from : ℕ → ℕ → List ℕ
 numbers_from first zero = []

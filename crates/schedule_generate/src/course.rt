@@ -1,12 +1,12 @@
 // A round of a generated schedule.
-ghost use Rattle.std.specs.Prelude.{◌≡◌, ◌+◌, ◌≤◌, ◌<◌, ◌^◌, ℕ, List, OnOk, map};
+ghost use Rattle.std.specs.Prelude.{◌≡◌, ◌+◌, ◌≤◌, ◌<◌, ◌^◌, ℕ, List, OnOk, false, map};
 ghost use Rattle.unit_rules.specs.Ruled.{ruled};
 ghost use Rattle.fabric_terms.specs.Ranges.{AreReadings};
-ghost use Rattle.schedule_generate.specs.Course.{Course, considered_next, fires, round, running, with_firings};
-ghost use Rattle.schedule_generate.specs.Course.{with_gives, with_tick, with_turn};
-ghost use Rattle.schedule_generate.specs.Goes.{At, HasMore, HasShown, IsAt, Went};
+ghost use Rattle.schedule_generate.specs.Course.{Course, considered_next, fires, is_full, latest_round, round, running};
+ghost use Rattle.schedule_generate.specs.Course.{with_firings, with_gives, with_tick, with_turn};
+ghost use Rattle.schedule_generate.specs.Goes.{At, Goes, HasMore, HasShown, IsAt, Went};
 ghost use Rattle.schedule_generate.specs.Moves.{events_for};
-ghost use Rattle.schedule_generate.specs.Settings.{generated_config};
+ghost use Rattle.schedule_generate.specs.Settings.{generated_config, most_generated_nodes};
 ghost use Rattle.schedule_generate.specs.Shown.{nodes_of, shown};
 
 use crate::course_halt::{CourseHalt, halt_of};
@@ -47,15 +47,18 @@ fn push_firings(moves: &mut Vec<Move>, readings: &[(u16, u64)]) -> Result<(), Ou
 }
 
 impl Generator {
-    /// The clock of each running node shows the true time.
+    /// The clock of each running node shows the true time. The firings of these nodes are put into the list of moves
+    /// before, so that what follows the tick takes no memory of its own.
     fn tick<L: CourseObserver>(
         &mut self,
+        moves: &mut Vec<Move>,
         listener: &mut L,
         text: &mut Vec<u8>,
     ) -> Result<(), CourseHalt>
         requires at { IsAt L.writing (L.knows listener.old) self.old text.old.items }
-        requires early { self.old.time ≤ 10 ^ 14 }
-        requires few { self.old.nodes ≤ 16 }
+        requires room { (n : ℕ) (g : Course) → Goes n self.old g → is_full (generated_config n) g ≡ false }
+        requires early { self.old.time ≤ latest_round }
+        requires few { self.old.nodes ≤ most_generated_nodes }
         ensures went { (g : Course) (sent : List ℕ) →
             At L.writing (L.knows listener.old) self.old.nodes self.old text.old.items g sent →
             Went L.writing (L.knows listener.new) self.old.nodes result self.new text.new.items
@@ -65,17 +68,19 @@ impl Generator {
             OnOk result (nodes_of self.new.readings.items ≡ running
             (ruled (generated_config self.old.nodes) (with_tick (generated_config self.old.nodes) g).history)) }
         ensures fit { OnOk result (AreReadings self.new.readings.items) }
+        ensures moves { OnOk result (events_for moves.new.items ≡ map fires (nodes_of self.new.readings.items)) }
         ensures later { OnOk result (self.new.time ≡ self.old.time + 100) }
         ensures nodes { self.new.nodes ≡ self.old.nodes }
     {
         let line = self.line;
         let time = self.time + TICK;
         show_all(&mut self.readings, self.world.clocks(), time)?;
+        push_firings(moves, &self.readings)?;
         match self.world.tick(line, TICK, &self.readings) {
             Ok(()) => {
+                listener.ticked(&self.world, line, TICK, &self.readings, text)?;
                 self.line = line + 1;
                 self.time = time;
-                listener.ticked(&self.world, line, TICK, &self.readings, text)?;
                 Ok(())
             }
             Err(refusal) => Err(halt_of(refusal, line)),
@@ -144,7 +149,7 @@ impl Generator {
     ) -> Result<(), CourseHalt>
         requires at { IsAt L.writing (L.knows listener.old) self.old text.old.items }
         requires some { 1 ≤ self.old.nodes }
-        requires few { self.old.nodes ≤ 16 }
+        requires few { self.old.nodes ≤ most_generated_nodes }
         ensures went { (g : Course) (sent : List ℕ) →
             At L.writing (L.knows listener.old) self.old.nodes self.old text.old.items g sent →
             Went L.writing (L.knows listener.new) self.old.nodes result self.new text.new.items
@@ -159,17 +164,18 @@ impl Generator {
         }
     }
 
-    /// What follows the tick of a round: firings, frames, and the turn of a node.
+    /// What follows the tick of a round: these firings, frames, and the turn of a node.
     fn go_on<L: CourseObserver>(
         &mut self,
-        moves: &mut Vec<Move>,
+        moves: &[Move],
         listener: &mut L,
         text: &mut Vec<u8>,
     ) -> Result<(), CourseHalt>
         requires at { HasShown L.writing (L.knows listener.old) self.old text.old.items }
         requires some { 1 ≤ self.old.nodes }
-        requires few { self.old.nodes ≤ 16 }
+        requires few { self.old.nodes ≤ most_generated_nodes }
         requires fit { AreReadings self.old.readings.items }
+        requires moves { events_for moves.now ≡ map fires (nodes_of self.old.readings.items) }
         ensures went { (g : Course) (sent : List ℕ) →
             At L.writing (L.knows listener.old) self.old.nodes self.old text.old.items g sent →
             nodes_of self.old.readings.items ≡ running (ruled (generated_config self.old.nodes) g.history) →
@@ -179,14 +185,14 @@ impl Generator {
         ensures still { self.new.time ≡ self.old.time }
         ensures nodes { self.new.nodes ≡ self.old.nodes }
     {
-        push_firings(moves, &self.readings)?;
         match self.take_all(moves, listener, text) {
             Ok(()) => self.give_and_turn(listener, text),
             Err(halt) => Err(halt),
         }
     }
 
-    /// A round: a tick, firings, frames, and the turn of a node. The list of moves serves each round.
+    /// A round: a tick, firings, frames, and the turn of a node. The list of moves serves each round. Memory is short
+    /// only at an event that the limits let come.
     pub fn round<L: CourseObserver>(
         &mut self,
         moves: &mut Vec<Move>,
@@ -194,9 +200,10 @@ impl Generator {
         text: &mut Vec<u8>,
     ) -> Result<(), CourseHalt>
         requires at { IsAt L.writing (L.knows listener.old) self.old text.old.items }
-        requires early { self.old.time ≤ 10 ^ 14 }
+        requires room { (n : ℕ) (g : Course) → Goes n self.old g → is_full (generated_config n) g ≡ false }
+        requires early { self.old.time ≤ latest_round }
         requires some { 1 ≤ self.old.nodes }
-        requires few { self.old.nodes ≤ 16 }
+        requires few { self.old.nodes ≤ most_generated_nodes }
         ensures went { (g : Course) (sent : List ℕ) →
             At L.writing (L.knows listener.old) self.old.nodes self.old text.old.items g sent →
             Went L.writing (L.knows listener.new) self.old.nodes result self.new text.new.items
@@ -204,7 +211,7 @@ impl Generator {
         ensures later { OnOk result (self.new.time ≡ self.old.time + 100) }
         ensures nodes { self.new.nodes ≡ self.old.nodes }
     {
-        match self.tick(listener, text) {
+        match self.tick(moves, listener, text) {
             Ok(()) => self.go_on(moves, listener, text),
             Err(halt) => Err(halt),
         }

@@ -2,7 +2,7 @@ ghost use Rattle.std.specs.Prelude.{◌≡◌, ◌++◌, ◌∷◌, ◌≤◌, �
 ghost use Rattle.fabric_terms.specs.declared.event.Event.TheVariants.{Tick};
 ghost use Rattle.ring_world.specs.Answers.{StandsFor, Takes};
 ghost use Rattle.schedule_generate.specs.Moves.{event_for};
-ghost use Rattle.schedule_generate.specs.Settings.{generated_config};
+ghost use Rattle.schedule_generate.specs.Settings.{generated_config, most_generated_nodes};
 ghost use Rattle.schedule_generate.specs.Texts.{Writing};
 ghost use Rattle.world_rules.specs.Runs.{History};
 
@@ -22,7 +22,7 @@ pub trait CourseObserver {
     /// Appends what stands before all events. At want of memory nothing is said of the text, here as below.
     fn begin(&self, nodes: u16, text: &mut Vec<u8>) -> Result<(), OutOfMemory>
         requires some { 1 ≤ nodes }
-        requires few { nodes ≤ 16 }
+        requires few { nodes ≤ most_generated_nodes }
         ensures { OnOk result (text.new.items ≡ text.old.items ++ (writing nodes).heading) };
 
     /// Takes an event of this line that is no tick, which the world has taken, and appends what is written of it.

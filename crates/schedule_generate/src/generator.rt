@@ -5,7 +5,7 @@ ghost use Rattle.schedule_generate.specs.Course.{Course, begun, is_full, taken, 
 ghost use Rattle.schedule_generate.specs.Due.{ShowsTime};
 ghost use Rattle.schedule_generate.specs.Goes.{At, Goes, IsDue, Went};
 ghost use Rattle.schedule_generate.specs.Moves.{event_for, events_for};
-ghost use Rattle.schedule_generate.specs.Settings.{generated_config};
+ghost use Rattle.schedule_generate.specs.Settings.{generated_config, most_generated_nodes};
 
 use crate::course_halt::{CourseHalt, halt_of};
 use crate::course_observer::CourseObserver;
@@ -45,7 +45,7 @@ impl Generator {
     #[tactic(auto, using(crate::proofs::Truly::first_true))]
     pub fn new(alloc: Global, seed: u64, nodes: u16) -> Result<Generator, OutOfMemory>
         requires some { 1 ≤ nodes }
-        requires few { nodes ≤ 16 }
+        requires few { nodes ≤ most_generated_nodes }
         ensures goes { IfOk result (λ a. Goes nodes a (begun seed)) }
         ensures time { IfOk result (λ a. a.time ≡ 0) }
     {
@@ -68,7 +68,7 @@ impl Generator {
         frames > MANY_FRAMES || events > MANY_EVENTS
     }
 
-    /// The world takes an event, and the listener is told.
+    /// The world takes an event, and the listener is told. Memory is short only at an event that the limits let come.
     pub fn take<L: CourseObserver>(
         &mut self,
         made: Move,
@@ -87,8 +87,8 @@ impl Generator {
         let line = self.line;
         match self.world.apply(line, &made.event()) {
             Ok(acted) => {
-                self.line = line + 1;
                 listener.took(&self.world, line, made, &acted, text)?;
+                self.line = line + 1;
                 Ok(())
             }
             Err(refusal) => Err(halt_of(refusal, line)),

@@ -2,7 +2,7 @@
 ghost use Rattle.std.specs.Prelude.{◌≡◌, ◌++◌, ◌-◌, ◌≤◌, map, IfOk, OnOk};
 ghost use Rattle.schedule_generate.specs.Course.{arbiter_starts, asks_first, node_starts, opening};
 ghost use Rattle.schedule_generate.specs.Moves.{events_for};
-ghost use Rattle.schedule_generate.specs.Settings.{numbers_from};
+ghost use Rattle.schedule_generate.specs.Settings.{most_generated_nodes, numbers_from};
 
 use crate::moves::Move;
 use fabric_terms::OutOfMemory;
@@ -20,7 +20,7 @@ fn push_arbiters(moves: &mut Vec<Move>) -> Result<(), OutOfMemory>
 }
 
 fn push_nodes(moves: &mut Vec<Move>, nodes: u16) -> Result<(), OutOfMemory>
-    requires { nodes ≤ 16 }
+    requires { nodes ≤ most_generated_nodes }
     ensures { OnOk result (events_for moves.new.items ≡ events_for moves.old.items ++ map node_starts
         (numbers_from 1 nodes)) }
 {
@@ -33,7 +33,7 @@ fn push_nodes(moves: &mut Vec<Move>, nodes: u16) -> Result<(), OutOfMemory>
 /// Each but the first asks the first one for a link.
 fn push_links(moves: &mut Vec<Move>, nodes: u16) -> Result<(), OutOfMemory>
     requires some { 1 ≤ nodes }
-    requires few { nodes ≤ 16 }
+    requires few { nodes ≤ most_generated_nodes }
     ensures { OnOk result (events_for moves.new.items ≡ events_for moves.old.items ++ map asks_first
         (numbers_from 2 (nodes - 1))) }
 {
@@ -46,7 +46,7 @@ fn push_links(moves: &mut Vec<Move>, nodes: u16) -> Result<(), OutOfMemory>
 /// The arbitrators start, then the nodes, and then links are asked for.
 pub fn opening_moves(alloc: Global, nodes: u16) -> Result<Vec<Move>, OutOfMemory>
     requires some { 1 ≤ nodes }
-    requires few { nodes ≤ 16 }
+    requires few { nodes ≤ most_generated_nodes }
     ensures { IfOk result (λ moves. events_for moves.items ≡ opening nodes) }
 {
     let mut moves = Vec::new(alloc);

@@ -5,7 +5,7 @@ ghost use Rattle.schedule_generate.specs.Laws.{judged_of};
 ghost use Rattle.schedule_generate.specs.Statuses.{may_end_generate};
 ghost use Rattle.schedule_rules.specs.Schedule.{judge};
 ghost use Rattle.ring_world.specs.Answers.{StandsFor};
-ghost use Rattle.schedule_generate.specs.Settings.{generated_config};
+ghost use Rattle.schedule_generate.specs.Settings.{generated_config, most_generated_nodes};
 ghost use Rattle.schedule_generate.specs.Tallies.{Counts, reports_in};
 ghost use Rattle.fabric_terms.specs.Places.{tells_leave};
 ghost use Rattle.schedule_generate.specs.Texts.{all_written, drill_writing, ended, gen_text, generated, is_take_over};
@@ -135,7 +135,7 @@ impl CourseObserver for DrillCounts {
 #[tactic(auto, using(crate::proofs::Ends::may_end))]
 pub fn drill<K: Sink>(alloc: Global, seed: u64, nodes: u16, rounds: u32, sink: &mut K) -> Status
     requires some { 1 ≤ nodes }
-    requires few { nodes ≤ 16 }
+    requires few { nodes ≤ most_generated_nodes }
     ensures statuses { IsTrue (may_end_generate result) }
     ensures judged { IsSettled result → judge (gen_text seed nodes rounds) ≡ judged_of nodes
         (generated seed nodes rounds) }

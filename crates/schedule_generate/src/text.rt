@@ -5,6 +5,7 @@ ghost use Rattle.schedule_generate.specs.Laws.{judged_of};
 ghost use Rattle.schedule_generate.specs.Statuses.{may_end_generate};
 ghost use Rattle.schedule_rules.specs.Schedule.{judge};
 ghost use Rattle.schedule_generate.specs.Texts.{all_written, ended, gen_text, generate_writing, generated};
+ghost use Rattle.schedule_generate.specs.Settings.{most_generated_nodes};
 
 use crate::course_observer::CourseObserver;
 use crate::lines::{push_move_line, push_tick_line};
@@ -65,7 +66,7 @@ impl CourseObserver for Lines {
 #[tactic(auto, using(crate::proofs::Ends::may_end))]
 pub fn generate<K: Sink>(alloc: Global, seed: u64, nodes: u16, rounds: u32, sink: &mut K) -> Status
     requires some { 1 ≤ nodes }
-    requires few { nodes ≤ 16 }
+    requires few { nodes ≤ most_generated_nodes }
     ensures statuses { IsTrue (may_end_generate result) }
     ensures judged { IsSettled result → judge (gen_text seed nodes rounds) ≡ judged_of nodes
         (generated seed nodes rounds) }

@@ -3,7 +3,7 @@ ghost use Rattle.std.specs.Prelude.{◌≡◌, ◌==◌, ◌≤◌, ℕ, List};
 ghost use Rattle.std.specs.List.{list_any};
 ghost use Rattle.schedule_generate.specs.Course.{Course, with_turn};
 ghost use Rattle.schedule_generate.specs.Goes.{At, IsAt, Went};
-ghost use Rattle.schedule_generate.specs.Settings.{generated_config};
+ghost use Rattle.schedule_generate.specs.Settings.{generated_config, most_generated_nodes};
 
 use crate::course_halt::CourseHalt;
 use crate::course_observer::CourseObserver;
@@ -29,7 +29,7 @@ impl Generator {
     ) -> Result<(), CourseHalt>
         requires at { IsAt L.writing (L.knows listener.old) self.old text.old.items }
         requires some { 1 ≤ self.old.nodes }
-        requires few { self.old.nodes ≤ 16 }
+        requires few { self.old.nodes ≤ most_generated_nodes }
         ensures went { (g : Course) (sent : List ℕ) →
             At L.writing (L.knows listener.old) self.old.nodes self.old text.old.items g sent →
             Went L.writing (L.knows listener.new) self.old.nodes result self.new text.new.items

@@ -1,10 +1,10 @@
 ghost use Rattle.std.specs.Prelude.{◌≡◌, ◌≤◌, ◌+◌, ◌^◌, ℕ, List, [], Err, OnOk};
 ghost use Rattle.edge_io.specs.Edge.{HasRisen};
 ghost use Rattle.fabric_status.specs.Writes.{Wrote};
-ghost use Rattle.schedule_generate.specs.Course.{Course, is_full, round_unless, rounds};
+ghost use Rattle.schedule_generate.specs.Course.{Course, is_full, latest_round, round_unless, rounds};
 ghost use Rattle.schedule_generate.specs.Goes.{At, IsAt, IsSettled, Made, Rounded, WentAll};
 ghost use Rattle.schedule_generate.specs.Laws.{judged_of};
-ghost use Rattle.schedule_generate.specs.Settings.{generated_config};
+ghost use Rattle.schedule_generate.specs.Settings.{generated_config, most_generated_nodes};
 ghost use Rattle.schedule_generate.specs.Texts.{all_written, ended, gen_text, generated};
 ghost use Rattle.schedule_rules.specs.Schedule.{judge};
 
@@ -27,9 +27,9 @@ fn go_round<L: CourseObserver, K: Sink>(
     sink: &mut K,
 ) -> Result<(), CourseHalt>
     requires at { IsAt L.writing (L.knows listener.old) generator.old text.old.items }
-    requires early { generator.old.time ≤ 10 ^ 14 }
+    requires early { generator.old.time ≤ latest_round }
     requires some { 1 ≤ generator.old.nodes }
-    requires few { generator.old.nodes ≤ 16 }
+    requires few { generator.old.nodes ≤ most_generated_nodes }
     ensures went { (g : Course) (sent : List ℕ) →
         At L.writing (L.knows listener.old) generator.old.nodes generator.old text.old.items g sent →
         Rounded L.writing (L.knows listener.new) generator.old.nodes result generator.new text.new.items
@@ -65,7 +65,7 @@ fn go_rounds<L: CourseObserver, K: Sink>(
     requires at { IsAt L.writing (L.knows listener.old) generator.old text.old.items }
     requires time { generator.old.time ≡ 0 }
     requires some { 1 ≤ generator.old.nodes }
-    requires few { generator.old.nodes ≤ 16 }
+    requires few { generator.old.nodes ≤ most_generated_nodes }
     ensures went { (g : Course) → At L.writing (L.knows listener.old)
         generator.old.nodes generator.old text.old.items g [] →
         WentAll L.writing (L.knows listener.new) generator.old.nodes result generator.new text.new.items
@@ -73,8 +73,7 @@ fn go_rounds<L: CourseObserver, K: Sink>(
     ensures failed { result ≡ Err CourseHalt.SinkFailed → HasRisen (K.faults sink.old) (K.faults sink.new) }
     ensures later { K.faults sink.old ≤ K.faults sink.new }
 {
-    for round in 0..count {
-        let _ = round;
+    for _round in 0..count {
         match go_round(generator, moves, listener, text, sink) {
             Ok(()) => {}
             Err(halt) => return Err(halt),
@@ -83,34 +82,40 @@ fn go_rounds<L: CourseObserver, K: Sink>(
     Ok(())
 }
 
+/// What the words of a generated schedule say: its seed, how many nodes it has, and how many rounds it goes.
+#[derive(Clone, Copy)]
+struct CourseWords {
+    seed: u64,
+    nodes: u16,
+    rounds: u32,
+}
+
 /// Makes the schedule, and writes or leaves in the text what is written of it.
 fn make<L: CourseObserver, K: Sink>(
     alloc: Global,
-    seed: u64,
-    nodes: u16,
-    count: u32,
+    course: CourseWords,
     listener: &mut L,
     text: &mut Vec<u8>,
     sink: &mut K,
 ) -> Result<(), CourseHalt>
-    requires known { L.knows listener.old nodes [] }
+    requires known { L.knows listener.old course.nodes [] }
     requires empty { text.old.items ≡ [] }
-    requires some { 1 ≤ nodes }
-    requires few { nodes ≤ 16 }
-    ensures made { Made nodes (L.writing nodes) result text.new.items (generated seed nodes count) (K.held sink.old)
-        (K.held sink.new) }
+    requires some { 1 ≤ course.nodes }
+    requires few { course.nodes ≤ most_generated_nodes }
+    ensures made { Made course.nodes (L.writing course.nodes) result text.new.items
+        (generated course.seed course.nodes course.rounds) (K.held sink.old) (K.held sink.new) }
     ensures failed { result ≡ Err CourseHalt.SinkFailed → HasRisen (K.faults sink.old) (K.faults sink.new) }
     ensures later { K.faults sink.old ≤ K.faults sink.new }
 {
-    match listener.begin(nodes, text) {
+    match listener.begin(course.nodes, text) {
         Ok(()) => {}
         Err(_) => return Err(CourseHalt::OutOfMemory),
     }
-    let mut generator = match Generator::new(alloc, seed, nodes) {
+    let mut generator = match Generator::new(alloc, course.seed, course.nodes) {
         Ok(generator) => generator,
         Err(_) => return Err(CourseHalt::OutOfMemory),
     };
-    let mut moves = match opening_moves(alloc, nodes) {
+    let mut moves = match opening_moves(alloc, course.nodes) {
         Ok(moves) => moves,
         Err(_) => return Err(CourseHalt::OutOfMemory),
     };
@@ -118,7 +123,14 @@ fn make<L: CourseObserver, K: Sink>(
         Ok(()) => {}
         Err(halt) => return Err(halt),
     }
-    match go_rounds(&mut generator, count, &mut moves, listener, text, sink) {
+    match go_rounds(
+        &mut generator,
+        course.rounds,
+        &mut moves,
+        listener,
+        text,
+        sink,
+    ) {
         Ok(()) => {}
         Err(halt) => return Err(halt),
     }
@@ -141,14 +153,19 @@ pub fn write_schedule<L: CourseObserver, K: Sink>(
 ) -> Status
     requires known { L.knows listener.old nodes [] }
     requires some { 1 ≤ nodes }
-    requires few { nodes ≤ 16 }
+    requires few { nodes ≤ most_generated_nodes }
     ensures judged { IsSettled result → judge (gen_text seed nodes count) ≡ judged_of nodes (generated seed nodes count) }
     ensures wrote { Wrote (ended (generated seed nodes count))
         (all_written (L.writing nodes) (generated seed nodes count)) result (K.held sink.old) (K.held sink.new)
         (K.faults sink.old) (K.faults sink.new) }
 {
     let mut text = Vec::new(alloc);
-    match make(alloc, seed, nodes, count, listener, &mut text, sink) {
+    let course = CourseWords {
+        seed,
+        nodes,
+        rounds: count,
+    };
+    match make(alloc, course, listener, &mut text, sink) {
         Ok(()) => write_last(sink, &text, Status::Ok),
         Err(CourseHalt::TooLarge(line)) => {
             write_fault(alloc, sink, &mut text, Status::TooLarge(line))

@@ -5,6 +5,9 @@ use Rattle.schedule_generate.specs.Settings.{generated_config}
 use Rattle.schedule_generate.proofs.Loops.{full_round, no_failure, own_number, round_halted, round_sent}
 use Rattle.schedule_generate.proofs.write.go_round.Goals as goal
 
+pub round-requires-clause-room : goal.round-requires-clause-room
+round-requires-clause-room g c n k goes = sym (c.is_full.ensures n k goes) ∙ c.if-is_full.false
+
 pub returns-then-is_full-clause-went : goal.returns-then-is_full-clause-went
 returns-then-is_full-clause-went g c k sent at =
     let n = c.args.generator.now.nodes in
@@ -36,7 +39,7 @@ pub returns-in-Err-clause-went : goal.returns-in-Err-clause-went
 returns-in-Err-clause-went g c k sent at =
     let n = c.args.generator.now.nodes in
     let open_still : is_full (generated_config n) k ≡ false = sym (c.is_full.ensures n k at.goes) ∙ c.if-is_full.false in
-    round_halted g.L.CourseObserver.writing (g.L.CourseObserver.knows c.round.new.listener) (g.L.CourseObserver.knows c.round.new.listener) n c.in-Err.halt c.round.new.self c.round.new.self c.round.new.text.items k sent (g.K.Sink.held c.args.sink.now) (is_full (generated_config n) k) open_still (c.in-Err.ensures.went k sent at)
+    round_halted g.L.CourseObserver.writing (g.L.CourseObserver.knows c.round.new.listener) (g.L.CourseObserver.knows c.round.new.listener) n c.in-Err.halt c.round.new.self c.round.new.text.items k sent (g.K.Sink.held c.args.sink.now) (is_full (generated_config n) k) open_still (c.in-Err.ensures.went k sent at)
 
 pub returns-in-Err-clause-failed : goal.returns-in-Err-clause-failed
 returns-in-Err-clause-failed g c is =

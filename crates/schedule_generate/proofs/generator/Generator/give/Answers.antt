@@ -39,7 +39,7 @@ returns-in-Err-clause-went g c k sent at =
     let all : c.counts-sent.result.1 ≡ (ruled (generated_config n) k.history).count = (c.counts-sent.ensures (generated_config n) k.history at.goes.world).1 in
     let same : first ≡ k.considered = at.goes.considered in
     let lt : c.loop-before.before - first < (ruled (generated_config n) k.history).count - k.considered = omega arith in
-    considers_halt g.L.CourseObserver.writing (g.L.CourseObserver.knows c.consider.new.listener) (g.L.CourseObserver.knows c.consider.new.listener) n c.in-Err.halt c.consider.new.self c.consider.new.self c.consider.new.text.items (c.loop-before.before - first) ((ruled (generated_config n) k.history).count - k.considered) k sent lt here
+    considers_halt g.L.CourseObserver.writing (g.L.CourseObserver.knows c.consider.new.listener) (g.L.CourseObserver.knows c.consider.new.listener) n c.in-Err.halt c.consider.new.self c.consider.new.text.items (c.loop-before.before - first) ((ruled (generated_config n) k.history).count - k.considered) k sent lt here
 
 pub loop-before-preserved : goal.loop-before-preserved
 loop-before-preserved g c =

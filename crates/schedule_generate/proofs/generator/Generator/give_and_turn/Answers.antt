@@ -13,4 +13,4 @@ turn-requires-clause-at g c =
 pub returns-in-Err-clause-went : goal.returns-in-Err-clause-went
 returns-in-Err-clause-went g c k sent at =
     let n = c.args.self.now.nodes in
-    went_on g.L.CourseObserver.writing (g.L.CourseObserver.knows c.give.new.listener) (g.L.CourseObserver.knows c.give.new.listener) n c.in-Err.halt c.give.new.self c.give.new.self c.give.new.text.items (with_gives (generated_config n) k) sent (with_turn (generated_config n) n) (turn_sticks (generated_config n) n) (c.in-Err.ensures.went k sent at)
+    went_on g.L.CourseObserver.writing (g.L.CourseObserver.knows c.give.new.listener) (g.L.CourseObserver.knows c.give.new.listener) n c.in-Err.halt c.give.new.self c.give.new.text.items (with_gives (generated_config n) k) sent (with_turn (generated_config n) n) (turn_sticks (generated_config n) n) (c.in-Err.ensures.went k sent at)

@@ -44,7 +44,7 @@ returns-in-Err-clause-went g c k sent at =
     let here : Went g.L.CourseObserver.writing (g.L.CourseObserver.knows c.take.new.listener) n (Err c.in-Err.halt) c.take.new.self c.take.new.text.items (taken (generated_config n) (event_for (get_or moves i d)) before) sent =
     subst (λ (m : ℕ). At g.L.CourseObserver.writing (g.L.CourseObserver.knows c.loop-i.listener) m c.loop-i.self c.loop-i.text.items before sent → Went g.L.CourseObserver.writing (g.L.CourseObserver.knows c.take.new.listener) m (Err c.in-Err.halt) c.take.new.self c.take.new.text.items (taken (generated_config m) (event_for (get_or moves i d)) before) sent) same
     (c.in-Err.ensures.went before sent) (c.loop-i.invariant.went k sent at) in
-    all_halt g.L.CourseObserver.writing (g.L.CourseObserver.knows c.take.new.listener) (g.L.CourseObserver.knows c.take.new.listener) n c.in-Err.halt c.take.new.self c.take.new.self c.take.new.text.items moves i d k sent c.loop-i-test.true here
+    all_halt g.L.CourseObserver.writing (g.L.CourseObserver.knows c.take.new.listener) (g.L.CourseObserver.knows c.take.new.listener) n c.in-Err.halt c.take.new.self c.take.new.text.items moves i d k sent c.loop-i-test.true here
 
 pub loop-i-preserved : goal.loop-i-preserved
 loop-i-preserved g c =
