@@ -11,7 +11,7 @@ use Rattle.ring_machine.specs.Sessions.{Tied}
 use Rattle.ring_machine.specs.Claims.{Claim, by_record, by_renew, by_flight}
 use Rattle.ring_machine.specs.Leases.{Leased}
 use Rattle.ring_machine.specs.SoundSlots.{SoundSlot}
-use Rattle.ring_machine.specs.SoundFlights.{FrozenTo, SoundFreeze}
+use Rattle.ring_machine.specs.SoundFlights.{Lost, FrozenTo, SoundFreeze}
 use Rattle.ring_machine.specs.Invariant.{Invariant}
 use Rattle.ring_machine.proofs.Lists.{IsMember-append_cases}
 use Rattle.ring_machine.proofs.Whos.{apart_ends}
@@ -92,6 +92,10 @@ module _ {c : Settings} {w : World} {e : End} (a : Acting c w e) where
 
   pub back : (p : ℕ) → w.place p ≡ At e.who → (w.instance e.who).token.ranges p ≡ true
   back p h = a.inv.exact e.who p a.live h
+
+  -- no flight of a live instance is lost
+  pub not_lost : (f : End) → Lost c w e f → ⊥
+  not_lost f lost = lost.0.not_live a.live
 
   -- the lease of a slot that begins now
   pub from_now : (len : ℕ) → Leased (w.instance e.who).pairs w.time ((w.instance e.who).reading + len) len

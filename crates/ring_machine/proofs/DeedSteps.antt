@@ -79,6 +79,7 @@ slot_inside c e now s token place deed p h = h
 pub record Rest (w : World) (x : Who) (v : World) : Type 0 where
   pub time : v.time ≡ w.time
   pub starts : v.starts ≡ w.starts
+  pub whole : v.whole ≡ w.whole
   pub first_accuser : v.first_accuser ≡ w.first_accuser
   pub first_claimer : v.first_claimer ≡ w.first_claimer
   pub reading : (v.instance x).reading ≡ (w.instance x).reading
@@ -100,6 +101,7 @@ duty_done {w = w} {e = e} d = record {
   rest = record {
     time = refl;
     starts = refl;
+    whole = refl;
     first_accuser = refl;
     first_claimer = refl;
     reading = ap (λ (i : Instance). i.reading) (own_instance d);
@@ -130,7 +132,7 @@ none_done {c = c} {w = w} inv x live = record {
   inv = inv;
   live = live;
   later = later_refl c w;
-  rest = record { time = refl; starts = refl; first_accuser = refl; first_claimer = refl; reading = refl; others = λ y n. refl };
+  rest = record { time = refl; starts = refl; whole = refl; first_accuser = refl; first_claimer = refl; reading = refl; others = λ y n. refl };
 }
 
 -- more deeds
@@ -142,6 +144,7 @@ then_done a b = record {
   rest = record {
     time = b.rest.time ∙ a.rest.time;
     starts = b.rest.starts ∙ a.rest.starts;
+    whole = b.rest.whole ∙ a.rest.whole;
     first_accuser = b.rest.first_accuser ∙ a.rest.first_accuser;
     first_claimer = b.rest.first_claimer ∙ a.rest.first_claimer;
     reading = b.rest.reading ∙ a.rest.reading;

@@ -14,7 +14,7 @@ use Rattle.ring_machine.specs.SoundFlights.{Pending}
 use Rattle.ring_machine.specs.SoundFrames.{SoundRenew}
 use Rattle.ring_machine.proofs.States.{implied}
 use Rattle.ring_machine.proofs.Duty.{Sent, TokenDuty, PlaceDuty, Duty}
-use Rattle.ring_machine.proofs.Acting.{Acting, good, here, back, each_of_one, frozen_more, claim_before, far_differs, freeze_mine, freeze_theirs}
+use Rattle.ring_machine.proofs.Acting.{Acting, good, here, back, each_of_one, frozen_more, claim_before, far_differs, freeze_mine, freeze_theirs, not_lost}
 use Rattle.ring_machine.proofs.Kept.{KeptLink, kept_duty, lease_same}
 
 -- an unconfirmed flight stood before, and is above the other's last one
@@ -123,7 +123,7 @@ module _ {c : Settings} {w : World} {e : End} (a : Acting c w e) where
         gets_none = λ y p n h. h;
         flies = λ g h number p i. inl i;
         flew = λ g h number p i. inl i;
-        flight = λ l h. a.inv.flights e s.far l refl (unconfirmed_before got s.flight l h).0;
+        flight = λ l h. a.inv.flights e s.far l refl (unconfirmed_before got s.flight l h).0 (not_lost a s.far);
         mine = λ en p h. mine p h;
         theirs = λ en p h. inl (claim_before (ack ∷ []) w.sent s.far e (slot w s.far) s.got p (no_renew_sent e s.far) h);
         stays = λ g f p far now claim i. inl i;

@@ -8,13 +8,14 @@ use Rattle.ring_machine.specs.Slots.{Unused, unused_slot}
 use Rattle.ring_machine.specs.World.{Settings, World, Unborn, Left, Stopped, Place, At, InFlight, Outside, Live, first_of, has_clock, empty_world}
 use Rattle.ring_machine.specs.Sessions.{Touched, flew, heard, took, was_heard}
 use Rattle.ring_machine.specs.Claims.{ClaimBy, by_record, by_renew, by_flight}
-use Rattle.ring_machine.specs.Events.{Event, Starts, Stops, Leaves, Ticks, Answers, Keeps, Does, IsSound, Can, after, Valid, world_after}
+use Rattle.ring_machine.specs.Events.{Event, Starts, Stops, Leaves, Again, Ticks, Answers, Keeps, Does, IsSound, Can, after, Valid, world_after}
 use Rattle.ring_machine.specs.Frames.{Accuse, RoundClaim}
 use Rattle.ring_machine.specs.Invariant.{Invariant}
 use Rattle.ring_machine.proofs.Later.{Later}
 use Rattle.ring_machine.proofs.Shrunk.{nothing_claimed}
 use Rattle.ring_machine.proofs.DeedSteps.{deed_done}
 use Rattle.ring_machine.proofs.Leaving.{left_keeps, left_later}
+use Rattle.ring_machine.proofs.Returning.{back_keeps, back_later}
 use Rattle.ring_machine.proofs.Ticking.{passed_keeps, passed_later}
 use Rattle.ring_machine.proofs.Starting.{started_keeps, started_later}
 use Rattle.ring_machine.proofs.Answering.{answered_keeps, answered_world_later}
@@ -72,7 +73,7 @@ module _ (c : Settings) where
     frames = λ f m. absurd m;
     single = λ e f who h. absurd (cc (h));
     backed = λ e f p far h. absurd (none_claims e f p h);
-    flights = λ e f l far h. absurd (cc (h));
+    flights = λ e f l far h stands. absurd (cc (h));
     flown = λ e f number p. first_place p (λ o. o ≡ InFlight e f number → number < 1) (λ i j. absurd (cc (j))) (λ i j. absurd (cc (j)));
     counted = λ x. omega arith;
     tokens = λ x z h. absurd (cc (h));
@@ -106,6 +107,7 @@ event_done {w = w} sound inv (Leaves x) can = record {
   where
     born : (w.instance x).phase ≡ Unborn → ⊥
     born h = cc (can, h)
+event_done sound inv (Again x) can = record { inv = back_keeps inv x can; later = back_later inv x }
 event_done sound inv (Ticks advance readings) can = record { inv = passed_keeps inv advance readings can; later = passed_later inv advance readings can }
 event_done sound inv (Answers arbiter accuser victim) can =
     let apart = inv.frames (Accuse accuser victim) can in

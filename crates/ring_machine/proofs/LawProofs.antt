@@ -1,11 +1,11 @@
 -- The laws follow from the invariant.
-use Rattle.std.proofs.Common.{◌≡◌, ℕ, ◌<◌, List, [], ◌∷◌, ◌++◌, refl, sym, ap, ◌∙◌, arith}
+use Rattle.std.proofs.Common.{◌≡◌, ℕ, ◌<◌, cond, List, [], ◌∷◌, ◌++◌, refl, sym, ap, ◌∙◌, arith}
 use Rattle.ring_points.specs.declared.who.Who.{Who}
 use Rattle.ring_machine.specs.Ends.{End, end_of}
-use Rattle.ring_machine.specs.World.{Settings, World, At, Live, Dead, Holds, slot}
+use Rattle.ring_machine.specs.World.{Settings, World, At, Outside, Live, Dead, Holds, slot}
 use Rattle.ring_machine.specs.Deeds.{SlotDeed, PartGiven, FlightTaken, FlightReturned, TakenOver, HelloBegun, OfferBegun, InSlot}
 use Rattle.ring_machine.specs.Guards.{MayInSlot}
-use Rattle.ring_machine.specs.Events.{Event, Does, IsSound, Can, after, Valid, world_after}
+use Rattle.ring_machine.specs.Events.{Event, Again, Does, IsSound, Can, after, Valid, world_after}
 use Rattle.ring_machine.specs.Invariant.{Invariant}
 use Rattle.ring_machine.specs.Laws.{Exclusion, Uniqueness, RingSafe, TakenAfterLeave, OwnsItsPlaces, MovesInSlot, Moves, EachMovesFromItsPlace, GivesFlight, NumberedOnce, InvariantHolds}
 use Rattle.ring_points.proofs.Whos.{same_who-false}
@@ -92,6 +92,7 @@ each_moves_lem c event events sound valid = go event valid.0
 
     go : (event : Event) → Can c (world_after c events) event → Moves c (world_after c events) event
     go (Does x (InSlot number deed)) can = moves_in_slot sound inv (end_of x number) can.0 deed can.1
+    go (Again x) can = λ p h. ap (λ b. cond b (At x) Outside) h
     go (Does x (HelloBegun node len)) can = refl
     go (Does x (OfferBegun from proposed len)) can = refl
     go event can = refl

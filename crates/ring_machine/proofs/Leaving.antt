@@ -1,11 +1,11 @@
 -- An instance that leaves or stops is dead, and keeps the invariant.
-use Rattle.std.proofs.Common.{◌≡◌, ℕ, ◌<◌, ◌≤◌, true, Some, refl, subst, arith}
+use Rattle.std.proofs.Common.{◌≡◌, ℕ, ◌<◌, ◌≤◌, true, Some, refl, subst, arith, ap, sym, ◌∙◌}
 use Rattle.ring_points.specs.declared.who.Who.{Who}
 use Rattle.fabric_lemmas.specs.Members.{IsMember}
 use Rattle.ring_machine.specs.Points.{is_point}
 use Rattle.ring_machine.specs.Tokens.{Freeze}
 use Rattle.drift_clock.specs.Within.{Within}
-use Rattle.ring_machine.specs.World.{Settings, Instance, World, Phase, Unborn, Running, At, Live, Dead, first_of, unborn}
+use Rattle.ring_machine.specs.World.{Settings, Instance, World, Phase, Unborn, Running, At, Live, Dead, unborn}
 use Rattle.ring_machine.specs.SoundFlights.{SoundToken}
 use Rattle.ring_machine.specs.Events.{in_phase}
 use Rattle.ring_machine.specs.Invariant.{Invariant}
@@ -48,9 +48,11 @@ module _ {c : Settings} {w : World} (inv : Invariant c w) (x : Who) (phase : Pha
     owned = instance_cases (λ y i. (p : ℕ) → Live c i → i.token.ranges p ≡ true → w.place p ≡ At y) (λ p l. absurd (gone l)) inv.owned;
     exact = instance_cases (λ y i. (p : ℕ) → Live c i → w.place p ≡ At y → i.token.ranges p ≡ true) (λ p l. absurd (gone l)) inv.exact;
     unborn_place =
-        instance_cases (λ y i. (p : ℕ) → i.phase ≡ Unborn → w.place p ≡ At y → (y ≡ first_of c) × (is_point p ≡ true))
+        instance_cases (λ y i. (p : ℕ) → i.phase ≡ Unborn → w.place p ≡ At y → (y ≡ w.whole) × (is_point p ≡ true))
         (λ p h. absurd (not_unborn h)) inv.unborn_place;
-    whole_ring = inv.whole_ring;
+    whole_ring = λ p.
+        instance_cases (λ y i. y ≡ w.whole → i.phase ≡ Unborn → is_point p ≡ true → w.place p ≡ At w.whole) (λ same h. absurd (not_unborn h))
+        (λ y same h. inv.whole_ring p (ap (λ y. (w.instance y).phase) (sym same) ∙ h)) w.whole refl;
     inside = inv.inside;
     not_started = instance_cases (λ y i. w.starts y.actor < y.instance → i.phase ≡ Unborn) (λ h. absurd (born (inv.not_started x h))) inv.not_started;
     no_zeroth = instance_cases (λ y i. y.instance ≡ 0 → i.phase ≡ Unborn) (λ h. absurd (born (inv.no_zeroth x h))) inv.no_zeroth;

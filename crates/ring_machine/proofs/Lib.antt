@@ -31,6 +31,7 @@ pub mod TakeOverDuty
 pub mod DeedSteps
 pub mod Unmoved
 pub mod Leaving
+pub mod Returning
 pub mod Ticking
 pub mod Starting
 pub mod Arbitrated

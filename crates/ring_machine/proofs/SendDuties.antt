@@ -14,7 +14,7 @@ use Rattle.ring_machine.specs.Effects.{outcome}
 use Rattle.ring_machine.proofs.Whos.{end_cases}
 use Rattle.ring_machine.proofs.States.{implied}
 use Rattle.ring_machine.proofs.Duty.{Sent, Duty}
-use Rattle.ring_machine.proofs.Acting.{Acting, good, is_renewal, each_of_one}
+use Rattle.ring_machine.proofs.Acting.{Acting, good, is_renewal, each_of_one, not_lost}
 use Rattle.ring_machine.proofs.Shrunk.{sends_duty}
 
 -- both ends of a frame of a session have or had a slot
@@ -89,7 +89,7 @@ module _ {c : Settings} {w : World} {e : End} (a : Acting c w e) where
     own = refl;
     far = refl;
     tied = record { mine = record { engaged = ap is_engaged h; far = refl }; theirs = (good a).bound h };
-    transferable = let r = a.inv.flights e s.far l refl is in record {
+    transferable = let r = a.inv.flights e s.far l refl is (not_lost a s.far) in record {
       numbered = r.numbered;
       flying = λ p lives wi lt i. r.flying lt p i;
       whole = r.whole;

@@ -12,7 +12,7 @@ use Rattle.ring_machine.specs.Claims.{Claim, ClaimBy, by_record, by_renew, by_fl
 use Rattle.ring_machine.specs.SoundFlights.{SoundToken, Pending, FrozenTo}
 use Rattle.ring_machine.specs.Effects.{outcome}
 use Rattle.ring_machine.proofs.Duty.{LinkDuty, Sent, TokenDuty, PlaceDuty, Duty}
-use Rattle.ring_machine.proofs.Acting.{Acting, good, here, back, NoRenewal, no_renew, no_ack, frozen_more, claim_before, freeze_mine, freeze_theirs}
+use Rattle.ring_machine.proofs.Acting.{Acting, good, here, back, NoRenewal, no_renew, no_ack, frozen_more, claim_before, freeze_mine, freeze_theirs, not_lost}
 
 -- the slot with these fields, and all other fields of s
 abbrev pub shrunk : Slot → State → (until ripe : ℕ) → Points → Option Flight → Slot
@@ -123,7 +123,7 @@ module _ {c : Settings} {w : World} {e : End} (a : Acting c w e) where
     flies = λ g h number p i. inl i;
     flew = λ g h number p i. inl i;
     flight = λ l h.
-        let r = a.inv.flights e s.far l refl (less.flight_before l h) in
+        let r = a.inv.flights e s.far l refl (less.flight_before l h) (not_lost a s.far) in
         record { numbered = let n = un.next_flight in let m = r.numbered in omega arith; flying = r.flying; whole = r.whole };
     mine = λ en p h. before p (claim_before sent w.sent e s.far (shrunk s state until ripe held flight) (slot w s.far).got p (no_renew sent none s.far e) h);
     theirs = λ en p h. inl (claim_before sent w.sent s.far e (slot w s.far) s.got p (no_renew sent none e s.far) h);

@@ -1,5 +1,5 @@
--- A node starts: its next instance owns nothing, but for the first of the first node, which owns the whole ring.
-use Rattle.std.proofs.Common.{◌≡◌, ◌+◌, ℕ, ◌<◌, ◌≤◌, true, ◌&&◌, Some, refl, sym, ap, subst, inl, ⊎_elim, arith}
+-- A node starts: its next instance owns nothing, or the whole ring, if it is the one that begins with it.
+use Rattle.std.proofs.Common.{◌≡◌, ◌+◌, ℕ, ◌<◌, ◌≤◌, true, ◌&&◌, Some, refl, sym, ap, subst, inl, ⊎_elim, arith, ◌∙◌}
 use Rattle.std.proofs.lemmas.Bool.{and_parts, and_from}
 use Rattle.ring_points.specs.declared.who.Who.{Who}
 use Rattle.ring_points.specs.Whos.{same_who}
@@ -7,7 +7,7 @@ use Rattle.fabric_lemmas.specs.Members.{IsMember}
 use Rattle.ring_machine.specs.Points.{is_point}
 use Rattle.ring_machine.specs.Tokens.{Freeze}
 use Rattle.drift_clock.specs.Within.{Within}
-use Rattle.ring_machine.specs.World.{Settings, Instance, World, Unborn, Running, At, Live, Dead, first_of, unborn, born}
+use Rattle.ring_machine.specs.World.{Settings, Instance, World, Unborn, Running, At, Live, Dead, unborn, born}
 use Rattle.ring_machine.specs.SoundFlights.{SoundToken}
 use Rattle.ring_machine.specs.Events.{next_instance, started}
 use Rattle.ring_machine.specs.Invariant.{Invariant}
@@ -22,7 +22,7 @@ module _ {c : Settings} {w : World} (inv : Invariant c w) (node reading : ℕ) w
   x = next_instance w node
 
   abbrev new : Instance
-  new = born c w.time x reading
+  new = born w.whole w.time x reading
 
   abbrev starts : ℕ → ℕ
   starts = (started c w node reading).starts
@@ -62,30 +62,29 @@ module _ {c : Settings} {w : World} (inv : Invariant c w) (node reading : ℕ) w
   pub started_later : Later c w (started c w node reading)
   started_later = unmoved_later inv starts begun
 
-  -- the first node's first instance has the whole ring, which waits for it
-  first_owns : (p : ℕ) → same_who x (first_of c) && is_point p ≡ true → w.place p ≡ At x
+  -- who begins with the whole ring has it, since it waits for it
+  first_owns : (p : ℕ) → same_who x w.whole && is_point p ≡ true → w.place p ≡ At x
   first_owns p h =
-      let k = and_parts (same_who x (first_of c)) (is_point p) h in
-      let first : x ≡ first_of c = same_who-true x (first_of c) k.0 in
-      let its_node : node ≡ c.first = ap (λ (y : Who). y.actor) first in
-      let its_number : w.starts node + 1 ≡ 1 = ap (λ (y : Who). y.instance) first in
-      let same = ap w.starts its_node in
-      subst (λ y. w.place p ≡ At y) (sym first) (inv.whole_ring p (omega arith) k.1)
+      let k = and_parts (same_who x w.whole) (is_point p) h in
+      let first : x ≡ w.whole = same_who-true x w.whole k.0 in
+      subst (λ y. w.place p ≡ At y) (sym first) (inv.whole_ring p (ap (λ y. (w.instance y).phase) (sym first) ∙ was_unborn) k.1)
 
-  owns_first : (p : ℕ) → w.place p ≡ At x → same_who x (first_of c) && is_point p ≡ true
+  owns_first : (p : ℕ) → w.place p ≡ At x → same_who x w.whole && is_point p ≡ true
   owns_first p h =
       let k = inv.unborn_place x p was_unborn h in
-      and_from (same_who x (first_of c)) (is_point p) (subst (λ y. same_who x y ≡ true) k.0 (same_who-refl x)) k.1
+      and_from (same_who x w.whole) (is_point p) (subst (λ y. same_who x y ≡ true) k.0 (same_who-refl x)) k.1
 
   pub started_keeps : Invariant c (started c w node reading)
   started_keeps = record {
     owned = instance_cases (λ y i j. (p : ℕ) → Live c j → j.token.ranges p ≡ true → w.place p ≡ At y) (λ p l h. first_owns p h) inv.owned;
     exact = instance_cases (λ y i j. (p : ℕ) → Live c j → w.place p ≡ At y → j.token.ranges p ≡ true) (λ p l h. owns_first p h) inv.exact;
     unborn_place =
-        instance_cases (λ y i j. (p : ℕ) → j.phase ≡ Unborn → w.place p ≡ At y → (y ≡ first_of c) × (is_point p ≡ true))
+        instance_cases (λ y i j. (p : ℕ) → j.phase ≡ Unborn → w.place p ≡ At y → (y ≡ w.whole) × (is_point p ≡ true))
         (λ p h. absurd (cc (h))) inv.unborn_place;
     inside = inv.inside;
-    whole_ring = λ p h q. let rises = starts_rise c.first in inv.whole_ring p (omega arith) q;
+    whole_ring = λ p.
+        instance_cases (λ y i j. y ≡ w.whole → j.phase ≡ Unborn → is_point p ≡ true → w.place p ≡ At w.whole) (λ same h. absurd (cc (h)))
+        (λ y same h. inv.whole_ring p (ap (λ y. (w.instance y).phase) (sym same) ∙ h)) w.whole refl;
     not_started =
         instance_cases (λ y i j. starts y.actor < y.instance → j.phase ≡ Unborn) (λ h. absurd (counted_here h))
         (λ y h. let rises = starts_rise y.actor in inv.not_started y (omega arith));

@@ -11,7 +11,7 @@ use Rattle.ring_machine.specs.Frames.{Frame, Hello, Offer, Take, Renew, RenewAck
 use Rattle.ring_machine.specs.World.{Settings, Instance, World, InFlight, Dead, slot}
 use Rattle.ring_machine.specs.Effects.{Outcome}
 use Rattle.ring_machine.specs.Sessions.{Tied, BothTied, Closed, ClosedTo, elsewhere, over}
-use Rattle.ring_machine.specs.SoundFlights.{IsWhole, SoundFlight}
+use Rattle.ring_machine.specs.SoundFlights.{IsWhole, Lost, SoundFlight}
 use Rattle.ring_machine.specs.SoundFrames.{SoundHello, SoundOffer, SoundRenew, SoundAck, Transferable, SoundTransfer, SoundGone, SoundRuling, SoundFrame}
 use Rattle.ring_machine.proofs.Whos.{apart_ends}
 use Rattle.ring_machine.proofs.States.{implied}
@@ -185,9 +185,9 @@ module _ {c : Settings} {w : World} {e : End} {next : ℕ} {out : Outcome} (d : 
   pub frames_after : (f : Frame) → IsMember f (next_world d).sent → SoundFrame c (next_world d) f
   frames_after f m = ⊎_elim (λ new. new_frame f new) (λ old. old_frame f (d.inv.frames f old)) (sent_cases d f m)
 
-  own_flight : (h : End) (l : Flight) → t.far ≡ h → t.flight ≡ Some l →
+  own_flight : (h : End) (l : Flight) → t.far ≡ h → t.flight ≡ Some l → (Lost c (next_world d) e h → ⊥) →
       SoundFlight ((next_world d).instance e.who).token.next_flight out.place (slot (next_world d) h).got e h l
-  own_flight h l far is =
+  own_flight h l far is stands =
       let r = d.duty.place.flight l is in
       let active = d.duty.link.claims (of_flight l is) in
       let apart = d.duty.link.apart (implied is_active is_engaged refl t.state active) in
@@ -197,20 +197,21 @@ module _ {c : Settings} {w : World} {e : End} {next : ℕ} {out : Outcome} (d : 
       sym (ap (λ (s : Slot). s.got) (other_slot d t.far (apart_ends e t.far apart))) ∙ ap (λ (h : End). (slot (next_world d) h).got) far in
       subst (λ (T : Type 0). T) (λ i. SoundFlight (counter i) out.place (got i) e (far i) l) r
 
-  other_flight : (g h : End) (l : Flight) → (e ≡ g → ⊥) → (slot w g).far ≡ h → (slot w g).flight ≡ Some l →
+  other_flight : (g h : End) (l : Flight) → (e ≡ g → ⊥) → (slot w g).far ≡ h → (slot w g).flight ≡ Some l → (Lost c (next_world d) g h → ⊥) →
       SoundFlight ((next_world d).instance g.who).token.next_flight out.place (slot (next_world d) h).got g h l
-  other_flight g h l n far is =
-      let r = d.inv.flights g h l far is in record {
+  other_flight g h l n far is stands =
+      let r = d.inv.flights g h l far is (λ lost. stands ((later d).dies g.who lost.0, (later d).dies h.who lost.1)) in record {
         numbered = let a = r.numbered in let b = (later d).next_flights g.who in omega arith;
         flying = λ lt p i. let le = (later d).gots h in ⊎_elim (λ a. a) (λ a. absurd (n (sym a.0))) (fly_on g h l.number p far (r.flying (omega arith) p i) lt);
         whole = whole_after g l.number l.part r.numbered r.whole;
       }
 
   pub flights_after : (g h : End) (l : Flight) → (slot (next_world d) g).far ≡ h → (slot (next_world d) g).flight ≡ Some l →
+      (Lost c (next_world d) g h → ⊥) →
       SoundFlight ((next_world d).instance g.who).token.next_flight out.place (slot (next_world d) h).got g h l
   flights_after g h l =
       slot_cases d
-      (λ g s. s.far ≡ h → s.flight ≡ Some l → SoundFlight ((next_world d).instance g.who).token.next_flight out.place (slot (next_world d) h).got g h l)
+      (λ g s. s.far ≡ h → s.flight ≡ Some l → (Lost c (next_world d) g h → ⊥) → SoundFlight ((next_world d).instance g.who).token.next_flight out.place (slot (next_world d) h).got g h l)
       (own_flight h l) (λ g n. other_flight g h l n) g
 
   pub flown_after : (g h : End) (number p : ℕ) → out.place p ≡ InFlight g h number → number < ((next_world d).instance g.who).token.next_flight

@@ -1,12 +1,12 @@
 -- A deed that does its duty keeps the invariant, and leaves its instance live.
-use Rattle.std.proofs.Common.{◌≡◌, ℕ, ◌+◌, ◌<◌, true, Some, sym, subst, arith}
+use Rattle.std.proofs.Common.{◌≡◌, ℕ, ◌+◌, ◌<◌, true, Some, sym, subst, arith, ap, ◌∙◌, refl}
 use Rattle.fabric_lemmas.specs.Members.{IsMember}
 use Rattle.ring_machine.specs.Points.{is_point}
 use Rattle.ring_machine.specs.Ends.{End}
 use Rattle.ring_machine.specs.Slots.{guards}
 use Rattle.ring_machine.specs.Tokens.{Freeze}
 use Rattle.drift_clock.specs.Within.{Within}
-use Rattle.ring_machine.specs.World.{Settings, World, Unborn, Running, At, Live, first_of, unborn}
+use Rattle.ring_machine.specs.World.{Settings, World, Unborn, Running, At, Live, unborn}
 use Rattle.ring_machine.specs.Effects.{Outcome, stepped}
 use Rattle.ring_machine.specs.SoundFlights.{SoundToken}
 use Rattle.ring_machine.specs.Invariant.{Invariant}
@@ -33,9 +33,11 @@ module _ {c : Settings} {w : World} {e : End} {next : ℕ} {out : Outcome} (d : 
             instance_cases d (λ y i. Live c i → out.place p ≡ At y → i.token.ranges p ≡ true) (λ l h. place.exact p h)
             (λ y n l h. d.inv.exact y p l (place.gets_none y p n h)) y;
         unborn_place = λ y p.
-            instance_cases d (λ y i. i.phase ≡ Unborn → out.place p ≡ At y → (y ≡ first_of c) × (is_point p ≡ true))
+            instance_cases d (λ y i. i.phase ≡ Unborn → out.place p ≡ At y → (y ≡ w.whole) × (is_point p ≡ true))
             (λ h. absurd (born_here h)) (λ y n h i. d.inv.unborn_place y p h (place.gets_none y p n i)) y;
-        whole_ring = λ p h q. place.keeps_unborn (first_of c) p (d.inv.not_started (first_of c) (omega arith)) (d.inv.whole_ring p h q);
+        whole_ring = λ p.
+            instance_cases d (λ y i. y ≡ w.whole → i.phase ≡ Unborn → is_point p ≡ true → out.place p ≡ At w.whole) (λ same h. absurd (born_here h))
+            (λ y n same h q. let now = ap (λ y. (w.instance y).phase) (sym same) ∙ h in place.keeps_unborn w.whole p now (d.inv.whole_ring p now q)) w.whole refl;
         inside = λ p h q. d.inv.inside p h (d.inside p q);
         not_started = instance_cases d (λ y i. w.starts y.actor < y.instance → i.phase ≡ Unborn) (d.inv.not_started e.who) (λ y n. d.inv.not_started y);
         no_zeroth = instance_cases d (λ y i. y.instance ≡ 0 → i.phase ≡ Unborn) (d.inv.no_zeroth e.who) (λ y n. d.inv.no_zeroth y);

@@ -17,7 +17,7 @@ use Rattle.ring_machine.specs.SoundFlights.{IsWhole, SoundToken, Pending, Frozen
 use Rattle.ring_machine.specs.SoundFrames.{SoundTransfer, SoundGone}
 use Rattle.ring_points.proofs.Whos.{same_who-false}
 use Rattle.ring_machine.proofs.Duty.{Sent, TokenDuty, PlaceDuty, Duty}
-use Rattle.ring_machine.proofs.Acting.{Acting, good, here, back, NoRenewal, is_renewal, no_renew, no_ack, each_of_answer, frozen_more, claim_before, far_differs, freeze_mine, freeze_theirs}
+use Rattle.ring_machine.proofs.Acting.{Acting, good, here, back, NoRenewal, is_renewal, no_renew, no_ack, each_of_answer, frozen_more, claim_before, far_differs, freeze_mine, freeze_theirs, not_lost}
 use Rattle.ring_machine.proofs.Kept.{kept_duty, bound_link}
 use Rattle.ring_machine.proofs.Shrunk.{less_empty, is_undone, token_shrunk}
 use Rattle.ring_machine.proofs.GiveDuties.{moved_cases}
@@ -80,7 +80,7 @@ module _ {c : Settings} {w : World} {e : End} (a : Acting c w e) where
     pending_before : (z : Freeze) → token.freeze ≡ Some z → (l : Flight) → Pending z (slot w s.far).flight number l → Pending z (slot w s.far).flight s.got l
     pending_before z is l h = ⊎_elim
         (λ (lt : s.got < l.number). absurd (
-        let flying = (a.inv.flights s.far e l sound.tied.mine.far h.stands).flying lt h.point h.flown in
+        let flying = (a.inv.flights s.far e l sound.tied.mine.far h.stands (λ lost. lost.1.not_live a.live)).flying lt h.point h.flown in
         let mine = here a h.point ((a.inv.tokens e.who z is).part h.point h.frozen) in
         cc))
         (λ (le : l.number ≤ s.got). record { stands = h.stands; taken = le; point = h.point; flown = h.flown; frozen = h.frozen })
@@ -133,7 +133,7 @@ module _ {c : Settings} {w : World} {e : End} (a : Acting c w e) where
               let e2 : n ≡ number = cc in inr (inl (subst (λ g. BothTied w g e) (sym e1) sound.tied, omega arith)))
               (λ j. inl i);
           flew = λ g h n p i. inl (r.flew g h n p i);
-          flight = λ l h. let f = a.inv.flights e s.far l refl h in record {
+          flight = λ l h. let f = a.inv.flights e s.far l refl h (not_lost a s.far) in record {
             numbered = f.numbered;
             flying = λ lt p i. moved_cases part (At e.who) w.place p (λ o. o ≡ InFlight e s.far l.number)
                 (λ j. absurd (let k = taken_flown p j in let n = f.flying lt p i in let same : e ≡ s.far = cc in far_differs a (ap is_engaged bound) same))
@@ -174,7 +174,7 @@ module _ {c : Settings} {w : World} {e : End} (a : Acting c w e) where
 
     -- the other side has not taken what returns
     pub returned_flown : (p : ℕ) → flight.part p ≡ true → w.place p ≡ InFlight e s.far flight.number
-    returned_flown p h = (a.inv.flights e s.far flight refl is).flying (omega (arith, not_taken)) p h
+    returned_flown p h = (a.inv.flights e s.far flight refl is (not_lost a s.far)).flying (omega (arith, not_taken)) p h
       where
         not_closed : Closed w e s.far → ⊥
         not_closed (elsewhere i n) = n refl
@@ -186,7 +186,7 @@ module _ {c : Settings} {w : World} {e : End} (a : Acting c w e) where
             (λ (k : Closed w e s.far). absurd (not_closed k)) gone.took
 
     pub returned_whole : IsWhole w.place e flight.number flight.part
-    returned_whole = (a.inv.flights e s.far flight refl is).whole
+    returned_whole = (a.inv.flights e s.far flight refl is (not_lost a s.far)).whole
 
     none : NoRenewal answer
     none = each_of_answer (λ g. is_renewal g ≡ false) answered (Gone e s.far s.got false) (λ h. refl)

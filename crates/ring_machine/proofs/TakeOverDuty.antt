@@ -18,7 +18,7 @@ use Rattle.ring_machine.proofs.States.{implied}
 use Rattle.ring_machine.proofs.Waits.{wait_covers}
 use Rattle.ring_machine.proofs.Exclusions.{one_heir, no_crossing}
 use Rattle.ring_machine.proofs.Duty.{TokenDuty, PlaceDuty, Duty}
-use Rattle.ring_machine.proofs.Acting.{Acting, good, here, back, freeze_mine}
+use Rattle.ring_machine.proofs.Acting.{Acting, good, here, back, freeze_mine, not_lost}
 use Rattle.ring_machine.proofs.Kept.{KeptLink, kept_duty}
 use Rattle.ring_machine.proofs.Shrunk.{less_empty, nothing_claimed, not_undone, token_shrunk}
 use Rattle.ring_machine.proofs.SteppedSlots.{claim_touched}
@@ -101,7 +101,7 @@ module _ {c : Settings} {w : World} {e : End} (drift : c.bound.d ≤ 100) (a : A
       by_part None i r = absurd (cc (r))
       by_part (Some l) i r = test (leb l.number (slot w s.far).got)
           (λ le. inl (claimed p (by_flight l i (leb-true l.number (slot w s.far).got le) r)))
-          (λ lt. inr (l.number, (a.inv.flights e s.far l refl i).flying (leb-false l.number (slot w s.far).got lt) p r))
+          (λ lt. inr (l.number, (a.inv.flights e s.far l refl i (not_lost a s.far)).flying (leb-false l.number (slot w s.far).got lt) p r))
 
   -- a part of that is taken over
   module _ (part : Points) (within : (p : ℕ) → part p ≡ true → union (slot w e).held (part_of (slot w e).flight) p ≡ true) where

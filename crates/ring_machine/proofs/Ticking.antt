@@ -1,11 +1,11 @@
 -- Time passes within the bound of each running clock, and the invariant is kept.
-use Rattle.std.proofs.Common.{◌≡◌, ℕ, ◌+◌, ◌<◌, ◌≤◌, Bool, true, false, ◌∷◌, Some, refl, sym, ap, subst, inl, inr, ⊎_elim, arith}
+use Rattle.std.proofs.Common.{◌≡◌, ℕ, ◌+◌, ◌<◌, ◌≤◌, Bool, true, false, ◌∷◌, Some, refl, sym, ap, subst, inl, inr, ⊎_elim, arith, ◌∙◌}
 use Rattle.ring_points.specs.declared.who.Who.{Who}
 use Rattle.fabric_lemmas.specs.Members.{IsMember}
 use Rattle.ring_machine.specs.Points.{is_point}
 use Rattle.ring_machine.specs.Tokens.{Freeze}
 use Rattle.drift_clock.specs.Within.{Within, FitsAll}
-use Rattle.ring_machine.specs.World.{Settings, Instance, World, Unborn, Running, At, Live, Dead, first_of, unborn, has_clock}
+use Rattle.ring_machine.specs.World.{Settings, Instance, World, Unborn, Running, At, Live, Dead, unborn, has_clock}
 use Rattle.ring_machine.specs.SoundFlights.{SoundToken}
 use Rattle.ring_machine.specs.Events.{ticked, passed}
 use Rattle.ring_machine.specs.Invariant.{Invariant}
@@ -61,9 +61,11 @@ module _ {c : Settings} {w : World} (inv : Invariant c w) (advance : ℕ) (readi
     owned = clock_cases (λ y i. (p : ℕ) → Live c i → i.token.ranges p ≡ true → w.place p ≡ At y) (λ y h p l. inv.owned y p (was_live y l)) (λ y h. inv.owned y);
     exact = clock_cases (λ y i. (p : ℕ) → Live c i → w.place p ≡ At y → i.token.ranges p ≡ true) (λ y h p l. inv.exact y p (was_live y l)) (λ y h. inv.exact y);
     unborn_place =
-        clock_cases (λ y i. (p : ℕ) → i.phase ≡ Unborn → w.place p ≡ At y → (y ≡ first_of c) × (is_point p ≡ true))
+        clock_cases (λ y i. (p : ℕ) → i.phase ≡ Unborn → w.place p ≡ At y → (y ≡ w.whole) × (is_point p ≡ true))
         (λ y h. inv.unborn_place y) (λ y h. inv.unborn_place y);
-    whole_ring = inv.whole_ring;
+    whole_ring = λ p.
+        clock_cases (λ y i. y ≡ w.whole → i.phase ≡ Unborn → is_point p ≡ true → w.place p ≡ At w.whole) (λ y h same k. absurd (cc (h, k)))
+        (λ y h same k. inv.whole_ring p (ap (λ y. (w.instance y).phase) (sym same) ∙ k)) w.whole refl;
     inside = inv.inside;
     not_started = clock_cases (λ y i. w.starts y.actor < y.instance → i.phase ≡ Unborn) (λ y h. inv.not_started y) (λ y h. inv.not_started y);
     no_zeroth = clock_cases (λ y i. y.instance ≡ 0 → i.phase ≡ Unborn) (λ y h. inv.no_zeroth y) (λ y h. inv.no_zeroth y);

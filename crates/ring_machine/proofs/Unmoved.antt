@@ -12,7 +12,7 @@ use Rattle.ring_machine.specs.Sessions.{Tied, BothTied, Quiet}
 use Rattle.ring_machine.specs.Claims.{Claim, Backed}
 use Rattle.ring_machine.specs.Leases.{Leased, SoundHeir}
 use Rattle.ring_machine.specs.SoundSlots.{AsksFor, SoundSlot}
-use Rattle.ring_machine.specs.SoundFlights.{SoundFlight, FrozenTo, SoundFreeze}
+use Rattle.ring_machine.specs.SoundFlights.{Lost, SoundFlight, FrozenTo, SoundFreeze}
 use Rattle.ring_machine.specs.SoundFrames.{Transferable, SoundFrame}
 use Rattle.ring_machine.specs.Invariant.{Invariant}
 use Rattle.ring_machine.proofs.Later.{Later, AskedBefore, tied_later, both_tied_later, closed_later, freed_later, rests_later, leased_later, backed_later, hello_later, offer_later, renew_later, ack_later, gone_later, open_later}
@@ -146,11 +146,11 @@ module _ {c : Settings} {w : World} (inv : Invariant c w) {time : ℕ} (starts :
   backed_unmoved e f p = keep_both (λ s t. s.far ≡ f → Claim w.sent e f s t.got p → Backed c unmoved e.who f.who p) e f
       (λ far claim. backed_later unmoved_later e.who f.who p (λ o. inl o) (inv.backed e f p far claim))
 
-  pub flights_unmoved : (e f : End) (l : Flight) → (slot unmoved e).far ≡ f → (slot unmoved e).flight ≡ Some l →
+  pub flights_unmoved : (e f : End) (l : Flight) → (slot unmoved e).far ≡ f → (slot unmoved e).flight ≡ Some l → (Lost c unmoved e f → ⊥) →
       SoundFlight (instance e.who).token.next_flight w.place (slot unmoved f).got e f l
-  flights_unmoved e f l = keep_both (λ s t. s.far ≡ f → s.flight ≡ Some l → SoundFlight (instance e.who).token.next_flight w.place t.got e f l) e f
-      (λ far is.
-      let r = inv.flights e f l far is in
+  flights_unmoved e f l = keep_both (λ s t. s.far ≡ f → s.flight ≡ Some l → (Lost c unmoved e f → ⊥) → SoundFlight (instance e.who).token.next_flight w.place t.got e f l) e f
+      (λ far is stands.
+      let r = inv.flights e f l far is (λ lost. stands (u.dies e.who lost.0, u.dies f.who lost.1)) in
       record { numbered = let n = r.numbered in let m = u.next_flights e.who in omega arith; flying = r.flying; whole = r.whole })
 
   pub freezes_unmoved : (f e : End) (z : Freeze) → (instance f.who).token.freeze ≡ Some z → BothTied unmoved f e → SoundFreeze unmoved f e z

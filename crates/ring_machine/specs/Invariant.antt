@@ -8,20 +8,20 @@ use Rattle.ring_machine.specs.Slots.{Flight, is_active}
 use Rattle.ring_machine.specs.Tokens.{Freeze}
 use Rattle.ring_machine.specs.Frames.{Frame}
 use Rattle.drift_clock.specs.Within.{Within}
-use Rattle.ring_machine.specs.World.{Settings, World, Unborn, Running, At, InFlight, Outside, Live, slot, first_of, unborn}
+use Rattle.ring_machine.specs.World.{Settings, World, Unborn, Running, At, InFlight, Outside, Live, slot, unborn}
 use Rattle.ring_machine.specs.Sessions.{BothTied}
 use Rattle.ring_machine.specs.Claims.{Claim, Backed}
 use Rattle.ring_machine.specs.SoundSlots.{SoundSlot}
 use Rattle.ring_machine.specs.SoundFrames.{SoundFrame}
-use Rattle.ring_machine.specs.SoundFlights.{SoundFlight, SoundToken, SoundFreeze}
+use Rattle.ring_machine.specs.SoundFlights.{Lost, SoundFlight, SoundToken, SoundFreeze}
 
 pub record Invariant (c : Settings) (w : World) : Type 0 where
   -- a live instance owns exactly the points that are at it
   pub owned : (x : Who) (p : ℕ) → Live c (w.instance x) → (w.instance x).token.ranges p ≡ true → w.place p ≡ At x
   pub exact : (x : Who) (p : ℕ) → Live c (w.instance x) → w.place p ≡ At x → (w.instance x).token.ranges p ≡ true
-  -- of those that have not started, only the first node's first instance has points: the whole ring, as long as it has not started
-  pub unborn_place : (x : Who) (p : ℕ) → (w.instance x).phase ≡ Unborn → w.place p ≡ At x → (x ≡ first_of c) × (is_point p ≡ true)
-  pub whole_ring : (p : ℕ) → w.starts c.first ≡ 0 → is_point p ≡ true → w.place p ≡ At (first_of c)
+  -- of those that have not started, only the one that is to begin with the whole ring has points: all, as long as it has not started
+  pub unborn_place : (x : Who) (p : ℕ) → (w.instance x).phase ≡ Unborn → w.place p ≡ At x → (x ≡ w.whole) × (is_point p ≡ true)
+  pub whole_ring : (p : ℕ) → (w.instance w.whole).phase ≡ Unborn → is_point p ≡ true → w.place p ≡ At w.whole
   -- every point of the ring is at an instance, or on its way
   pub inside : (p : ℕ) → is_point p ≡ true → w.place p ≡ Outside → ⊥
   -- instances above the count of starts have not started
@@ -41,8 +41,8 @@ pub record Invariant (c : Settings) (w : World) : Type 0 where
       (slot w e).far.who ≡ (slot w f).far.who → e ≡ f
   -- each claim is backed
   pub backed : (e f : End) (p : ℕ) → (slot w e).far ≡ f → Claim w.sent e f (slot w e) (slot w f).got p → Backed c w e.who f.who p
-  -- flights, their numbers, and freezes
-  pub flights : (e f : End) (l : Flight) → (slot w e).far ≡ f → (slot w e).flight ≡ Some l →
+  -- flights that are not lost, their numbers, and freezes
+  pub flights : (e f : End) (l : Flight) → (slot w e).far ≡ f → (slot w e).flight ≡ Some l → (Lost c w e f → ⊥) →
       SoundFlight (w.instance e.who).token.next_flight w.place (slot w f).got e f l
   pub flown : (e f : End) (number p : ℕ) → w.place p ≡ InFlight e f number → number < (w.instance e.who).token.next_flight
   pub counted : (x : Who) → 0 < (w.instance x).token.next_flight

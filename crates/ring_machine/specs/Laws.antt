@@ -1,13 +1,13 @@
 -- The law of the machine, over every valid history.
 use Rattle.std.specs.Prelude.{◌≡◌, ◌↔◌, ℕ, true, List, ◌∷◌, ◌++◌, ◌⊎◌}
 use Rattle.ring_points.specs.declared.who.Who.{Who}
-use Rattle.ring_machine.specs.Points.{Points}
+use Rattle.ring_machine.specs.Points.{Points, is_point}
 use Rattle.ring_machine.specs.Ends.{End, end_of}
 use Rattle.ring_machine.specs.Slots.{Slot}
 use Rattle.ring_machine.specs.World.{Settings, World, At, InFlight, Live, Holds, slot}
 use Rattle.ring_machine.specs.Arbitration.{HeirBy, AnsweredBy}
 use Rattle.ring_machine.specs.Deeds.{InSlot, SlotDeed, PartGiven, FlightTaken, FlightReturned, TakenOver}
-use Rattle.ring_machine.specs.Events.{Event, Does, IsSound, Valid, world_after, after}
+use Rattle.ring_machine.specs.Events.{Event, Again, Does, IsSound, Valid, world_after, after}
 use Rattle.ring_machine.specs.SoundFlights.{IsWhole}
 use Rattle.ring_machine.specs.Invariant.{Invariant}
 
@@ -53,10 +53,12 @@ MovesInSlot w e s (TakenOver part) stay =
 MovesInSlot w e s deed stay = stay
 
 -- four deeds move points, each from where they are: a part that is given from the giver, a flight that is taken or
--- returned from its flight, and what is taken over from the accused instance or from the heir's flight to it
+-- returned from its flight, and what is taken over from the accused instance or from the heir's flight to it; where the
+-- ring comes back, all points come to one instance
 abbrev pub Moves : Settings → World → Event → Type 0
 Moves c w (Does x (InSlot number deed)) =
     MovesInSlot w (end_of x number) (slot w (end_of x number)) deed ((after c w (Does x (InSlot number deed))).place ≡ w.place)
+Moves c w (Again x) = (p : ℕ) → is_point p ≡ true → (after c w (Again x)).place p ≡ At x
 Moves c w event = (after c w event).place ≡ w.place
 
 abbrev pub EachMovesFromItsPlace : Type 0

@@ -6,11 +6,15 @@ use Rattle.ring_machine.specs.Ends.{End}
 use Rattle.ring_machine.specs.Slots.{Flight}
 use Rattle.ring_machine.specs.Tokens.{Token, Freeze}
 use Rattle.ring_machine.specs.Frames.{Frame, Renew, RenewAck}
-use Rattle.ring_machine.specs.World.{World, Place, InFlight, slot}
+use Rattle.ring_machine.specs.World.{Settings, World, Place, InFlight, Dead, slot}
 
 -- the points on their way under this number of e's instance are among the part
 abbrev pub IsWhole : (ℕ → Place) → End → ℕ → Points → Type 0
 IsWhole place e number part = (g h : End) (p : ℕ) → g.who ≡ e.who → place p ≡ InFlight g h number → part p ≡ true
+
+-- both sides of the session are dead; if the ring came back since, what flew between them is elsewhere
+abbrev pub Lost : Settings → World → End → End → Type 0
+Lost c w e f = Dead c (w.instance e.who) × Dead c (w.instance f.who)
 
 -- a flight that stands at e, for f: its points are on their way until f takes it. got is the last flight that f took
 pub record SoundFlight (next_flight : ℕ) (place : ℕ → Place) (got : ℕ) (e f : End) (l : Flight) : Type 0 where

@@ -38,12 +38,13 @@ pub data Place : Type 0 where
   InFlight : (giver receiver : End) → (number : ℕ) → Place
   Outside : Place
 
--- starts is how often each node was started; first_accuser is the table of each arbitrator, by the accused instance, and
+-- starts is how often each node was started; whole is the instance that begins with the whole ring; first_accuser is the table of each arbitrator, by the accused instance, and
 -- first_claimer that of its later rounds, by the accused instance and the round;
 -- sent has the latest frame first; place is told by no instance
 pub record World : Type 0 where
   pub time : ℕ
   pub starts : ℕ → ℕ
+  pub whole : Who
   pub instance : Who → Instance
   pub first_accuser : ℕ → Who → Option Who
   pub first_claimer : ℕ → Who → ℕ → Option Who
@@ -85,27 +86,32 @@ unborn = record {
   token = record { ranges = no_points; version = 0; freeze = None; next_flight = 1 };
 }
 
--- at its start: the first instance of the first node has the whole ring, every other nothing
-abbrev pub born : Settings → ℕ → Who → ℕ → Instance
-born c time x reading = record {
+-- at its start: one instance has the whole ring, every other nothing
+abbrev pub born : (whole : Who) → ℕ → Who → ℕ → Instance
+born whole time x reading = record {
   phase = Running;
   reading = reading;
   pairs = (time, reading) ∷ [];
   slots = λ m. unused_slot;
   next_session = 1;
-  token = record { ranges = λ p. same_who x (first_of c) && is_point p; version = 1; freeze = None; next_flight = 1 };
+  token = record { ranges = λ p. same_who x whole && is_point p; version = 1; freeze = None; next_flight = 1 };
 }
 
--- before any start, all points are at the first instance of the first node
+-- where all points of the ring are at one instance
+abbrev pub all_at : Who → ℕ → Place
+all_at x p = cond (is_point p) (At x) Outside
+
+-- before any start, all points are at the first instance of the first node, which begins with them
 abbrev pub empty_world : Settings → World
 empty_world c = record {
   time = 0;
   starts = λ node. 0;
+  whole = first_of c;
   instance = λ x. unborn;
   first_accuser = λ arbiter victim. None;
   first_claimer = λ arbiter victim round. None;
   sent = [];
-  place = λ p. cond (is_point p) (At (first_of c)) Outside;
+  place = all_at (first_of c);
 }
 
 abbrev pub is_running : Phase → Bool

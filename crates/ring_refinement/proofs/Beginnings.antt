@@ -63,14 +63,14 @@ left_stays c m x r inv shows left = record {
 }
   where
     stands : (m : World) (x : Who) → Beside m x m
-    stands m x = record { time = refl; starts = refl; first_accuser = refl; first_claimer = refl; reading = refl; pairs = refl; others = λ y n. refl; sent = λ f h. h }
+    stands m x = record { time = refl; starts = refl; whole = refl; first_accuser = refl; first_claimer = refl; reading = refl; pairs = refl; others = λ y n. refl; sent = λ f h. h }
 
 module _ {c : FabricConfig} {m : World} {x : Who} {r : Ring} (sound : IsSound (machine_of c)) (inv : Invariant (machine_of c) m) (shows : ShowsInstance c x m.sent (m.instance x) r) where
   pub stands_at_first : Standing c m x (begun r)
   stands_at_first = record {
     after = m;
     inv = inv;
-    beside = record { time = refl; starts = refl; first_accuser = refl; first_claimer = refl; reading = refl; pairs = refl; others = λ y n. refl; sent = λ f h. h };
+    beside = record { time = refl; starts = refl; whole = refl; first_accuser = refl; first_claimer = refl; reading = refl; pairs = refl; others = λ y n. refl; sent = λ f h. h };
     dies = λ y h. h;
     shows = shows;
     sent = tt;
@@ -92,7 +92,7 @@ module _ {c : FabricConfig} {m : World} {x : Who} {r : Ring} (sound : IsSound (m
     after = m;
     inv = inv;
     live = record { running = shows.running; below = below now read past };
-    beside = record { time = refl; starts = refl; first_accuser = refl; first_claimer = refl; reading = refl; pairs = refl; others = λ y n. refl; sent = λ f h. h };
+    beside = record { time = refl; starts = refl; whole = refl; first_accuser = refl; first_claimer = refl; reading = refl; pairs = refl; others = λ y n. refl; sent = λ f h. h };
     dies = λ y h. h;
     reading = read;
     stays = stays;

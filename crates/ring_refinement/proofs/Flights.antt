@@ -52,7 +52,7 @@ module _ {c : FabricConfig} {m : World} {x : Who} {now : ℕ} {w : Work} (sound 
   v = g.after
 
   abbrev first : Who
-  first = world.first_of (machine_of c)
+  first = v.whole
 
   -- a flight is taken
   taken : (i : ℕ) (l : Link) (number : ℕ) (part : List Interval) → slot_at i w.ring.slots ≡ Some l → l.state ≡ state.Bound → Rises part →

@@ -73,8 +73,8 @@ module _ {c : FabricConfig} {m : World} {x : Who} {now : ℕ} {w : Work} (sound 
         wrongs = λ h. absurd (let t = ap (λ s. is_wronged (state_of s)) is in cc (t, h));
         sent = λ h. all_said_both c.lease _ x w.sent _ h (record { image = inl refl; rises = rises; no_ruling = refl }, tt);
         moved = λ n P h. subst (λ (Q : ℕ → Place). MovedBy x (w.told ++ report.Gave l.peer w.ring.token.next_flight z.part ∷ []) n P (w.ring.token.next_flight + 1) Q)
-            (moved_is (world.first_of (machine_of c)) (world.InFlight (end_of x l.mine) (end_of l.peer l.yours) w.ring.token.next_flight) z.part g.after.place)
-            (moved_and x w.told n w.ring.token.next_flight P (places_of (world.first_of (machine_of c)) g.after) (report.Gave l.peer w.ring.token.next_flight z.part) h from refl);
+            (moved_is (g.after.whole) (world.InFlight (end_of x l.mine) (end_of l.peer l.yours) w.ring.token.next_flight) z.part g.after.place)
+            (moved_and x w.told n w.ring.token.next_flight P (places_of (g.after.whole) g.after) (report.Gave l.peer w.ring.token.next_flight z.part) h from refl);
         over = λ h. over_and (machine_of c) g.after w.told (report.Gave l.peer w.ring.token.next_flight z.part) h tt;
       })
     where
@@ -92,8 +92,8 @@ module _ {c : FabricConfig} {m : World} {x : Who} {now : ℕ} {w : Work} (sound 
           AllAcked z.version (g.after.instance x).slots
       may = (ap state_of is, ap (freeze_of w.ring.slots) frozen, acked_shown z.version all)
 
-      from : TakesFrom x (report.Gave l.peer w.ring.token.next_flight z.part) (places_of (world.first_of (machine_of c)) g.after)
-      from p h = ap (place_of (world.first_of (machine_of c)))
+      from : TakesFrom x (report.Gave l.peer w.ring.token.next_flight z.part) (places_of (g.after.whole) g.after)
+      from p h = ap (place_of (g.after.whole))
           (moves sound g z.slot l at (PartGiven (record { part = points_of z.part; number = number_of (slot_at z.slot w.ring.slots); version = z.version })) may p h)
 
   pub freeze_given_went : Went c m x now (freeze_given w)

@@ -18,7 +18,7 @@ use Rattle.ring_machine.specs.Ends.{end_of, replaced}
 use Rattle.ring_machine.specs.Slots.{Slot}
 use Rattle.ring_machine.specs.Tokens as machine
 use Rattle.ring_machine.specs.Frames.{Frame}
-use Rattle.ring_machine.specs.World.{Settings, Instance, World, Live, Dead, first_of, slot}
+use Rattle.ring_machine.specs.World.{Settings, Instance, World, Live, Dead, slot}
 use Rattle.ring_machine.specs.Deeds.{SlotDeed, InSlot}
 use Rattle.ring_machine.specs.Guards.{MayInSlot}
 use Rattle.ring_machine.specs.Effects.{Outcome, outcome, effect, changed, stepped, done}
@@ -49,8 +49,8 @@ pub record Going (c : FabricConfig) (m : World) (x : Who) (now : ℕ) (w : Work)
   pub shows : ShowsInstance c x after.sent (after.instance x) w.ring
   pub sent : AllSaid c.lease after.sent x w.sent
   pub moved :
-      MovedBy x w.told (m.instance x).token.next_flight (places_of (first_of (machine_of c)) m) w.ring.token.next_flight
-      (places_of (first_of (machine_of c)) after)
+      MovedBy x w.told (m.instance x).token.next_flight (places_of after.whole m) w.ring.token.next_flight
+      (places_of after.whole after)
   pub over : AreOver (machine_of c) after w.told
 
 -- What a deed of the slot of number n, whose outcome is out in the world v, has to be of the work w, which is u then.
@@ -67,8 +67,8 @@ pub record Makes (c : FabricConfig) (x : Who) (v : World) (w : Work) (i n next :
   pub accuses : (y : Who) → IsMember y w.ring.accused → IsMember y u.ring.accused
   pub wrongs : is_wronged out.slot.state ≡ true → IsMember out.slot.far.who u.ring.accused
   pub sent : AllSaid c.lease (out.sent ++ v.sent) x w.sent → AllSaid c.lease (out.sent ++ v.sent) x u.sent
-  pub moved : (k : ℕ) (P : ℕ → Place) → MovedBy x w.told k P w.ring.token.next_flight (places_of (first_of (machine_of c)) v) →
-      MovedBy x u.told k P u.ring.token.next_flight (λ p. place_of (first_of (machine_of c)) (out.place p))
+  pub moved : (k : ℕ) (P : ℕ → Place) → MovedBy x w.told k P w.ring.token.next_flight (places_of v.whole v) →
+      MovedBy x u.told k P u.ring.token.next_flight (λ p. place_of v.whole (out.place p))
   pub over : AreOver (machine_of c) v w.told → AreOver (machine_of c) v u.told
 
 -- what deeds of x leave, one after another
@@ -76,6 +76,7 @@ pub beside_then : (m v u : World) (x : Who) → Beside m x v → Beside v x u �
 beside_then m v u x a b = record {
   time = b.time ∙ a.time;
   starts = b.starts ∙ a.starts;
+  whole = b.whole ∙ a.whole;
   first_accuser = b.first_accuser ∙ a.first_accuser;
   first_claimer = b.first_claimer ∙ a.first_claimer;
   reading = b.reading ∙ a.reading;
@@ -89,6 +90,7 @@ pub beside_done : (k : Settings) (v u : World) (x : Who) → DeedsDone k v x u �
 beside_done k v u x d pairs = record {
   time = d.rest.time;
   starts = d.rest.starts;
+  whole = d.rest.whole;
   first_accuser = d.rest.first_accuser;
   first_claimer = d.rest.first_claimer;
   reading = d.rest.reading;

@@ -43,7 +43,7 @@ module _ {c : FabricConfig} {m : World} {x : Who} {now : ℕ} {w : Work} (sound 
   v = g.after
 
   abbrev first : Who
-  first = world.first_of (machine_of c)
+  first = v.whole
 
   -- an heir takes over
   takes_over : (i : ℕ) (l : Link) → slot_at i w.ring.slots ≡ Some l → l.state ≡ state.Heir → l.ripe ≤ now → (q : Bool) →
@@ -99,8 +99,8 @@ module _ {c : FabricConfig} {m : World} {x : Who} {now : ℕ} {w : Work} (sound 
       elsewhere : (z : Freeze) → w.ring.token.freeze ≡ Some z → i ≡ z.slot → ⊥
       elsewhere z h = not_frozen w.ring.slots i l at (λ b. cc (b, is)) z.slot (g.shows.frozen z h)
 
-      from : TakesFrom x (report.TookOver l.peer (inherited w.ring.token l.held (flight_part l.flight))) (places_of (world.first_of (machine_of c)) g.after)
-      from p h = ⊎_elim (λ e. inl (ap (place_of (world.first_of (machine_of c))) e)) (λ e. inr (e.0, ap (place_of (world.first_of (machine_of c))) e.1))
+      from : TakesFrom x (report.TookOver l.peer (inherited w.ring.token l.held (flight_part l.flight))) (places_of (g.after.whole) g.after)
+      from p h = ⊎_elim (λ e. inl (ap (place_of (g.after.whole)) e)) (λ e. inr (e.0, ap (place_of (g.after.whole)) e.1))
           (moves sound g i l at (TakenOver (points_of (inherited w.ring.token l.held (flight_part l.flight)))) may p h)
 
       kept : slot g.after (end_of x l.mine) ≡ slot_of l

@@ -28,7 +28,7 @@ module _ {c : FabricConfig} {m : World} {x : Who} {now : ℕ} {w : Work} (sound 
   v = g.after
 
   abbrev first : Who
-  first = world.first_of (machine_of c)
+  first = v.whole
 
   -- as it stands
   pub still_refined : Refined c m x w
@@ -54,8 +54,8 @@ pub record Standing (c : FabricConfig) (m : World) (x : Who) (w : Work) : Type 0
   pub shows : ShowsInstance c x after.sent (after.instance x) w.ring
   pub sent : AllSaid c.lease after.sent x w.sent
   pub moved :
-      MovedBy x w.told (m.instance x).token.next_flight (places_of (world.first_of (machine_of c)) m) w.ring.token.next_flight
-      (places_of (world.first_of (machine_of c)) after)
+      MovedBy x w.told (m.instance x).token.next_flight (places_of after.whole m) w.ring.token.next_flight
+      (places_of after.whole after)
   pub over : AreOver (machine_of c) after w.told
 
 pub going_stands : {c : FabricConfig} {m : World} {x : Who} {now : ℕ} {w : Work} → Going c m x now w → Standing c m x w
@@ -63,7 +63,7 @@ going_stands g = record { after = g.after; inv = g.inv; beside = g.beside; dies 
 
 module _ {c : FabricConfig} {m : World} {x : Who} {w : Work} (sound : IsSound (machine_of c)) (s : Standing c m x w) where
   abbrev first_one : Who
-  first_one = world.first_of (machine_of c)
+  first_one = s.after.whole
 
   -- it leaves
   pub leave_refined : (why : Why) → Refined c m x (leave why w)
@@ -73,6 +73,7 @@ module _ {c : FabricConfig} {m : World} {x : Who} {w : Work} (sound : IsSound (m
     beside = beside_then m s.after u x s.beside (record {
       time = refl;
       starts = refl;
+      whole = refl;
       first_accuser = refl;
       first_claimer = refl;
       reading = ap (λ (i : Instance). i.reading) own;

@@ -33,7 +33,7 @@ module _ {c : FabricConfig} {m : World} {x : Who} {now : ℕ} {w : Work} (sound 
   v = g.after
 
   abbrev first : Who
-  first = world.first_of (machine_of c)
+  first = v.whole
 
   -- a report that moves no point
   pub tells : (r : Report) → TakesFrom x r (places_of first v) → IsNext r w.ring.token.next_flight → next_after r w.ring.token.next_flight ≡ w.ring.token.next_flight →

@@ -22,7 +22,7 @@ use Rattle.fabric_lemmas.specs.Members.{IsMember}
 use Rattle.ring_machine.specs.Ends.{End, end_of}
 use Rattle.ring_machine.specs.Slots.{Slot, is_active}
 use Rattle.ring_machine.specs.Frames.{Frame}
-use Rattle.ring_machine.specs.World.{World, first_of}
+use Rattle.ring_machine.specs.World.{World}
 use Rattle.ring_machine.specs.Deeds.{SlotDeed}
 use Rattle.ring_machine.specs.Guards.{MayInSlot, IsAlone}
 use Rattle.ring_machine.specs.Effects.{Outcome, outcome, effect, stepped}
@@ -58,7 +58,7 @@ module _ {c : FabricConfig} {m : World} {x : Who} {now : ℕ} {w : Work} (sound 
 
   -- the reports so far lead to where the points are
   abbrev pub Led : List Report → ℕ → (ℕ → Place) → Type 0
-  Led rs k P = MovedBy x rs k P w.ring.token.next_flight (places_of (first_of (machine_of c)) v)
+  Led rs k P = MovedBy x rs k P w.ring.token.next_flight (places_of v.whole v)
 
   -- what else changes with a slot: the phase, what is sent and what is told, which moves nothing
   pub record Besides (frames : List Frame) (p : Phase) (sent : List (Who × Body)) (told : List Report) : Type 0 where

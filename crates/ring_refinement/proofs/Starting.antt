@@ -1,5 +1,5 @@
 -- The ring of a node that starts shows its new instance.
-use Rattle.std.proofs.Common.{◌≡◌, ℕ, ◌^◌, ◌==◌, ◌&&◌, nat_lt, Bool, true, false, List, [], Some, refl, sym, ◌∙◌, subst, inl, arith}
+use Rattle.std.proofs.Common.{◌≡◌, ℕ, ◌^◌, ◌&&◌, nat_lt, Bool, true, false, List, [], Some, refl, sym, ◌∙◌, subst, inl, arith}
 use Rattle.std.proofs.lemmas.Bool.Decides.{nat_tests}
 use Rattle.ring_points.specs.declared.interval.Interval.{Interval}
 use Rattle.ring_points.specs.declared.who.Who.{Who}
@@ -15,7 +15,7 @@ use Rattle.ring_rules.specs.Starts.{new_ring, start_first}
 use Rattle.ring_rules.proofs.Rows.{node_started-is}
 use Rattle.ring_machine.specs.Points.{Points, is_point}
 use Rattle.ring_machine.specs.Frames.{Frame}
-use Rattle.ring_machine.specs.World.{Instance, first_of, born}
+use Rattle.ring_machine.specs.World.{Instance, born}
 use Rattle.ring_machine.specs.Events.{next_instance, started}
 use Rattle.ring_points.proofs.Whos.{same_who-false}
 use Rattle.ring_machine.proofs.Whos.{updated_cases}
@@ -37,15 +37,15 @@ whole_is = λ j p. one p j
     one : (p : ℕ) → nat_lt p (2 ^ 64) ≡ in_ranges p whole_ring
     one p = grind (arith, nat_tests)
 
-module _ (c : FabricConfig) (time reading : ℕ) (x : Who) (sent : List Frame) where
+module _ (c : FabricConfig) (time reading : ℕ) (whole x : Who) (sent : List Frame) where
   -- a ring that owns what its new instance owns
-  shown : (phase : Phase) (ranges : List Interval) → Rises ranges → (b : Bool) → same_who x (first_of (machine_of c)) ≡ b →
-      ◌≡◌ {A = Points} (λ p. b && is_point p) (points_of ranges) → ShowsInstance c x sent (born (machine_of c) time x reading) (new_ring c x phase ranges)
+  shown : (phase : Phase) (ranges : List Interval) → Rises ranges → (b : Bool) → same_who x whole ≡ b →
+      ◌≡◌ {A = Points} (λ p. b && is_point p) (points_of ranges) → ShowsInstance c x sent (born whole time x reading) (new_ring c x phase ranges)
   shown phase ranges rises b first owns = record {
     me = refl;
     running = refl;
-    token = (λ j. record (born (machine_of c) time x reading).token { ranges = λ p. first j && is_point p }) ∙
-        (λ j. record (born (machine_of c) time x reading).token { ranges = owns j });
+    token = (λ j. record (born whole time x reading).token { ranges = λ p. first j && is_point p }) ∙
+        (λ j. record (born whole time x reading).token { ranges = owns j });
     next = refl;
     slots = record {
       kept = λ i l at. absurd (none_held i l at);
@@ -61,21 +61,18 @@ module _ (c : FabricConfig) (time reading : ℕ) (x : Who) (sent : List Frame) w
   }
 
 pub start_is_shown_lem : StartIsShown
-start_is_shown_lem c node reading m =
-    subst (λ (u : Work). Shows c (started (machine_of c) m node reading) (next_instance m node) u.ring)
-    (sym (node_started-is c (next_instance m node) false))
-    (go ((next_instance m node).actor == c.first && (next_instance m node).instance == 1) refl)
+start_is_shown_lem c node reading m = go (same_who (next_instance m node) m.whole) refl
   where
-    own : (started (machine_of c) m node reading).instance (next_instance m node) ≡ born (machine_of c) m.time (next_instance m node) reading
-    own = updated_cases (λ i. i ≡ born (machine_of c) m.time (next_instance m node) reading) m.instance (next_instance m node) (next_instance m node)
-        (born (machine_of c) m.time (next_instance m node) reading) (λ e. refl) (λ a. absurd (same_who-false (next_instance m node) (next_instance m node) a refl))
+    own : (started (machine_of c) m node reading).instance (next_instance m node) ≡ born m.whole m.time (next_instance m node) reading
+    own = updated_cases (λ i. i ≡ born m.whole m.time (next_instance m node) reading) m.instance (next_instance m node) (next_instance m node)
+        (born m.whole m.time (next_instance m node) reading) (λ e. refl) (λ a. absurd (same_who-false (next_instance m node) (next_instance m node) a refl))
 
-    go : (b : Bool) → ((next_instance m node).actor == c.first && (next_instance m node).instance == 1) ≡ b →
+    go : (b : Bool) → same_who (next_instance m node) m.whole ≡ b →
         Shows c (started (machine_of c) m node reading) (next_instance m node) (start_first c (next_instance m node) b).ring
     go true e = subst (λ (i : Instance). ShowsInstance c (next_instance m node) m.sent i (new_ring c (next_instance m node) routing whole_ring)) (sym own)
-        (shown c m.time reading (next_instance m node) m.sent routing whole_ring refl true e whole_is)
+        (shown c m.time reading m.whole (next_instance m node) m.sent routing whole_ring refl true e whole_is)
     go false e = subst (λ (i : Instance). ShowsInstance c (next_instance m node) m.sent i (new_ring c (next_instance m node) seeking [])) (sym own)
-        (shown c m.time reading (next_instance m node) m.sent seeking [] refl false e refl)
+        (shown c m.time reading m.whole (next_instance m node) m.sent seeking [] refl false e refl)
 
 pub spent_is_left_lem : SpentIsLeft
 spent_is_left_lem c m x still =

@@ -82,7 +82,7 @@ module _ {c : FabricConfig} {m : World} {x : Who} {now : ℕ} {w : Work} (sound 
   v = g.after
 
   abbrev first : Who
-  first = world.first_of (machine_of c)
+  first = v.whole
 
   -- a deed moves its points from where they are
   pub moves : (i : ℕ) (l : Link) → slot_at i w.ring.slots ≡ Some l → (deed : SlotDeed) →

@@ -1,12 +1,13 @@
 -- Each step of a ring is deeds of the machine.
 use Rattle.std.specs.Prelude.{◌≡◌, ℕ, true, false}
 use Rattle.ring_points.specs.declared.who.Who.{Who}
+use Rattle.ring_points.specs.Whos.{same_who}
 use Rattle.fabric_terms.specs.declared.config.FabricConfig.{FabricConfig}
 use Rattle.join_phases.specs.Phases.{is_left}
 use Rattle.ring_rules.specs.declared.input.Input.{Input}
 use Rattle.ring_rules.specs.declared.input.Input.TheVariants as input
 use Rattle.ring_rules.specs.Rings.{Ring, settings_of}
-use Rattle.ring_rules.specs.Starts.{node_started}
+use Rattle.ring_rules.specs.Starts.{node_started, start_first}
 use Rattle.ring_rules.specs.Steps.{ring_step}
 use Rattle.ring_machine.specs.World.{World, Running}
 use Rattle.ring_machine.specs.Events.{IsSound, next_instance, started}
@@ -26,11 +27,12 @@ StepIsDeeds =
     (c : FabricConfig) (node now : ℕ) (m : World) (x : Who) (r : Ring) (i : Input) → IsSound (machine_of c) → Invariant (machine_of c) m →
     Shows c m x r → (is_left r.phase ≡ false → (m.instance x).reading ≡ now) → Comes c m i → Refined c m x (ring_step (settings_of c node) now i r)
 
--- the ring of a node that starts is that of its next instance
+-- the ring of a node that starts is that of its next instance, which has the whole ring if it is the one that begins with it
 abbrev pub StartIsShown : Type 0
 StartIsShown =
     (c : FabricConfig) (node reading : ℕ) (m : World) →
-    Shows c (started (machine_of c) m node reading) (next_instance m node) (node_started c (next_instance m node) false).ring
+    Shows c (started (machine_of c) m node reading) (next_instance m node)
+    (start_first c (next_instance m node) (same_who (next_instance m node) m.whole)).ring
 
 -- where all numbers of instances are spent, the ring has left from the start
 abbrev pub SpentIsLeft : Type 0

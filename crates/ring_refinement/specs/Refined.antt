@@ -9,7 +9,7 @@ use Rattle.join_phases.specs.Phases.{is_left}
 use Rattle.ring_rules.specs.Rings.{Work}
 use Rattle.fabric_lemmas.specs.Members.{IsMember}
 use Rattle.ring_machine.specs.Frames.{Frame}
-use Rattle.ring_machine.specs.World.{World, Live, Dead, first_of}
+use Rattle.ring_machine.specs.World.{World, Live, Dead}
 use Rattle.ring_machine.specs.Invariant.{Invariant}
 use Rattle.ring_refinement.specs.Images.{machine_of, frame_of, IsSent, ranges_in, is_ruling}
 use Rattle.ring_refinement.specs.Shown.{Shows}
@@ -29,6 +29,7 @@ AllSaid lease sent from (s ∷ ss) = Said lease sent from s.0 s.1 × AllSaid lea
 pub record Beside (w : World) (x : Who) (v : World) : Type 0 where
   pub time : v.time ≡ w.time
   pub starts : v.starts ≡ w.starts
+  pub whole : v.whole ≡ w.whole
   pub first_accuser : v.first_accuser ≡ w.first_accuser
   pub first_claimer : v.first_claimer ≡ w.first_claimer
   pub reading : (v.instance x).reading ≡ (w.instance x).reading
@@ -48,6 +49,6 @@ pub record Refined (c : FabricConfig) (m : World) (x : Who) (w : Work) : Type 0 
   pub shows : Shows c after x w.ring
   pub sent : AllSaid c.lease after.sent x w.sent
   pub moved :
-      MovedBy x w.told (m.instance x).token.next_flight (places_of (first_of (machine_of c)) m) (after.instance x).token.next_flight
-      (places_of (first_of (machine_of c)) after)
+      MovedBy x w.told (m.instance x).token.next_flight (places_of after.whole m) (after.instance x).token.next_flight
+      (places_of after.whole after)
   pub over : AreOver (machine_of c) after w.told

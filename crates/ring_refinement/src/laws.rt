@@ -7,7 +7,8 @@ pub fn each_step_is_deeds()
     ensures { StepIsDeeds }
 {}
 
-/// The ring of a node that starts shows the instance that starts on the machine.
+/// The ring of a node that starts shows the instance that starts on the machine. It has the whole ring if it is the one
+/// that begins with it.
 pub fn a_start_is_shown()
     ensures { StartIsShown }
 {}

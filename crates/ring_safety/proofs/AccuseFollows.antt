@@ -7,7 +7,6 @@ use Rattle.fabric_terms.specs.declared.message.Body.{Body}
 use Rattle.fabric_terms.specs.declared.message.Body.TheVariants as body
 use Rattle.fabric_terms.specs.declared.message.Message.{Message}
 use Rattle.fabric_terms.specs.declared.record.Record.{Record}
-use Rattle.fabric_terms.specs.Reports.{Told}
 use Rattle.ring_points.specs.declared.who.Ruling.TheVariants.{Granted, Taken}
 use Rattle.ring_points.specs.declared.who.Who.{Who}
 use Rattle.ring_points.specs.Whos.{same_who, arbiter_actor}
@@ -31,6 +30,7 @@ use Rattle.ring_safety.proofs.Follows.{Follows, Known, is_accusation}
 use Rattle.run_facts.proofs.Kept.{kept_here, kept_there, table_append}
 use Rattle.run_facts.proofs.Tables.{table_of, two_arbiters}
 use Rattle.ring_safety.proofs.Rules.{Rule}
+use Rattle.ring_safety.proofs.Tales.{Tale}
 
 -- who is found after one accusation more
 
@@ -84,7 +84,7 @@ same_ruling x (Some z) b = refl
 same_ruling x None None = refl
 same_ruling x None (Some z) = refl
 
-module _ (a : Upper) (c : FabricConfig) (w : World a) (t : Told) (m : machine.World) (f : Follows c w t m) (arbiter : ℕ) (g : Message)
+module _ (a : Upper) (c : FabricConfig) (w : World a) (t : Tale) (m : machine.World) (f : Follows c w t m) (arbiter : ℕ) (g : Message)
     (s : ArbiterState a) (sent_was : IsMember g w.frames) (kept : s.table ≡ table_of w (arbiter_actor arbiter)) where
   abbrev me : Who
   me = arbiter_who arbiter
@@ -184,6 +184,7 @@ module _ (a : Upper) (c : FabricConfig) (w : World a) (t : Told) (m : machine.Wo
       time = refl;
       starts = refl;
       instances = refl;
+      whole = refl;
       places = refl;
       sent = λ e k. inr k;
       tables = record {

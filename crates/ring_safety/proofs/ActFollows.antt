@@ -4,7 +4,6 @@ use Rattle.std.specs.List.{list_any}
 use Rattle.fabric_terms.specs.declared.config.FabricConfig.{FabricConfig}
 use Rattle.fabric_terms.specs.declared.report.Report.{Report}
 use Rattle.fabric_terms.specs.Places.{tells_leave}
-use Rattle.fabric_terms.specs.Reports.{Told, told_in}
 use Rattle.join_phases.specs.Phases.{is_left}
 use Rattle.ring_points.specs.declared.who.Who.{Who}
 use Rattle.ring_points.specs.Whos.{node_instance}
@@ -14,6 +13,7 @@ use Rattle.ring_machine.specs.Events as events
 use Rattle.ring_refinement.specs.Images.{machine_of}
 use Rattle.ring_refinement.proofs.Steps.{step_is_deeds_lem}
 use Rattle.ring_refinement.specs.Laws.{Comes}
+use Rattle.ring_refinement.specs.Moves.{MovedBy, places_of}
 use Rattle.ring_refinement.specs.Refined.{Refined}
 use Rattle.ring_rules.specs.declared.input.Input.{Input}
 use Rattle.ring_rules.specs.declared.input.Input.TheVariants as input
@@ -34,9 +34,10 @@ use Rattle.run_facts.proofs.Kept.{boots_still, no_boots, no_entries}
 use Rattle.ring_safety.proofs.Moves.{moves, moved_quietly, over_quietly, others_move}
 use Rattle.ring_safety.proofs.NodeFollows.{Named, Follow, node_follows}
 use Rattle.run_facts.proofs.Steps.{Acted, acted_told, acts_out, ring_stepped}
+use Rattle.ring_safety.proofs.Tales.{Tale, tale_in}
 
 -- a world of the machine that follows
-pub record Followed {a : Upper} (c : FabricConfig) (w : World a) (t : Told) : Type 0 where
+pub record Followed {a : Upper} (c : FabricConfig) (w : World a) (t : Tale) : Type 0 where
   pub world : machine.World
   pub follows : Follows c w t world
 
@@ -56,7 +57,7 @@ pub record Numbered {a : Upper} (w : World a) : Type 0 where
 pub named : {a : Upper} (w : World a) → Numbered w → Named w
 named w n node s there = ap (λ (z : Who). z.actor) (n.name node s there)
 
-module _ (a : Upper) (c : FabricConfig) (w : World a) (t : Told) (m : machine.World) (n : Numbered w) (f : Follows c w t m) where
+module _ (a : Upper) (c : FabricConfig) (w : World a) (t : Tale) (m : machine.World) (n : Numbered w) (f : Follows c w t m) where
   -- a frame that comes was sent
   comes : (node : ℕ) (i : Input) → CameTo w node i → Comes c m i
   comes node (input.Frame g) came = (f.frames g came.0).posted
@@ -79,6 +80,7 @@ module _ (a : Upper) (c : FabricConfig) (w : World a) (t : Told) (m : machine.Wo
       before = λ z h. let same : s ≡ z = cc (there, h) in ap (λ (z : real.Running a). z.node.ring.me) (sym same);
       inv = r.inv;
       time = r.beside.time ∙ f.time;
+      whole = r.beside.whole;
       starts = λ q.
           (λ i. r.beside.starts i q)
           ∙ (f.starts q ∙ sym (boots_still w k.ring.me u.records (k.sent ++ u.sent) (no_boots u.records out.records) q));
@@ -97,14 +99,18 @@ module _ (a : Upper) (c : FabricConfig) (w : World a) (t : Told) (m : machine.Wo
           (λ g. known_other c.lease r.after.sent x z.0 z.1 (none_passes (λ q. is_ring_frame q.1) u.sent z out.sends g))
           (IsMember-append_cases z k.sent u.sent h);
       moved =
-          moved_quietly x (k.told ++ u.told) last (next_of m x) (next_of r.after x) (places_in c m) (places_in c r.after) quiet_last
-          (moved_quietly x k.told u.told (next_of m x) (next_of r.after x) (places_in c m) (places_in c r.after) (others_move u.told out.tells) r.moved);
+          moved_quietly x (k.told ++ u.told) last (next_of m x) (next_of r.after x) (places_in t m) (places_in t r.after) quiet_last
+          (moved_quietly x k.told u.told (next_of m x) (next_of r.after x) (places_in t m) (places_in t r.after) (others_move u.told out.tells) moved);
       dies = r.dies;
       over =
           over_quietly (machine_of c) r.after (k.told ++ u.told) last quiet_last
           (over_quietly (machine_of c) r.after k.told u.told (others_move u.told out.tells) r.over);
     }
       where
+        moved : MovedBy x k.told (next_of m x) (places_in t m) (next_of r.after x) (places_in t r.after)
+        moved =
+            subst (λ (z : Who). MovedBy x k.told (next_of m x) (places_of z m) (next_of r.after x) (places_of z r.after)) (r.beside.whole ∙ f.whole) r.moved
+
         stayed_before : (told old : Bool) → (told || old) ≡ false → old ≡ false
         stayed_before true old h = absurd (cc (h))
         stayed_before false old h = h
@@ -116,7 +122,7 @@ module _ (a : Upper) (c : FabricConfig) (w : World a) (t : Told) (m : machine.Wo
         quiet_last = own_moves (settings_of c x.actor) s.node.ring k.ring
 
   pub acts_follow : StaysAbove a → events.IsSound (machine_of c) → (node : ℕ) (i : Input) (s : real.Running a) → at node w.nodes ≡ Some s →
-      CameTo w node i → Followed c (node_acts a c w node i s).world (told_in (node_acts a c w node i s).entry t)
+      CameTo w node i → Followed c (node_acts a c w node i s).world (tale_in (node_acts a c w node i s).entry t)
   acts_follow stays sound node i s there came =
       let x : Who = s.node.ring.me in
       let set : Settings = settings_of c x.actor in
@@ -129,7 +135,7 @@ module _ (a : Upper) (c : FabricConfig) (w : World a) (t : Told) (m : machine.Wo
       let acted = acted_told c x.actor s.node.ring k u.told u.records (ring_stepped set s.reading i s.node.ring) out.tells out.records in
       subst
       (λ (d : Did (NodeState a)).
-      Followed c (node_acted a w node s.reading s.pairs d).world (told_in (node_acted a w node s.reading s.pairs d).entry t))
+      Followed c (node_acted a w node s.reading s.pairs d).world (tale_in (node_acted a w node s.reading s.pairs d).entry t))
       (sym (node_step-is a c s.reading i s.node))
       (record {
         world = r.after;

@@ -9,10 +9,9 @@ use Rattle.fabric_terms.specs.declared.config.FabricConfig.{FabricConfig}
 use Rattle.fabric_terms.specs.declared.record.Record.{Record}
 use Rattle.fabric_terms.specs.declared.record.Record.TheVariants.{Boot}
 use Rattle.fabric_terms.specs.declared.report.Report.TheVariants.{Own}
-use Rattle.fabric_terms.specs.Reports.{Told, told_in}
 use Rattle.join_phases.specs.Phases.{is_left}
 use Rattle.ring_points.specs.declared.who.Who.{Who}
-use Rattle.ring_points.specs.Whos.{node_instance}
+use Rattle.ring_points.specs.Whos.{node_instance, same_who}
 use Rattle.ring_machine.specs.World as machine
 use Rattle.ring_machine.specs.World.{Instance, Running, born}
 use Rattle.ring_machine.specs.Events as events
@@ -28,24 +27,25 @@ use Rattle.ring_rules.specs.Rings.{Work}
 use Rattle.ring_rules.specs.Slots.{fence_of}
 use Rattle.ring_rules.specs.Starts.{node_started, start_first}
 use Rattle.fabric_lemmas.specs.Maps.{at}
-use Rattle.world_rules.specs.Nodes.{NodeState, boot_kept, boots_of, begun_as, instance_begun, is_spent, node_begun}
+use Rattle.world_rules.specs.Nodes.{NodeState, boot_kept, boots_of, begun_as, instance_begun, is_spent}
 use Rattle.world_rules.specs.Schedules.{may_start, is_configured_node, node_runs}
 use Rattle.world_rules.specs.Uppers.{Upper, Did}
 use Rattle.world_rules.specs.Worlds as real
 use Rattle.world_rules.specs.Worlds.{World, kept_of, node_acted}
-use Rattle.world_rules.proofs.Rows.{node_begun-is}
+use Rattle.cold_start.specs.Starts.{node_begun_in, started_in}
+use Rattle.cold_start.proofs.Steps.{node_begun_in-is, started_in-is, started_in_as}
 use Rattle.ring_safety.proofs.ActFollows.{Followed, Numbered, named}
 use Rattle.ring_safety.proofs.Follows.{Follows, ShowsClock, places_in, next_of}
 use Rattle.run_facts.proofs.Kept.{kept_here, kept_there, boots_append}
 use Rattle.ring_safety.proofs.Moves.{moves, none_moves, none_over}
 use Rattle.ring_safety.proofs.NodeFollows.{Follow, node_follows}
-use Rattle.run_facts.proofs.Steps.{started_as}
+use Rattle.ring_safety.proofs.Tales.{Tale, tale_in}
 
 -- what a start tells moves nothing
-started_moves : (c : FabricConfig) (me : Who) (spent : Bool) → list_any moves (node_started c me spent).told ≡ false
-unfolding node_started
-started_moves c me true = refl
-started_moves c me false = go (me.actor == c.first && me.instance == 1)
+started_moves : (whole : Who) (c : FabricConfig) (me : Who) (spent : Bool) → list_any moves (started_in whole c me spent).told ≡ false
+unfolding started_in node_started
+started_moves whole c me true = refl
+started_moves whole c me false = go (same_who me whole)
   where
     go : (b : Bool) → list_any moves (start_first c me b).told ≡ false
     go true = refl
@@ -53,9 +53,9 @@ started_moves c me false = go (me.actor == c.first && me.instance == 1)
 
 -- where all numbers are used up it has left, and else not
 
-spent_left : (c : FabricConfig) (me : Who) → is_left (node_started c me true).ring.phase ≡ true
-unfolding node_started
-spent_left c me = refl
+spent_left : (whole : Who) (c : FabricConfig) (me : Who) → is_left (started_in whole c me true).ring.phase ≡ true
+unfolding started_in node_started
+spent_left whole c me = refl
 
 boot_accuses : (recs : List Record) (table : Table) → table_after table (boot_kept recs) ≡ table
 boot_accuses recs table = go (is_spent recs)
@@ -84,7 +84,7 @@ nobody_runs c w node reading h s there =
     let runs : is_some (at node w.nodes) ≡ true = ap (λ o. is_some o) there in
     cc (stopped, runs)
 
-module _ (a : Upper) (c : FabricConfig) (w : World a) (t : Told) (m : machine.World) (n : Numbered w) (f : Follows c w t m) (node reading : ℕ)
+module _ (a : Upper) (c : FabricConfig) (w : World a) (t : Tale) (m : machine.World) (n : Numbered w) (f : Follows c w t m) (node reading : ℕ)
     (alone : (s : real.Running a) → at node w.nodes ≡ Some s → ⊥) where
   abbrev recs : List Record
   recs = kept_of w node
@@ -93,7 +93,7 @@ module _ (a : Upper) (c : FabricConfig) (w : World a) (t : Told) (m : machine.Wo
   me = node_instance node (instance_begun recs)
 
   abbrev k : Work
-  k = node_started c me (is_spent recs)
+  k = started_in t.whole c me (is_spent recs)
 
   abbrev d : Did (NodeState a)
   d = begun_as a c me recs k
@@ -106,12 +106,12 @@ module _ (a : Upper) (c : FabricConfig) (w : World a) (t : Told) (m : machine.Wo
   after = (node_acted a w node reading pairs d).world
 
   named_me : k.ring.me ≡ me
-  named_me = (started_as c me (is_spent recs)).0
+  named_me = (started_in_as t.whole c me (is_spent recs)).0
 
   told_moves : list_any moves d.told ≡ false
   told_moves =
       list_any-append moves k.told (Own k.ring.token.ranges (fence_of c.answer k.ring.slots) ∷ [])
-      ∙ ap (λ b. b || false) (started_moves c me (is_spent recs))
+      ∙ ap (λ b. b || false) (started_moves t.whole c me (is_spent recs))
 
   -- the starts of each node after it
   boots_after : (b : Bool) → is_spent recs ≡ b → (q : ℕ) →
@@ -139,18 +139,19 @@ module _ (a : Upper) (c : FabricConfig) (w : World a) (t : Told) (m : machine.Wo
     before = λ s there. absurd (alone s there);
     inv = f.inv;
     time = f.time;
+    whole = refl;
     starts = λ q. f.starts q ∙ sym (boots_after true h q ∙ same (node == q) q refl);
     shows =
-        subst (λ b. Shows c m me (node_started c me b).ring) (sym h)
-        (spent_is_left_lem c m me (λ runs. let r = f.runs me runs in alone r.state r.here));
-    clock = λ stay. absurd (both_ways (is_left k.ring.phase) stay (ap (λ b. is_left (node_started c me b).ring.phase) h ∙ spent_left c me));
+        subst (λ b. Shows c m me (started_in t.whole c me b).ring) (sym h)
+        (subst (λ (u : Work). Shows c m me u.ring) (sym (started_in-is t.whole c me true)) (spent_is_left_lem c m me (λ runs. let r = f.runs me runs in alone r.state r.here)));
+    clock = λ stay. absurd (both_ways (is_left k.ring.phase) stay (ap (λ b. is_left (started_in t.whole c me b).ring.phase) h ∙ spent_left t.whole c me));
     others = λ y apart. refl;
     sent = λ g e. e;
     tables = refl;
     claims = refl;
     accuses = boot_accuses recs;
     says = λ s e. absurd e;
-    moved = none_moves me d.told (next_of m me) (places_in c m) told_moves;
+    moved = none_moves me d.told (next_of m me) (places_in t m) told_moves;
     dies = λ y dead. dead;
     over = none_over (machine_of c) m d.told told_moves;
   }
@@ -168,7 +169,7 @@ module _ (a : Upper) (c : FabricConfig) (w : World a) (t : Told) (m : machine.Wo
   v = started (machine_of c) m node reading
 
   abbrev first : Instance
-  first = born (machine_of c) m.time x reading
+  first = born m.whole m.time x reading
 
   it_starts : v.instance x ≡ first
   it_starts = ap (λ b. cond b first (m.instance x)) (same_who-refl x)
@@ -186,8 +187,12 @@ module _ (a : Upper) (c : FabricConfig) (w : World a) (t : Told) (m : machine.Wo
     before = λ s there. absurd (alone s there);
     inv = done.inv;
     time = f.time;
+    whole = refl;
     starts = λ q. starts (node == q) q refl ∙ sym (boots_after false h q);
-    shows = subst (λ (z : Who × Bool). Shows c v x (node_started c z.0 z.1).ring) (λ i. (sym is_next i, sym h i)) (start_is_shown_lem c node reading m);
+    shows =
+        subst (λ (z : Who × Bool). Shows c v x (started_in t.whole c z.0 z.1).ring) (λ i. (sym is_next i, sym h i))
+        (subst (λ (u : Work). Shows c v x u.ring) (sym (started_in-is t.whole c x false))
+        (subst (λ (z : Who). Shows c v x (start_first c x (same_who x z)).ring) f.whole (start_is_shown_lem c node reading m)));
     clock = λ stay. subst (λ (i : Instance). ShowsClock i reading pairs) (sym it_starts) (record { reads = refl; read = λ i. (f.time i, reading) ∷ [] });
     others = λ y apart. ap (λ b. cond b first (m.instance y)) apart;
     sent = λ g e. e;
@@ -196,8 +201,8 @@ module _ (a : Upper) (c : FabricConfig) (w : World a) (t : Told) (m : machine.Wo
     accuses = boot_accuses recs;
     says = λ s e. absurd e;
     moved =
-        subst (λ z. MovedBy x d.told (next_of m x) (places_in c m) z (places_in c m)) same_next
-        (none_moves x d.told (next_of m x) (places_in c m) told_moves);
+        subst (λ z. MovedBy x d.told (next_of m x) (places_in t m) z (places_in t m)) same_next
+        (none_moves x d.told (next_of m x) (places_in t m) told_moves);
     dies = done.later.dies;
     over = none_over (machine_of c) v d.told told_moves;
   }
@@ -213,10 +218,10 @@ module _ (a : Upper) (c : FabricConfig) (w : World a) (t : Told) (m : machine.Wo
       starts false q e = f.starts q
 
   abbrev FollowedAs : Did (NodeState a) → Type 0
-  FollowedAs z = Followed c (node_acted a w node reading pairs z).world (told_in (node_acted a w node reading pairs z).entry t)
+  FollowedAs z = Followed c (node_acted a w node reading pairs z).world (tale_in (node_acted a w node reading pairs z).entry t)
 
-  pub begins_follow : events.IsSound (machine_of c) → FollowedAs (node_begun a c node recs)
-  begins_follow sound = subst FollowedAs (sym (node_begun-is a c node recs)) (by_spent (is_spent recs) refl)
+  pub begins_follow : events.IsSound (machine_of c) → FollowedAs (node_begun_in a t.whole c node recs)
+  begins_follow sound = subst FollowedAs (sym (node_begun_in-is a t.whole c node recs)) (by_spent (is_spent recs) refl)
     where
       by_spent : (b : Bool) → is_spent recs ≡ b → FollowedAs d
       by_spent true h = record { world = m; follows = node_follows c w t m m me node reading pairs d (named w n) f (spent_follows h) }

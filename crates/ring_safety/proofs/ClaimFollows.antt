@@ -7,7 +7,6 @@ use Rattle.fabric_terms.specs.declared.message.Body.{Body}
 use Rattle.fabric_terms.specs.declared.message.Body.TheVariants as body
 use Rattle.fabric_terms.specs.declared.message.Message.{Message}
 use Rattle.fabric_terms.specs.declared.record.Record.{Record}
-use Rattle.fabric_terms.specs.Reports.{Told}
 use Rattle.ring_points.specs.declared.who.Who.{Who}
 use Rattle.ring_points.specs.Whos.{same_who, arbiter_actor}
 use Rattle.ring_machine.specs.Arbitration.{claimed, kept_of, kept_after, kept_answer}
@@ -32,6 +31,7 @@ use Rattle.ring_safety.proofs.Follows.{Follows, Known}
 use Rattle.run_facts.proofs.Kept.{kept_here, kept_there, table_append}
 use Rattle.run_facts.proofs.Tables.{table_of, two_arbiters}
 use Rattle.ring_safety.proofs.Rules.{Rule, aside}
+use Rattle.ring_safety.proofs.Tales.{Tale}
 
 -- who is found after one claim more
 
@@ -116,7 +116,7 @@ somebody x first o true = (first, refl)
 somebody x first (Some z) false = (z, refl)
 somebody x first None false = (x, refl)
 
-module _ (a : Upper) (c : FabricConfig) (w : World a) (t : Told) (m : machine.World) (f : Follows c w t m) (arbiter : ℕ) (g : Message)
+module _ (a : Upper) (c : FabricConfig) (w : World a) (t : Tale) (m : machine.World) (f : Follows c w t m) (arbiter : ℕ) (g : Message)
     (s : ArbiterState a) (sent_was : IsMember g w.frames) (kept : s.table ≡ table_of w (arbiter_actor arbiter)) where
   abbrev me : Who
   me = arbiter_who arbiter
@@ -253,6 +253,7 @@ module _ (a : Upper) (c : FabricConfig) (w : World a) (t : Told) (m : machine.Wo
         time = refl;
         starts = refl;
         instances = refl;
+        whole = refl;
         places = refl;
         sent = λ e k. IsMember-append_right e (kept_answer arbiter y round now) m.sent k;
         tables = record {

@@ -8,7 +8,6 @@ use Rattle.fabric_terms.specs.declared.message.Body.{Body}
 use Rattle.fabric_terms.specs.declared.message.Body.TheVariants as body
 use Rattle.fabric_terms.specs.declared.message.Message.{Message}
 use Rattle.fabric_terms.specs.Places.{Place, place_of}
-use Rattle.fabric_terms.specs.Reports.{Told}
 use Rattle.fabric_terms.specs.Sound as fabric
 use Rattle.fabric_terms.specs.TakeOvers.{was_taken_over}
 use Rattle.join_phases.specs.Phases.{is_left}
@@ -17,7 +16,7 @@ use Rattle.ring_points.specs.Whos.{arbiter_actor}
 use Rattle.ring_machine.specs.Frames.{Frame}
 use Rattle.fabric_lemmas.specs.Members.{IsMember}
 use Rattle.ring_machine.specs.World as machine
-use Rattle.ring_machine.specs.World.{Instance, Running, Dead, first_of}
+use Rattle.ring_machine.specs.World.{Instance, Running, Dead}
 use Rattle.ring_machine.specs.Events as events
 use Rattle.ring_machine.specs.Invariant.{Invariant}
 use Rattle.ring_refinement.specs.Images.{machine_of, Posted, IsSent, frame_of, is_ruling}
@@ -35,14 +34,11 @@ use Rattle.world_rules.specs.Worlds.{World, kept_of, posted}
 use Rattle.world_rules.specs.Above.{is_ring_frame}
 use Rattle.ring_safety.proofs.Moves.{AllMoved, AllNew, has_given}
 use Rattle.run_facts.proofs.Tables.{table_of}
-
--- the instance that the ring begins with
-abbrev pub first_instance : FabricConfig → Who
-first_instance c = first_of (machine_of c)
+use Rattle.ring_safety.proofs.Tales.{Tale}
 
 -- where the points of a world of the machine are, as they are told
-abbrev pub places_in : FabricConfig → machine.World → ℕ → Place
-places_in c m = places_of (first_of (machine_of c)) m
+abbrev pub places_in : Tale → machine.World → ℕ → Place
+places_in t m = places_of t.whole m
 
 -- the number of an instance's next flight
 abbrev pub next_of : machine.World → Who → ℕ
@@ -80,22 +76,24 @@ pub record ShowsTables (accuser : ℕ → Who → Option Who) (claimer : ℕ →
       claimer arbiter victim round ≡ first_claimer victim round (table arbiter).claims
 
 -- m follows the world w in which this was told
-pub record Follows {a : Upper} (c : FabricConfig) (w : World a) (t : Told) (m : machine.World) : Type 0 where
+pub record Follows {a : Upper} (c : FabricConfig) (w : World a) (t : Tale) (m : machine.World) : Type 0 where
   pub inv : Invariant (machine_of c) m
   pub time : m.time ≡ w.time
   pub starts : (node : ℕ) → m.starts node ≡ boots_of (kept_of w node)
+  pub whole : m.whole ≡ t.whole
   pub shows : (node : ℕ) (s : real.Running a) → at node w.nodes ≡ Some s → Shows c m s.node.ring.me s.node.ring
   pub clock : (node : ℕ) (s : real.Running a) → at node w.nodes ≡ Some s → is_left s.node.ring.phase ≡ false →
       ShowsClock (m.instance s.node.ring.me) s.reading s.pairs
   pub runs : (x : Who) → (m.instance x).phase ≡ Running → Runs w x
   pub tables : ShowsTables m.first_accuser m.first_claimer (λ arbiter. table_of w (arbiter_actor arbiter))
   pub frames : (f : Message) → IsMember f w.frames → Known c.lease m.sent f
-  -- what was told
-  pub placed : (p : ℕ) → place_of (first_instance c) t p ≡ places_in c m p
-  pub moved : AllMoved (first_instance c) t
-  pub new : AllNew t
-  pub below : (x : Who) (number : ℕ) → has_given x number t ≡ true → number < (next_of m x)
-  pub over : (v : Who) → was_taken_over v t ≡ true → Dead (machine_of c) (m.instance v)
+  -- what was told in this life
+  pub placed : (p : ℕ) → place_of t.whole t.life p ≡ places_in t m p
+  pub moved : AllMoved t.whole t.life
+  pub new : AllNew t.life
+  pub below : (x : Who) (number : ℕ) → has_given x number t.life ≡ true → number < (next_of m x)
+  -- and in all
+  pub over : (v : Who) → was_taken_over v t.all ≡ true → Dead (machine_of c) (m.instance v)
 
 -- what is shown stays shown while the instance stays and more is sent
 module _ (c : FabricConfig) (m v : machine.World) (later : (f : Frame) → IsMember f m.sent → IsMember f v.sent) where

@@ -2,8 +2,7 @@
 use Rattle.std.proofs.Common.{◌≡◌, ℕ, zero, suc, ◌+◌, ◌<◌, Bool, true, false, [], ◌∷◌, Option, Some, None, refl, sym, ap, ◌∙◌, subst, ⊎_elim, arith}
 use Rattle.std.proofs.lemmas.Bool.{both_ways}
 use Rattle.fabric_terms.specs.declared.config.FabricConfig.{FabricConfig}
-use Rattle.fabric_terms.specs.Reports.{Told}
-use Rattle.fabric_terms.specs.Runs.{Owned, IsBelow, clocks_of, reading_of, own_of}
+use Rattle.fabric_terms.specs.Runs.{Run, Owned, IsBelow, own_of}
 use Rattle.join_phases.specs.Phases.{is_left}
 use Rattle.ring_points.specs.declared.who.Who.{Who}
 use Rattle.ring_points.specs.Ranges.{in_ranges}
@@ -21,15 +20,14 @@ use Rattle.ring_rules.specs.declared.link.LinkState.TheVariants as state
 use Rattle.ring_rules.specs.Rings.{Ring, Slots}
 use Rattle.ring_rules.specs.Slots.{fence_if, fence_of, guards, slot_at}
 use Rattle.fabric_lemmas.specs.Maps.{at}
-use Rattle.world_rules.specs.Runs.{History, world_after, run_of}
 use Rattle.world_rules.specs.Uppers.{Upper}
 use Rattle.world_rules.specs.Worlds as real
 use Rattle.world_rules.specs.Worlds.{World}
-use Rattle.world_rules.specs.Above.{StaysAbove}
 use Rattle.run_facts.specs.Held.{owned_by}
-use Rattle.run_facts.proofs.Clocks.{reads}
+use Rattle.run_facts.proofs.Clocks.{Reads}
 use Rattle.ring_safety.proofs.Follows.{Follows, ShowsClock}
-use Rattle.run_facts.proofs.Orderly.{orderly}
+use Rattle.run_facts.proofs.Orderly.{Orderly}
+use Rattle.ring_safety.proofs.Tales.{Tale}
 
 -- a reading below the fence is below the end of each lease that counts
 below_each : (answer reading : ℕ) (ss : Slots) → IsBelow reading (fence_of answer ss) → (i : ℕ) (l : Link) → slot_at i ss ≡ Some l →
@@ -85,13 +83,11 @@ pub record Seen {a : Upper} (c : FabricConfig) (w : World a) (x : Who) (o : Owne
   pub owned : o ≡ owned_by c state.node.ring
   pub below : IsBelow state.reading (fence_of c.answer state.node.ring.slots)
 
-pub seen : (a : Upper) → StaysAbove a → (c : FabricConfig) (h : History) (x : Who) (o : Owned) (reading : ℕ) →
-    reading_of x (clocks_of (run_of a c h)) ≡ Some reading →
-    own_of x (run_of a c h) ≡ Some o → IsBelow reading o.fence → Seen c (world_after a c h) x o
-seen a stays c h x o reading runs own below =
-    let r = reads a c h x reading runs in
-    let last : own_of x (run_of a c h) ≡ Some (owned_by c r.state.node.ring) =
-    subst (λ y. own_of y (run_of a c h) ≡ Some (owned_by c r.state.node.ring)) r.name ((orderly a c stays h).own r.number r.state r.here) in
+pub seen : {a : Upper} (c : FabricConfig) (w : World a) (run : Run) (x : Who) (o : Owned) (reading : ℕ) → Orderly c w run → Reads w.nodes x reading →
+    own_of x run ≡ Some o → IsBelow reading o.fence → Seen c w x o
+seen c w run x o reading orderly r own below =
+    let last : own_of x run ≡ Some (owned_by c r.state.node.ring) =
+    subst (λ y. own_of y run ≡ Some (owned_by c r.state.node.ring)) r.name (orderly.own r.number r.state r.here) in
     let same : o ≡ owned_by c r.state.node.ring = cc (own, last) in
     record {
       number = r.number;
@@ -103,12 +99,12 @@ seen a stays c h x o reading runs own below =
     }
 
 -- it has not left, so it is live on the machine, and owns there what it told
-pub record Lives (c : FabricConfig) (m : machine.World) (x : Who) (o : Owned) : Type 0 where
+pub record LivesThere (c : FabricConfig) (m : machine.World) (x : Who) (o : Owned) : Type 0 where
   pub live : Live (machine_of c) (m.instance x)
   pub owns : (p : ℕ) → (m.instance x).token.ranges p ≡ in_ranges p o.ranges
 
-pub lives : {a : Upper} (c : FabricConfig) (w : World a) (t : Told) (m : machine.World) (x : Who) (o : Owned) → Follows c w t m → (s : Seen c w x o) →
-    is_left s.state.node.ring.phase ≡ false → Lives c m x o
+pub lives : {a : Upper} (c : FabricConfig) (w : World a) (t : Tale) (m : machine.World) (x : Who) (o : Owned) → Follows c w t m → (s : Seen c w x o) →
+    is_left s.state.node.ring.phase ≡ false → LivesThere c m x o
 lives {a = a} c w t m x o f s stays = at_name (f.clock s.number s.state s.here stays) (go (is_left s.state.node.ring.phase) stays (f.shows s.number s.state s.here))
   where
     go : (b : Bool) → b ≡ false → ShowsAs c m s.state.node.ring.me s.state.node.ring b →
@@ -117,14 +113,14 @@ lives {a = a} c w t m x o f s stays = at_name (f.clock s.number s.state s.here s
     go true e i = absurd (cc (e))
 
     at_name : ShowsClock (m.instance s.state.node.ring.me) s.state.reading s.state.pairs →
-        ShowsInstance c s.state.node.ring.me m.sent (m.instance s.state.node.ring.me) s.state.node.ring → Lives c m x o
-    at_name clock i = subst (λ y. Lives c m y o) s.name (record {
+        ShowsInstance c s.state.node.ring.me m.sent (m.instance s.state.node.ring.me) s.state.node.ring → LivesThere c m x o
+    at_name clock i = subst (λ y. LivesThere c m y o) s.name (record {
       live = live_below c m s.state.node.ring.me s.state.node.ring s.state.reading i clock.reads s.below;
       owns = λ p. (λ j. (i.token j).ranges p) ∙ sym (ap (λ (z : Owned). in_ranges p z.ranges) s.owned);
     })
 
 -- who holds a point has not left
-pub holder_stays : {a : Upper} (c : FabricConfig) (w : World a) (t : Told) (m : machine.World) (x : Who) (o : Owned) (p : ℕ) → Follows c w t m →
+pub holder_stays : {a : Upper} (c : FabricConfig) (w : World a) (t : Tale) (m : machine.World) (x : Who) (o : Owned) (p : ℕ) → Follows c w t m →
     (s : Seen c w x o) →
     in_ranges p o.ranges ≡ true → is_left s.state.node.ring.phase ≡ false
 holder_stays c w t m x o p f s has = go (is_left s.state.node.ring.phase) (f.shows s.number s.state s.here)
@@ -135,7 +131,7 @@ holder_stays c w t m x o p f s has = go (is_left s.state.node.ring.phase) (f.sho
         let none : in_ranges p o.ranges ≡ false = ap (λ (z : Owned). in_ranges p z.ranges) s.owned ∙ ap (in_ranges p) i.ranges in
         absurd (both_ways (in_ranges p o.ranges) none has)
 
-pub holds_there : {a : Upper} (c : FabricConfig) (w : World a) (t : Told) (m : machine.World) (x : Who) (o : Owned) (p : ℕ) → Follows c w t m →
+pub holds_there : {a : Upper} (c : FabricConfig) (w : World a) (t : Tale) (m : machine.World) (x : Who) (o : Owned) (p : ℕ) → Follows c w t m →
     Seen c w x o →
     in_ranges p o.ranges ≡ true → machine.Holds (machine_of c) m x p
 holds_there c w t m x o p f s has =

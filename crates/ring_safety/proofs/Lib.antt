@@ -1,3 +1,4 @@
+pub mod Tales
 pub mod Moves
 pub mod Follows
 pub mod NodeFollows

@@ -29,10 +29,11 @@ use Rattle.world_rules.specs.Nodes.{NodeState, boots_of}
 use Rattle.world_rules.specs.Uppers.{Upper, Did}
 use Rattle.world_rules.specs.Worlds as real
 use Rattle.world_rules.specs.Worlds.{World, kept_of, posted, node_acted}
-use Rattle.ring_safety.proofs.Follows.{Follows, Runs, ShowsClock, Known, shows_still, known_still, clock_still, posted_cases, first_instance, places_in, next_of}
+use Rattle.ring_safety.proofs.Follows.{Follows, Runs, ShowsClock, Known, shows_still, known_still, clock_still, posted_cases, places_in, next_of}
 use Rattle.run_facts.proofs.Kept.{put_cases, at_put_same, at_put_other}
 use Rattle.ring_safety.proofs.Moves.{AllMoved, AllNew, SoFar, told_so_far, given_elsewhere, over_told, has_given}
 use Rattle.run_facts.proofs.Tables.{table_stays}
+use Rattle.ring_safety.proofs.Tales.{Tale, tale_on}
 
 -- what is under each number
 abbrev pub Named : {a : Upper} → World a → Type 0
@@ -47,7 +48,7 @@ not_left c v x r h runs = go (is_left r.phase) h
     go true s = absurd (s.stands_still runs)
 
 -- what a node x does, in the machine's worlds before and after
-pub record Follow {a : Upper} (c : FabricConfig) (w : World a) (t : Told) (m v : machine.World) (x : Who) (node reading : ℕ) (pairs : List Pair)
+pub record Follow {a : Upper} (c : FabricConfig) (w : World a) (t : Tale) (m v : machine.World) (x : Who) (node reading : ℕ) (pairs : List Pair)
     (d : Did (NodeState a)) : Type 0 where
   pub name : d.state.ring.me ≡ x
   pub actor : x.actor ≡ node
@@ -55,6 +56,7 @@ pub record Follow {a : Upper} (c : FabricConfig) (w : World a) (t : Told) (m v :
   pub before : (s : real.Running a) → at node w.nodes ≡ Some s → s.node.ring.me ≡ x
   pub inv : Invariant (machine_of c) v
   pub time : v.time ≡ w.time
+  pub whole : v.whole ≡ m.whole
   pub starts : (q : ℕ) → v.starts q ≡ boots_of (kept_of (node_acted a w node reading pairs d).world q)
   pub shows : Shows c v x d.state.ring
   pub clock : is_left d.state.ring.phase ≡ false → ShowsClock (v.instance x) reading pairs
@@ -64,11 +66,11 @@ pub record Follow {a : Upper} (c : FabricConfig) (w : World a) (t : Told) (m v :
   pub claims : v.first_claimer ≡ m.first_claimer
   pub accuses : (z : Table) → table_after z d.records ≡ z
   pub says : (s : Who × Body) → IsMember s d.sent → Known c.lease v.sent (record { from = x; to = s.0; body = s.1 })
-  pub moved : MovedBy x d.told (next_of m x) (places_in c m) (next_of v x) (places_in c v)
+  pub moved : MovedBy x d.told (next_of m x) (places_in t m) (next_of v x) (places_in t v)
   pub dies : (y : Who) → Dead (machine_of c) (m.instance y) → Dead (machine_of c) (v.instance y)
   pub over : AreOver (machine_of c) v d.told
 
-module _ {a : Upper} (c : FabricConfig) (w : World a) (t : Told) (m v : machine.World) (x : Who) (node reading : ℕ) (pairs : List Pair)
+module _ {a : Upper} (c : FabricConfig) (w : World a) (t : Tale) (m v : machine.World) (x : Who) (node reading : ℕ) (pairs : List Pair)
     (d : Did (NodeState a)) (named : Named w) (f : Follows c w t m) (e : Follow c w t m v x node reading pairs d) where
   abbrev new : real.Running a
   new = record { node = d.state; reading = reading; pairs = pairs }
@@ -121,11 +123,11 @@ module _ {a : Upper} (c : FabricConfig) (w : World a) (t : Told) (m v : machine.
   -- what was told
 
   abbrev told_then : Told
-  told_then = told_on x d.told t
+  told_then = told_on x d.told t.life
 
-  so_far : SoFar (first_instance c) x told_then (next_of v x) (places_in c v)
+  so_far : SoFar t.whole x told_then (next_of v x) (places_in t v)
   so_far =
-      told_so_far (first_instance c) x d.told t (next_of m x) (next_of v x) (places_in c m) (places_in c v) e.moved
+      told_so_far t.whole x d.told t.life (next_of m x) (next_of v x) (places_in t m) (places_in t v) e.moved
       (record { placed = f.placed; moved = f.moved; new = f.new; below = f.below x })
 
   below : (y : Who) (number : ℕ) → has_given y number told_then ≡ true → number < next_of v y
@@ -133,12 +135,13 @@ module _ {a : Upper} (c : FabricConfig) (w : World a) (t : Told) (m v : machine.
       (λ g. subst (λ y. has_given y number told_then ≡ true → number < next_of v y) (same_who-true x y g) (so_far.below number) h)
       (λ g.
       subst (λ (i : Instance). number < i.token.next_flight) (sym (e.others y g))
-      (f.below y number (given_elsewhere x y number d.told t g h)))
+      (f.below y number (given_elsewhere x y number d.told t.life g h)))
 
-  pub node_follows : Follows c after (told_on d.state.ring.me d.told t) v
+  pub node_follows : Follows c after (tale_on d.state.ring.me d.told t) v
   node_follows = record {
     inv = e.inv;
     time = e.time;
+    whole = e.whole ∙ f.whole;
     starts = e.starts;
     shows = λ q s h.
         let y : Who = s.node.ring.me in
@@ -164,12 +167,12 @@ module _ {a : Upper} (c : FabricConfig) (w : World a) (t : Told) (m v : machine.
           ∙ ap (λ (z : Table). first_claimer victim round z.claims) (sym (table_stays w d.state.ring.me d.records d.sent e.accuses (arbiter_actor arbiter))));
     };
     frames = known_frames;
-    placed = subst (λ y. (p : ℕ) → place_of (first_instance c) (told_on y d.told t) p ≡ places_in c v p) (sym e.name) so_far.placed;
-    moved = subst (λ y. AllMoved (first_instance c) (told_on y d.told t)) (sym e.name) so_far.moved;
-    new = subst (λ y. AllNew (told_on y d.told t)) (sym e.name) so_far.new;
+    placed = subst (λ y. (p : ℕ) → place_of t.whole (told_on y d.told t.life) p ≡ places_in t v p) (sym e.name) so_far.placed;
+    moved = subst (λ y. AllMoved t.whole (told_on y d.told t.life)) (sym e.name) so_far.moved;
+    new = subst (λ y. AllNew (told_on y d.told t.life)) (sym e.name) so_far.new;
     below =
-        subst (λ z. (y : Who) (number : ℕ) → has_given y number (told_on z d.told t) ≡ true → number < next_of v y) (sym e.name) below;
+        subst (λ z. (y : Who) (number : ℕ) → has_given y number (told_on z d.told t.life) ≡ true → number < next_of v y) (sym e.name) below;
     over =
-        subst (λ z. (y : Who) → was_taken_over y (told_on z d.told t) ≡ true → Dead (machine_of c) (v.instance y)) (sym e.name)
-        (λ y. over_told (machine_of c) v y x d.told t e.over (λ h. e.dies y (f.over y h)));
+        subst (λ z. (y : Who) → was_taken_over y (told_on z d.told t.all) ≡ true → Dead (machine_of c) (v.instance y)) (sym e.name)
+        (λ y. over_told (machine_of c) v y x d.told t.all e.over (λ h. e.dies y (f.over y h)));
   }

@@ -4,7 +4,6 @@ use Rattle.fabric_terms.specs.declared.config.FabricConfig.{FabricConfig}
 use Rattle.fabric_terms.specs.declared.message.Body.{Body}
 use Rattle.fabric_terms.specs.declared.message.Body.TheVariants as body
 use Rattle.fabric_terms.specs.declared.message.Message.{Message}
-use Rattle.fabric_terms.specs.Reports.{Told, told_in}
 use Rattle.ring_points.specs.declared.who.Who.{Who}
 use Rattle.ring_points.specs.Whos.{arbiter_actor}
 use Rattle.ring_machine.specs.Arbitration.{ruled, claimed}
@@ -24,11 +23,12 @@ use Rattle.run_facts.proofs.Tables.{table_of}
 use Rattle.ring_safety.proofs.Rules.{Rule, rule_follows, aside, beside}
 use Rattle.ring_safety.proofs.AccuseFollows.{answered}
 use Rattle.ring_safety.proofs.ClaimFollows.{ignored, answered_claim}
+use Rattle.ring_safety.proofs.Tales.{Tale, tale_in}
 
-module _ (a : Upper) (c : FabricConfig) (w : World a) (t : Told) (m : machine.World) (f : Follows c w t m) (arbiter : ℕ) (g : Message)
+module _ (a : Upper) (c : FabricConfig) (w : World a) (t : Tale) (m : machine.World) (f : Follows c w t m) (arbiter : ℕ) (g : Message)
     (s : ArbiterState a) (sent_was : IsMember g w.frames) (kept : s.table ≡ table_of w (arbiter_actor arbiter)) where
   abbrev FollowedAs : Did (ArbiterState a) → Type 0
-  FollowedAs d = Followed c (arbiter_acted a w arbiter d).world (told_in (arbiter_acted a w arbiter d).entry t)
+  FollowedAs d = Followed c (arbiter_acted a w arbiter d).world (tale_in (arbiter_acted a w arbiter d).entry t)
 
   pub rules_follow : StaysAbove a → events.IsSound (machine_of c) → FollowedAs (arbiter_step a c arbiter g s)
   rules_follow stays sound = subst FollowedAs (sym (arbiter_step-is a c arbiter g s)) (taken g.body refl (takes_frame arbiter g))

@@ -3,7 +3,6 @@ use Rattle.std.proofs.Common.{◌≡◌, ℕ, ◌<◌, false, [], refl, sym, ap,
 use Rattle.fabric_terms.specs.declared.config.FabricConfig.{FabricConfig}
 use Rattle.fabric_terms.specs.declared.message.Body.{Body}
 use Rattle.fabric_terms.specs.declared.message.Message.{Message}
-use Rattle.fabric_terms.specs.Reports.{Told, told_in, told_on}
 use Rattle.ring_points.specs.declared.who.Who.{Who}
 use Rattle.ring_points.specs.Whos.{arbiter_actor}
 use Rattle.ring_machine.specs.Frames.{Frame}
@@ -19,9 +18,10 @@ use Rattle.world_rules.specs.Nodes.{boots_of}
 use Rattle.world_rules.specs.Uppers.{Upper, Did}
 use Rattle.world_rules.specs.Worlds.{World, posted, arbiter_who, arbiter_acted}
 use Rattle.world_rules.specs.Above.{StaysAbove, is_ring_frame}
-use Rattle.ring_safety.proofs.Follows.{Follows, ShowsTables, Known, shows_still, known_still, known_other, clock_still, none_passes, posted_cases, first_instance}
+use Rattle.ring_safety.proofs.Follows.{Follows, ShowsTables, Known, shows_still, known_still, known_other, clock_still, none_passes, posted_cases}
 use Rattle.run_facts.proofs.Kept.{boots_still, no_boots, no_entries}
 use Rattle.run_facts.proofs.Tables.{table_of, table_stays}
+use Rattle.ring_safety.proofs.Tales.{Tale, tale_on, tale_in}
 
 -- what an arbitrator does, in the machine's worlds before and after
 pub record Rule {a : Upper} (c : FabricConfig) (w : World a) (m v : machine.World) (arbiter : ℕ) (d : Did (ArbiterState a)) : Type 0 where
@@ -29,6 +29,7 @@ pub record Rule {a : Upper} (c : FabricConfig) (w : World a) (m v : machine.Worl
   pub time : v.time ≡ m.time
   pub starts : v.starts ≡ m.starts
   pub instances : v.instance ≡ m.instance
+  pub whole : v.whole ≡ m.whole
   pub places : v.place ≡ m.place
   pub sent : (f : Frame) → IsMember f m.sent → IsMember f v.sent
   pub tables : ShowsTables v.first_accuser v.first_claimer (λ q. table_of (arbiter_acted a w arbiter d).world (arbiter_actor q))
@@ -36,13 +37,14 @@ pub record Rule {a : Upper} (c : FabricConfig) (w : World a) (m v : machine.Worl
   pub boots : boots_of d.records ≡ 0
   pub silent : d.told ≡ []
 
-pub rule_follows : {a : Upper} (c : FabricConfig) (w : World a) (t : Told) (m v : machine.World) (arbiter : ℕ) (d : Did (ArbiterState a)) →
+pub rule_follows : {a : Upper} (c : FabricConfig) (w : World a) (t : Tale) (m v : machine.World) (arbiter : ℕ) (d : Did (ArbiterState a)) →
     Follows c w t m → Rule c w m v arbiter d →
-    Follows c (arbiter_acted a w arbiter d).world (told_in (arbiter_acted a w arbiter d).entry t) v
+    Follows c (arbiter_acted a w arbiter d).world (tale_in (arbiter_acted a w arbiter d).entry t) v
 rule_follows {a = a} c w t m v arbiter d f e =
-    subst (λ rs. Follows c (arbiter_acted a w arbiter d).world (told_on (arbiter_who arbiter) rs t) v) (sym e.silent) (record {
+    subst (λ rs. Follows c (arbiter_acted a w arbiter d).world (tale_on (arbiter_who arbiter) rs t) v) (sym e.silent) (record {
       inv = e.inv;
       time = e.time ∙ f.time;
+      whole = e.whole ∙ f.whole;
       starts = λ q. (λ i. e.starts i q) ∙ (f.starts q ∙ sym (boots_still w (arbiter_who arbiter) d.records d.sent e.boots q));
       shows = λ q s h. let x : Who = s.node.ring.me in shows_still c m v e.sent x s.node.ring (same x) (f.shows q s h);
       clock = λ q s h stay.
@@ -53,7 +55,7 @@ rule_follows {a = a} c w t m v arbiter d f e =
           record { state = r.state; here = r.here; name = r.name; stays = r.stays };
       tables = e.tables;
       frames = known_frames;
-      placed = λ p. f.placed p ∙ (λ i. place_of (first_instance c) (sym e.places i p));
+      placed = λ p. f.placed p ∙ (λ i. place_of t.whole (sym e.places i p));
       moved = f.moved;
       new = f.new;
       below = λ x number h. subst (λ (i : Instance). number < i.token.next_flight) (sym (same x)) (f.below x number h);
@@ -68,7 +70,7 @@ rule_follows {a = a} c w t m v arbiter d f e =
         ⊎_elim (λ k. known_still c m v e.sent c.lease g (f.frames g k)) (λ k. subst (Known c.lease v.sent) (sym k.2) (e.says k.0 k.1))
         (posted_cases (arbiter_who arbiter) d.sent w.frames g h)
 
-module _ (a : Upper) (c : FabricConfig) (w : World a) (t : Told) (m : machine.World) (f : Follows c w t m) (arbiter : ℕ) (g : Message)
+module _ (a : Upper) (c : FabricConfig) (w : World a) (t : Tale) (m : machine.World) (f : Follows c w t m) (arbiter : ℕ) (g : Message)
     (s : ArbiterState a) where
   abbrev me : Who
   me = arbiter_who arbiter
@@ -81,6 +83,7 @@ module _ (a : Upper) (c : FabricConfig) (w : World a) (t : Told) (m : machine.Wo
     time = refl;
     starts = refl;
     instances = refl;
+    whole = refl;
     places = refl;
     sent = λ e k. k;
     tables = record {

@@ -6,7 +6,7 @@ use Rattle.std.proofs.lemmas.Bool.{both_ways, eqb-true, eqb-false}
 use Rattle.fabric_terms.specs.declared.config.FabricConfig.{FabricConfig}
 use Rattle.fabric_terms.specs.declared.report.Report.{Report}
 use Rattle.fabric_terms.specs.declared.report.Report.TheVariants.{Stopped}
-use Rattle.fabric_terms.specs.Reports.{Told, told_in, told_on}
+use Rattle.fabric_terms.specs.Reports.{told_on}
 use Rattle.join_phases.specs.Phases.{is_left}
 use Rattle.ring_points.specs.declared.who.Who.{Who}
 use Rattle.ring_points.specs.Whos.{same_who}
@@ -26,18 +26,20 @@ use Rattle.world_rules.specs.Uppers.{Upper}
 use Rattle.world_rules.specs.Worlds as real
 use Rattle.world_rules.specs.Worlds.{World}
 use Rattle.ring_safety.proofs.ActFollows.{Followed, Numbered, named}
-use Rattle.ring_safety.proofs.Follows.{Follows, Runs, shows_still, clock_still, first_instance, places_in, next_of}
+use Rattle.ring_safety.proofs.Follows.{Follows, Runs, shows_still, clock_still, places_in, next_of}
 use Rattle.run_facts.proofs.Kept.{without_cases, at_without_other}
 use Rattle.ring_safety.proofs.Moves.{SoFar, moves, none_moves, none_over, told_so_far, given_elsewhere, over_told, has_given}
+use Rattle.ring_safety.proofs.Tales.{Tale, tale_on, tale_in}
 
 -- reports that move nothing are followed by the same world
-pub silent_follows : {a : Upper} (c : FabricConfig) (w : World a) (t : Told) (m : machine.World) (x : Who) (rs : List Report) →
+pub silent_follows : {a : Upper} (c : FabricConfig) (w : World a) (t : Tale) (m : machine.World) (x : Who) (rs : List Report) →
     list_any moves rs ≡ false →
-    Follows c w t m → Follows c w (told_on x rs t) m
+    Follows c w t m → Follows c w (tale_on x rs t) m
 silent_follows c w t m x rs quiet f = record {
   inv = f.inv;
   time = f.time;
   starts = f.starts;
+  whole = f.whole;
   shows = f.shows;
   clock = f.clock;
   runs = f.runs;
@@ -47,25 +49,26 @@ silent_follows c w t m x rs quiet f = record {
   moved = (so_far x).moved;
   new = (so_far x).new;
   below = λ y number h. test (same_who x y)
-      (λ g. (so_far y).below number (subst (λ z. has_given y number (told_on z rs t) ≡ true) (same_who-true x y g) h))
-      (λ g. f.below y number (given_elsewhere x y number rs t g h));
-  over = λ v. over_told (machine_of c) m v x rs t (none_over (machine_of c) m rs quiet) (f.over v);
+      (λ g. (so_far y).below number (subst (λ z. has_given y number (told_on z rs t.life) ≡ true) (same_who-true x y g) h))
+      (λ g. f.below y number (given_elsewhere x y number rs t.life g h));
+  over = λ v. over_told (machine_of c) m v x rs t.all (none_over (machine_of c) m rs quiet) (f.over v);
 }
   where
-    so_far : (y : Who) → SoFar (first_instance c) y (told_on y rs t) (next_of m y) (places_in c m)
+    so_far : (y : Who) → SoFar t.whole y (told_on y rs t.life) (next_of m y) (places_in t m)
     so_far y =
-        told_so_far (first_instance c) y rs t (next_of m y) (next_of m y)
-        (places_in c m) (places_in c m)
-        (none_moves y rs (next_of m y) (places_in c m) quiet)
+        told_so_far t.whole y rs t.life (next_of m y) (next_of m y)
+        (places_in t m) (places_in t m)
+        (none_moves y rs (next_of m y) (places_in t m) quiet)
         (record { placed = f.placed; moved = f.moved; new = f.new; below = f.below y })
 
 -- arbitrators that start or stop change nothing of it
-pub arbiters_follow : {a : Upper} (c : FabricConfig) (w : World a) (t : Told) (m : machine.World) (arbiters : List (ℕ × ArbiterState a)) →
+pub arbiters_follow : {a : Upper} (c : FabricConfig) (w : World a) (t : Tale) (m : machine.World) (arbiters : List (ℕ × ArbiterState a)) →
     Follows c w t m → Follows c (record w { arbiters = arbiters }) t m
 arbiters_follow c w t m arbiters f = record {
   inv = f.inv;
   time = f.time;
   starts = f.starts;
+  whole = f.whole;
   shows = f.shows;
   clock = f.clock;
   runs = λ x h. let r = f.runs x h in record { state = r.state; here = r.here; name = r.name; stays = r.stays };
@@ -78,7 +81,7 @@ arbiters_follow c w t m arbiters f = record {
   over = f.over;
 }
 
-module _ {a : Upper} (c : FabricConfig) (w : World a) (t : Told) (m : machine.World) (n : Numbered w) (f : Follows c w t m) (node : ℕ)
+module _ {a : Upper} (c : FabricConfig) (w : World a) (t : Tale) (m : machine.World) (n : Numbered w) (f : Follows c w t m) (node : ℕ)
     (s : real.Running a) (there : at node w.nodes ≡ Some s) where
   abbrev me : Who
   me = s.node.ring.me
@@ -109,6 +112,7 @@ module _ {a : Upper} (c : FabricConfig) (w : World a) (t : Told) (m : machine.Wo
     inv = f.inv;
     time = f.time;
     starts = f.starts;
+    whole = f.whole;
     shows = λ q r h. f.shows q r (without_cases node w.nodes q r h).1;
     clock = λ q r h. f.clock q r (without_cases node w.nodes q r h).1;
     runs = λ x h. runs_on x (f.runs x h) (λ same stay. both_ways (is_left s.node.ring.phase) stay left);
@@ -144,6 +148,7 @@ module _ {a : Upper} (c : FabricConfig) (w : World a) (t : Told) (m : machine.Wo
     inv = done.inv;
     time = f.time;
     starts = f.starts;
+    whole = f.whole;
     shows = λ q r h.
         let g = without_cases node w.nodes q r h in
         shows_still c m v (λ e k. k) r.node.ring.me r.node.ring (other q r g.0 g.1) (f.shows q r g.1);
@@ -165,9 +170,9 @@ module _ {a : Upper} (c : FabricConfig) (w : World a) (t : Told) (m : machine.Wo
       done = event_done sound f.inv (Stops me) (ap has_clock running)
 
   pub stops_follow : events.IsSound (machine_of c) →
-      Followed c (node_stops a w node (Some s)).world (told_in (node_stops a w node (Some s)).entry t)
+      Followed c (node_stops a w node (Some s)).world (tale_in (node_stops a w node (Some s)).entry t)
   stops_follow sound = go (is_left s.node.ring.phase) refl (f.shows node s there)
     where
-      go : (b : Bool) → is_left s.node.ring.phase ≡ b → ShowsAs c m me s.node.ring b → Followed c gone (told_on me (Stopped ∷ []) t)
+      go : (b : Bool) → is_left s.node.ring.phase ≡ b → ShowsAs c m me s.node.ring b → Followed c gone (tale_on me (Stopped ∷ []) t)
       go true h shows = record { world = m; follows = silent_follows c gone t m me (Stopped ∷ []) refl (left_stops h) }
       go false h shows = record { world = v; follows = silent_follows c gone t v me (Stopped ∷ []) refl (it_stops sound shows.running) }

@@ -5,7 +5,6 @@ use Rattle.std.proofs.lemmas.Bool.{and_parts, eqb-true, eq-eqb}
 use Rattle.drift_clock.specs.Within.{Pair, FitsAll, fits_all}
 use Rattle.drift_clock.proofs.Decided.{fits_decided}
 use Rattle.fabric_terms.specs.declared.config.FabricConfig.{FabricConfig}
-use Rattle.fabric_terms.specs.Reports.{Told, told_in}
 use Rattle.join_phases.specs.Phases.{is_left}
 use Rattle.ring_points.specs.declared.who.Who.{Who}
 use Rattle.ring_machine.specs.Frames.{Frame}
@@ -26,6 +25,7 @@ use Rattle.world_rules.specs.Worlds as real
 use Rattle.world_rules.specs.Worlds.{World}
 use Rattle.ring_safety.proofs.ActFollows.{Followed, Numbered, named}
 use Rattle.ring_safety.proofs.Follows.{Follows, Runs, ShowsClock}
+use Rattle.ring_safety.proofs.Tales.{Tale, tale_in}
 
 -- the instance as it stands after a tick, by whether it has a clock
 
@@ -130,7 +130,7 @@ ticked_from {a = a} time rs es q s h = go (at q es) refl
     go None g = let gone = none es g in absurd (cc (h, gone))
     go (Some r) g = let after = ticked_at time rs es q r g in (r, g, let same : s ≡ shows {a = a} time (unwrap_or (at q rs) r.reading) r = cc (h, after) in same)
 
-module _ (a : Upper) (c : FabricConfig) (w : World a) (t : Told) (m : machine.World) (n : Numbered w) (f : Follows c w t m) (advance : ℕ)
+module _ (a : Upper) (c : FabricConfig) (w : World a) (t : Tale) (m : machine.World) (n : Numbered w) (f : Follows c w t m) (advance : ℕ)
     (rs : List (ℕ × ℕ)) (all : are_of rs w.nodes ≡ true) (fit : readings_fit c w (w.time + advance) rs ≡ true) where
   abbrev time : ℕ
   time = w.time + advance
@@ -210,13 +210,14 @@ module _ (a : Upper) (c : FabricConfig) (w : World a) (t : Told) (m : machine.Wo
       let r = f.runs x (sym (same_phase x) ∙ h) in
       record { state = then x.actor r.state; here = ticked_at time rs w.nodes x.actor r.state r.here; name = r.name; stays = r.stays }
 
-  pub ticks_follow : events.IsSound (machine_of c) → Followed c (ticks a w time rs).world (told_in (ticks a w time rs).entry t)
+  pub ticks_follow : events.IsSound (machine_of c) → Followed c (ticks a w time rs).world (tale_in (ticks a w time rs).entry t)
   ticks_follow sound = record {
     world = v;
     follows = record {
       inv = done.inv;
       time = time_is;
       starts = f.starts;
+      whole = f.whole;
       shows = λ q s h.
           let r = ticked_from time rs w.nodes q s h in
           subst (λ (z : real.Running a). Shows c v z.node.ring.me z.node.ring) (sym r.2)

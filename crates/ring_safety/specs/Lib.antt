@@ -4,3 +4,4 @@ pub mod ClusterSteps
 pub mod ClusterMoments
 pub mod ClusterSchedule
 pub mod StrangeFrames
+pub mod Lives

@@ -16,6 +16,7 @@ mod laws;
 
 pub use cluster::{a_cluster_is_a_schedule, a_strange_frame_is_a_firing_or_nothing};
 pub use laws::{
-    answers_exclude, leaves_before_take_over, one_heir_at_most, places_are_kept, ring_is_safe,
-    ring_is_safe_with_nothing_above,
+    answers_exclude, leaves_before_take_over, lives_are_safe, lives_exclude, lives_have_one_heir,
+    lives_keep_places, lives_leave_before_take_over, one_heir_at_most, places_are_kept,
+    ring_is_safe, ring_is_safe_with_nothing_above,
 };

@@ -32,7 +32,7 @@ ticked_rises {a = a} time rs low (e ∷ es) h =
     and_from (nat_le low e.0) (rises_from (e.0 + 1) (map (ticked {a = a} time rs) es)) parts.0 (ticked_rises {a = a} time rs (e.0 + 1) es parts.1)
 
 module _ (a : Upper) (c : FabricConfig) where
-  rising_cases : (w : World a) (e : Event) → rises w.nodes ≡ true → Cases a c w e (λ st. rises st.world.nodes ≡ true)
+  pub rising_cases : (w : World a) (e : Event) → rises w.nodes ≡ true → Cases a c w e (λ st. rises st.world.nodes ≡ true)
   rising_cases w e h = record {
     still = h;
     begins = λ node reading g.
@@ -76,7 +76,7 @@ pub record Reads {a : Upper} (nodes : List (ℕ × Running a)) (x : Who) (readin
 abbrev clocks : {a : Upper} → List (ℕ × Running a) → Clocks
 clocks es = map (λ n. (n.1.node.ring.me, n.1.reading)) es
 
-reads_in : {a : Upper} (low : ℕ) (es : List (ℕ × Running a)) (x : Who) (reading : ℕ) → rises_from low es ≡ true →
+pub reads_in : {a : Upper} (low : ℕ) (es : List (ℕ × Running a)) (x : Who) (reading : ℕ) → rises_from low es ≡ true →
     reading_of x (clocks {a = a} es) ≡ Some reading → Reads {a = a} es x reading
 reads_in low [] x reading h r = absurd (cc (r))
 reads_in {a = a} low (e ∷ es) x reading h r =

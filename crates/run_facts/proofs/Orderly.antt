@@ -191,7 +191,7 @@ module _ (a : Upper) (c : FabricConfig) where
       go false f g again = let r = again g in (r.0, ap (λ b. cond b (Some e.1) (at q es)) f ∙ r.1, r.2)
 
   module _ (stays : StaysAbove a) (line : ℕ) (run : Run) (w : World a) (o : Orderly c w run) where
-    begins_with : (node reading : ℕ) (d : Did (NodeState a)) →
+    pub begins_with : (node reading : ℕ) (d : Did (NodeState a)) →
         Begun c (record { actor = node; instance = instance_begun (kept_of w node) }) d.state.ring d.told →
         instance_begun (kept_of w node) ≡ boots_of (kept_of w node) + boots_of d.records →
         (is_spent (kept_of w node) ≡ true → list_any tells_leave d.told ≡ true) → After line run (node_acted a w node reading ((w.time, reading) ∷ []) d)

@@ -200,7 +200,7 @@ unfolding node_started
 started_spent c me true h = refl
 started_spent c me false h = absurd (cc (h))
 
-begun_told : (a : Upper) (c : FabricConfig) (me : Who) (records : List Record) (k : Work) → k.ring.me ≡ me →
+pub begun_told : (a : Upper) (c : FabricConfig) (me : Who) (records : List Record) (k : Work) → k.ring.me ≡ me →
     list_any tells_leave k.told ≡ is_left k.ring.phase →
     let d = begun_as a c me records k in Begun c me d.state.ring d.told
 begun_told a c me records k name left = record {

@@ -64,7 +64,7 @@ actor_of_number c w actor h =
     let same : 32768 + (actor - 32768) ≡ actor = omega arith in same
 
 module _ (a : Upper) (stays : StaysAbove a) (c : FabricConfig) (w : World a) (t : Tabled w) where
-  node_tabled : (node reading : ℕ) (pairs : List Pair) (d : Did (NodeState a)) → ((z : Table) → table_after z d.records ≡ z) →
+  pub node_tabled : (node reading : ℕ) (pairs : List Pair) (d : Did (NodeState a)) → ((z : Table) → table_after z d.records ≡ z) →
       Tabled (node_acted a w node reading pairs d).world
   node_tabled node reading pairs d none arbiter s h = t arbiter s h ∙ sym (table_stays w d.state.ring.me d.records d.sent none (arbiter_actor arbiter))
 

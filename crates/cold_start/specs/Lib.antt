@@ -1,0 +1,4 @@
+pub mod Starts
+pub mod Lives
+pub mod Laws
+pub mod Example
