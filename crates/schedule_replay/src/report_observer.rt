@@ -1,4 +1,4 @@
-ghost use Rattle.std.specs.Prelude.{◌≡◌, ◌≢◌, ℕ, List, [], Some, IsTrue};
+ghost use Rattle.std.specs.Prelude.{◌≡◌, ℕ, List, [], Some, IsTrue};
 ghost use Rattle.edge_io.specs.Edge.{HasRisen};
 ghost use Rattle.schedule_replay.specs.Statuses.{may_end_replay};
 ghost use Rattle.schedule_rules.specs.Schedule.{judge};
@@ -49,7 +49,6 @@ impl RunObserver for ReportObserver {
 /// `WriteFault` the sink has a front of what would have been written.
 pub fn replay<S: Source, K: Sink>(alloc: Global, source: &mut S, sink: &mut K) -> Status
     ensures statuses { IsTrue (may_end_replay result) }
-    ensures usage { result ≢ Status.Usage }
     ensures read { result ≡ Status.Ok → (bytes : List ℕ) → S.left source.old ≡ Some bytes →
         S.left source.new ≡ Some [] }
     ensures written { (bytes : List ℕ) → S.left source.old ≡ Some bytes →

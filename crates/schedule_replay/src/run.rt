@@ -6,6 +6,7 @@ ghost use Rattle.fabric_terms.specs.declared.config.FabricConfig.{FabricConfig a
 ghost use Rattle.ring_world.specs.Answers.{IsWorld};
 ghost use Rattle.line_format.specs.Lines.{lines_of};
 ghost use Rattle.schedule_replay.specs.Begins.{Begins};
+ghost use Rattle.schedule_replay.specs.Halting.{HaltsRightly};
 ghost use Rattle.schedule_replay.specs.Statuses.{may_end_replay};
 ghost use Rattle.schedule_replay.specs.Waits.{FrontOf};
 ghost use Rattle.schedule_rules.specs.Endings.{EndsSo};
@@ -47,6 +48,7 @@ fn take_next<T: RunObserver, S: Source>(
     ensures failed { result ≡ Err Halt.SourceFailed → HasRisen (S.faults source.old) (S.faults source.new) }
     ensures later { S.faults source.old ≤ S.faults source.new }
     ensures sink { result ≢ Err Halt.SinkFailed }
+    ensures may { (c : Configuration) (h : History) → At world.old (T.knows teller.old) c h → HaltsRightly result }
 {
     let finished = text.len();
     match reader.lines.next(source, MAX_LINE) {
@@ -107,6 +109,7 @@ fn take_rest<T: RunObserver, S: Source, K: Sink>(
         S.left source.old ≡ Some bytes → result ≡ Err Halt.OutOfMemory → FrontOf T.telling
         (judge_from c [] 2 (lines_of (reader.old.lines.waiting ++ bytes))) (K.held sink.old) (K.held sink.new)
         text.new.items }
+    ensures may { HaltsRightly result }
     ensures source_failed { result ≡ Err Halt.SourceFailed → HasRisen (S.faults source.old) (S.faults source.new) }
     ensures sink_failed { result ≡ Err Halt.SinkFailed → HasRisen (K.faults sink.old) (K.faults sink.new) }
     ensures later { K.faults sink.old ≤ K.faults sink.new }
@@ -154,6 +157,7 @@ fn take_all<T: RunObserver, S: Source, K: Sink>(
         HaltsAt T.telling result (judge bytes) (S.left source.new) (K.held sink.old) (K.held sink.new) text.new.items }
     ensures waits { (bytes : List ℕ) → S.left source.old ≡ Some bytes → result ≡ Err Halt.OutOfMemory →
         FrontOf T.telling (judge bytes) (K.held sink.old) (K.held sink.new) text.new.items }
+    ensures may { HaltsRightly result }
     ensures source_failed { result ≡ Err Halt.SourceFailed → HasRisen (S.faults source.old) (S.faults source.new) }
     ensures sink_failed { result ≡ Err Halt.SinkFailed → HasRisen (K.faults sink.old) (K.faults sink.new) }
     ensures later { K.faults sink.old ≤ K.faults sink.new }
@@ -187,7 +191,6 @@ pub fn run_schedule<T: RunObserver, S: Source, K: Sink>(
 ) -> Status
     requires { (c : Configuration) → T.knows teller.old c [] }
     ensures statuses { IsTrue (may_end_replay result) }
-    ensures usage { result ≢ Status.Usage }
     ensures read { result ≡ Status.Ok → (bytes : List ℕ) → S.left source.old ≡ Some bytes →
         S.left source.new ≡ Some [] }
     ensures written { (bytes : List ℕ) → S.left source.old ≡ Some bytes →

@@ -9,8 +9,9 @@ use Rattle.schedule_rules.specs.Halts.{HaltsAt}
 use Rattle.schedule_rules.specs.Schedule.{judge}
 use Rattle.schedule_rules.specs.declared.halt.Halt.{Halt}
 use Rattle.schedule_rules.proofs.Closing.{ends_well, ends_refused, ends_stopped}
+use Rattle.schedule_replay.specs.Halting.{MayHalt}
 use Rattle.schedule_replay.specs.Statuses.{may_end_replay}
-use Rattle.schedule_replay.proofs.Statuses.{refusals_may_end, written_may_end}
+use Rattle.schedule_replay.proofs.Statuses.{written_may_end}
 use Rattle.schedule_replay.proofs.Waits.{ends_short}
 use Rattle.schedule_replay.proofs.run.run_schedule.Goals as goal
 
@@ -28,7 +29,7 @@ returns-in-Ok-clause-written g c bytes e =
 
 pub returns-in-Err-Refused-clause-statuses : goal.returns-in-Err-Refused-clause-statuses
 returns-in-Err-Refused-clause-statuses g c =
-    let may = subst (λ (s : Status). IsTrue (may_end_replay s)) (sym c.status.ensures) (refusals_may_end c.in-Err-Refused.refusal) in
+    let may = subst (λ (s : Status). IsTrue (may_end_replay s)) (sym c.status.ensures) (subst MayHalt c.in-Err-Refused.field-0-is c.in-Err-Refused.ensures.may) in
     written_may_end c.status.result c.send_fault.result (c.take_all.new.text.items ++ fault_line c.status.result) (g.K.Sink.held c.take_all.new.sink) (g.K.Sink.held c.send_fault.new.sink) (g.K.Sink.faults c.take_all.new.sink) (g.K.Sink.faults c.send_fault.new.sink) may c.send_fault.ensures
 
 pub returns-in-Err-Refused-clause-written : goal.returns-in-Err-Refused-clause-written

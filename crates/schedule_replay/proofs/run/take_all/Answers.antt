@@ -13,6 +13,7 @@ use Rattle.schedule_rules.proofs.First.{first_none, first_long, first_read, firs
 use Rattle.schedule_replay.specs.Waits.{FrontOf}
 use Rattle.schedule_replay.proofs.Beginning.{first_halts, begins_as}
 use Rattle.schedule_replay.proofs.Waits.{heading_waits}
+use Rattle.schedule_replay.proofs.Statuses.{begins_may}
 use Rattle.schedule_replay.proofs.run.take_all.Goals as goal
 
 pub returns-in-Err-clause-waits : goal.returns-in-Err-clause-waits
@@ -89,3 +90,6 @@ returns-clause-sink_failed g c is =
     let same : c.in-Err-first_world.halt ≡ halt.SinkFailed = cc in
     let no : ⊥ = begins_as (config_of_line c.line.result.now) c.in-Err-first_world.halt halt.SinkFailed c.in-Err-first_world.ensures same in
     absurd no
+
+pub returns-clause-may : goal.returns-clause-may
+returns-clause-may g c = begins_may (config_of_line c.line.result.now) c.in-Err-first_world.halt c.in-Err-first_world.ensures

@@ -7,6 +7,7 @@ use Rattle.source_lines.specs.declared.next_line.NextLine.{NextLine}
 use Rattle.schedule_replay.specs.Follows.{Follows}
 use Rattle.schedule_rules.specs.Schedule.{judge_from, line_verdict}
 use Rattle.schedule_replay.proofs.Lines.{took, long_refused, none_right}
+use Rattle.schedule_replay.proofs.Statuses.{follows_may}
 use Rattle.schedule_replay.proofs.run.take_next.Goals as goal
 
 pub returns-in-Ok-End-clause-next : goal.returns-in-Ok-End-clause-next
@@ -43,3 +44,8 @@ returns-in-Ok-None-clause-next g c config h at =
           let read = taken bytes e in
           (read.0, read.1, went.judged (lines_of (c.next.new.self.waiting ++ read.0)) ∙ ap (judge_from config h c.args.number) (ap (λ l. l ∷ lines_of (c.next.new.self.waiting ++ read.0)) c.line.ensures ∙ sym read.2.0));
     }
+
+pub returns-in-Ok-Some-clause-may : goal.returns-in-Ok-Some-clause-may
+returns-in-Ok-Some-clause-may g c config h at =
+    let follows = subst (λ (r : Option Refusal). Follows g.T.RunObserver.telling config h c.args.number (line_verdict config (ruled config h) (length h) c.args.number c.line.result.now) r c.take_line.new.world (g.T.RunObserver.knows c.take_line.new.teller) c.args.text.now.items c.take_line.new.text.items) c.in-Ok-Some.field-0-is (c.in-Ok-Some.ensures.follows config h at) in
+    follows_may g.T.RunObserver.telling config h c.args.number c.line.result.now c.in-Ok-Some.refusal c.take_line.new.world (g.T.RunObserver.knows c.take_line.new.teller) c.args.text.now.items c.take_line.new.text.items follows

@@ -5,6 +5,7 @@ use Rattle.schedule_rules.specs.declared.halt.Halt.TheVariants as halt
 use Rattle.schedule_replay.proofs.Along.{all_of, along_first, along_took, along_sent, short_memory, short_sink, at_halt, at_last}
 use Rattle.schedule_replay.specs.Waits.{FrontOf}
 use Rattle.schedule_replay.proofs.Waits.{waits_along, none_waits}
+use Rattle.schedule_replay.proofs.Statuses.{ends_may}
 use Rattle.schedule_replay.proofs.run.take_rest.Goals as goal
 
 pub loop-number-init : goal.loop-number-init
@@ -86,3 +87,19 @@ returns-clause-halts g c config bytes at e =
 pub returns-clause-waits : goal.returns-clause-waits
 returns-clause-waits g c config bytes at e is =
     waits_along g.T.RunObserver.telling config c.loop-number.world (g.T.RunObserver.knows c.loop-number.teller) c.loop-number.number c.args.reader.now.lines.waiting (g.S.Source.left c.args.source.now) c.loop-number.reader.lines.waiting (g.S.Source.left c.loop-number.source) (g.K.Sink.held c.args.sink.now) (g.K.Sink.held c.loop-number.sink) c.loop-number.text.items (c.loop-number.invariant.along config at) bytes e
+
+pub returns-in-Err-clause-may : goal.returns-in-Err-clause-may
+returns-in-Err-clause-may g c =
+    let config = c.requires.first.0 in
+    let along = c.loop-number.invariant.along config c.requires.first.1 in
+    let sent = along_sent g.T.RunObserver.telling config c.loop-number.world (g.T.RunObserver.knows c.loop-number.teller) c.loop-number.number c.args.reader.now.lines.waiting (g.S.Source.left c.args.source.now) c.loop-number.reader.lines.waiting (g.S.Source.left c.loop-number.source) (g.K.Sink.held c.args.sink.now) (g.K.Sink.held c.loop-number.sink) (g.K.Sink.held c.send_due.new.sink) c.loop-number.text.items c.send_due.new.text.items along c.in-Ok.ensures.sent in
+    c.in-Err.ensures.may config sent.history sent.at
+
+pub returns-in-Ok-false-clause-may : goal.returns-in-Ok-false-clause-may
+returns-in-Ok-false-clause-may g c =
+    let config = c.requires.first.0 in
+    let along = c.loop-number.invariant.along config c.requires.first.1 in
+    let sent = along_sent g.T.RunObserver.telling config c.loop-number.world (g.T.RunObserver.knows c.loop-number.teller) c.loop-number.number c.args.reader.now.lines.waiting (g.S.Source.left c.args.source.now) c.loop-number.reader.lines.waiting (g.S.Source.left c.loop-number.source) (g.K.Sink.held c.args.sink.now) (g.K.Sink.held c.loop-number.sink) (g.K.Sink.held c.send_due.new.sink) c.loop-number.text.items c.send_due.new.text.items along c.in-Ok.ensures.sent in
+    let none : TookNone config sent.history c.take_next.new.world (g.T.RunObserver.knows c.take_next.new.teller) c.send_due.new.text.items c.take_next.new.text.items c.loop-number.reader.lines.waiting (g.S.Source.left c.loop-number.source) (g.S.Source.left c.take_next.new.source) =
+    subst (λ (b : Bool). TakesNext g.T.RunObserver.telling config sent.history c.loop-number.number (Ok b) c.take_next.new.world (g.T.RunObserver.knows c.take_next.new.teller) c.send_due.new.text.items c.take_next.new.text.items c.loop-number.reader.lines.waiting (g.S.Source.left c.loop-number.source) c.take_next.new.reader.lines.waiting (g.S.Source.left c.take_next.new.source)) c.in-Ok-false.field-0-test (c.in-Ok-false.ensures.next config sent.history sent.at) in
+    ends_may c.end_lines.result g.T.RunObserver.telling config sent.history c.take_next.new.text.items c.end_lines.new.text.items (c.end_lines.ensures.ends config sent.history none.at)
