@@ -8,6 +8,7 @@ use Rattle.fabric_terms.specs.declared.report.Why.{Why}
 use Rattle.ring_rules.specs.declared.input.Input.{Input}
 use Rattle.ring_rules.specs.declared.input.Input.TheVariants as input
 use Rattle.frame_format.specs.Kinds.{message_of}
+use Rattle.ring_points.specs.Limits.{most_reading}
 use Rattle.turn_rules.specs.Happenings.{Datagram, Absent, Failed, Comes, Begins, Turns, Bids, Hears, Fires, Happening, History}
 use Rattle.turn_rules.specs.Plans.{Setting}
 use Rattle.turn_rules.specs.Steps.{Member, Step, Stepped, begun, exceeds, left_of, present, stepped}
@@ -32,9 +33,9 @@ abbrev pub left_end : Option Why → Option End
 left_end None = None
 left_end (Some why) = Some (Left why)
 
--- a reading counts as this at most
+-- a reading counts as the greatest one at most
 abbrev pub clamped : ℕ → ℕ
-clamped reading = min reading 1000000000000000
+clamped reading = min reading most_reading
 
 abbrev pub reads_as : Process → ℕ → Bool → Process
 reads_as p reading true = record p { end = Some (Back (present p.last) reading) }
