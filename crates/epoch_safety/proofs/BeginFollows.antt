@@ -9,10 +9,10 @@ use Rattle.fabric_terms.specs.declared.record.Record.TheVariants.{Boot}
 use Rattle.fabric_terms.specs.declared.report.Report.TheVariants.{Own}
 use Rattle.join_phases.specs.Phases.{is_left}
 use Rattle.ring_points.specs.declared.who.Who.{Who}
-use Rattle.ring_points.specs.Whos.{node_instance}
+use Rattle.ring_points.specs.Whos.{node_instance, same_who}
 use Rattle.ring_rules.specs.Rings.{Work}
 use Rattle.ring_rules.specs.Slots.{fence_of}
-use Rattle.ring_rules.specs.Starts.{node_started}
+use Rattle.ring_rules.specs.Starts.{node_started, start_first}
 use Rattle.unit_rules.specs.Deeds.{still}
 use Rattle.unit_rules.specs.Starts.{replica_of, replicas_after_all}
 use Rattle.unit_rules.specs.Steps.{failover_begun}
@@ -21,7 +21,6 @@ use Rattle.world_rules.specs.Nodes.{NodeState, begun_as, boot_kept, boots_of, in
 use Rattle.world_rules.specs.Uppers.{Did}
 use Rattle.world_rules.specs.Worlds.{World, kept_of}
 use Rattle.run_facts.proofs.Kept.{boots_append}
-use Rattle.run_facts.proofs.Steps.{started_as}
 use Rattle.replica_records.specs.ReplicaStates.{state_at, begun_again}
 use Rattle.epoch_refinement.specs.Epochs.{settings_to}
 use Rattle.epoch_refinement.specs.Nodes.{Machines}
@@ -37,11 +36,25 @@ use Rattle.epoch_safety.proofs.ApartSteps.{starts_apart_lem}
 use Rattle.epoch_safety.proofs.Follows.{Follows, no_units}
 use Rattle.epoch_safety.proofs.NodeFollows.{Follow}
 use Rattle.epoch_safety.proofs.Telling.{Tellings, tells_on, tells_none}
+use Rattle.cold_start.specs.Starts.{start_in, started_in}
+use Rattle.cold_start.proofs.Steps.{started_in-is, started_in_as}
 
 -- where all numbers are used up it has left
-spent_left : (c : FabricConfig) (me : Who) → is_left (node_started c me true).ring.phase ≡ true
-unfolding node_started
-spent_left c me = refl
+spent_left : (whole : Who) (c : FabricConfig) (me : Who) → is_left (started_in whole c me true).ring.phase ≡ true
+unfolding started_in node_started
+spent_left whole c me = refl
+
+-- a start tells nothing of partitions, whoever begins with the whole ring
+started_apart : (whole : Who) (c : FabricConfig) (me : Who) (spent : Bool) → list_any is_unit_report (started_in whole c me spent).told ≡ false
+started_apart whole c me spent = ap (λ (u : Work). list_any is_unit_report u.told) (started_in-is whole c me spent) ∙ go spent
+  where
+    one : (b : Bool) → list_any is_unit_report (start_first c me b).told ≡ false
+    one true = refl
+    one false = refl
+
+    go : (spent : Bool) → list_any is_unit_report (start_in whole c me spent).told ≡ false
+    go true = (starts_apart_lem c me true).tells
+    go false = one (same_who me whole)
 
 -- what it records, by whether all numbers are used up
 
@@ -51,7 +64,7 @@ boot_now records b h = ap (λ s. cond s [] (Boot (instance_begun records) ∷ []
 number_now : (records : List Record) (b : Bool) → is_spent records ≡ b → instance_begun records ≡ cond b (boots_of records) (boots_of records + 1)
 number_now records b h = ap (λ s. cond s (boots_of records) (boots_of records + 1)) h
 
-module _ (c : FabricConfig) (w : World units) (t : Tellings) (m : Machines) (k : ℕ) (f : Follows k w t m) (node : ℕ) (low : node < 32768) where
+module _ (whole : Who) (c : FabricConfig) (w : World units) (t : Tellings) (m : Machines) (k : ℕ) (f : Follows k w t m) (node : ℕ) (low : node < 32768) where
   abbrev records : List Record
   records = kept_of w node
 
@@ -59,18 +72,18 @@ module _ (c : FabricConfig) (w : World units) (t : Tellings) (m : Machines) (k :
   me = node_instance node (instance_begun records)
 
   abbrev ring : Work
-  ring = node_started c me (is_spent records)
+  ring = started_in whole c me (is_spent records)
 
   abbrev d : Did (NodeState units)
   d = begun_as units c me records ring
 
   named : ring.ring.me ≡ me
-  named = (started_as c me (is_spent records)).0
+  named = (started_in_as whole c me (is_spent records)).0
 
   -- it tells nothing of partitions
   pub start_apart : list_any is_unit_report d.told ≡ false
   start_apart =
-      none_more is_unit_report ring.told (Own ring.ring.token.ranges (fence_of c.answer ring.ring.slots)) (starts_apart_lem c me (is_spent records)).tells refl
+      none_more is_unit_report ring.told (Own ring.ring.token.ranges (fence_of c.answer ring.ring.slots)) (started_apart whole c me (is_spent records)) refl
 
   quiet : (p : ℕ) → (m p).told ≡ tells_on p node (replica_of p (replicas_after_all [] (records ++ d.records))).log d.told (m p).told
   quiet p = sym (tells_none p node _ d.told (m p).told start_apart)
@@ -109,7 +122,7 @@ module _ (c : FabricConfig) (w : World units) (t : Tellings) (m : Machines) (k :
       none = ap (λ more. records ++ more) (boot_now records true h) ∙ append-nil records
 
       left : is_left ring.ring.phase ≡ true
-      left = ap (λ b. is_left (node_started c me b).ring.phase) h ∙ spent_left c me
+      left = ap (λ b. is_left (started_in whole c me b).ring.phase) h ∙ spent_left whole c me
 
   -- else its replicas begin again
 

@@ -10,12 +10,11 @@ use Rattle.ring_points.specs.declared.unit.Epoch.{Epoch}
 use Rattle.unit_rules.specs.Deeds.{Deed, Keep, Send, Tell, reports_of}
 use Rattle.unit_rules.specs.Units.{units}
 use Rattle.world_rules.specs.Above.{is_ring_report}
-use Rattle.world_rules.specs.Events.{world_step}
-use Rattle.world_rules.specs.Runs.{History, world_after}
 use Rattle.epoch_refinement.specs.Nodes.{IsRealIn, AllReal}
 use Rattle.epoch_safety.specs.RingApart.{is_unit_report}
 use Rattle.epoch_safety.proofs.Sending.{none_passes}
 use Rattle.epoch_safety.proofs.Telling.{none_of}
+use Rattle.cold_start.specs.Lives.{Lives, lives_step}
 
 abbrev pub AreReal : List Report → Type 0
 AreReal [] = Unit {0}
@@ -51,10 +50,10 @@ real_deeds (Tell r ∷ ds) h = go (is_ring_report r) (real_deeds ds h.1)
     go true rest = rest
     go false rest = (h.0, rest)
 
--- each report of a run
-abbrev pub IsRealHistory : FabricConfig → History → Type 0
-IsRealHistory c [] = Unit {0}
-IsRealHistory c (e ∷ h) = IsRealEntry (world_step units c (world_after units c h) e.1).entry × IsRealHistory c h
+-- each report of all lives
+abbrev pub AreRealLives : FabricConfig → Lives → Type 0
+AreRealLives c [] = Unit {0}
+AreRealLives c (e ∷ l) = IsRealEntry (lives_step units c l e.1).entry × AreRealLives c l
 
 -- among reports of nothing that a primary does is no commit
 pub no_commit : (rs : List Report) (p : ℕ) (e : Epoch) (last : ℕ) → list_any is_unit_report rs ≡ false → IsMember (report.Committed p e last) rs → ⊥

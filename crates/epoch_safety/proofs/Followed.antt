@@ -18,7 +18,6 @@ use Rattle.ring_points.specs.declared.who.Who.{Who}
 use Rattle.ring_points.specs.Whos.{node_instance}
 use Rattle.ring_rules.specs.declared.input.Input.{Input}
 use Rattle.ring_rules.specs.Rings.{Work, settings_of}
-use Rattle.ring_rules.specs.Starts.{node_started}
 use Rattle.ring_rules.specs.Steps.{ring_step}
 use Rattle.epoch_machine.specs.Epochs.{number_of}
 use Rattle.epoch_machine.specs.World.{empty_world}
@@ -30,32 +29,38 @@ use Rattle.unit_rules.specs.Steps.{Failover, failover_begun, failover_step}
 use Rattle.unit_rules.specs.Units.{units}
 use Rattle.world_rules.specs.Arbiters.{arbiter_step}
 use Rattle.world_rules.specs.Events.{ticked}
-use Rattle.world_rules.specs.Nodes.{NodeState, above_if, begun_as, both_did, comes_above, instance_begun, is_spent, node_begun, node_step}
-use Rattle.world_rules.specs.Runs.{History, run_of, world_after}
+use Rattle.world_rules.specs.Nodes.{NodeState, above_if, begun_as, both_did, comes_above, instance_begun, is_spent, node_step}
+use Rattle.world_rules.specs.Runs.{History, world_after}
 use Rattle.world_rules.specs.Schedules.{is_configured_node, is_there, node_runs, MayCome, Valid}
 use Rattle.world_rules.specs.Uppers.{Did, idle}
 use Rattle.world_rules.specs.Worlds as real
 use Rattle.world_rules.specs.Worlds.{World, Running, Stepped, kept_of, node_acted}
-use Rattle.world_rules.proofs.Rows.{is_there-start, node_begun-is, node_step-is}
-use Rattle.run_facts.proofs.Happens.{CameTo, Cases, by_cases}
-use Rattle.run_facts.proofs.Orderly.{orderly}
+use Rattle.world_rules.proofs.Rows.{is_there-start, node_step-is}
+use Rattle.run_facts.proofs.Happens.{CameTo, Cases}
 use Rattle.run_facts.proofs.Tables.{actor_of_number}
 use Rattle.epoch_refinement.specs.Epochs.{settings_to}
 use Rattle.epoch_refinement.specs.Nodes.{Machines}
 use Rattle.epoch_refinement.proofs.Beginning.{beginnings_lem}
 use Rattle.epoch_safety.specs.RingApart.{is_unit_report}
-use Rattle.run_promises.specs.Reports.{IsAmong, HasReported, log_in, log_after}
+use Rattle.run_promises.specs.Reports.{IsAmong, HasReported, log_in}
 use Rattle.epoch_safety.proofs.ActCovers.{act_covers}
 use Rattle.epoch_safety.proofs.ActFollows.{Numbered, silent_follows, busy_follows, refined, real_reports, commit_above}
 use Rattle.epoch_safety.proofs.AsideFollows.{aside_follows, node_stops_follows, arbiter_stops_follows, arbiter_starts_follows}
 use Rattle.epoch_safety.proofs.BeginFollows.{restarted, spent_follows, new_follows, start_apart}
-use Rattle.epoch_safety.proofs.Entries.{AreReal, IsRealEntry, IsRealHistory, no_commit, real_apart, real_deeds}
+use Rattle.epoch_safety.proofs.Entries.{AreReal, AreRealLives, IsRealEntry, no_commit, real_apart, real_deeds}
 use Rattle.epoch_safety.proofs.Covering.{Covers}
 use Rattle.epoch_safety.proofs.Follows.{Follows}
 use Rattle.epoch_safety.proofs.Members.{contained}
 use Rattle.epoch_safety.proofs.NodeFollows.{Named, node_follows}
 use Rattle.epoch_safety.proofs.RuleFollows.{rule_follows, rules_follow}
-use Rattle.epoch_safety.proofs.Telling.{Tellings, tells_after, told_of}
+use Rattle.epoch_safety.proofs.Telling.{Tellings, tells_after, told_lives, told_of}
+use Rattle.cold_start.specs.Lives.{Again, Comes, Lives, ValidLives, life_step, lives_run, lives_world, one_life, whole_after}
+use Rattle.cold_start.specs.Starts.{node_begun_in, started_in}
+use Rattle.cold_start.proofs.Facts.{orderly_lives}
+use Rattle.cold_start.proofs.OneLife.{valid_one, world_one}
+use Rattle.cold_start.proofs.Steps.{IsStart, life_cases, node_begun_in-is}
+use Rattle.epoch_safety.specs.Lives.{lives_log}
+use Rattle.fabric_terms.specs.declared.event.Event.TheVariants.{Start}
 
 -- machines that follow the world after a step, in which this was told before
 pub record Followed (k : ℕ) (t : Tellings) (st : Stepped units) : Type 0 where
@@ -70,13 +75,18 @@ pub record Followed (k : ℕ) (t : Tellings) (st : Stepped units) : Type 0 where
 none_among : (rs : List Report) → list_any is_unit_report rs ≡ false → (p : ℕ) (e : Epoch) (last : ℕ) → Contains rs (Committed p e last) → ⊥
 none_among rs h p e last a = no_commit rs p e last h (contained (Committed p e last) rs a)
 
--- machines that follow the world after the history
+-- machines that follow the world after these lives
+pub record FollowedLives (c : FabricConfig) (l : Lives) : Type 0 where
+  pub machines : Machines
+  pub follows : Follows (length c.arbiters) (lives_world units c l) (told_lives c l) machines
+  pub real : AreRealLives c l
+  pub covers : (x : Who) (p : ℕ) (e : Epoch) (last : ℕ) → HasReported (lives_run units c l) x (Committed p e last) →
+      Covers (settings_to (length c.arbiters)) (machines p) (number_of e) last (lives_log c l x.actor p)
+
+-- and after a schedule
 pub record FollowedAfter (c : FabricConfig) (h : History) : Type 0 where
   pub machines : Machines
   pub follows : Follows (length c.arbiters) (world_after units c h) (told_of c h) machines
-  pub real : IsRealHistory c h
-  pub covers : (x : Who) (p : ℕ) (e : Epoch) (last : ℕ) → HasReported (run_of units c h) x (Committed p e last) →
-      Covers (settings_to (length c.arbiters)) (machines p) (number_of e) last (log_after c h x.actor p)
 
 -- no node has the number of an arbitrator's actor
 low_node : (es : List NodeEntry) (node : ℕ) → All IsSoundNode es → list_any (λ e. e.node == node) es ≡ true → node < 32768
@@ -109,31 +119,31 @@ module _ (is_frame : List ℕ → Bool) (c : FabricConfig) (sound : IsSound c) w
     named : Named w
     named node s there = ap (λ (z : Who). z.actor) (n.name node s there)
 
-    module _ (node reading : ℕ) (low : node < 32768) where
+    module _ (whole : Who) (node reading : ℕ) (low : node < 32768) where
       abbrev records : List Record
       records = kept_of w node
 
       abbrev begun : Did (NodeState units)
-      begun = begun_as units c (node_instance node (instance_begun records)) records (node_started c (node_instance node (instance_begun records)) (is_spent records))
+      begun = begun_as units c (node_instance node (instance_begun records)) records (started_in whole c (node_instance node (instance_begun records)) (is_spent records))
 
       abbrev Begun : Did (NodeState units) → Type 0
       Begun d = Followed k t (node_acted units w node reading ((w.time, reading) ∷ []) d)
 
-      begins : Begun (node_begun units c node records)
-      begins = subst Begun (sym (node_begun-is units c node records)) (go (is_spent records) refl)
+      begins : Begun (node_begun_in units whole c node records)
+      begins = subst Begun (sym (node_begun_in-is units whole c node records)) (go (is_spent records) refl)
         where
           go : (b : Bool) → is_spent records ≡ b → Begun begun
           go true h = record {
             machines = m;
-            follows = node_follows reading ((w.time, reading) ∷ []) begun named f (spent_follows c w t m k f node low h);
-            real = real_apart begun.told (start_apart c w t m k f node low);
-            covers = λ y p e last a. absurd (none_among begun.told (start_apart c w t m k f node low) p e last a.1);
+            follows = node_follows reading ((w.time, reading) ∷ []) begun named f (spent_follows whole c w t m k f node low h);
+            real = real_apart begun.told (start_apart whole c w t m k f node low);
+            covers = λ y p e last a. absurd (none_among begun.told (start_apart whole c w t m k f node low) p e last a.1);
           }
           go false h = record {
-            machines = restarted c w t m k f node low;
-            follows = node_follows reading ((w.time, reading) ∷ []) begun named f (new_follows c w t m k f node low h);
-            real = real_apart begun.told (start_apart c w t m k f node low);
-            covers = λ y p e last a. absurd (none_among begun.told (start_apart c w t m k f node low) p e last a.1);
+            machines = restarted whole c w t m k f node low;
+            follows = node_follows reading ((w.time, reading) ∷ []) begun named f (new_follows whole c w t m k f node low h);
+            real = real_apart begun.told (start_apart whole c w t m k f node low);
+            covers = λ y p e last a. absurd (none_among begun.told (start_apart whole c w t m k f node low) p e last a.1);
           }
 
     module _ (node : ℕ) (i : Input) (s : Running units) (there : at node w.nodes ≡ Some s) (came : CameTo w node i) where
@@ -169,12 +179,15 @@ module _ (is_frame : List ℕ → Bool) (c : FabricConfig) (sound : IsSound c) w
                 covers = act_covers c w t m n f node i s there stay both.1 came;
               }
 
-    followed_cases : (e : Event) → MayCome is_frame c w e → Cases units c w e (Followed k t)
-    followed_cases e may = record {
+    low_start : (e : Event) → MayCome is_frame c w e → (node reading : ℕ) → e ≡ Start node (Some reading) → node < 32768
+    low_start e may node reading h =
+        let may_begin = sym (is_there-start is_frame c w node (Some reading)) ∙ subst (λ e. is_there is_frame c w e ≡ true) h may.there in
+        low_node c.nodes node sound.nodes (and_parts (is_configured_node c node) (not (node_runs w node)) may_begin).0
+
+    other_cases : (e : Event) → MayCome is_frame c w e → (IsStart e → ⊥) → Cases units c w e (Followed k t)
+    other_cases e may not_start = record {
       still = record { machines = m; follows = f; real = tt; covers = λ y p e last a. absurd a };
-      begins = λ node reading h.
-          let may_begin = sym (is_there-start is_frame c w node (Some reading)) ∙ subst (λ e. is_there is_frame c w e ≡ true) h may.there in
-          begins node reading (low_node c.nodes node sound.nodes (and_parts (is_configured_node c node) (not (node_runs w node)) may_begin).0);
+      begins = λ node reading h. absurd (not_start (node, reading, h));
       stops = λ node s there. record {
         machines = m;
         follows = node_stops_follows k w t m f node;
@@ -229,14 +242,26 @@ module _ (is_frame : List ℕ → Bool) (c : FabricConfig) (sound : IsSound c) w
     told = λ p. refl;
   }
 
-  numbered : (h : History) → Numbered (world_after units c h)
-  numbered h = let o = orderly units c units_stay h in record { name = o.name; counted = o.counted }
+  numbered : (l : Lives) → Numbered (lives_world units c l)
+  numbered l = let o = orderly_lives units units_stay c l in record { name = o.name; counted = o.counted }
+
+  pub followed_lives : (l : Lives) → ValidLives units is_frame c l → FollowedLives c l
+  followed_lives [] valid = record { machines = λ p. empty_world; follows = at_first; real = tt; covers = λ x p e last a. absurd a }
+  followed_lives ((line, Comes e) ∷ l) valid =
+      let before = followed_lives l valid.0 in
+      let w : World units = lives_world units c l in
+      let t : Tellings = told_lives c l in
+      let now : Followed k (told_lives c l) (life_step units (whole_after c l) c (lives_world units c l) e) =
+      life_cases units (whole_after c l) c w (Followed k t) e (other_cases w t before.machines (numbered l) before.follows e valid.1)
+      (λ node reading h.
+      begins w t before.machines (numbered l) before.follows (whole_after c l) node reading
+      (low_start w t before.machines (numbered l) before.follows e valid.1 node reading h)) in
+      record { machines = now.machines; follows = now.follows; real = (now.real, before.real); covers = now.covers }
+  followed_lives ((line, Again whole) ∷ l) valid =
+      let before = followed_lives l valid.0 in
+      record { machines = before.machines; follows = before.follows; real = (tt, before.real); covers = λ x p e last a. absurd a }
 
   pub followed : (h : History) → Valid units is_frame c h → FollowedAfter c h
-  followed [] valid = record { machines = λ p. empty_world; follows = at_first; real = tt; covers = λ x p e last a. absurd a }
-  followed (e ∷ h) valid =
-      let before = followed h valid.0 in
-      let now =
-      by_cases units c (world_after units c h) e.1 (Followed k (told_of c h))
-      (followed_cases (world_after units c h) (told_of c h) before.machines (numbered h) before.follows e.1 valid.1) e.1 refl in
-      record { machines = now.machines; follows = now.follows; real = (now.real, before.real); covers = now.covers }
+  followed h valid =
+      let f = followed_lives (one_life h) (valid_one units c is_frame h valid) in
+      record { machines = f.machines; follows = subst (λ (w : World units). Follows k w (told_of c h) f.machines) (world_one units c h) f.follows }

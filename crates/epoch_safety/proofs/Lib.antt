@@ -19,6 +19,7 @@ pub mod AsideFollows
 pub mod BeginFollows
 pub mod RuleFollows
 pub mod Followed
+pub mod OneLife
 pub mod Tracks
 pub mod Primaries
 pub mod Written

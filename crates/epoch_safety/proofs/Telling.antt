@@ -10,13 +10,13 @@ use Rattle.epoch_machine.specs.World as machine
 use Rattle.unit_rules.specs.Deeds.{Deed, Keep, Send, Tell, reports_of}
 use Rattle.unit_rules.specs.Units.{units}
 use Rattle.world_rules.specs.Above.{is_ring_report}
-use Rattle.world_rules.specs.Events.{world_step}
-use Rattle.world_rules.specs.Runs.{History, world_after}
+use Rattle.world_rules.specs.Runs.{History}
 use Rattle.world_rules.specs.Worlds.{World, Stepped}
 use Rattle.epoch_refinement.specs.Nodes.{is_told_of, tells_of}
 use Rattle.epoch_refinement.specs.Told.{tells}
 use Rattle.epoch_safety.specs.RingApart.{is_unit_report}
 use Rattle.run_promises.specs.Reports.{log_in}
+use Rattle.cold_start.specs.Lives.{Lives, lives_step, one_life}
 
 -- what is told of each partition, the newest first
 abbrev pub Tellings : Type 0
@@ -34,10 +34,14 @@ tells_in p w (Some e) before = tells_on p e.who.actor (log_in w e.who.actor p) e
 abbrev pub tells_after : ℕ → Stepped units → List machine.Report → List machine.Report
 tells_after p s before = tells_in p s.world s.entry before
 
--- all that a history tells of the partition
+-- all that lives tell of the partition
+abbrev pub told_lives : FabricConfig → Lives → Tellings
+told_lives c [] p = []
+told_lives c (e ∷ es) p = tells_after p (lives_step units c es e.1) (told_lives c es p)
+
+-- and a schedule, which is one life
 abbrev pub told_of : FabricConfig → History → Tellings
-told_of c [] p = []
-told_of c (e ∷ es) p = tells_after p (world_step units c (world_after units c es) e.1) (told_of c es p)
+told_of c h = told_lives c (one_life h)
 
 pub tells_join : (p node : ℕ) (log : List Entry) (rs more : List Report) (before : List machine.Report) →
     tells_on p node log (rs ++ more) before ≡ tells_on p node log more (tells_on p node log rs before)

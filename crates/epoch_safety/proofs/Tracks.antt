@@ -13,12 +13,11 @@ use Rattle.epoch_machine.specs.World as machine
 use Rattle.epoch_refinement.specs.Nodes.{is_told_of, IsRealIn}
 use Rattle.epoch_refinement.specs.Told.{tells}
 use Rattle.unit_rules.specs.Units.{units}
-use Rattle.world_rules.specs.Events.{world_step}
-use Rattle.world_rules.specs.Runs.{History, world_after, run_of}
 use Rattle.world_rules.specs.Worlds.{World, Stepped}
 use Rattle.run_promises.specs.Reports.{log_in}
-use Rattle.epoch_safety.proofs.Entries.{AreReal, IsRealEntry, IsRealHistory}
-use Rattle.epoch_safety.proofs.Telling.{tells_on, tells_in, told_of}
+use Rattle.epoch_safety.proofs.Entries.{AreReal, IsRealEntry, AreRealLives}
+use Rattle.epoch_safety.proofs.Telling.{tells_on, tells_in, told_lives}
+use Rattle.cold_start.specs.Lives.{Lives, lives_run, lives_step}
 
 -- the second list is an end of the first
 abbrev pub IsEnd : {X : Type 0} → List X → List X → Type 0
@@ -68,11 +67,11 @@ tracks_in : (p : ℕ) (w : World units) (o : Option runs.Entry) (t : Told) (l : 
 tracks_in p w None t l real h = h
 tracks_in p w (Some e) t l real h = tracks_on p e.who (log_in w e.who.actor p) e.reports t l real h
 
-pub tracks : (c : FabricConfig) (h : History) (p : ℕ) → IsRealHistory c h → Tracks p (told (run_of units c h)) (told_of c h p)
+pub tracks : (c : FabricConfig) (l : Lives) (p : ℕ) → AreRealLives c l → Tracks p (told (lives_run units c l)) (told_lives c l p)
 tracks c [] p real = refl
-tracks c (e ∷ h) p real =
-    let st : Stepped units = world_step units c (world_after units c h) e.1 in
-    tracks_in p st.world st.entry (told (run_of units c h)) (told_of c h p) real.0 (tracks c h p real.1)
+tracks c (e ∷ l) p real =
+    let st : Stepped units = lives_step units c l e.1 in
+    tracks_in p st.world st.entry (told (lives_run units c l)) (told_lives c l p) real.0 (tracks c l p real.1)
 
 -- what was told earlier
 pub tracks_drop : (p n : ℕ) (t : Told) (l : List machine.Report) → Tracks p t l → (k : List machine.Report) × IsEnd k l × Tracks p (drop n t) k

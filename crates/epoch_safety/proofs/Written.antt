@@ -20,16 +20,19 @@ use Rattle.epoch_refinement.specs.Told.{tells}
 use Rattle.epoch_refinement.proofs.Losing.{settings_sound}
 use Rattle.epoch_refinement.proofs.Numbers.{number_older_below}
 use Rattle.unit_rules.specs.Units.{units}
-use Rattle.world_rules.specs.Events.{world_step}
-use Rattle.world_rules.specs.Runs.{History, run_of, world_after}
 use Rattle.world_rules.specs.Worlds.{World, Stepped}
 use Rattle.epoch_safety.specs.Laws.{WritesAreKept}
-use Rattle.run_promises.specs.Reports.{IsAmong, HasReported, log_in, log_after}
-use Rattle.epoch_safety.proofs.Entries.{AreReal, IsRealEntry, IsRealHistory}
-use Rattle.epoch_safety.proofs.Followed.{FollowedAfter, followed}
+use Rattle.run_promises.specs.Reports.{IsAmong, HasReported, log_in}
+use Rattle.epoch_safety.proofs.Entries.{AreReal, IsRealEntry, AreRealLives}
+use Rattle.epoch_safety.proofs.Followed.{FollowedLives, followed_lives}
 use Rattle.epoch_safety.proofs.Primaries.{numbered}
-use Rattle.epoch_safety.proofs.Telling.{tells_on, tells_in, told_of}
+use Rattle.epoch_safety.proofs.Telling.{tells_on, tells_in, told_lives}
 use Rattle.epoch_safety.proofs.Members.{contained}
+use Rattle.cold_start.specs.Lives.{Lives, lives_run, lives_step, one_life}
+use Rattle.epoch_safety.specs.Lives.{LivesKeepWrites, lives_log}
+use Rattle.cold_start.proofs.OneLife.{valid_one}
+use Rattle.epoch_safety.proofs.OneLife.{snapshots_one}
+use Rattle.run_promises.specs.Writes.{WritesKeptIn}
 
 -- What was told stays told.
 
@@ -59,17 +62,17 @@ in_grows : (p : ℕ) (w : World units) (o : Option runs.Entry) (z : machine.Repo
 in_grows p w None z before m = m
 in_grows p w (Some e) z before m = on_grows p e.who.actor (log_in w e.who.actor p) e.reports z before m
 
-pub told_grows : (c : FabricConfig) (h : History) (p i : ℕ) (z : machine.Report) → IsMember z (told_of c (drop i h) p) → IsMember z (told_of c h p)
-told_grows c h p zero z m = m
+pub told_grows : (c : FabricConfig) (l : Lives) (p i : ℕ) (z : machine.Report) → IsMember z (told_lives c (drop i l) p) → IsMember z (told_lives c l p)
+told_grows c l p zero z m = m
 told_grows c [] p (suc i) z m = m
-told_grows c (e ∷ h) p (suc i) z m =
-    let st : Stepped units = world_step units c (world_after units c h) e.1 in
-    in_grows p st.world st.entry z (told_of c h p) (told_grows c h p i z m)
+told_grows c (e ∷ l) p (suc i) z m =
+    let st : Stepped units = lives_step units c l e.1 in
+    in_grows p st.world st.entry z (told_lives c l p) (told_grows c l p i z m)
 
-pub real_drop : (c : FabricConfig) (h : History) (i : ℕ) → IsRealHistory c h → IsRealHistory c (drop i h)
-real_drop c h zero real = real
+pub real_drop : (c : FabricConfig) (l : Lives) (i : ℕ) → AreRealLives c l → AreRealLives c (drop i l)
+real_drop c l zero real = real
 real_drop c [] (suc i) real = real
-real_drop c (e ∷ h) (suc i) real = real_drop c h i real.1
+real_drop c (e ∷ l) (suc i) real = real_drop c l i real.1
 
 -- What is reported is told, with the log that stands then.
 
@@ -99,12 +102,12 @@ reported_in p w (Some e) x r z a real says before =
       real_member e.reports r real m,
     )
 
-pub reported : (c : FabricConfig) (h : History) (p : ℕ) (x : Who) (r : Report) (z : machine.Report) → HasReported (run_of units c h) x r → IsRealHistory c h →
-    Says p x.actor (log_after c h x.actor p) r z → IsMember z (told_of c h p) × IsRealIn r
+pub reported : (c : FabricConfig) (l : Lives) (p : ℕ) (x : Who) (r : Report) (z : machine.Report) → HasReported (lives_run units c l) x r → AreRealLives c l →
+    Says p x.actor (lives_log c l x.actor p) r z → IsMember z (told_lives c l p) × IsRealIn r
 reported c [] p x r z a real says = absurd a
-reported c (e ∷ h) p x r z a real says =
-    let st : Stepped units = world_step units c (world_after units c h) e.1 in
-    reported_in p st.world st.entry x r z a real.0 says (told_of c h p)
+reported c (e ∷ l) p x r z a real says =
+    let st : Stepped units = lives_step units c l e.1 in
+    reported_in p st.world st.entry x r z a real.0 says (told_lives c l p)
 
 -- so of a commit and of a primary
 
@@ -122,26 +125,30 @@ says_primary p node log e before =
 pub loss_is : (e : Epoch) → IsReal e → loss_of (number_of e) ≡ e.data_loss
 loss_is e real = let s = real.small in let o = real.some in omega arith
 
-module _ (c : FabricConfig) (h : History) (at : FollowedAfter c h) where
-  pub committed_told : (i p last : ℕ) (e : Epoch) (x : Who) → HasReported (run_of units c (drop i h)) x (report.Committed p e last) →
-      IsMember (TellsCommitted x.actor (number_of e) last (log_after c (drop i h) x.actor p)) (at.machines p).told × IsReal e
+module _ (c : FabricConfig) (l : Lives) (at : FollowedLives c l) where
+  pub committed_told : (i p last : ℕ) (e : Epoch) (x : Who) → HasReported (lives_run units c (drop i l)) x (report.Committed p e last) →
+      IsMember (TellsCommitted x.actor (number_of e) last (lives_log c (drop i l) x.actor p)) (at.machines p).told × IsReal e
   committed_told i p last e x a =
-      let r = reported c (drop i h) p x (report.Committed p e last) _ a (real_drop c h i at.real)
-      (says_committed p x.actor (log_after c (drop i h) x.actor p) e last) in
-      (subst (IsMember _) (sym (at.follows.told p)) (told_grows c h p i _ r.0), r.1)
+      let r = reported c (drop i l) p x (report.Committed p e last) _ a (real_drop c l i at.real)
+      (says_committed p x.actor (lives_log c (drop i l) x.actor p) e last) in
+      (subst (IsMember _) (sym (at.follows.told p)) (told_grows c l p i _ r.0), r.1)
 
-  primary_told : (j p : ℕ) (e : Epoch) (y : Who) → HasReported (run_of units c (drop j h)) y (report.IsPrimary p e) →
-      IsMember (TellsPrimary y.actor (number_of e) (log_after c (drop j h) y.actor p)) (at.machines p).told × IsReal e
+  primary_told : (j p : ℕ) (e : Epoch) (y : Who) → HasReported (lives_run units c (drop j l)) y (report.IsPrimary p e) →
+      IsMember (TellsPrimary y.actor (number_of e) (lives_log c (drop j l) y.actor p)) (at.machines p).told × IsReal e
   primary_told j p e y a =
-      let r = reported c (drop j h) p y (report.IsPrimary p e) _ a (real_drop c h j at.real) (says_primary p y.actor (log_after c (drop j h) y.actor p) e) in
-      (subst (IsMember _) (sym (at.follows.told p)) (told_grows c h p j _ r.0), r.1)
+      let r = reported c (drop j l) p y (report.IsPrimary p e) _ a (real_drop c l j at.real) (says_primary p y.actor (lives_log c (drop j l) y.actor p) e) in
+      (subst (IsMember _) (sym (at.follows.told p)) (told_grows c l p j _ r.0), r.1)
 
-pub writes_kept_lem : WritesAreKept
-writes_kept_lem is_frame c h sound valid i j p last e later x y committed primary older loss =
-    let at = followed is_frame c sound h valid in
-    let a = committed_told c h at i p last e x committed in
-    let b = primary_told c h at j p later y primary in
+pub lives_keep_writes_lem : LivesKeepWrites
+lives_keep_writes_lem is_frame c l sound valid i j p last e later x y committed primary older loss =
+    let at = followed_lives is_frame c sound l valid in
+    let a = committed_told c l at i p last e x committed in
+    let b = primary_told c l at j p later y primary in
     writes_kept_told (at.follows.inv p) (settings_sound (length c.arbiters)) x.actor y.actor (number_of e) (number_of later) last
-    (log_after c (drop i h) x.actor p) (log_after c (drop j h) y.actor p) a.0 b.0
+    (lives_log c (drop i l) x.actor p) (lives_log c (drop j l) y.actor p) a.0 b.0
     (number_older_below e later (numbered e a.1) (numbered later b.1) older)
     (loss_is e a.1 ∙ (loss ∙ sym (loss_is later b.1)))
+
+pub writes_kept_lem : WritesAreKept
+writes_kept_lem is_frame c h sound valid =
+    subst WritesKeptIn (snapshots_one c h) (lives_keep_writes_lem is_frame c (one_life h) sound (valid_one units c is_frame h valid))

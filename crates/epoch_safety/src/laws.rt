@@ -1,6 +1,8 @@
 ghost use Rattle.epoch_safety.specs.Answers.{AnswersAreByEntries, OnlyQuestionsAreAnswered};
 ghost use Rattle.epoch_safety.specs.Laws.{AnswersAreCovered, AnswersAreOfCommitted, NamesAreCovered, RunsHaveNoOlder};
 ghost use Rattle.epoch_safety.specs.Laws.{RunsHaveOnePrimary, WritesAreKept};
+ghost use Rattle.epoch_safety.specs.Lives.{LivesCoverAnswers, LivesCoverNames, LivesHaveNoOlder};
+ghost use Rattle.epoch_safety.specs.Lives.{LivesHaveOnePrimary, LivesKeepWrites};
 
 /// In no valid run of a sound configuration do two nodes report that they are primary of one partition in one epoch.
 pub fn runs_have_one_primary()
@@ -49,4 +51,34 @@ pub fn only_questions_are_answered()
 /// was reported committed of that partition before, in epochs up to the replica's own of the same data loss number.
 pub fn answers_are_of_committed()
     ensures { AnswersAreOfCommitted }
+{}
+
+/// In no life of a cluster that comes back do two nodes report that they are primary of one partition in one epoch, nor
+/// in two lives.
+pub fn lives_have_one_primary()
+    ensures { LivesHaveOnePrimary }
+{}
+
+/// No node reports that it accepted a write of an older epoch than one that it promised or accepted before, in this life
+/// or in an earlier one.
+pub fn lives_have_no_older()
+    ensures { LivesHaveNoOlder }
+{}
+
+/// Once `last` entries of a partition are reported committed in any life, the log of each primary of a later epoch of
+/// the same data loss number begins with them when it reports itself primary, in whichever life.
+pub fn lives_keep_writes()
+    ensures { LivesKeepWrites }
+{}
+
+/// What a primary reports committed begins with all that was reported committed before, in this life and in earlier
+/// ones, in epochs up to its own of the same data loss number.
+pub fn lives_cover_answers()
+    ensures { LivesCoverAnswers }
+{}
+
+/// Whoever may answer about names answers by entries that begin with all that was reported committed before, in this
+/// life and in earlier ones, in epochs up to its own of the same data loss number.
+pub fn lives_cover_names()
+    ensures { LivesCoverNames }
 {}

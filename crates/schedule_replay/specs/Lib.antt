@@ -2,7 +2,6 @@ pub mod Refusals
 pub mod Follows
 pub mod Acts
 pub mod Begins
-pub mod Brief
 pub mod Halting
 pub mod Statuses
 pub mod Waits

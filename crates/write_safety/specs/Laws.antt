@@ -12,8 +12,9 @@ use Rattle.unit_rules.specs.Units.{units}
 use Rattle.world_rules.specs.Events.{world_step}
 use Rattle.world_rules.specs.Runs.{History, run_of, world_after}
 use Rattle.epoch_safety.specs.Laws.{OverValidRuns}
+use Rattle.epoch_safety.specs.Lives.{OverValidLives, lives_snapshots}
 use Rattle.run_promises.specs.Reports.{HasReported, log_after, log_in}
-use Rattle.run_promises.specs.Writes.{CommitsAgree}
+use Rattle.run_promises.specs.Writes.{CommitsAgree, CommitsAgreeIn}
 use Rattle.write_safety.specs.Beside.{running_log}
 use Rattle.write_safety.specs.Books.{KeptLog}
 use Rattle.write_safety.specs.Fed.{Fed, FedBy, HasCommitted, HasCommittedWith, MayFeed}
@@ -21,6 +22,10 @@ use Rattle.write_safety.specs.Fed.{Fed, FedBy, HasCommitted, HasCommittedWith, M
 -- what is reported committed agrees
 abbrev pub CommitsAgreeAlways : Type 0
 CommitsAgreeAlways = OverValidRuns CommitsAgree
+
+-- and so over all lives of a cluster that comes back
+abbrev pub LivesAgree : Type 0
+LivesAgree = OverValidLives (λ c l. CommitsAgreeIn (lives_snapshots c l))
 
 -- a book that is fed with a valid run has exactly its committed logs
 abbrev pub FedBooksHaveCommitted : Type 0

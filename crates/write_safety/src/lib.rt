@@ -13,5 +13,7 @@ mod lines;
 mod worked;
 
 pub use book::WriteBook;
-pub use laws::{commits_agree, fed_books_have_committed, logs_stand_beside, reports_feed_books};
+pub use laws::{
+    commits_agree, fed_books_have_committed, lives_agree, logs_stand_beside, reports_feed_books,
+};
 pub use worked::worked_book;
