@@ -1,10 +1,9 @@
 -- Who begins with the whole ring, and that it does so once.
-use Rattle.std.proofs.Common.{◌≡◌, ℕ, ◌+◌, ◌<◌, ◌≤◌, ◌==◌, Bool, true, false, cond, not, ◌&&◌, List, [], ◌∷◌, ◌++◌, ◌⊎◌, refl, sym, ap, ◌∙◌, subst, inl, inr, arith}
-use Rattle.std.proofs.lemmas.Bool.{and_parts, eqb-true, both_ways}
+use Rattle.std.proofs.Common.{◌≡◌, ◌+◌, Bool, true, false, cond, not, ◌&&◌, List, [], ◌++◌, ◌⊎◌, refl, sym, ap, ◌∙◌, inl, inr, arith}
+use Rattle.std.proofs.lemmas.Bool.{and_parts}
 use Rattle.fabric_terms.specs.declared.config.FabricConfig.{FabricConfig}
 use Rattle.fabric_terms.specs.declared.record.Record.{Record}
 use Rattle.ring_points.proofs.Whos.{same_who-true}
-use Rattle.ring_points.specs.declared.interval.Interval.{Interval}
 use Rattle.ring_points.specs.declared.who.Who.{Who}
 use Rattle.ring_points.specs.Ranges.{whole_ring}
 use Rattle.ring_points.specs.Whos.{node_instance, same_who}
@@ -12,10 +11,8 @@ use Rattle.ring_rules.specs.Starts.{node_started, start_first}
 use Rattle.run_facts.proofs.Kept.{boots_append}
 use Rattle.world_rules.specs.Nodes.{boots_of, instance_begun, is_spent}
 use Rattle.world_rules.specs.Uppers.{Upper}
-use Rattle.world_rules.specs.Worlds.{World, kept_of}
 use Rattle.cold_start.specs.Laws.{BeginsOnce, NextMayBeAgain, OneBeginsWithTheRing, OneLifeIsASchedule, PastMayNot, begins_with}
-use Rattle.cold_start.specs.Lives.{MayBeAgain}
-use Rattle.cold_start.specs.Starts.{node_begun_in, start_in, started_in}
+use Rattle.cold_start.specs.Starts.{node_begun_in, start_in}
 use Rattle.cold_start.proofs.OneLife.{life_one, run_one, valid_one, whole_one, world_one}
 use Rattle.cold_start.proofs.Steps.{begun_in_boots, node_begun_in-is, started_in-is}
 

@@ -1,6 +1,6 @@
 -- Facts of every row of lives: what was told last, who runs, and the tables of arbitrators.
 use Rattle.std.specs.Prelude.{map}
-use Rattle.std.proofs.Common.{◌≡◌, ℕ, Bool, true, List, [], ◌∷◌, Some, refl, sym, ap, ◌∙◌, subst}
+use Rattle.std.proofs.Common.{◌≡◌, ℕ, Bool, true, List, [], ◌∷◌, Some, refl, sym, ap, ◌∙◌}
 use Rattle.fabric_lemmas.proofs.Maps.{rises-put}
 use Rattle.fabric_lemmas.specs.Maps.{at, rises}
 use Rattle.fabric_terms.specs.declared.config.FabricConfig.{FabricConfig}
@@ -13,8 +13,8 @@ use Rattle.world_rules.specs.Above.{StaysAbove}
 use Rattle.world_rules.specs.Nodes.{NodeState}
 use Rattle.world_rules.specs.Runs.{moment_of}
 use Rattle.world_rules.specs.Uppers.{Upper, Did}
-use Rattle.world_rules.specs.Worlds.{World, Running, Stepped, clocks_in, kept_of, quiet}
-use Rattle.cold_start.specs.Lives.{Happening, Comes, Again, Lives, ValidLives, lives_run, lives_world, this_life, whole_after}
+use Rattle.world_rules.specs.Worlds.{World, Running, Stepped, clocks_in, kept_of}
+use Rattle.cold_start.specs.Lives.{Comes, Again, Lives, ValidLives, lives_run, lives_world, this_life, whole_after}
 use Rattle.cold_start.specs.Starts.{node_begun_in}
 use Rattle.cold_start.proofs.Steps.{begun_in_accuses, begun_in_boots, begun_in_spent, begun_in_told, life_cases}
 

@@ -6,12 +6,12 @@ use Rattle.ring_points.specs.declared.interval.Interval.{Interval}
 use Rattle.ring_points.specs.declared.who.Who.{Who}
 use Rattle.ring_points.specs.Ranges.{whole_ring}
 use Rattle.ring_points.specs.Whos.{node_instance, same_who}
-use Rattle.world_rules.specs.Nodes.{boots_of, instance_begun, is_spent, node_begun}
+use Rattle.world_rules.specs.Nodes.{boots_of, instance_begun, is_spent}
 use Rattle.world_rules.specs.Runs.{History, run_of, world_after}
 use Rattle.world_rules.specs.Schedules.{Valid}
 use Rattle.world_rules.specs.Uppers.{Upper}
 use Rattle.world_rules.specs.Worlds.{World, kept_of}
-use Rattle.cold_start.specs.Lives.{Lives, MayBeAgain, ValidLives, lives_run, lives_world, one_life, this_life, whole_after}
+use Rattle.cold_start.specs.Lives.{MayBeAgain, ValidLives, lives_run, lives_world, one_life, this_life, whole_after}
 use Rattle.cold_start.specs.Starts.{first_whole, node_begun_in}
 
 -- one life is a schedule: its world, its run, and that it is valid

@@ -12,19 +12,21 @@ use Rattle.run_promises.specs.Reports.{HasReported}
 use Rattle.epoch_safety.proofs.Followed.{FollowedLives, followed_lives}
 use Rattle.epoch_safety.proofs.Primaries.{numbered}
 use Rattle.epoch_safety.proofs.Written.{committed_told, loss_is}
-use Rattle.cold_start.specs.Lives.{Lives, ValidLives, lives_run, one_life}
-use Rattle.cold_start.proofs.OneLife.{valid_one}
+use Rattle.cold_start.specs.Lives.{Lives, lives_run, one_life}
+use Rattle.cold_start.proofs.OneLife.{valid_one, valid_before}
 use Rattle.epoch_safety.proofs.OneLife.{snapshots_one}
 use Rattle.epoch_safety.specs.Lives.{AnswersCoveredIn, LivesCoverAnswers, lives_log}
+use Rattle.world_rules.specs.Runs.{History}
+use Rattle.world_rules.specs.Schedules.{Valid}
 
-pub valid_drop : (is_frame : List ℕ → Bool) (c : FabricConfig) (l : Lives) (j : ℕ) → ValidLives units is_frame c l → ValidLives units is_frame c (drop j l)
-valid_drop is_frame c l zero valid = valid
+pub valid_drop : (is_frame : List ℕ → Bool) (c : FabricConfig) (h : History) (j : ℕ) → Valid units is_frame c h → Valid units is_frame c (drop j h)
+valid_drop is_frame c h zero valid = valid
 valid_drop is_frame c [] (suc j) valid = valid
-valid_drop is_frame c (e ∷ l) (suc j) valid = valid_drop is_frame c l j valid.0
+valid_drop is_frame c (e ∷ h) (suc j) valid = valid_drop is_frame c h j valid.0
 
 pub lives_cover_answers_lem : LivesCoverAnswers
 lives_cover_answers_lem is_frame c l sound valid i j p last committed e own x y le earlier now not_older loss =
-    let at : FollowedLives c (drop j l) = followed_lives is_frame c sound (drop j l) (valid_drop is_frame c l j valid) in
+    let at : FollowedLives c (drop j l) = followed_lives is_frame c sound (drop j l) (valid_before units c is_frame j l valid) in
     let since : drop (i - j) (drop j l) ≡ drop i l = drop-drop (i - j) j l ∙ ap (λ n. drop n l) (let e : j + (i - j) ≡ i = omega arith in e) in
     let before = committed_told c (drop j l) at (i - j) p last e x (subst (λ (z : Lives). HasReported (lives_run units c z) x (Committed p e last)) (sym since) earlier) in
     let mine = committed_told c (drop j l) at 0 p committed own y now in

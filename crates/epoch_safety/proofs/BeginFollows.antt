@@ -36,8 +36,8 @@ use Rattle.epoch_safety.proofs.ApartSteps.{starts_apart_lem}
 use Rattle.epoch_safety.proofs.Follows.{Follows, no_units}
 use Rattle.epoch_safety.proofs.NodeFollows.{Follow}
 use Rattle.epoch_safety.proofs.Telling.{Tellings, tells_on, tells_none}
-use Rattle.cold_start.specs.Starts.{start_in, started_in}
-use Rattle.cold_start.proofs.Steps.{started_in-is, started_in_as}
+use Rattle.cold_start.specs.Starts.{start_in, started_in, node_begun_in}
+use Rattle.cold_start.proofs.Steps.{started_in-is, started_in_as, node_begun_in-is}
 
 -- where all numbers are used up it has left
 spent_left : (whole : Who) (c : FabricConfig) (me : Who) → is_left (started_in whole c me true).ring.phase ≡ true
@@ -63,6 +63,14 @@ boot_now records b h = ap (λ s. cond s [] (Boot (instance_begun records) ∷ []
 
 number_now : (records : List Record) (b : Bool) → is_spent records ≡ b → instance_begun records ≡ cond b (boots_of records) (boots_of records + 1)
 number_now records b h = ap (λ s. cond s (boots_of records) (boots_of records + 1)) h
+
+pub begun_in_apart : (whole : Who) (c : FabricConfig) (node : ℕ) (records : List Record) →
+    list_any is_unit_report (node_begun_in units whole c node records).told ≡ false
+begun_in_apart whole c node records =
+    let me : Who = node_instance node (instance_begun records) in
+    let ring : Work = started_in whole c me (is_spent records) in
+    ap (λ (d : Did (NodeState units)). list_any is_unit_report d.told) (node_begun_in-is units whole c node records)
+    ∙ none_more is_unit_report ring.told (Own ring.ring.token.ranges (fence_of c.answer ring.ring.slots)) (started_apart whole c me (is_spent records)) refl
 
 module _ (whole : Who) (c : FabricConfig) (w : World units) (t : Tellings) (m : Machines) (k : ℕ) (f : Follows k w t m) (node : ℕ) (low : node < 32768) where
   abbrev records : List Record

@@ -49,7 +49,7 @@ was_asked r h asked old new told = absurd (cc (h))
 
 module _ (c : FabricConfig) (w : World units) (x : Who) (r : Report) (names : tells_names r ≡ true) where
   -- of these nothing is told
-  never : (rs : List Report) → list_any is_unit_report rs ≡ false → Contains rs r → ⊥
+  pub never : (rs : List Report) → list_any is_unit_report rs ≡ false → Contains rs r → ⊥
   never rs none h = apart r names rs none (contained r rs h)
 
   -- Steps of nodes.

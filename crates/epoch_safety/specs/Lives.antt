@@ -1,5 +1,5 @@
 -- The laws of primaries, epochs and writes of a cluster that comes back after all its nodes have stopped, over all its lives.
-use Rattle.std.specs.Prelude.{◌≡◌, ℕ, ◌≤◌, Bool, false, List, Some, Ok, take, drop}
+use Rattle.std.specs.Prelude.{◌≡◌, ℕ, ◌≤◌, Bool, false, List, Some, Ok, take, drop, true, [], ◌∷◌}
 use Rattle.fabric_lemmas.specs.Maps.{at}
 use Rattle.fabric_terms.specs.declared.config.FabricConfig.{FabricConfig}
 use Rattle.fabric_terms.specs.declared.report.Report.TheVariants.{Committed}
@@ -16,10 +16,18 @@ use Rattle.run_promises.specs.Snapshots.{Snapshots}
 use Rattle.run_promises.specs.Writes.{WritesKeptIn}
 use Rattle.unit_rules.specs.Units.{units}
 use Rattle.unit_rules.specs.Progress.{progress_of}
-use Rattle.unit_rules.specs.Answers.{ready}
+use Rattle.unit_rules.specs.Answers.{ready, listing, resolution}
 use Rattle.ring_points.specs.Epochs.{is_older}
 use Rattle.world_rules.specs.Worlds.{World, Running}
-use Rattle.cold_start.specs.Lives.{Lives, ValidLives, lives_run, lives_world}
+use Rattle.cold_start.specs.Lives.{Lives, ValidLives, lives_run, lives_world, Again, Comes, Happening}
+use Rattle.run_promises.specs.Answers.{AnsweredBy}
+use Rattle.run_promises.specs.Questions.{tells_names}
+use Rattle.fabric_terms.specs.declared.command.Command.{Command}
+use Rattle.fabric_terms.specs.declared.command.Command.TheVariants as command
+use Rattle.fabric_terms.specs.declared.report.Report.{Report}
+use Rattle.fabric_terms.specs.declared.event.Event.{Event}
+use Rattle.fabric_terms.specs.declared.event.Event.TheVariants.{Do}
+use Rattle.name_rules.specs.Names.{NameMap}
 
 -- it holds of every valid row of lives of every sound configuration
 abbrev pub OverValidLives : (FabricConfig → Lives → Type 0) → Type 0
@@ -68,3 +76,34 @@ NamesCoveredIn w past =
 
 abbrev pub LivesCoverNames : Type 0
 LivesCoverNames = OverValidLives (λ c l. NamesCoveredIn (lives_world units c l) (lives_snapshots c l))
+
+-- the node answered so in the world, and the entries cover what was committed at the moments of the past
+pub record RestsIn (w : World units) (past : Snapshots) (node partition : ℕ) (answer : NameMap → Report) (r : Report) : Type 0 where
+  pub by : AnsweredBy w node partition answer r
+  pub covers : CoverCommittedIn past partition by.is.count (state_at partition by.running.node.above).replica
+
+-- the report answers what the command asked, of the partition that it asked about
+abbrev pub AnswersCommandIn : World units → Snapshots → (node : ℕ) → Report → Command → Type 0
+AnswersCommandIn w past node r (command.Resolve partition name) = RestsIn w past node partition (resolution partition name) r
+AnswersCommandIn w past node r (command.Names partition range) = RestsIn w past node partition (listing partition range) r
+AnswersCommandIn w past node r _ = ⊥
+
+-- the event asked the node of the instance x, and the report is the answer
+abbrev pub AnswersEventIn : World units → Snapshots → Who → Report → Event → Type 0
+AnswersEventIn w past x r (Do node asked) = (x.actor ≡ node) × AnswersCommandIn w past node r asked
+AnswersEventIn w past x r _ = ⊥
+
+-- a new life asks nothing
+abbrev pub AnswersIn : World units → Snapshots → Who → Report → Happening → Type 0
+AnswersIn w past x r (Comes e) = AnswersEventIn w past x r e
+AnswersIn w past x r (Again whole) = ⊥
+
+-- each answer about names in the last moment answers the question that came then, by entries that cover what was committed
+abbrev pub LivesAnswered : FabricConfig → Lives → Type 0
+LivesAnswered c [] = Unit {0}
+LivesAnswered c (now ∷ earlier) =
+    (x : Who) (r : Report) → HasReported (lives_run units c (now ∷ earlier)) x r → tells_names r ≡ true →
+    AnswersIn (lives_world units c earlier) (lives_snapshots c earlier) x r now.1
+
+abbrev pub LivesAnswerOfCommitted : Type 0
+LivesAnswerOfCommitted = OverValidLives LivesAnswered

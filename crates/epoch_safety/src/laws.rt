@@ -1,8 +1,8 @@
 ghost use Rattle.epoch_safety.specs.Answers.{AnswersAreByEntries, OnlyQuestionsAreAnswered};
 ghost use Rattle.epoch_safety.specs.Laws.{AnswersAreCovered, AnswersAreOfCommitted, NamesAreCovered, RunsHaveNoOlder};
 ghost use Rattle.epoch_safety.specs.Laws.{RunsHaveOnePrimary, WritesAreKept};
-ghost use Rattle.epoch_safety.specs.Lives.{LivesCoverAnswers, LivesCoverNames, LivesHaveNoOlder};
-ghost use Rattle.epoch_safety.specs.Lives.{LivesHaveOnePrimary, LivesKeepWrites};
+ghost use Rattle.epoch_safety.specs.Lives.{LivesAnswerOfCommitted, LivesCoverAnswers, LivesCoverNames};
+ghost use Rattle.epoch_safety.specs.Lives.{LivesHaveNoOlder, LivesHaveOnePrimary, LivesKeepWrites};
 
 /// In no valid run of a sound configuration do two nodes report that they are primary of one partition in one epoch.
 pub fn runs_have_one_primary()
@@ -81,4 +81,10 @@ pub fn lives_cover_answers()
 /// life and in earlier ones, in epochs up to its own of the same data loss number.
 pub fn lives_cover_names()
     ensures { LivesCoverNames }
+{}
+
+/// Each answer about names that is reported in any life answers the question that came at that event, of the partition
+/// that it asked about, by entries that cover what was committed before, in this life and in earlier ones.
+pub fn lives_answer_of_committed()
+    ensures { LivesAnswerOfCommitted }
 {}

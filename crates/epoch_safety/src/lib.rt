@@ -13,8 +13,8 @@ mod laws;
 
 pub use apart::{starts_stay_apart, steps_stay_apart};
 pub use laws::{
-    answers_are_by_entries, answers_are_covered, answers_are_of_committed, lives_cover_answers,
-    lives_cover_names, lives_have_no_older, lives_have_one_primary, lives_keep_writes,
+    answers_are_by_entries, answers_are_covered, answers_are_of_committed, lives_answer_of_committed,
+    lives_cover_answers, lives_cover_names, lives_have_no_older, lives_have_one_primary, lives_keep_writes,
     names_are_covered, only_questions_are_answered, runs_have_no_older, runs_have_one_primary,
     writes_are_kept,
 };

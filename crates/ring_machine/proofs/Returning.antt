@@ -1,12 +1,11 @@
 -- The ring comes back: all its points are at one instance, and whoever was born is dead.
-use Rattle.std.proofs.Common.{◌≡◌, ℕ, ◌<◌, true, Some, refl, sym, ap, ◌∙◌, arith, false, Bool}
+use Rattle.std.proofs.Common.{◌≡◌, ℕ, true, Some, refl, sym, ap, ◌∙◌, false, Bool}
 use Rattle.std.proofs.lemmas.Bool.{cond_both}
 use Rattle.ring_points.specs.declared.who.Who.{Who}
 use Rattle.ring_points.specs.declared.who.Ruling.TheVariants.{Granted, Taken, Refused}
-use Rattle.fabric_lemmas.specs.Members.{IsMember}
 use Rattle.ring_machine.specs.Points.{is_point}
 use Rattle.ring_machine.specs.Ends.{End}
-use Rattle.ring_machine.specs.Slots.{Flight, HasClaim, of_record, of_flight, is_used, is_active, is_willing, is_engaged}
+use Rattle.ring_machine.specs.Slots.{Flight, of_record, of_flight, is_used, is_active, is_willing, is_engaged}
 use Rattle.ring_machine.specs.Frames.{Frame, Hello, Offer, Take, Renew, RenewAck, Transfer, Gone, Accuse, Ruled, RoundClaim, Kept}
 use Rattle.ring_machine.specs.World.{Settings, Instance, World, Place, At, InFlight, Outside, Live, Dead, slot}
 use Rattle.ring_machine.specs.Events.{come_back}

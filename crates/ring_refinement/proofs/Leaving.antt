@@ -8,7 +8,6 @@ use Rattle.fabric_terms.specs.declared.report.Why.TheVariants.{Counters}
 use Rattle.join_phases.specs.Phases.{is_left}
 use Rattle.ring_rules.specs.Rings.{Work}
 use Rattle.ring_rules.specs.Deeds.{leave, then_if, then_unless_left, has_numbers, counted_if, counted}
-use Rattle.ring_machine.specs.World as world
 use Rattle.ring_machine.specs.World.{Instance, World, Left, Dead}
 use Rattle.ring_machine.specs.Events.{IsSound, Leaves, in_phase}
 use Rattle.ring_machine.specs.Invariant.{Invariant}

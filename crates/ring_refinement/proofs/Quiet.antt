@@ -19,7 +19,6 @@ use Rattle.ring_rules.specs.Deeds.{send, tell, refuse}
 use Rattle.ring_rules.specs.Rings.{Work, settings_of}
 use Rattle.ring_rules.specs.Seeks.{hop_from, find_by, find_commanded, seek_on, seek_received, greet_holder, found_received, seeks_own}
 use Rattle.ring_rules.proofs.Rows.{join_commanded-is, find_commanded-is, seek_received-is, found_received-is}
-use Rattle.ring_machine.specs.World as world
 use Rattle.ring_machine.specs.World.{World}
 use Rattle.ring_machine.specs.Events.{IsSound}
 use Rattle.ring_refinement.specs.Images.{machine_of}
