@@ -9,6 +9,7 @@ use Rattle.ring_rules.specs.declared.link.Link.{Link}
 use Rattle.ring_rules.specs.Claims.{owes_round}
 use Rattle.link_core.specs.Firing.{asked_first, asked_if}
 use Rattle.link_core.specs.Rounds.{claimed_first, claimed_if}
+use Rattle.ring_points.specs.Limits.{most_messages}
 
 pub asked_first-zero : (peer : Who) (answers : List (ℕ × Ruling)) → asked_first 0 peer answers ≡ []
 unfolding asked_first
@@ -51,11 +52,11 @@ claimed_rises (suc n) l k le = go (cases_order k (suc n)) (claimed_rises n l k)
 
 -- what is left of the room for all claims is enough for the next
 pub claimed_room : (l : Link) (k n : ℕ) (before now : List (Who × Body)) → now ≡ before ++ claimed_first k l → k < n →
-    length before + length (claimed_first n l) ≤ 192 → length now + length (claimed_if (k + 1) l (owes_round (k + 1) l)) ≤ 192
+    length before + length (claimed_first n l) ≤ most_messages → length now + length (claimed_if (k + 1) l (owes_round (k + 1) l)) ≤ most_messages
 claimed_room l k n before now e lt room =
     let rises = claimed_rises n l (suc k) (omega arith) in
     let split : length (claimed_first (suc k) l) ≡ length (claimed_first k l) + length (claimed_if (suc k) l (owes_round (suc k) l)) =
     ap length (claimed_first-suc k l) ∙ length-append (claimed_first k l) (claimed_if (suc k) l (owes_round (suc k) l)) in
     let now_long : length now ≡ length before + length (claimed_first k l) = ap length e ∙ length-append before (claimed_first k l) in
     let s : suc k ≡ k + 1 = omega arith in
-    subst (λ (j : ℕ). length now + length (claimed_if j l (owes_round j l)) ≤ 192) s (omega arith)
+    subst (λ (j : ℕ). length now + length (claimed_if j l (owes_round j l)) ≤ most_messages) s (omega arith)

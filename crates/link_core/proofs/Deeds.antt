@@ -18,6 +18,7 @@ use Rattle.link_core.proofs.Few.{frame_few}
 use Rattle.link_core.proofs.FiredFew.{slot_fired_few}
 use Rattle.link_core.proofs.FiringTies.{fired_at_tie}
 use Rattle.link_core.proofs.FrameTies.{frame_tie}
+use Rattle.ring_points.specs.Limits.{most_arbiters}
 
 does_row : (row : Settings → Work → Work) (cause : Cause) (old : Links) (a : Announce) (out : List (Who × Body)) (d mine : Did) → d ≡ did_after out mine → ((c : Settings) (w : Work) → HasLinks old a c w.ring → counted w (row c w) ≡ counted w (finished cause mine w)) → Does row cause old a out d
 does_row row cause old a out d mine e h = λ c w before k s.
@@ -37,7 +38,7 @@ does_firing now i old a out d e =
 
 -- A call comes to what its row does.
 
-pub frame_heard : (now : ℕ) (a : Announce) (m : Message) (old : Links) (out : List (Who × Body)) (d : Did) → old.arbitrators ≤ 9 → d ≡ did_after out (frame_row now a m.from m.body old) → FrameHeard now a m old out d
+pub frame_heard : (now : ℕ) (a : Announce) (m : Message) (old : Links) (out : List (Who × Body)) (d : Did) → old.arbitrators ≤ most_arbiters → d ≡ did_after out (frame_row now a m.from m.body old) → FrameHeard now a m old out d
 frame_heard now a m old out d h e =
     let f = frame_few now a m.from m.body old h in
     record {
@@ -49,7 +50,7 @@ frame_heard now a m old out d h e =
       notes = rw e f.notes;
     }
 
-pub slot_was_fired : (now i : ℕ) (a : Announce) (old : Links) (out : List (Who × Body)) (d : Did) → old.arbitrators ≤ 9 → d ≡ did_after out (slot_fired now a i old) → SlotFired now i a old out d
+pub slot_was_fired : (now i : ℕ) (a : Announce) (old : Links) (out : List (Who × Body)) (d : Did) → old.arbitrators ≤ most_arbiters → d ≡ did_after out (slot_fired now a i old) → SlotFired now i a old out d
 slot_was_fired now i a old out d h e =
     let f = slot_fired_few now a i old h in
     record {
@@ -61,5 +62,5 @@ slot_was_fired now i a old out d h e =
       notes = rw e f.notes;
     }
 
-pub few_arbiters : (k : Links) (n : ℕ) → n ≤ 9 → k.arbitrators ≡ n → k.arbitrators ≤ 9
+pub few_arbiters : (k : Links) (n : ℕ) → n ≤ most_arbiters → k.arbitrators ≡ n → k.arbitrators ≤ most_arbiters
 few_arbiters k n h e = omega arith

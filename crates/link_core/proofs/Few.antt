@@ -1,4 +1,4 @@
--- A frame is answered by nine frames at most, and changes slots and sessions alone.
+-- A frame is answered by few frames, and changes slots and sessions alone.
 use Rattle.std.proofs.Common.{ℕ, ◌≤◌, Bool, true, false, List, length, Option, Some, None, refl, arith, nat_lt, min, ◌==◌, ◌-◌, not, ◌||◌, slice_set}
 use Rattle.ring_points.specs.declared.interval.Interval.{Interval}
 use Rattle.ring_points.specs.declared.who.Ruling.{Ruling}
@@ -28,13 +28,10 @@ use Rattle.heir_rounds.specs.Rounds.{round_noted, round_verdict}
 use Rattle.heir_rounds.specs.declared.verdict.RoundVerdict.{RoundVerdict}
 use Rattle.heir_rounds.specs.declared.verdict.RoundVerdict.TheVariants as rounds_of
 use Rattle.link_core.specs.Rounds.{claims, claims_if, round_judged, is_discharged, kept_if, kept_seen, kept_where}
-use Rattle.link_core.proofs.FiredFew.{both_first_few}
+use Rattle.link_core.proofs.FiredFew.{Few, both_first_few}
 use Rattle.link_core.specs.Frames.{frame_row}
-
--- nine frames at most, and two notes
-record Few (t : Turn) : Type 0 where
-  sent : length t.sent ≤ 9
-  notes : length t.notes ≤ 2
+use Rattle.ring_points.specs.Limits.{most_arbiters}
+use Rattle.link_core.specs.Limits.{most_row_messages, most_row_notes}
 
 found_few : (row : ℕ → SlotRow) (none : Did) (k : Links) (place : Option ℕ) → ((i : ℕ) (slot : Option Link) → Few (row i slot)) → IsHeard k none → IsHeard k (in_found row none k place)
 found_few row none k None h n = n
@@ -177,11 +174,11 @@ made_heir_few : (l : Link) (ripe : ℕ) (bare : Bool) → Few (made_heir l ripe 
 made_heir_few l ripe true = record { sent = omega arith; notes = omega arith }
 made_heir_few l ripe false = record { sent = omega arith; notes = omega arith }
 
-told_few : (was : LinkState) (l : Link) → length (discharge_told was l) ≤ 2
+told_few : (was : LinkState) (l : Link) → length (discharge_told was l) ≤ most_row_notes
 told_few Accused l = omega arith
 told_few _ l = omega arith
 
-discharged_few : (l : Link) (notes : List LinkNote) (ends : Bool) → length notes ≤ 2 → Few (kept_discharged l notes ends)
+discharged_few : (l : Link) (notes : List LinkNote) (ends : Bool) → length notes ≤ most_row_notes → Few (kept_discharged l notes ends)
 discharged_few l notes true h = record { sent = omega arith; notes = h }
 discharged_few l notes false h = record { sent = omega arith; notes = h }
 
@@ -201,38 +198,38 @@ ruling_seen_few now bound answer rounds arbiter ruling i (Some l) = ruling_if_fe
 
 -- Kept
 
-claims_few : (rounds n : ℕ) (l : Link) → n ≤ 9 → length (claims rounds n l) ≤ 9
+claims_few : (rounds n : ℕ) (l : Link) → n ≤ most_arbiters → length (claims rounds n l) ≤ most_row_messages
 claims_few rounds n l h = go (nat_lt 1 rounds)
   where
-    go : (b : Bool) → length (claims_if n l b) ≤ 9
+    go : (b : Bool) → length (claims_if n l b) ≤ most_row_messages
     go true = omega (arith, both_first_few n l)
     go false = omega arith
 
-round_few : (rounds n : ℕ) (l : Link) (ripe : ℕ) (v : RoundVerdict) → n ≤ 9 → Few (round_judged rounds n l ripe v)
+round_few : (rounds n : ℕ) (l : Link) (ripe : ℕ) (v : RoundVerdict) → n ≤ most_arbiters → Few (round_judged rounds n l ripe v)
 round_few rounds n l ripe rounds_of.Won h = record { sent = omega arith; notes = omega arith }
 round_few rounds n l ripe (rounds_of.Next r) h = record { sent = claims_few rounds n l h; notes = omega arith }
 round_few rounds n l ripe rounds_of.Over h = record { sent = omega arith; notes = omega arith }
 round_few rounds n l ripe rounds_of.Open h = record { sent = omega arith; notes = omega arith }
 
-kept_if_few : (rounds n ripe arbiter round : ℕ) (claimer : Who) (l : Link) (is : Bool) → n ≤ 9 → Few (kept_if rounds n ripe arbiter round claimer l is)
+kept_if_few : (rounds n ripe arbiter round : ℕ) (claimer : Who) (l : Link) (is : Bool) → n ≤ most_arbiters → Few (kept_if rounds n ripe arbiter round claimer l is)
 kept_if_few rounds n ripe arbiter round claimer l true h =
     round_few rounds n (record l { rounds = round_noted l.rounds round arbiter claimer }) ripe (round_verdict l.rounds round arbiter claimer) h
 kept_if_few rounds n ripe arbiter round claimer l false h = record { sent = omega arith; notes = omega arith }
 
-kept_seen_few : (now : ℕ) (bound : clocks.Bound) (answer rounds n arbiter round : ℕ) (claimer : Who) → n ≤ 9 → (i : ℕ) (slot : Option Link) →
+kept_seen_few : (now : ℕ) (bound : clocks.Bound) (answer rounds n arbiter round : ℕ) (claimer : Who) → n ≤ most_arbiters → (i : ℕ) (slot : Option Link) →
     Few (kept_seen now bound answer rounds n arbiter round claimer slot)
 kept_seen_few now bound answer rounds n arbiter round claimer h i None = record { sent = omega arith; notes = omega arith }
 kept_seen_few now bound answer rounds n arbiter round claimer h i (Some l) =
     kept_if_few rounds n (ripe_at now bound answer l) arbiter round claimer l (is_discharged l.state) h
 
-kept_few : (now arbiter : ℕ) (victim : Who) (round : ℕ) (claimer : Who) (k : Links) (is : Bool) → k.arbitrators ≤ 9 →
+kept_few : (now arbiter : ℕ) (victim : Who) (round : ℕ) (claimer : Who) (k : Links) (is : Bool) → k.arbitrators ≤ most_arbiters →
     IsHeard k (kept_where now arbiter victim round claimer k is)
 kept_few now arbiter victim round claimer k true h =
     found_few (λ i. kept_seen now k.bound k.answer k.rounds k.arbitrators arbiter round claimer) (same k) k (slot_where (of_instance victim) k.slots)
     (kept_seen_few now k.bound k.answer k.rounds k.arbitrators arbiter round claimer h) (same_few k)
 kept_few now arbiter victim round claimer k false h = same_few k
 
-pub frame_few : (now : ℕ) (a : Announce) (from : Who) (b : Body) (k : Links) → k.arbitrators ≤ 9 → IsHeard k (frame_row now a from b k)
+pub frame_few : (now : ℕ) (a : Announce) (from : Who) (b : Body) (k : Links) → k.arbitrators ≤ most_arbiters → IsHeard k (frame_row now a from b k)
 frame_few now a from (body.Hello mine) k h = of_instance_few k (new_link k now from mine Offered 1 k.lease) (slot_where (of_instance from) k.slots)
 frame_few now a from (body.HelloFor mine length) k h = of_instance_few k (new_link k now from mine Offered 2 (min length k.longest)) (slot_where (of_instance from) k.slots)
 frame_few now a from (body.Offer mine yours) k h = offer_seen_few now from mine yours k.lease k (slot_where (greets_node_by from.actor yours) k.slots)

@@ -1,4 +1,4 @@
--- A firing sends nine frames at most, and changes slots and the accused alone.
+-- A firing sends few frames, and changes slots and the accused alone.
 use Rattle.std.proofs.Common.{ℕ, zero, suc, ◌+◌, ◌≤◌, ◌∷◌, ◌++◌, [], ◌&&◌, not, Bool, true, false, List, length, Option, Some, None, ◌≡◌, ap, ◌∙◌, refl, arith, nat_lt, nat_le, length-append}
 use Rattle.fabric_terms.specs.declared.message.Body.{Body}
 use Rattle.std.proofs.Math.Seq.{take-append_seam, take-length}
@@ -17,6 +17,8 @@ use Rattle.link_core.specs.Links.{Links, Turn}
 use Rattle.link_core.specs.Kept.{IsFired}
 use Rattle.link_core.specs.Firing.{accuse_if, accusing, asked, asked_first, asked_if, discharged_due, discharged_end, fired_at, fired_if, heir_due, hello_due, is_over, slot_fired, spoken, transfer_again}
 use Rattle.link_core.proofs.Asked.{asked_first-zero, asked_first-suc, claimed_first-zero, claimed_first-suc}
+use Rattle.ring_points.specs.Limits.{most_arbiters, most_messages}
+use Rattle.link_core.specs.Limits.{most_row_messages, most_row_notes}
 
 asked_if_few : (a : ℕ) (peer : Who) (answered : Bool) → length (asked_if a peer answered) ≤ 1
 asked_if_few a peer true = omega arith
@@ -27,7 +29,7 @@ asked_first_few zero peer answers = rw asked_first-zero (omega arith)
 asked_first_few (suc n) peer answers =
     rw (asked_first-suc, length-append) (omega (arith, asked_first_few n peer answers, asked_if_few (suc n) peer (has_answered (suc n) answers)))
 
-asked_few : (n : ℕ) (l : Link) → n ≤ 9 → length (asked n l) ≤ 9
+asked_few : (n : ℕ) (l : Link) → n ≤ most_arbiters → length (asked n l) ≤ most_row_messages
 asked_few n l h = omega (arith, asked_first_few n l.peer l.tally.answers)
 
 -- an arbitrator is asked or claimed at, not both
@@ -42,19 +44,19 @@ both_first_few (suc n) l =
     rw (asked_first-suc, claimed_first-suc, length-append, length-append)
     (omega (arith, both_first_few n l, one_of_both (suc n) l (has_answered (suc n) l.tally.answers) (has_answered (suc n) l.rounds.answers)))
 
-both_few : (rounds n : ℕ) (l : Link) → n ≤ 9 → length (asked n l ++ claims rounds n l) ≤ 9
+both_few : (rounds n : ℕ) (l : Link) → n ≤ most_arbiters → length (asked n l ++ claims rounds n l) ≤ most_row_messages
 both_few rounds n l h = go (nat_lt 1 rounds)
   where
-    go : (b : Bool) → length (asked n l ++ claims_if n l b) ≤ 9
+    go : (b : Bool) → length (asked n l ++ claims_if n l b) ≤ most_row_messages
     go true = rw length-append (omega (arith, both_first_few n l))
     go false = rw length-append (omega (arith, asked_few n l h))
 
--- nine frames at most, and two notes
-record Few (t : Turn) : Type 0 where
-  sent : length t.sent ≤ 9
-  notes : length t.notes ≤ 2
+-- as few frames and notes as a row has
+pub record Few (t : Turn) : Type 0 where
+  pub sent : length t.sent ≤ most_row_messages
+  pub notes : length t.notes ≤ most_row_notes
 
-accuse_few : (i : ℕ) (l : Link) (k : Links) (room : Bool) → k.arbitrators ≤ 9 → IsFired k (accuse_if i l k room)
+accuse_few : (i : ℕ) (l : Link) (k : Links) (room : Bool) → k.arbitrators ≤ most_arbiters → IsFired k (accuse_if i l k room)
 accuse_few i l k true h = record { kept = refl; accused = take-append_seam k.accused (l.peer ∷ []); sent = asked_few k.arbitrators (accusing k l) h; notes = omega arith }
 accuse_few i l k false h = record { kept = refl; accused = take-length k.accused; sent = omega arith; notes = omega arith }
 
@@ -66,7 +68,7 @@ again_few : (l : Link) (flight : Option Flight) → length (transfer_again l fli
 again_few l None = omega arith
 again_few l (Some f) = omega arith
 
-discharged_few : (rounds n : ℕ) (l : Link) (over : Bool) → n ≤ 9 → Few (discharged_due rounds n l over)
+discharged_few : (rounds n : ℕ) (l : Link) (over : Bool) → n ≤ most_arbiters → Few (discharged_due rounds n l over)
 discharged_few rounds n l true h = record { sent = omega arith; notes = omega arith }
 discharged_few rounds n l false h = record { sent = both_few rounds n l h; notes = omega arith }
 
@@ -74,7 +76,7 @@ heir_few : (i : ℕ) (l : Link) (ripe : Bool) → Few (heir_due i l ripe)
 heir_few i l true = record { sent = omega arith; notes = omega arith }
 heir_few i l false = record { sent = omega arith; notes = omega arith }
 
-spoken_few : (now : ℕ) (a : Announce) (answer rounds n i : ℕ) (l : Link) (was : LinkState) → n ≤ 9 → Few (spoken now a answer rounds n i l was)
+spoken_few : (now : ℕ) (a : Announce) (answer rounds n i : ℕ) (l : Link) (was : LinkState) → n ≤ most_arbiters → Few (spoken now a answer rounds n i l was)
 spoken_few now a answer rounds n i l Hello h = hello_few l (nat_le l.until now)
 spoken_few now a answer rounds n i l Offered h = record { sent = omega arith; notes = omega arith }
 spoken_few now a answer rounds n i l Bound h = record { sent = omega (arith, again_few l l.flight); notes = omega arith }
@@ -83,23 +85,23 @@ spoken_few now a answer rounds n i l Accused h = record { sent = asked_few n l h
 spoken_few now a answer rounds n i l Discharged h = discharged_few rounds n l (nat_le (discharged_end answer rounds l) now) h
 spoken_few now a answer rounds n i l Heir h = heir_few i l (nat_le l.ripe now)
 
-fired_if_few : (now : ℕ) (a : Announce) (i : ℕ) (l : Link) (was : LinkState) (k : Links) (over : Bool) → k.arbitrators ≤ 9 → IsFired k (fired_if now a i l was k over)
+fired_if_few : (now : ℕ) (a : Announce) (i : ℕ) (l : Link) (was : LinkState) (k : Links) (over : Bool) → k.arbitrators ≤ most_arbiters → IsFired k (fired_if now a i l was k over)
 fired_if_few now a i l was k true h = accuse_few i l k (nat_lt (length k.accused) accused_limit) h
 fired_if_few now a i l was k false h = let f = spoken_few now a k.answer k.rounds k.arbitrators i l was h in record { kept = refl; accused = take-length k.accused; sent = f.sent; notes = f.notes }
 
-fired_at_few : (now : ℕ) (a : Announce) (i : ℕ) (slot : Option Link) (k : Links) → k.arbitrators ≤ 9 → IsFired k (fired_at now a i slot k)
+fired_at_few : (now : ℕ) (a : Announce) (i : ℕ) (slot : Option Link) (k : Links) → k.arbitrators ≤ most_arbiters → IsFired k (fired_at now a i slot k)
 fired_at_few now a i None k h = record { kept = refl; accused = take-length k.accused; sent = omega arith; notes = omega arith }
 fired_at_few now a i (Some l) k h = fired_if_few now a i l l.state k (is_over now l) h
 
-pub slot_fired_few : (now : ℕ) (a : Announce) (i : ℕ) (k : Links) → k.arbitrators ≤ 9 → IsFired k (slot_fired now a i k)
+pub slot_fired_few : (now : ℕ) (a : Announce) (i : ℕ) (k : Links) → k.arbitrators ≤ most_arbiters → IsFired k (slot_fired now a i k)
 slot_fired_few now a i k h = fired_at_few now a i (slot_at i k.slots) k h
 
--- the room for nine frames is enough for the claims, also after the questions
-pub room_for_claims : (n : ℕ) (l : Link) (before : List (Who × Body)) → n ≤ 9 → length before + 9 ≤ 192 → length before + length (claimed_first n l) ≤ 192
+-- the room for a row is enough for the claims, also after the questions
+pub room_for_claims : (n : ℕ) (l : Link) (before : List (Who × Body)) → n ≤ most_arbiters → length before + most_row_messages ≤ most_messages → length before + length (claimed_first n l) ≤ most_messages
 room_for_claims n l before few room = let both = both_first_few n l in omega arith
 
-pub room_after_asking : (n : ℕ) (l : Link) (before now : List (Who × Body)) → now ≡ before ++ asked n l → n ≤ 9 → length before + 9 ≤ 192 →
-    length now + length (claimed_first n l) ≤ 192
+pub room_after_asking : (n : ℕ) (l : Link) (before now : List (Who × Body)) → now ≡ before ++ asked n l → n ≤ most_arbiters → length before + most_row_messages ≤ most_messages →
+    length now + length (claimed_first n l) ≤ most_messages
 room_after_asking n l before now e few room =
     let both = both_first_few n l in
     let long : length now ≡ length before + length (asked_first n l.peer l.tally.answers) = ap length e ∙ length-append before (asked n l) in

@@ -11,37 +11,48 @@ use Rattle.link_core.specs.Renewals.{renew_received, ack_received}
 use Rattle.link_core.specs.Flights.{transfer_received, gone_received}
 use Rattle.link_core.specs.Rulings.{ruling_received}
 use Rattle.link_core.specs.Rounds.{kept_received}
+use Rattle.ring_points.specs.Limits.{most_reading}
 
--- what is said of a frame that a node takes: its stamp is a reading, and a ruling and an answer to a claim are of a configured arbitrator
+-- what is said of a frame that a node takes: its stamp is a reading, and a ruling and an answer to a claim are of a
+-- configured arbitrator
 abbrev pub may_come : ℕ → Who → Body → Bool
-may_come arbitrators from (body.RenewAck mine yours stamp version) = nat_le stamp 1000000000000000
-may_come arbitrators from (body.Ruled victim ruling) = nat_lt (arbiter_actor 0) from.actor && nat_le from.actor (arbiter_actor arbitrators)
-may_come arbitrators from (body.Kept victim round claimer) = nat_lt (arbiter_actor 0) from.actor && nat_le from.actor (arbiter_actor arbitrators)
+may_come arbitrators from (body.RenewAck mine yours stamp version) = nat_le stamp most_reading
+may_come arbitrators from (body.Ruled victim ruling) =
+    nat_lt (arbiter_actor 0) from.actor && nat_le from.actor (arbiter_actor arbitrators)
+may_come arbitrators from (body.Kept victim round claimer) =
+    nat_lt (arbiter_actor 0) from.actor && nat_le from.actor (arbiter_actor arbitrators)
 may_come arbitrators from _ = true
 
--- an arbitrator's answer; a frame of another kind changes nothing
-abbrev pub ruling_row : ℕ → Who → Body → Links → Did
-ruling_row now from (body.Ruled victim ruling) k = ruling_received now from victim ruling k
-ruling_row now from (body.Kept victim round claimer) k = kept_received now from victim round claimer k
-ruling_row now from b k = same k
-
--- a flight, and the end of a session; or one of the above
-abbrev pub flight_row : ℕ → Who → Body → Links → Did
-flight_row now from (body.Transfer mine yours flight ranges) k = transfer_received from mine yours flight k
-flight_row now from (body.Gone mine yours got bound) k = gone_received from mine yours got bound k
-flight_row now from b k = ruling_row now from b k
-
--- a renewal and its answer; or one of the above
-abbrev pub renewal_row : ℕ → Who → Body → Links → Did
-renewal_row now from (body.Renew mine yours stamp version got want ranges) k = renew_received from mine yours stamp version got want ranges k
-renewal_row now from (body.RenewAck mine yours stamp version) k = ack_received from mine yours stamp version k
-renewal_row now from b k = flight_row now from b k
-
--- a greeting and its answers; or one of the above
+-- The row of a frame; a frame of another kind changes nothing.
 abbrev pub frame_row : ℕ → Announce → Who → Body → Links → Did
 frame_row now a from (body.Hello mine) k = hello_received now from mine 1 k.lease k
 frame_row now a from (body.HelloFor mine length) k = hello_received now from mine 2 (min length k.longest) k
 frame_row now a from (body.Offer mine yours) k = offer_received now from mine yours k.lease k
 frame_row now a from (body.OfferFor mine yours length) k = offer_received now from mine yours length k
 frame_row now a from (body.Take mine yours) k = take_received now a from mine yours k
-frame_row now a from b k = renewal_row now from b k
+frame_row now a from (body.Renew mine yours stamp version got want ranges) k =
+    renew_received from mine yours stamp version got want ranges k
+frame_row now a from (body.RenewAck mine yours stamp version) k = ack_received from mine yours stamp version k
+frame_row now a from (body.Transfer mine yours flight ranges) k = transfer_received from mine yours flight k
+frame_row now a from (body.Gone mine yours got bound) k = gone_received from mine yours got bound k
+frame_row now a from (body.Ruled victim ruling) k = ruling_received now from victim ruling k
+frame_row now a from (body.Kept victim round claimer) k = kept_received now from victim round claimer k
+frame_row now a from _ k = same k
+
+-- The row of a frame of one family; a frame of another family changes nothing.
+
+abbrev pub renewal_row : Who → Body → Links → Did
+renewal_row from (body.Renew mine yours stamp version got want ranges) k =
+    renew_received from mine yours stamp version got want ranges k
+renewal_row from (body.RenewAck mine yours stamp version) k = ack_received from mine yours stamp version k
+renewal_row from _ k = same k
+
+abbrev pub flight_row : Who → Body → Links → Did
+flight_row from (body.Transfer mine yours flight ranges) k = transfer_received from mine yours flight k
+flight_row from (body.Gone mine yours got bound) k = gone_received from mine yours got bound k
+flight_row from _ k = same k
+
+abbrev pub ruling_row : ℕ → Who → Body → Links → Did
+ruling_row now from (body.Ruled victim ruling) k = ruling_received now from victim ruling k
+ruling_row now from (body.Kept victim round claimer) k = kept_received now from victim round claimer k
+ruling_row now from _ k = same k

@@ -5,17 +5,11 @@ use Rattle.ring_rules.specs.declared.link.Link.{Link}
 use Rattle.ring_rules.specs.Rings.{slot_count}
 use Rattle.link_core.specs.Deadlines.{ends_of}
 use Rattle.link_core.specs.Links.{Links}
-
--- leases, lengths and answer times, in ticks
-abbrev pub longest_time : ℕ
-longest_time = 1000000000
-
--- the end of the latest lease
-abbrev pub latest_end : ℕ
-latest_end = 1000001000000000
+use Rattle.ring_points.specs.Limits.{most_arbiters, most_drift, most_grain, most_lease, most_rounds}
+use Rattle.link_core.specs.Limits.{latest_end}
 
 pub record IsSoundLink (arbitrators : ℕ) (l : Link) : Type 0 where
-  pub len : l.len ≤ longest_time
+  pub len : l.len ≤ most_lease
   pub until : l.until ≤ latest_end
   pub tally : l.tally.arbitrators ≡ arbitrators
   pub rounds : l.rounds.arbitrators ≡ arbitrators
@@ -25,13 +19,13 @@ IsSoundSlot arbitrators None = Unit {0}
 IsSoundSlot arbitrators (Some l) = IsSoundLink arbitrators l
 
 pub record AreSound (k : Links) : Type 0 where
-  pub lease : k.lease ≤ longest_time
-  pub longest : k.longest ≤ longest_time
-  pub answer : k.answer ≤ longest_time
-  pub drift : k.bound.d ≤ 100
-  pub grain : k.bound.grain ≤ 1000000
-  pub arbitrators : k.arbitrators ≤ 9
-  pub rounds : k.rounds ≤ 8
+  pub lease : k.lease ≤ most_lease
+  pub longest : k.longest ≤ most_lease
+  pub answer : k.answer ≤ most_lease
+  pub drift : k.bound.d ≤ most_drift
+  pub grain : k.bound.grain ≤ most_grain
+  pub arbitrators : k.arbitrators ≤ most_arbiters
+  pub rounds : k.rounds ≤ most_rounds
   pub slots : All (IsSoundSlot k.arbitrators) k.slots
   pub count : length k.slots ≡ slot_count
 

@@ -2,10 +2,11 @@ ghost use Rattle.std.specs.Prelude.{◌≡◌, ◌+◌, ◌<◌, ◌≤◌, ◌+
 ghost use Rattle.arbiter_quorum.specs.Tallies.{has_answered};
 ghost use Rattle.link_core.specs.Links.{turn, turn_after};
 ghost use Rattle.link_core.specs.Firing.{accused_by, asked, asked_if, discharged_end, is_over, spoken, transfer_again};
+ghost use Rattle.link_core.specs.Limits.{latest_end, most_row_messages};
 
 use crate::announce::Announced;
 use crate::bodies::{self, say_gone};
-use crate::notes::{LinkNote, LinkNotes};
+use crate::notes::{LinkNote, LinkNotes, no_notes, one_note};
 use crate::rounds::claim_round;
 use arbiter_quorum::Tally;
 use fabric_terms::{Body, Outbox};
@@ -53,7 +54,7 @@ fn ask(link: &Link, arbitrator: u8, out: &mut Outbox)
 /// Each arbitrator that has not answered is asked about the peer.
 pub(crate) fn ask_arbiters(link: &Link, arbitrators: u8, out: &mut Outbox)
     requires few { arbitrators ≤ MAX_ARBITRATORS }
-    requires room { length out.old + 9 ≤ OUTBOX_LIMIT }
+    requires room { length out.old + most_row_messages ≤ OUTBOX_LIMIT }
     ensures { out.new ≡ out.old ++ asked arbitrators link.now }
 {
     for k in 0..arbitrators {
@@ -70,7 +71,7 @@ pub(crate) fn accuse(
     out: &mut Outbox,
 ) -> Option<Who>
     requires few { arbitrators ≤ MAX_ARBITRATORS }
-    requires room { length out.old + 9 ≤ OUTBOX_LIMIT }
+    requires room { length out.old + most_row_messages ≤ OUTBOX_LIMIT }
     ensures slot { slot.new ≡ option_map (accused_by me arbitrators rounds) slot.old }
     ensures peer { result ≡ option_map (λ l. l.peer) slot.old }
     ensures sent { IfSome slot.old (λ l. out.new ≡ out.old ++ asked arbitrators (accused_by me arbitrators rounds l)) }
@@ -88,7 +89,7 @@ pub(crate) fn accuse(
 fn discharged_end(link: &Link, firing: &Firing) -> u64
     requires rounds { firing.now.rounds ≤ MAX_ROUNDS }
     requires answer { firing.now.answer ≤ MAX_LEASE }
-    requires times { link.now.until ≤ 1_000_001_000_000_000 }
+    requires times { link.now.until ≤ latest_end }
     requires length { link.now.len ≤ MAX_LEASE }
     ensures { result ≡ discharged_end firing.now.answer firing.now.rounds link.now }
 {
@@ -114,16 +115,16 @@ pub(crate) fn spoken(
     out: &mut Outbox,
 ) -> LinkNotes
     requires few { firing.now.arbitrators ≤ MAX_ARBITRATORS }
-    requires room { length out.old + 9 ≤ OUTBOX_LIMIT }
+    requires room { length out.old + most_row_messages ≤ OUTBOX_LIMIT }
     requires rounds { firing.now.rounds ≤ MAX_ROUNDS }
     requires answer { firing.now.answer ≤ MAX_LEASE }
-    requires times { IfSome slot.old (λ l. l.until ≤ 1_000_001_000_000_000) }
+    requires times { IfSome slot.old (λ l. l.until ≤ latest_end) }
     requires length { IfSome slot.old (λ l. l.len ≤ MAX_LEASE) }
     ensures { IfSome slot.old (λ l. turn slot.new out.new result ≡ turn_after out.old
         (spoken firing.now.reading announce.now firing.now.answer firing.now.rounds firing.now.arbitrators i l l.state)) }
 {
     let Some(link) = slot else {
-        return LinkNotes::none();
+        return no_notes();
     };
     match link.state {
         LinkState::Hello if link.until <= firing.reading => *slot = None,
@@ -141,8 +142,8 @@ pub(crate) fn spoken(
             ask_arbiters(link, firing.arbitrators, out);
             claim_round(link, firing.arbitrators, firing.rounds, out);
         }
-        LinkState::Heir if link.ripe <= firing.reading => return LinkNotes::one(LinkNote::Ripe(i)),
+        LinkState::Heir if link.ripe <= firing.reading => return one_note(LinkNote::Ripe(i)),
         LinkState::Heir => {}
     }
-    LinkNotes::none()
+    no_notes()
 }

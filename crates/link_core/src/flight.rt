@@ -4,7 +4,7 @@ ghost use Rattle.link_core.specs.Flights.{gone_seen, is_lost, last_words, stands
 ghost use Rattle.link_core.specs.Links.{turn, turn_after};
 
 use crate::bodies::{self, say_gone};
-use crate::notes::{LinkNote, LinkNotes};
+use crate::notes::{LinkNote, LinkNotes, no_notes, one_note};
 use fabric_terms::{Body, Outbox};
 use ring_points::{Flight, OUTBOX_LIMIT};
 use ring_rules::{Link, LinkState};
@@ -20,15 +20,15 @@ pub(crate) fn transfer_seen(
     ensures { turn slot.new out.new result ≡ turn_after out.old (transfer_seen number i slot.old) }
 {
     let Some(link) = slot else {
-        return LinkNotes::none();
+        return no_notes();
     };
     match link.state {
-        LinkState::Bound if link.got < number => LinkNotes::one(LinkNote::Arrived(i)),
+        LinkState::Bound if link.got < number => one_note(LinkNote::Arrived(i)),
         LinkState::Parting => {
             say_gone(link, out);
-            LinkNotes::none()
+            no_notes()
         }
-        _ => LinkNotes::none(),
+        _ => no_notes(),
     }
 }
 
@@ -78,17 +78,17 @@ pub(crate) fn gone_seen(
     ensures { turn slot.new out.new result ≡ turn_after out.old (gone_seen got bound i slot.old) }
 {
     let Some(link) = slot else {
-        return LinkNotes::none();
+        return no_notes();
     };
     if !stands(link.state) {
-        return LinkNotes::none();
+        return no_notes();
     }
     if is_lost(link, got) {
-        return LinkNotes::one(LinkNote::Return(i));
+        return one_note(LinkNote::Return(i));
     }
     last_words(link, bound, out);
     *slot = None;
-    LinkNotes::one(LinkNote::Undo(i))
+    one_note(LinkNote::Undo(i))
 }
 
 /// A flight of this number was taken.

@@ -4,7 +4,7 @@ ghost use Rattle.link_core.specs.Handshakes.{offer_repeated, offer_taken, hello_
 
 use crate::announce::Announced;
 use crate::bodies::{self, say_gone};
-use crate::notes::{LinkNote, LinkNotes};
+use crate::notes::{LinkNote, LinkNotes, no_notes, one_note};
 use fabric_terms::{Body, Outbox};
 use ring_points::{OUTBOX_LIMIT, Who};
 use ring_rules::{Link, LinkState};
@@ -37,7 +37,7 @@ pub(crate) fn offer_taken(
     ensures { turn slot.new out.new result ≡ turn_after out.old (offer_taken now from theirs len slot.old) }
 {
     let Some(link) = slot else {
-        return LinkNotes::none();
+        return no_notes();
     };
     link.peer = from;
     link.yours = theirs;
@@ -52,7 +52,7 @@ pub(crate) fn offer_taken(
             yours: theirs,
         },
     );
-    LinkNotes::one(LinkNote::BoundNow)
+    one_note(LinkNote::BoundNow)
 }
 
 /// An Offer in this session: one that was taken before gets its Take again.
@@ -87,19 +87,19 @@ pub(crate) fn take_seen(
     ensures { turn slot.new out.new result ≡ turn_after out.old (take_seen now announce.now slot.old) }
 {
     let Some(link) = slot else {
-        return LinkNotes::none();
+        return no_notes();
     };
     match link.state {
         LinkState::Offered => {
             // The lease runs since the Offer: whoever accepts is bound before whoever greets relies on it.
             link.state = LinkState::Bound;
             out.send(link.peer, bodies::renew(link, now, announce));
-            LinkNotes::one(LinkNote::BoundNow)
+            one_note(LinkNote::BoundNow)
         }
         LinkState::Parting => {
             say_gone(link, out);
-            LinkNotes::none()
+            no_notes()
         }
-        _ => LinkNotes::none(),
+        _ => no_notes(),
     }
 }

@@ -27,7 +27,7 @@ pub const SLOTS: usize = 16;
 /// How many instances a node can accuse.
 pub const MAX_ACCUSED: usize = 1024;
 
-/// The links of a node: 16 slots, the number of its next session, and whom it has accused. Contracts see it as the
+/// The links of a node: its slots, the number of its next session, and whom it has accused. Contracts see it as the
 /// record `Links`.
 #[derive(Drop)]
 pub struct Links16 {
@@ -88,9 +88,8 @@ fn free_slots() -> [Option<Link>; SLOTS]
 }
 
 impl Links16 {
-    /// No links. The lease is that of a link that names no length, the longest the longest that is granted; each of
-    /// them and the time for an answer is at most 1,000,000,000 ticks. There are at most nine arbitrators, and at most
-    /// eight rounds of heirs.
+    /// No links. `lease` is the lease of a link that names no length, and `longest` the longest lease that is granted.
+    /// Each of them, and the time for an answer, is at most `MAX_LEASE` ticks.
     pub fn new(
         me: Who,
         lease: u64,
@@ -131,7 +130,7 @@ impl Links16 {
         self.me
     }
 
-    /// The lease of a link that names no length, at most 1,000,000,000 ticks.
+    /// The lease of a link that names no length, in ticks.
     pub fn lease(&self) -> u64
         ensures value { result ≡ self.now.lease }
         ensures short { result ≤ MAX_LEASE }
@@ -139,7 +138,7 @@ impl Links16 {
         self.lease
     }
 
-    /// How many arbitrators there are, at most nine.
+    /// How many arbitrators there are.
     pub fn arbitrators(&self) -> u8
         ensures value { result ≡ self.now.arbitrators }
         ensures few { result ≤ MAX_ARBITRATORS }
@@ -173,7 +172,7 @@ impl Links16 {
 
     /// A flight of this number was taken from the peer of the slot.
     pub fn took(&mut self, slot: usize, number: u32)
-        requires { slot < 16 }
+        requires { slot < SLOTS }
         ensures { did self.new [] [] ≡ call_in slot (flight_taken number) self.old }
     {
         change!(self, slot, place => flight::took(place, number))
@@ -181,7 +180,7 @@ impl Links16 {
 
     /// A flight stands in the slot, and goes to its peer.
     pub fn put_flight(&mut self, slot: usize, flight: &Flight, out: &mut Outbox)
-        requires slot { slot < 16 }
+        requires slot { slot < SLOTS }
         requires room { length out.old < OUTBOX_LIMIT }
         ensures { did self.new out.new [] ≡ did_after out.old (call_in slot (flight_sent flight.now) self.old) }
     {
@@ -190,7 +189,7 @@ impl Links16 {
 
     /// The slot ends, and its peer gets its answer if it wants one.
     pub fn close(&mut self, slot: usize, bound: bool, out: &mut Outbox)
-        requires slot { slot < 16 }
+        requires slot { slot < SLOTS }
         requires room { length out.old < OUTBOX_LIMIT }
         ensures { did self.new out.new [] ≡ did_after out.old (call_in slot (slot_closed bound) self.old) }
     {
@@ -222,7 +221,7 @@ impl Links16 {
 
     /// The slot is free.
     pub fn drop_slot(&mut self, slot: usize)
-        requires { slot < 16 }
+        requires { slot < SLOTS }
         ensures { self.new ≡ with_slot slot None self.old }
     {
         change!(self, slot, place => *place = None)

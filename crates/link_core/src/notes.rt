@@ -1,10 +1,9 @@
-ghost use Rattle.std.specs.Prelude.{◌≡◌, ◌≤◌, [], ◌∷◌, length};
+ghost use Rattle.std.specs.Prelude.{◌≡◌, [], ◌∷◌};
 
-use arrayvec::ArrayVec;
+use bounded_list::Bounded;
 use fabric_terms::Why;
 use ring_points::Who;
 use std::default::Default;
-use std::marker::Model;
 
 /// What a row of the links leaves to the node. A `usize` is the place of a slot.
 #[derive(Drop)]
@@ -38,56 +37,34 @@ impl Default for LinkNote {
     }
 }
 
-/// What a row leaves to the node, in the row's order: at most four notes. Contracts see them as their list.
-#[derive(Drop)]
-pub struct LinkNotes {
-    notes: ArrayVec<LinkNote, 4>,
+/// The most notes of one row.
+pub const MAX_NOTES: usize = 4;
+
+/// What a row leaves to the node, in the row's order.
+pub type LinkNotes = Bounded<LinkNote, MAX_NOTES>;
+
+/// Nothing is left to do.
+pub(crate) fn no_notes() -> LinkNotes
+    ensures { result ≡ [] }
+{
+    Bounded::new()
 }
 
-impl Model for LinkNotes {
-    ghost use Rattle.std.specs.Prelude.{◌≤◌, List, length};
-    ghost use Rattle.link_core.specs.declared.notes.LinkNote.{LinkNote};
-
-    ghost Value = { List LinkNote };
-
-    ghost view = { λ n. n.notes.items };
-
-    ghost invariant = { λ n. length n.notes.items ≤ 4 };
+/// One thing is left to do.
+pub(crate) fn one_note(note: LinkNote) -> LinkNotes
+    ensures { result ≡ note ∷ [] }
+{
+    let mut notes = Bounded::new();
+    notes.push(note);
+    notes
 }
 
-impl LinkNotes {
-    /// Nothing is left to do.
-    pub fn none() -> Self
-        ensures { result ≡ [] }
-    {
-        LinkNotes {
-            notes: ArrayVec::new(),
-        }
-    }
-
-    /// One thing is left to do.
-    pub fn one(note: LinkNote) -> Self
-        ensures { result ≡ note ∷ [] }
-    {
-        let mut notes = ArrayVec::new();
-        notes.push(note);
-        LinkNotes { notes }
-    }
-
-    /// Two things are left to do, in this order.
-    pub fn two(first: LinkNote, second: LinkNote) -> Self
-        ensures { result ≡ first ∷ second ∷ [] }
-    {
-        let mut notes = ArrayVec::new();
-        notes.push(first);
-        notes.push(second);
-        LinkNotes { notes }
-    }
-
-    pub fn as_slice(&self) -> &[LinkNote]
-        ensures value { result.now ≡ self.now }
-        ensures few { length self.now ≤ 4 }
-    {
-        self.notes.as_slice()
-    }
+/// Two things are left to do, in this order.
+pub(crate) fn two_notes(first: LinkNote, second: LinkNote) -> LinkNotes
+    ensures { result ≡ first ∷ second ∷ [] }
+{
+    let mut notes = Bounded::new();
+    notes.push(first);
+    notes.push(second);
+    notes
 }

@@ -5,7 +5,7 @@ ghost use Rattle.link_core.specs.Links.{turn, turn_after};
 ghost use Rattle.link_core.specs.Renewals.{ack_seen, renew_seen, wanted_if};
 
 use crate::bodies::say_gone;
-use crate::notes::{LinkNote, LinkNotes};
+use crate::notes::{LinkNote, LinkNotes, no_notes, one_note, two_notes};
 use fabric_terms::{Body, Outbox};
 use ring_points::{OUTBOX_LIMIT, RangeSet};
 use ring_rules::{Link, LinkState};
@@ -59,9 +59,9 @@ fn wanted(want: bool, i: usize) -> LinkNotes
     ensures { result ≡ wanted_if want i }
 {
     if want {
-        LinkNotes::one(LinkNote::Wanted(i))
+        one_note(LinkNote::Wanted(i))
     } else {
-        LinkNotes::none()
+        no_notes()
     }
 }
 
@@ -69,9 +69,9 @@ fn bound_and_wanted(want: bool, i: usize) -> LinkNotes
     ensures { result ≡ LinkNote.BoundNow ∷ wanted_if want i }
 {
     if want {
-        LinkNotes::two(LinkNote::BoundNow, LinkNote::Wanted(i))
+        two_notes(LinkNote::BoundNow, LinkNote::Wanted(i))
     } else {
-        LinkNotes::one(LinkNote::BoundNow)
+        one_note(LinkNote::BoundNow)
     }
 }
 
@@ -88,7 +88,7 @@ pub(crate) fn renew_seen(
         slot.old) }
 {
     let Some(link) = slot else {
-        return LinkNotes::none();
+        return no_notes();
     };
     match link.state {
         LinkState::Offered => {
@@ -103,9 +103,9 @@ pub(crate) fn renew_seen(
         }
         LinkState::Parting => {
             say_gone(link, out);
-            LinkNotes::none()
+            no_notes()
         }
-        _ => LinkNotes::none(),
+        _ => no_notes(),
     }
 }
 

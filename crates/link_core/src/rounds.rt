@@ -3,8 +3,9 @@ ghost use Rattle.heir_rounds.specs.Rounds.{round_noted, round_verdict};
 ghost use Rattle.ring_rules.specs.Claims.{owes_round};
 ghost use Rattle.link_core.specs.Links.{turn, turn_after};
 ghost use Rattle.link_core.specs.Rounds.{claimed_first, claimed_if, claims, kept_seen, round_judged};
+ghost use Rattle.link_core.specs.Limits.{longest_span, most_row_messages};
 
-use crate::notes::LinkNotes;
+use crate::notes::{LinkNotes, no_notes};
 use crate::ruling::{Terms, becomes_heir, ripe_at};
 use fabric_terms::{Body, Outbox};
 use heir_rounds::RoundVerdict;
@@ -93,12 +94,12 @@ fn round_judged(
     out: &mut Outbox,
 ) -> LinkNotes
     requires few { arbitrators ≤ MAX_ARBITRATORS }
-    requires room { length out.old + 9 ≤ OUTBOX_LIMIT }
+    requires room { length out.old + most_row_messages ≤ OUTBOX_LIMIT }
     ensures { IfSome slot.old (λ l. turn slot.new out.new result ≡ turn_after out.old
         (round_judged rounds arbitrators l ripe verdict)) }
 {
     let Some(link) = slot else {
-        return LinkNotes::none();
+        return no_notes();
     };
     match verdict {
         RoundVerdict::Won => return becomes_heir(slot, ripe),
@@ -107,7 +108,7 @@ fn round_judged(
         RoundVerdict::Over => *slot = None,
         RoundVerdict::Open => {}
     }
-    LinkNotes::none()
+    no_notes()
 }
 
 /// Whom an arbitrator keeps of a round about the peer.
@@ -130,9 +131,9 @@ pub(crate) fn kept_seen(
     requires now { now ≤ MAX_READING }
     requires drift { terms.bound.d ≤ MAX_DRIFT }
     requires grain { terms.bound.grain ≤ MAX_GRAIN }
-    requires length { IfSome slot.old (λ l. l.len + terms.answer ≤ 2_000_000_000) }
+    requires length { IfSome slot.old (λ l. l.len + terms.answer ≤ longest_span) }
     requires few { arbitrators ≤ MAX_ARBITRATORS }
-    requires room { length out.old + 9 ≤ OUTBOX_LIMIT }
+    requires room { length out.old + most_row_messages ≤ OUTBOX_LIMIT }
     requires first { 1 ≤ keeping.arbitrator }
     requires last { IfSome slot.old (λ l. keeping.arbitrator ≤ l.rounds.arbitrators) }
     ensures { turn slot.new out.new result ≡ turn_after out.old
@@ -140,11 +141,11 @@ pub(crate) fn kept_seen(
         keeping.claimer slot.old) }
 {
     let Some(link) = slot else {
-        return LinkNotes::none();
+        return no_notes();
     };
     // Rounds are claimed by whom a majority has discharged: an heir needs none, and before that none is open.
     if link.state != LinkState::Discharged {
-        return LinkNotes::none();
+        return no_notes();
     }
     let ripe = ripe_at(now, terms.bound, terms.answer, link);
     let verdict = note(link, keeping.round, keeping.arbitrator, keeping.claimer);

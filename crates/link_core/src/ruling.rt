@@ -4,8 +4,9 @@ ghost use Rattle.ring_rules.specs.Links.{is_bare};
 ghost use Rattle.link_core.specs.Links.{turn};
 ghost use Rattle.link_core.specs.Rulings.{awaits, becomes_heir, discharge_told, judged, made_heir, may_succeed};
 ghost use Rattle.link_core.specs.Rulings.{kept_discharged, ruling_seen, ripe_at};
+ghost use Rattle.link_core.specs.Limits.{longest_span};
 
-use crate::notes::{LinkNote, LinkNotes};
+use crate::notes::{LinkNote, LinkNotes, no_notes, one_note};
 use arbiter_quorum::Verdict;
 use drift_clock::{Bound, wait_of};
 use fabric_terms::Why;
@@ -23,8 +24,8 @@ fn discharge_told(link: &Link) -> LinkNotes
     ensures { result ≡ discharge_told link.now.state link.now }
 {
     match link.state {
-        LinkState::Accused => LinkNotes::one(LinkNote::DischargedNow(link.peer)),
-        _ => LinkNotes::none(),
+        LinkState::Accused => one_note(LinkNote::DischargedNow(link.peer)),
+        _ => no_notes(),
     }
 }
 
@@ -33,12 +34,12 @@ pub(crate) fn becomes_heir(slot: &mut Option<Link>, ripe: u64) -> LinkNotes
     ensures { IfSome slot.old (λ l. turn slot.new [] result ≡ becomes_heir l ripe) }
 {
     let Some(link) = slot else {
-        return LinkNotes::none();
+        return no_notes();
     };
     let peer = link.peer;
     link.state = LinkState::Heir;
     link.ripe = ripe;
-    LinkNotes::one(LinkNote::HeirNow(peer, ripe))
+    one_note(LinkNote::HeirNow(peer, ripe))
 }
 
 /// A majority has granted.
@@ -46,12 +47,12 @@ fn made_heir(slot: &mut Option<Link>, ripe: u64) -> LinkNotes
     ensures { IfSome slot.old (λ l. turn slot.new [] result ≡ made_heir l ripe (is_bare l)) }
 {
     let Some(link) = slot else {
-        return LinkNotes::none();
+        return no_notes();
     };
     let peer = link.peer;
     if is_bare(link) {
         *slot = None;
-        LinkNotes::one(LinkNote::DischargedNow(peer))
+        one_note(LinkNote::DischargedNow(peer))
     } else {
         becomes_heir(slot, ripe)
     }
@@ -70,7 +71,7 @@ fn kept_discharged(slot: &mut Option<Link>, rounds: u8) -> LinkNotes
         (is_bare l || not (may_succeed rounds l))) }
 {
     let Some(link) = slot else {
-        return LinkNotes::none();
+        return no_notes();
     };
     let notes = discharge_told(link);
     // With nothing to inherit, or no way to become heir, the slot serves another link.
@@ -89,8 +90,8 @@ fn judged(slot: &mut Option<Link>, ripe: u64, rounds: u8, verdict: Verdict) -> L
         Verdict::Heir => made_heir(slot, ripe),
         Verdict::Discharged => kept_discharged(slot, rounds),
         // So many arbitrators count this node as accused that another may be its heir.
-        Verdict::Lost => LinkNotes::one(LinkNote::Leave(Why::Lost)),
-        Verdict::Open => LinkNotes::none(),
+        Verdict::Lost => one_note(LinkNote::Leave(Why::Lost)),
+        Verdict::Open => no_notes(),
     }
 }
 
@@ -99,7 +100,7 @@ pub(crate) fn ripe_at(now: u64, bound: Bound, answer: u64, link: &Link) -> u64
     requires now { now ≤ MAX_READING }
     requires drift { bound.d ≤ MAX_DRIFT }
     requires grain { bound.grain ≤ MAX_GRAIN }
-    requires length { link.now.len + answer ≤ 2_000_000_000 }
+    requires length { link.now.len + answer ≤ longest_span }
     ensures { result ≡ ripe_at now bound answer link.now }
 {
     now + wait_of(bound, link.len + answer)
@@ -141,16 +142,16 @@ pub(crate) fn ruling_seen(
     requires now { now ≤ MAX_READING }
     requires drift { terms.bound.d ≤ MAX_DRIFT }
     requires grain { terms.bound.grain ≤ MAX_GRAIN }
-    requires length { IfSome slot.old (λ l. l.len + terms.answer ≤ 2_000_000_000) }
+    requires length { IfSome slot.old (λ l. l.len + terms.answer ≤ longest_span) }
     requires first { 1 ≤ arbitrator }
     requires last { IfSome slot.old (λ l. arbitrator ≤ l.tally.arbitrators) }
     ensures { turn slot.new [] result ≡ ruling_seen now terms.bound terms.answer terms.rounds arbitrator ruling slot.old }
 {
     let Some(link) = slot else {
-        return LinkNotes::none();
+        return no_notes();
     };
     if !awaits(link.state) {
-        return LinkNotes::none();
+        return no_notes();
     }
     // An heir waits from the step in which its majority came, and that may be this one.
     let ripe = ripe_at(now, terms.bound, terms.answer, link);

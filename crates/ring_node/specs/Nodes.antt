@@ -13,6 +13,7 @@ use Rattle.ring_route.specs.Routes.{Routes}
 use Rattle.ring_rules.specs.Deeds.{has_numbers}
 use Rattle.ring_rules.specs.Rings.{Settings, Ring, Work, no_slots}
 use Rattle.token_core.specs.Tokens.{Token}
+use Rattle.ring_node.specs.Limits.{most_near}
 
 -- what a node goes by, and its ring
 pub record Node : Type 0 where
@@ -40,7 +41,7 @@ node_of k token routes phase target near =
 -- has frozen something
 pub record IsNode (n : Node) (points : List (ℕ × Point)) : Type 0 where
   pub listed : n.ring.routes.points ≡ map (λ p. (p.0, p.1.0)) points
-  pub near : n.settings.near ≤ 4
+  pub near : n.settings.near ≤ most_near
   pub numbers : IsTrue (has_numbers n.ring)
   pub freeze : IsTrue (not (is_some n.ring.token.freeze) || is_routing n.ring.phase)
 

@@ -136,7 +136,7 @@ impl RingNode {
     )
         requires now { now ≤ MAX_READING }
         requires room { length out.old < OUTBOX_LIMIT }
-        requires place { length told.old < 63 }
+        requires place { length told.old + 1 < MAX_RING_REPORTS }
         ensures row { step self.new out.new told.new ≡ by (λ c. command_received c now command.now)
             (step self.old out.old told.old) }
         ensures few { length told.new ≤ length told.old + 1 }

@@ -5,6 +5,7 @@ ghost use Rattle.ring_node.specs.Nodes.{Rings, by, step};
 ghost use Rattle.ring_rules.specs.Frames as rules;
 ghost use Rattle.ring_rules.specs.Steps.{frame_if};
 ghost use Rattle.fabric_terms.specs.Messages.{is_sound};
+ghost use Rattle.ring_node.specs.Limits.{most_slot_messages, most_slot_reports};
 
 use crate::node::RingNode;
 use crate::reports::Reports;
@@ -117,8 +118,8 @@ impl RingNode {
         requires place { length told.old ≡ 0 }
         ensures row { step self.new out.new told.new ≡ by
             (λ c. rules.frame_received c now message.now.from message.now.body) (step self.old out.old told.old) }
-        ensures few { length told.new ≤ 4 }
-        ensures short { length out.new ≤ 11 }
+        ensures few { length told.new ≤ most_slot_reports }
+        ensures short { length out.new ≤ most_slot_messages }
     {
         match &message.body {
             Body::Seek { origin, key, hops } => self.hear_seek(*origin, *key, *hops, out, told),
@@ -135,8 +136,8 @@ impl RingNode {
         requires place { length told.old ≡ 0 }
         ensures row { step self.new out.new told.new ≡ by
             (λ c w. frame_if c now message.now w (rules.passes c w.ring message.now)) (step self.old out.old told.old) }
-        ensures few { length told.new ≤ 4 }
-        ensures short { length out.new ≤ 11 }
+        ensures few { length told.new ≤ most_slot_reports }
+        ensures short { length out.new ≤ most_slot_messages }
     {
         if self.passes(message) {
             // First, so that the row of the frame knows of its sender.

@@ -17,7 +17,7 @@ use crate::refusals::{refuse, refuse_gift};
 use crate::reports::Reports;
 use crate::tokens::Spent;
 use fabric_terms::{Reason, Verb};
-use link_core::{Link, LinkState};
+use link_core::{Link, LinkState, SLOTS};
 use ring_points::{MAX_RING_REPORTS, RangeSet, TooMany, Who};
 
 fn is_bound_with(slot: &Option<Link>, node: u16) -> bool
@@ -33,7 +33,7 @@ impl RingNode {
     /// The first slot that is bound to the node.
     fn bound_with(&self, node: u16) -> Option<usize>
         ensures place { result ≡ slot_where (of_node is_bound node) self.now.ring.slots }
-        ensures inside { IfSome result (λ i. i < 16) }
+        ensures inside { IfSome result (λ i. i < SLOTS) }
     {
         self.links
             .slots()

@@ -40,7 +40,7 @@ impl RingNode {
     {
         let mark = self.mark(out, told);
         self.leave_at(why, mark);
-        told.tell(Report::LeftRing(why));
+        told.push(Report::LeftRing(why));
     }
 
     /// A row breaks off for want of a number: nothing of it was done, and the node leaves.
@@ -55,6 +55,6 @@ impl RingNode {
         self.leave_at(Why::Counters, mark);
         out.truncate(mark.sent);
         told.truncate(mark.told);
-        told.tell(Report::LeftRing(Why::Counters));
+        told.push(Report::LeftRing(Why::Counters));
     }
 }

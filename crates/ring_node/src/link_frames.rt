@@ -4,6 +4,8 @@ ghost use Rattle.link_core.specs.Ties.{is_search};
 ghost use Rattle.ring_node.specs.Nodes.{by, step};
 ghost use Rattle.ring_rules.specs.Deeds.{counted};
 ghost use Rattle.ring_rules.specs.Frames.{frame_row};
+ghost use Rattle.link_core.specs.Limits.{most_row_messages};
+ghost use Rattle.ring_node.specs.Limits.{most_slot_messages, most_slot_reports};
 
 use crate::cause::Cause;
 use crate::leave::whole_row;
@@ -24,12 +26,12 @@ impl RingNode {
         requires now { now ≤ MAX_READING }
         requires frame { IsTrue (may_come self.old.settings.arbitrators message.now.from message.now.body) }
         requires link { is_search message.now.body ≡ false }
-        requires room { length out.old + 9 ≤ OUTBOX_LIMIT }
-        requires place { length told.old + 2 ≤ MAX_RING_REPORTS }
+        requires room { length out.old + most_row_messages ≤ OUTBOX_LIMIT }
+        requires place { length told.old + most_slot_reports ≤ MAX_RING_REPORTS }
         ensures row { step self.new out.new told.new ≡ by
             (λ c w. counted w (frame_row c now message.now.from message.now.body w)) (step self.old out.old told.old) }
-        ensures few { length told.new ≤ length told.old + 2 }
-        ensures short { length out.new ≤ length out.old + 11 }
+        ensures few { length told.new ≤ length told.old + most_slot_reports }
+        ensures short { length out.new ≤ length out.old + most_slot_messages }
     {
         whole_row!(
             self,

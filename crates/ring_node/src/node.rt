@@ -95,7 +95,7 @@ impl RingNode {
         self.links.me()
     }
 
-    /// The lease of a link that names no length, at most 1,000,000,000 ticks.
+    /// The lease of a link that names no length, in ticks.
     pub fn lease(&self) -> u64
         ensures value { result ≡ self.now.settings.lease }
         ensures short { result ≤ MAX_LEASE }
@@ -103,7 +103,7 @@ impl RingNode {
         self.links.lease()
     }
 
-    /// How many arbitrators there are, at most nine.
+    /// How many arbitrators there are.
     pub fn arbitrators(&self) -> u8
         ensures value { result ≡ self.now.settings.arbitrators }
         ensures few { result ≤ MAX_ARBITRATORS }

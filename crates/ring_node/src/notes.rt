@@ -21,7 +21,7 @@ use crate::node::RingNode;
 use crate::reports::Reports;
 use crate::tokens::Spent;
 use fabric_terms::{Outbox, Report};
-use link_core::LinkNote;
+use link_core::{LinkNote, SLOTS};
 use ring_points::{MAX_RING_REPORTS, OUTBOX_LIMIT, RangeSet, Who};
 use token_core::TokenRefusal;
 
@@ -29,7 +29,7 @@ impl RingNode {
     /// The peer of the slot.
     pub(crate) fn peer(&self, i: usize) -> Option<Who>
         ensures peer { result ≡ option_map (λ l. l.peer) (slot_at i self.now.ring.slots) }
-        ensures inside { OnSome result (i < 16) }
+        ensures inside { OnSome result (i < SLOTS) }
     {
         match self.links.slots().get(i) {
             Some(Some(link)) => Some(link.peer),
@@ -38,7 +38,7 @@ impl RingNode {
     }
 
     pub(crate) fn has_flight(&self, i: usize) -> bool
-        requires { i < 16 }
+        requires { i < SLOTS }
         ensures { IfSome (slot_at i self.now.ring.slots) (λ l. result ≡ has_flight l) }
     {
         match &self.links.slots()[i] {
@@ -96,7 +96,7 @@ impl RingNode {
             Ok(()) => {
                 self.links.took(i, flight.number);
                 self.hold();
-                told.tell(Report::Took(peer, flight.number, flight.part.copy()));
+                told.push(Report::Took(peer, flight.number, flight.part.copy()));
                 Ok(())
             }
             Err(TokenRefusal::Counters) => Err(Spent),
@@ -106,7 +106,7 @@ impl RingNode {
 
     /// A freeze for the slot is undone, and the slot ends.
     fn end(&mut self, i: usize, gone: bool, out: &mut Outbox) -> Result<(), Spent>
-        requires inside { i < 16 }
+        requires inside { i < SLOTS }
         requires room { length out.old < OUTBOX_LIMIT }
         ensures links { OnOk result (did (links_of self.new) out.new [] ≡ did_after out.old
             (call_in i (slot_closed gone) (links_of self.old))) }
@@ -171,7 +171,7 @@ impl RingNode {
                 let report = Report::Returned(link.peer, flight.number, flight.part.copy());
                 match self.end(i, gone, out) {
                     Ok(()) => {
-                        told.tell(report);
+                        told.push(report);
                         Ok(())
                     }
                     Err(spent) => Err(spent),
@@ -201,7 +201,7 @@ impl RingNode {
             Ok(added) => {
                 self.links.drop_slot(i);
                 self.hold();
-                told.tell(Report::TookOver(peer, added));
+                told.push(Report::TookOver(peer, added));
                 Ok(())
             }
             Err(TokenRefusal::Counters) => Err(Spent),
@@ -232,9 +232,9 @@ impl RingNode {
             LinkNote::Arrived(i) => return self.arrive_by(*i, cause, told),
             LinkNote::Return(i) => return self.take_back(*i, cause.gone, out, told),
             LinkNote::Undo(i) => return self.undo(*i),
-            LinkNote::AccusedNow(who) => told.tell(Report::Accused(*who)),
-            LinkNote::DischargedNow(who) => told.tell(Report::Discharged(*who)),
-            LinkNote::HeirNow(who, ripe) => told.tell(Report::Heir(*who, *ripe)),
+            LinkNote::AccusedNow(who) => told.push(Report::Accused(*who)),
+            LinkNote::DischargedNow(who) => told.push(Report::Discharged(*who)),
+            LinkNote::HeirNow(who, ripe) => told.push(Report::Heir(*who, *ripe)),
             LinkNote::Ripe(i) => return self.take_over(*i, told),
             LinkNote::Leave(why) => self.leave(*why, out, told),
         }

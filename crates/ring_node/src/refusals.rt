@@ -27,7 +27,7 @@ pub(crate) fn refuse(verb: Verb, reason: Reason, told: &mut Reports)
     requires { length told.old < MAX_RING_REPORTS }
     ensures { told.new ≡ told.old ++ Report.Refused verb reason ∷ [] }
 {
-    told.tell(Report::Refused(verb, reason));
+    told.push(Report::Refused(verb, reason));
 }
 
 /// A command is refused as the call on the links was, but for want of a number.

@@ -1,4 +1,4 @@
-ghost use Rattle.std.specs.Prelude.{◌≡◌, ◌+◌, ◌<◌, ◌≤◌, IsTrue, List, OnErr, OnOk, false, length, true};
+ghost use Rattle.std.specs.Prelude.{◌≡◌, ◌+◌, ◌<◌, ◌≤◌, ◌*◌, IsTrue, List, OnErr, OnOk, false, length, true};
 ghost use Rattle.fabric_terms.specs.declared.report.Report.{Report};
 ghost use Rattle.join_phases.specs.Phases.{is_routing};
 ghost use Rattle.ring_node.specs.Nodes.{IsPatched, by, step};
@@ -6,6 +6,9 @@ ghost use Rattle.ring_rules.specs.Deeds.{has_numbers};
 ghost use Rattle.ring_rules.specs.Firing.{freeze_given, give_frozen, place_sought, search_by, slot_fired, slots_fired};
 ghost use Rattle.ring_rules.specs.Firing.{timer_fired};
 ghost use Rattle.ring_rules.specs.Slots.{is_free, slot_at};
+ghost use Rattle.ring_node.specs.Limits.{most_fired_messages, most_fired_reports, most_greetings};
+ghost use Rattle.ring_node.specs.Limits.{most_slot_messages, most_slot_reports};
+ghost use Rattle.ring_rules.specs.Rings.{slot_count};
 
 use crate::acked::all_acked;
 use crate::cause::Cause;
@@ -22,7 +25,7 @@ use token_core::TokenRefusal;
 impl RingNode {
     /// Whether the slot is free.
     fn is_free(&self, i: usize) -> bool
-        requires { i < 16 }
+        requires { i < SLOTS }
         ensures free { result ≡ is_free (slot_at i self.now.ring.slots) }
         ensures numbers { IsTrue (has_numbers self.now.ring) }
     {
@@ -32,13 +35,13 @@ impl RingNode {
     /// What a firing does at this slot: nothing, where it is free.
     #[tactic(auto, unfolding(ring_rules::specs::Firing::slot_fired))]
     pub(crate) fn fire_slot(&mut self, i: usize, now: u64, out: &mut Outbox, told: &mut Reports)
-        requires slot { i < 16 }
+        requires slot { i < SLOTS }
         requires now { now ≤ MAX_READING }
-        requires room { length out.old + 11 ≤ OUTBOX_LIMIT }
-        requires place { length told.old + 2 ≤ MAX_RING_REPORTS }
+        requires room { length out.old + most_slot_messages ≤ OUTBOX_LIMIT }
+        requires place { length told.old + most_slot_reports ≤ MAX_RING_REPORTS }
         ensures row { step self.new out.new told.new ≡ by (λ c. slot_fired c now i) (step self.old out.old told.old) }
-        ensures few { length told.new ≤ length told.old + 2 }
-        ensures short { length out.new ≤ length out.old + 11 }
+        ensures few { length told.new ≤ length told.old + most_slot_reports }
+        ensures short { length out.new ≤ length out.old + most_slot_messages }
     {
         if self.is_free(i) {
             return;
@@ -62,9 +65,10 @@ impl RingNode {
         requires now { now ≤ MAX_READING }
         requires room { length out.old ≡ 0 }
         requires place { length told.old ≡ 0 }
-        ensures row { step self.new out.new told.new ≡ by (λ c. slots_fired c now 16) (step self.old out.old told.old) }
-        ensures few { length told.new ≤ 32 }
-        ensures short { length out.new ≤ 176 }
+        ensures row { step self.new out.new told.new ≡ by (λ c. slots_fired c now slot_count)
+            (step self.old out.old told.old) }
+        ensures few { length told.new ≤ slot_count * most_slot_reports }
+        ensures short { length out.new ≤ slot_count * most_slot_messages }
     {
         for i in 0..SLOTS {
             // A slot before may have made the node leave, and whoever has left does nothing.
@@ -102,7 +106,7 @@ impl RingNode {
         };
         match self.token.give(routing, version) {
             Ok(flight) => {
-                told.tell(Report::Gave(peer, flight.number, flight.part.copy()));
+                told.push(Report::Gave(peer, flight.number, flight.part.copy()));
                 self.links.put_flight(i, &flight, out);
                 Ok(())
             }
@@ -115,7 +119,7 @@ impl RingNode {
     #[tactic(auto, unfolding(ring_rules::specs::Firing::freeze_given))]
     fn fire_freeze(&mut self, out: &mut Outbox, told: &mut Reports)
         requires room { length out.old < OUTBOX_LIMIT }
-        requires place { length told.old < 63 }
+        requires place { length told.old + 1 < MAX_RING_REPORTS }
         ensures row { step self.new out.new told.new ≡ by (λ c. freeze_given) (step self.old out.old told.old) }
         ensures few { length told.new ≤ length told.old + 1 }
         ensures short { length out.new ≤ length out.old + 1 }
@@ -126,14 +130,14 @@ impl RingNode {
     /// Greets the near nodes, as the command to link does; a refusal is silent.
     fn greet_near(&mut self, now: u64, out: &mut Outbox) -> Result<(), Spent>
         requires now { now ≤ MAX_READING }
-        requires room { length out.old + 8 ≤ OUTBOX_LIMIT }
+        requires room { length out.old + most_greetings ≤ OUTBOX_LIMIT }
         ensures ok { OnOk result ((told : List Report) →
             step self.new out.new told ≡ by (λ c w. search_by c now w true) (step self.old out.old told)) }
         ensures err { OnErr result ((told : List Report) →
             has_numbers (search_by self.old.settings now (step self.old out.old told).work true).ring ≡ false) }
         ensures kept { OnErr result ((told : List Report) →
             IsPatched (step self.old out.old told) (step self.new out.new told)) }
-        ensures short { length out.new ≤ length out.old + 8 }
+        ensures short { length out.new ≤ length out.old + most_greetings }
     {
         let near = self.routes.near(self.near, self.links.accused());
         for node in near.as_slice() {
@@ -148,7 +152,7 @@ impl RingNode {
     /// The search for a place, or for near nodes.
     fn search(&mut self, now: u64, out: &mut Outbox) -> Result<(), Spent>
         requires now { now ≤ MAX_READING }
-        requires room { length out.old + 8 ≤ OUTBOX_LIMIT }
+        requires room { length out.old + most_greetings ≤ OUTBOX_LIMIT }
         ensures ok { OnOk result ((told : List Report) →
             step self.new out.new told ≡ by (λ c w. search_by c now w (is_routing w.ring.phase))
             (step self.old out.old told)) }
@@ -157,7 +161,7 @@ impl RingNode {
             (is_routing self.old.ring.phase)).ring ≡ false) }
         ensures kept { OnErr result ((told : List Report) →
             IsPatched (step self.old out.old told) (step self.new out.new told)) }
-        ensures short { length out.new ≤ length out.old + 8 }
+        ensures short { length out.new ≤ length out.old + most_greetings }
     {
         if self.is_routing() {
             return if self.near == 0 {
@@ -176,11 +180,11 @@ impl RingNode {
     #[tactic(auto, unfolding(ring_rules::specs::Firing::place_sought))]
     fn fire_search(&mut self, now: u64, out: &mut Outbox, told: &mut Reports)
         requires now { now ≤ MAX_READING }
-        requires room { length out.old + 8 ≤ OUTBOX_LIMIT }
+        requires room { length out.old + most_greetings ≤ OUTBOX_LIMIT }
         requires place { length told.old < MAX_RING_REPORTS }
         ensures row { step self.new out.new told.new ≡ by (λ c. place_sought c now) (step self.old out.old told.old) }
         ensures few { length told.new ≤ length told.old + 1 }
-        ensures short { length out.new ≤ length out.old + 8 }
+        ensures short { length out.new ≤ length out.old + most_greetings }
     {
         whole_row!(self, out, told, self.search(now, out))
     }
@@ -192,8 +196,8 @@ impl RingNode {
         requires room { length out.old ≡ 0 }
         requires place { length told.old ≡ 0 }
         ensures row { step self.new out.new told.new ≡ by (λ c. timer_fired c now) (step self.old out.old told.old) }
-        ensures few { length told.new ≤ 34 }
-        ensures short { length out.new ≤ 185 }
+        ensures few { length told.new ≤ most_fired_reports }
+        ensures short { length out.new ≤ most_fired_messages }
     {
         self.fire_slots(now, out, told);
         if !self.is_left() {

@@ -58,7 +58,7 @@ impl RingNode {
                 let hops = hops + 1;
                 out.send(next, Body::Seek { origin, key, hops });
             }
-            Hop::Nowhere if hops < MAX_HOPS => told.tell(Report::Nowhere(key)),
+            Hop::Nowhere if hops < MAX_HOPS => told.push(Report::Nowhere(key)),
             _ => {}
         }
     }
@@ -74,13 +74,13 @@ impl RingNode {
     {
         let me = self.links.me();
         match self.hop(key, None) {
-            Hop::Here => told.tell(Report::Found(key, me)),
+            Hop::Here => told.push(Report::Found(key, me)),
             Hop::To(next) => {
                 let origin = me;
                 let hops = 1;
                 out.send(next, Body::Seek { origin, key, hops });
             }
-            Hop::Nowhere => told.tell(Report::Nowhere(key)),
+            Hop::Nowhere => told.push(Report::Nowhere(key)),
         }
     }
 
@@ -129,7 +129,7 @@ impl RingNode {
         ensures few { length told.new ≤ length told.old + 1 }
         ensures short { length out.new ≤ length out.old + 1 }
     {
-        told.tell(Report::Found(key, holder));
+        told.push(Report::Found(key, holder));
         if !self.seeks_own(key) {
             return Ok(());
         }
@@ -153,7 +153,7 @@ impl RingNode {
     )
         requires now { now ≤ MAX_READING }
         requires room { length out.old < OUTBOX_LIMIT }
-        requires place { length told.old < 63 }
+        requires place { length told.old + 1 < MAX_RING_REPORTS }
         ensures row { step self.new out.new told.new ≡ by (λ c w. counted w (found_received c now key holder w))
             (step self.old out.old told.old) }
         ensures few { length told.new ≤ length told.old + 1 }

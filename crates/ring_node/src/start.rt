@@ -99,9 +99,9 @@ impl RingNode {
         let mut told = Reports::new();
         if spent {
             node.leave_at(Why::Counters, Mark::first());
-            told.tell(Report::LeftRing(Why::Counters));
+            told.push(Report::LeftRing(Why::Counters));
         }
-        told.tell(Report::Own(node.token.ranges().copy(), node.links.fence()));
+        told.push(Report::Own(node.token.ranges().copy(), node.links.fence()));
         Ok((node, told))
     }
 }

@@ -3,6 +3,7 @@ ghost use Rattle.ring_node.specs.Nodes.{by, step};
 ghost use Rattle.ring_node.specs.Owned.{own_since, owned_of, owns_same};
 ghost use Rattle.ring_node.specs.Steps.{acted, is_sound_input, taken};
 ghost use Rattle.ring_rules.specs.Steps.{input_taken};
+ghost use Rattle.ring_node.specs.Limits.{most_fired_messages, most_fired_reports};
 
 use crate::node::RingNode;
 use crate::ownership::{Owned, keep_ranges, same_fence, same_ranges};
@@ -48,7 +49,7 @@ impl RingNode {
         ensures few { length told.new ≤ length told.old + 1 }
     {
         if !self.owns_same(owned) {
-            told.tell(Report::Own(self.token.ranges().copy(), self.links.fence()));
+            told.push(Report::Own(self.token.ranges().copy(), self.links.fence()));
         }
         self.keep_owned(owned);
     }
@@ -61,8 +62,8 @@ impl RingNode {
         requires told { length told.old ≡ 0 }
         ensures row { step self.new out.new told.new ≡ by (λ c. input_taken c now input.now)
             (step self.old out.old told.old) }
-        ensures few { length told.new ≤ 34 }
-        ensures short { length out.new ≤ 185 }
+        ensures few { length told.new ≤ most_fired_reports }
+        ensures short { length out.new ≤ most_fired_messages }
     {
         match input {
             Input::Fire => self.fire(now, out, told),
@@ -72,7 +73,7 @@ impl RingNode {
     }
 
     /// The step of an input, but for what is owned, which `tell_own` tells last. The outbox and the reports are empty
-    /// before it, the reading is at most 10^15, and a frame is in the grammar.
+    /// before it, the reading is at most `MAX_READING`, and a frame is in the grammar.
     #[tactic(auto, unfolding(ring_rules::specs::Steps::ring_step))]
     pub fn advance(&mut self, now: u64, input: &Input, out: &mut Outbox, told: &mut Reports)
         requires now { now ≤ MAX_READING }
@@ -80,8 +81,8 @@ impl RingNode {
         requires sent { out.old ≡ [] }
         requires told { told.old ≡ [] }
         ensures step { step self.new out.new told.new ≡ taken now input.now self.old }
-        ensures few { length told.new ≤ 34 }
-        ensures short { length out.new ≤ 185 }
+        ensures few { length told.new ≤ most_fired_reports }
+        ensures short { length out.new ≤ most_fired_messages }
     {
         if self.is_left() {
             return;
@@ -95,8 +96,8 @@ impl RingNode {
     }
 
     /// The step of an input: the row of the rules, and at last what is owned, where that has changed or the node has
-    /// left. The outbox is empty before it, the reading is at most 10^15, and a frame is in the grammar. It sends at
-    /// most `OUTBOX_LIMIT` messages and makes at most 64 reports.
+    /// left. The outbox is empty before it, the reading is at most `MAX_READING`, and a frame is in the grammar. It
+    /// sends at most `OUTBOX_LIMIT` messages and makes at most `MAX_RING_REPORTS` reports.
     pub fn step(&mut self, now: u64, input: &Input, out: &mut Outbox) -> Reports
         requires now { now ≤ MAX_READING }
         requires sound { IsTrue (is_sound_input input.now) }

@@ -1,13 +1,14 @@
-ghost use Rattle.std.specs.Prelude.{◌≡◌, ◌≤◌, ◌+◌, IsTrue, length};
+ghost use Rattle.std.specs.Prelude.{◌≡◌, ◌<◌, ◌≤◌, ◌+◌, IsTrue, length};
 ghost use Rattle.link_core.specs.Frames.{flight_row, frame_row, may_come, renewal_row, ruling_row};
 ghost use Rattle.link_core.specs.Links.{did, did_after};
 ghost use Rattle.link_core.specs.Outcomes.{FrameHeard};
+ghost use Rattle.link_core.specs.Limits.{most_row_messages};
 
 use crate::announce::{Announce, Announced};
 use crate::links::Links16;
 use crate::links::opening::Beginning;
 use crate::links::session_frames::Session;
-use crate::notes::LinkNotes;
+use crate::notes::{LinkNotes, no_notes};
 use crate::renewal::Renewal;
 use fabric_terms::{Body, Message, Outbox};
 use ring_points::{MAX_ARBITRATORS, MAX_READING, OUTBOX_LIMIT};
@@ -24,7 +25,7 @@ impl Links16 {
     ) -> LinkNotes
         requires now { now ≤ MAX_READING }
         requires frame { IsTrue (may_come self.old.arbitrators message.now.from message.now.body) }
-        requires room { length out.old + 9 ≤ OUTBOX_LIMIT }
+        requires room { length out.old + most_row_messages ≤ OUTBOX_LIMIT }
         ensures { FrameHeard now announce.now message.now self.old out.old (did self.new out.new result) }
     {
         self.hear(now, message, &Announced::of(announce), out)
@@ -40,7 +41,7 @@ impl Links16 {
     ) -> LinkNotes
         requires now { now ≤ MAX_READING }
         requires frame { IsTrue (may_come self.old.arbitrators message.now.from message.now.body) }
-        requires room { length out.old + 9 ≤ OUTBOX_LIMIT }
+        requires room { length out.old + most_row_messages ≤ OUTBOX_LIMIT }
         ensures { FrameHeard now announce.now message.now self.old out.old (did self.new out.new result) }
     {
         // So a frame is answered by no more frames than there is room for.
@@ -48,7 +49,8 @@ impl Links16 {
         self.frame(now, message, announce, out)
     }
 
-    /// The row of a greeting, and of its answers.
+    /// The row of a frame: here that of a greeting and of its answers. Another frame goes to the function of its family,
+    /// and one of no family does nothing.
     fn frame(
         &mut self,
         now: u64,
@@ -58,7 +60,7 @@ impl Links16 {
     ) -> LinkNotes
         requires now { now ≤ MAX_READING }
         requires frame { IsTrue (may_come self.old.arbitrators message.now.from message.now.body) }
-        requires room { length out.old + 9 ≤ OUTBOX_LIMIT }
+        requires room { length out.old + most_row_messages ≤ OUTBOX_LIMIT }
         ensures { did self.new out.new result ≡ did_after out.old
             (frame_row now announce.now message.now.from message.now.body self.old) }
     {
@@ -82,17 +84,19 @@ impl Links16 {
             Body::Take { mine, yours } => {
                 self.hear_take(now, Session::new(from, *mine, *yours), announce, out)
             }
-            _ => self.renewal_frame(now, message, out),
+            Body::Renew { .. } | Body::RenewAck { .. } => self.renewal_frame(message, out),
+            Body::Transfer { .. } | Body::Gone { .. } => self.flight_frame(message, out),
+            Body::Ruled { .. } | Body::Kept { .. } => self.ruling_frame(now, message, out),
+            _ => no_notes(),
         }
     }
 
     /// The row of a renewal, and of its answer.
-    fn renewal_frame(&mut self, now: u64, message: &Message, out: &mut Outbox) -> LinkNotes
-        requires now { now ≤ MAX_READING }
+    fn renewal_frame(&mut self, message: &Message, out: &mut Outbox) -> LinkNotes
         requires frame { IsTrue (may_come self.old.arbitrators message.now.from message.now.body) }
-        requires room { length out.old + 9 ≤ OUTBOX_LIMIT }
+        requires room { length out.old < OUTBOX_LIMIT }
         ensures { did self.new out.new result ≡ did_after out.old
-            (renewal_row now message.now.from message.now.body self.old) }
+            (renewal_row message.now.from message.now.body self.old) }
     {
         let from = message.from;
         match &message.body {
@@ -121,19 +125,17 @@ impl Links16 {
                 version,
             } => {
                 self.hear_ack(Session::new(from, *mine, *yours), *stamp, *version);
-                LinkNotes::none()
+                no_notes()
             }
-            _ => self.flight_frame(now, message, out),
+            _ => no_notes(),
         }
     }
 
     /// The row of a flight, and of the end of a session.
-    fn flight_frame(&mut self, now: u64, message: &Message, out: &mut Outbox) -> LinkNotes
-        requires now { now ≤ MAX_READING }
-        requires frame { IsTrue (may_come self.old.arbitrators message.now.from message.now.body) }
-        requires room { length out.old + 9 ≤ OUTBOX_LIMIT }
+    fn flight_frame(&mut self, message: &Message, out: &mut Outbox) -> LinkNotes
+        requires { length out.old < OUTBOX_LIMIT }
         ensures { did self.new out.new result ≡ did_after out.old
-            (flight_row now message.now.from message.now.body self.old) }
+            (flight_row message.now.from message.now.body self.old) }
     {
         let from = message.from;
         match &message.body {
@@ -149,7 +151,7 @@ impl Links16 {
                 got,
                 bound,
             } => self.hear_gone(Session::new(from, *mine, *yours), *got, *bound, out),
-            _ => self.ruling_frame(now, message, out),
+            _ => no_notes(),
         }
     }
 
@@ -157,7 +159,7 @@ impl Links16 {
     fn ruling_frame(&mut self, now: u64, message: &Message, out: &mut Outbox) -> LinkNotes
         requires now { now ≤ MAX_READING }
         requires frame { IsTrue (may_come self.old.arbitrators message.now.from message.now.body) }
-        requires room { length out.old + 9 ≤ OUTBOX_LIMIT }
+        requires room { length out.old + most_row_messages ≤ OUTBOX_LIMIT }
         ensures { did self.new out.new result ≡ did_after out.old
             (ruling_row now message.now.from message.now.body self.old) }
     {
@@ -169,7 +171,7 @@ impl Links16 {
                 round,
                 claimer,
             } => self.hear_kept(now, from, *victim, (*round, *claimer), out),
-            _ => LinkNotes::none(),
+            _ => no_notes(),
         }
     }
 }

@@ -6,7 +6,7 @@ ghost use Rattle.link_core.specs.Links.{is_spent, new_link, with_session};
 ghost use Rattle.link_core.specs.Sound.{IsSoundLink};
 
 use crate::deadlines::change;
-use crate::links::Links16;
+use crate::links::{Links16, SLOTS};
 use crate::part::part;
 use crate::refusal::LinkRefusal;
 use crate::{bodies, find};
@@ -77,7 +77,7 @@ impl Links16 {
 
     /// The link begins in this place, and the number of its session is used up.
     pub(crate) fn begin(&mut self, i: usize, link: Link)
-        requires inside { i < 16 }
+        requires inside { i < SLOTS }
         requires left { is_spent self.old ≡ false }
         requires sound { IsSoundLink self.old.arbitrators link }
         ensures { self.new ≡ with_session i link self.old }
@@ -143,7 +143,7 @@ impl Links16 {
     /// The place of the link that `part` would end.
     pub fn parting(&self, node: u16) -> Option<usize>
         ensures place { result ≡ slot_where (of_node may_part node) self.now.slots }
-        ensures inside { IfSome result (λ i. i < 16) }
+        ensures inside { IfSome result (λ i. i < SLOTS) }
     {
         find::parting(&self.slots, node)
     }

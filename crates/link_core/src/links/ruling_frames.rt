@@ -3,11 +3,12 @@ ghost use Rattle.ring_points.specs.Whos.{arbiter_actor};
 ghost use Rattle.link_core.specs.Links.{did, did_after};
 ghost use Rattle.link_core.specs.Rounds.{kept_received};
 ghost use Rattle.link_core.specs.Rulings.{ruling_received};
+ghost use Rattle.link_core.specs.Limits.{most_row_messages};
 
 use crate::deadlines::change;
 use crate::find;
 use crate::links::Links16;
-use crate::notes::LinkNotes;
+use crate::notes::{LinkNotes, no_notes};
 use crate::rounds::{self, Keeping};
 use crate::ruling::{self, Terms};
 use fabric_terms::Outbox;
@@ -28,7 +29,7 @@ impl Links16 {
         ensures { did self.new [] result ≡ ruling_received now from victim ruling self.old }
     {
         let Some(i) = find::instance(&self.slots, victim) else {
-            return LinkNotes::none();
+            return no_notes();
         };
         let terms = Terms {
             answer: self.answer,
@@ -51,14 +52,14 @@ impl Links16 {
         requires now { now ≤ MAX_READING }
         requires first { arbiter_actor 1 ≤ from.actor }
         requires last { from.actor ≤ arbiter_actor self.old.arbitrators }
-        requires room { length out.old + 9 ≤ OUTBOX_LIMIT }
+        requires room { length out.old + most_row_messages ≤ OUTBOX_LIMIT }
         ensures { did self.new out.new result ≡ did_after out.old (kept_received now from victim kept.0 kept.1 self.old) }
     {
         if self.rounds <= 1 {
-            return LinkNotes::none();
+            return no_notes();
         }
         let Some(i) = find::instance(&self.slots, victim) else {
-            return LinkNotes::none();
+            return no_notes();
         };
         let terms = Terms {
             answer: self.answer,

@@ -8,9 +8,9 @@ ghost use Rattle.link_core.specs.Renewals.{ack_received, renew_received};
 
 use crate::announce::Announced;
 use crate::deadlines::change;
-use crate::links::Links16;
 use crate::links::opening::Beginning;
-use crate::notes::{LinkNote, LinkNotes};
+use crate::links::{Links16, SLOTS};
+use crate::notes::{LinkNote, LinkNotes, no_notes, one_note};
 use crate::renewal::{self, Renewal};
 use crate::{bodies, find, flight, handshake};
 use fabric_terms::{Outbox, Why};
@@ -44,7 +44,7 @@ impl Session {
 impl Links16 {
     fn session(&self, session: Session) -> Option<usize>
         ensures place { result ≡ slot_where (of_session session.from session.own session.theirs) self.now.slots }
-        ensures inside { IfSome result (λ i. i < 16) }
+        ensures inside { IfSome result (λ i. i < SLOTS) }
     {
         find::session(&self.slots, session.from, session.own, session.theirs)
     }
@@ -58,15 +58,15 @@ impl Links16 {
             (accept self.old self.old (new_link self.old asked.at from theirs asked.state asked.wire asked.len)) }
     {
         let Some(i) = find::free_place(&self.slots) else {
-            return LinkNotes::none();
+            return no_notes();
         };
         if self.is_spent() {
-            return LinkNotes::one(LinkNote::Leave(Why::Counters));
+            return one_note(LinkNote::Leave(Why::Counters));
         }
         let link = self.new_link(from, theirs, asked);
         out.send(link.peer, bodies::offer(&link));
         self.begin(i, link);
-        LinkNotes::none()
+        no_notes()
     }
 
     /// Accepts a Hello in place of the own one in this slot.
@@ -87,7 +87,7 @@ impl Links16 {
             (new_link self.old asked.at from theirs asked.state asked.wire asked.len)) }
     {
         if self.is_spent() {
-            return LinkNotes::one(LinkNote::Leave(Why::Counters));
+            return one_note(LinkNote::Leave(Why::Counters));
         }
         change!(self, i, slot => *slot = None);
         self.accept(from, theirs, asked, out)
@@ -111,11 +111,11 @@ impl Links16 {
     {
         if let Some(i) = find::instance(&self.slots, from) {
             change!(self, i, slot => handshake::hello_repeated(slot, theirs, out));
-            return LinkNotes::none();
+            return no_notes();
         }
         match find::greeting(&self.slots, from.actor) {
             None => self.accept(from, theirs, asked, out),
-            Some(_) if self.me.actor < from.actor => LinkNotes::none(),
+            Some(_) if self.me.actor < from.actor => no_notes(),
             Some(i) => self.cross(i, from, theirs, asked, out),
         }
     }
@@ -150,7 +150,7 @@ impl Links16 {
             return change!(self, i, slot => handshake::offer_taken(slot, now, from, theirs, len, out));
         }
         self.hear_offer_again(session, out);
-        LinkNotes::none()
+        no_notes()
     }
 
     /// A Take.
@@ -169,7 +169,7 @@ impl Links16 {
             Some(i) => change!(self, i, slot => handshake::take_seen(slot, now, announce, out)),
             None => {
                 session.say_unknown(out);
-                LinkNotes::none()
+                no_notes()
             }
         }
     }
@@ -190,7 +190,7 @@ impl Links16 {
             Some(i) => change!(self, i, slot => renewal::renew_seen(i, slot, renewal, out)),
             None => {
                 session.say_unknown(out);
-                LinkNotes::none()
+                no_notes()
             }
         }
     }
@@ -220,7 +220,7 @@ impl Links16 {
             Some(i) => change!(self, i, slot => flight::transfer_seen(i, slot, number, out)),
             None => {
                 session.say_unknown(out);
-                LinkNotes::none()
+                no_notes()
             }
         }
     }
@@ -254,7 +254,7 @@ impl Links16 {
             Some(i) => change!(self, i, slot => flight::gone_seen(i, slot, got, bound, out)),
             None => {
                 self.hear_gone_elsewhere(session, bound, out);
-                LinkNotes::none()
+                no_notes()
             }
         }
     }

@@ -24,7 +24,7 @@ returns-clause-begins c = λ records kept.
     (does_start c.args.config.now c.args.node records c.args.kept.now c.instance_after-instance.result c.is_spent-spent.result c.in_ok-ring.ring c.in_ok-ring.told (record { records = c.new-5.result; frames = c.new-7.result; reports = c.new-8.result }) kept c.is_spent-spent.ensures c.instance_after-instance.ensures c.in_ok-ring.ensures.started
     (c.new-5.ensures ∙ c.in_ok-records.ensures)
     (c.new-7.ensures ∙ c.new-6.ensures.items)
-    (c.new-8.ensures ∙ c.hand_over.ensures.reports ∙ ap (λ (xs : List Report). xs ++ c.in_ok-ring.told) c.in_ok-reports.ensures.items))
+    (c.new-8.ensures ∙ c.hand_over.ensures.items ∙ ap (λ (xs : List Report). xs ++ c.in_ok-ring.told) c.in_ok-reports.ensures.items))
 
 pub returns-clause-goes_by : goal.returns-clause-goes_by
 returns-clause-goes_by c =

@@ -5,12 +5,13 @@ use Rattle.fabric_terms.specs.declared.config.NodeEntry.{NodeEntry}
 use Rattle.fabric_terms.specs.Sound.{IsSoundNode}
 use Rattle.ring_rules.specs.Rings.{longest_of}
 use Rattle.ring_node.proofs.node.RingNode.begin.Goals as goal
+use Rattle.ring_points.specs.Limits.{most_lease}
 
-few_by : (e : NodeEntry) (rest : Option NodeEntry) (b : Bool) → e.longest ≤ 1000000000 → option_map_or (λ x. x.longest) rest 0 ≤ 1000000000 → option_map_or (λ x. x.longest) (cond b (Some e) rest) 0 ≤ 1000000000
+few_by : (e : NodeEntry) (rest : Option NodeEntry) (b : Bool) → e.longest ≤ most_lease → option_map_or (λ x. x.longest) rest 0 ≤ most_lease → option_map_or (λ x. x.longest) (cond b (Some e) rest) 0 ≤ most_lease
 few_by e rest true h k = h
 few_by e rest false h k = k
 
-longest_few : (node : ℕ) (es : List NodeEntry) → All IsSoundNode es → longest_of node es ≤ 1000000000
+longest_few : (node : ℕ) (es : List NodeEntry) → All IsSoundNode es → longest_of node es ≤ most_lease
 longest_few node [] h = omega arith
 longest_few node (e ∷ es) h = few_by e (find (λ x. x.node == node) es) (e.node == node) (h 0 e (omega arith)).longest.to_high (longest_few node es (λ k d below. h (suc k) d (omega arith)))
 

@@ -19,10 +19,10 @@ returns-in-Ok-clause-ok c =
     let i = c.self.inside in
     let place = c.in-Some-Some.i in
     let version = c.in-Some-Some.version in
-    flight_given i.links c.put_flight.new.self i.token c.give.new.self i.routes i.phase i.target i.near place version c.in-Some.peer i.token.freeze (slot_at place i.links.slots) c.in-Ok.flight c.args.out.now c.put_flight.new.out c.args.told.now c.tell.new.self refl refl
+    flight_given i.links c.put_flight.new.self i.token c.give.new.self i.routes i.phase i.target i.near place version c.in-Some.peer i.token.freeze (slot_at place i.links.slots) c.in-Ok.flight c.args.out.now c.put_flight.new.out c.args.told.now c.push.new.self refl refl
     c.in-Some-Some.ensures c.in-Some-Some.ensures' (ap (all_acked version) (sym c.slots.ensures) ∙ sym c.if-not-all_acked.ensures)
     (c.in-Some.ensures.peer ∙ ap (λ (n : Node). option_map (λ l. l.peer) (slot_at place n.ring.slots)) (sym c.self.view_is))
     c.in-Ok.ensures.outcome c.in-Ok.ensures.flight
-    (c.tell.ensures ∙ ap (λ (part : List Interval). c.args.told.now ++ Gave c.in-Some.peer c.in-Ok.flight.number part ∷ []) c.copy.ensures)
+    (c.push.ensures ∙ ap (λ (part : List Interval). c.args.told.now ++ Gave c.in-Some.peer c.in-Ok.flight.number part ∷ []) c.copy.ensures)
     c.put_flight.ensures
     ∙ ap (λ (n : Node). by (λ s w. give_frozen w.ring.token.freeze w) (step n c.args.out.now c.args.told.now)) c.self.view_is
