@@ -2,7 +2,7 @@ ghost use Rattle.std.specs.Prelude.{◌≡◌, IfOk, IsTrue, OnOk, OnErr, option
 ghost use Rattle.std.specs.Coded.{coded_ℕ, coded_list};
 ghost use Rattle.std.specs.FinMap as finite;
 ghost use Rattle.name_rules.specs.Grammar.{change_of, is_name};
-ghost use Rattle.name_rules.specs.Names.{NameMap, applied, name_list};
+ghost use Rattle.name_rules.specs.Names.{NameMap, applied, changed, name_list};
 ghost use Rattle.name_rules.specs.Rows.{map_of};
 ghost use Rattle.name_service.specs.Changes.{is_set};
 ghost use Rattle.name_service.specs.Stores.{IsStore, rows_of};
@@ -90,7 +90,16 @@ impl Names {
         ensures err { OnErr result (self.new ≡ self.old) }
         ensures memory { OnErr result (IsTrue (is_set (change_of entry.now.bytes))) }
     {
-        match change_of(entry.bytes.as_slice()) {
+        self.apply_bytes(entry.bytes.as_slice())
+    }
+
+    /// `apply` of an entry with these bytes.
+    pub fn apply_bytes(&mut self, bytes: &[u8]) -> Result<(), OutOfMemory>
+        ensures ok { OnOk result (self.new ≡ changed (change_of bytes.now) self.old) }
+        ensures err { OnErr result (self.new ≡ self.old) }
+        ensures memory { OnErr result (IsTrue (is_set (change_of bytes.now))) }
+    {
+        match change_of(bytes) {
             None => Ok(()),
             Some(Change::Sets { name, value }) => self.set(name, value),
             Some(Change::Deletes { name }) => {
@@ -98,6 +107,13 @@ impl Names {
                 Ok(())
             }
         }
+    }
+
+    /// No name stands for anything from now on.
+    pub fn clear(&mut self)
+        ensures { self.new ≡ finite.empty }
+    {
+        self.rows.clear();
     }
 
     /// The first 64 names with a point in the range, in their order. It goes to the range's first point, and asks the

@@ -68,6 +68,7 @@ pub(crate) fn append_received(
         Ok(Done::New) => {
             accept(partition, epoch, lsn, text, effects);
             say_appended(asker, epoch, &state.replica, effects);
+            state.name_entries();
             Ok(())
         }
         Ok(Done::Held) => {

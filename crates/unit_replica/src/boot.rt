@@ -13,14 +13,18 @@ use std::alloc::Global;
 use std::collections::BTreeMap;
 
 /// Puts a replica among the others. If memory is short, the replica comes back.
-fn state_one(map: &mut BTreeMap<u16, ReplicaState>, replica: Replica) -> Result<(), Replica>
+fn state_one(
+    alloc: Global,
+    map: &mut BTreeMap<u16, ReplicaState>,
+    replica: Replica,
+) -> Result<(), Replica>
     ensures replica_put { OnOk result (map.new.entries ≡ with_replica replica map.old.entries) }
     ensures refused { IfErr result (λ same. (same ≡ replica) × (map.new.entries ≡ map.old.entries)) }
     ensures room { length map.new.entries ≤ length map.old.entries + 1 }
 {
     let partition = replica.partition();
     let state = ReplicaState {
-        replica: NamedReplica::of(replica),
+        replica: NamedReplica::of(alloc, replica),
         catch_up: None,
         progress: None,
     };
@@ -32,6 +36,7 @@ fn state_one(map: &mut BTreeMap<u16, ReplicaState>, replica: Replica) -> Result<
 
 /// Puts replicas in front of those in the map, the last one first. If memory is short, the first ones stay in the list.
 fn state_all(
+    alloc: Global,
     map: &mut BTreeMap<u16, ReplicaState>,
     replicas: &mut Vec<Replica>,
 ) -> Result<(), OutOfMemory>
@@ -42,7 +47,7 @@ fn state_all(
     ensures room { vec_len replicas.new + length map.new.entries ≤ vec_capacity replicas.new }
 {
     while let Some(replica) = replicas.pop() {
-        if let Err(refused) = state_one(map, replica) {
+        if let Err(refused) = state_one(alloc, map, replica) {
             replicas.push_reserved(refused);
             return Err(OutOfMemory);
         }
@@ -84,7 +89,7 @@ impl ReplicaStates {
             return Err(OutOfMemory);
         }
         let mut map = BTreeMap::new(alloc);
-        match state_all(&mut map, replicas) {
+        match state_all(alloc, &mut map, replicas) {
             Ok(()) => {
                 end_collections(&mut map);
                 Ok(ReplicaStates { alloc, map })

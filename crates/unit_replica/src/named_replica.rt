@@ -1,8 +1,9 @@
-ghost use Rattle.std.specs.Prelude.{◌≡◌, ◌≤◌, IfOk, length, take};
+ghost use Rattle.std.specs.Prelude.{◌≡◌, ◌≤◌, ◌⊎◌, ◌+◌, ◌==◌, ◌∷◌, ◌++◌, [], List, IfOk, if◌then◌else◌, length, take};
 ghost use Rattle.std.specs.FinMap.{get};
 ghost use Rattle.name_rules.specs.Names.{name_list, names_of};
 ghost use Rattle.replica_core.specs.Calls.{Answers, activate_call, adopt_call, adopt_own_call, append_call, idle_call};
 ghost use Rattle.replica_core.specs.Calls.{promise_call};
+ghost use Rattle.replica_core.specs.declared.entry.Entry.{Entry as LogEntry};
 ghost use Rattle.replica_core.specs.Memory.{StoresIfShort};
 ghost use Rattle.replica_core.specs.Replicas.{IsSound, begun_again, first_replica, uncollected};
 ghost use Rattle.unit_replica.specs.Names.{AreOf};
@@ -13,18 +14,23 @@ use replica_core::{Done, Entry, Replica, ReplicaRefusal, Role};
 use ring_points::{Config, Epoch, Interval, MAX_LOG_ENTRIES, MAX_WRITE};
 use std::alloc::Global;
 use std::marker::Model;
+use std::mem;
 
-/// A replica, and the names that its log defines. The names are kept between questions, so an answer need not walk the
-/// log. A call that may replace the log forgets them. Contracts see the replica alone.
+/// A replica, and the names that its log defines. They are kept along as entries are taken, so no answer walks the log.
+/// Those of entries that are collected stand ready for when these become the log. Contracts see the replica alone.
+///
+/// Names that are kept along want no memory of the step: where it is short they stay behind, and a later step or a
+/// question goes on.
 #[derive(Drop)]
 pub(crate) struct NamedReplica {
     replica: Replica,
-    /// The names of some first entries of the log, once somebody asked for names.
-    names: Option<LogNames>,
+    /// The names of first entries of the log.
+    names: LogNames,
+    /// The names of first entries that are collected.
+    coming: LogNames,
 }
 
 impl Model for NamedReplica {
-    ghost use Rattle.std.specs.Prelude.{IfSome};
     ghost use Rattle.replica_core.specs.Replicas.{Replica};
     ghost use Rattle.unit_replica.specs.Names.{AreOf};
 
@@ -32,7 +38,22 @@ impl Model for NamedReplica {
 
     ghost view = { λ r. r.replica };
 
-    ghost invariant = { λ r. IfSome r.names (λ n. AreOf r.replica.log n.count n.names) };
+    ghost invariant = { λ r. (AreOf r.replica.log r.names.count r.names.names)
+        × (AreOf r.replica.collected r.coming.count r.coming.names) };
+}
+
+/// Applies an entry that was collected to the names of these. With the last entry they are the names of the log.
+fn take_in(names: &mut LogNames, coming: &mut LogNames, lsn: u32, bytes: &[u8], last: u32)
+    ensures { (log old : List LogEntry) (entry : LogEntry) → entry.bytes ≡ bytes.now → lsn ≡ length old + 1
+        → AreOf log names.old.count names.old.names → (lsn ≡ 1) ⊎ AreOf old coming.old.count coming.old.names
+        → AreOf (if lsn == last then old ++ entry ∷ [] else log) names.new.count names.new.names
+        × AreOf (if lsn == last then [] else old ++ entry ∷ []) coming.new.count coming.new.names }
+{
+    coming.take_in(lsn, bytes);
+    if lsn == last {
+        mem::swap(names, coming);
+        coming.forget();
+    }
 }
 
 impl NamedReplica {
@@ -40,16 +61,20 @@ impl NamedReplica {
     pub(crate) fn new(alloc: Global, partition: u16) -> Self
         ensures { result ≡ first_replica partition }
     {
-        NamedReplica::of(Replica::new(alloc, partition))
+        NamedReplica::of(alloc, Replica::new(alloc, partition))
     }
 
-    /// This replica, before anybody asks for its names.
-    pub(crate) fn of(replica: Replica) -> Self
+    /// This replica. The names of its log are applied at once, as far as memory reaches.
+    #[tactic(auto, using(crate::proofs::Naming::none_named))]
+    pub(crate) fn of(alloc: Global, replica: Replica) -> Self
         ensures { result ≡ replica }
     {
+        let mut names = LogNames::new(alloc);
+        names.go_through(replica.log());
         NamedReplica {
             replica,
-            names: None,
+            names,
+            coming: LogNames::new(alloc),
         }
     }
 
@@ -107,29 +132,34 @@ impl NamedReplica {
     pub(crate) fn promise(&mut self, e: Epoch) -> Result<Done, ReplicaRefusal>
         ensures { (result, self.new) ≡ promise_call e self.old }
     {
-        self.names = None;
-        self.replica.promise(e)
+        let done = self.replica.promise(e);
+        self.coming.follow(self.replica.collected() as usize);
+        done
     }
 
     pub(crate) fn idle(&mut self, e: Epoch) -> Result<Done, ReplicaRefusal>
         ensures { (result, self.new) ≡ idle_call e self.old }
     {
-        self.names = None;
-        self.replica.idle(e)
+        let done = self.replica.idle(e);
+        self.coming.follow(self.replica.collected() as usize);
+        done
     }
 
     pub(crate) fn activate(&mut self, me: u16, config: &Config) -> Result<Role, ReplicaRefusal>
         ensures { (result, self.new) ≡ activate_call me config.now self.old }
     {
-        self.names = None;
-        self.replica.activate(me, config)
+        let done = self.replica.activate(me, config);
+        self.coming.follow(self.replica.collected() as usize);
+        done
     }
 
     pub(crate) fn adopt_own(&mut self, e: Epoch, last: u32) -> Result<Done, ReplicaRefusal>
         ensures { (result, self.new) ≡ adopt_own_call e last self.old }
     {
-        self.names = None;
-        self.replica.adopt_own(e, last)
+        let done = self.replica.adopt_own(e, last);
+        self.names.follow(self.replica.log().len());
+        self.coming.follow(self.replica.collected() as usize);
+        done
     }
 
     pub(crate) fn adopt_bytes(
@@ -147,11 +177,17 @@ impl NamedReplica {
         ensures memory { StoresIfShort (adopt_call e (record { epoch = epoch; lsn = lsn; bytes = bytes.now })
             last self.old) result }
     {
-        self.names = None;
-        self.replica.adopt_bytes(e, epoch, lsn, bytes, last)
+        match self.replica.adopt_bytes(e, epoch, lsn, bytes, last) {
+            Ok(Done::New) => {
+                take_in(&mut self.names, &mut self.coming, lsn, bytes, last);
+                Ok(Done::New)
+            }
+            Ok(Done::Held) => Ok(Done::Held),
+            Err(refusal) => Err(refusal),
+        }
     }
 
-    /// Appends an entry. The names stay, because they are those of entries before it.
+    /// Appends an entry. Its names are applied by `go_along`, once no question leaves it out.
     pub(crate) fn append(
         &mut self,
         e: Epoch,
@@ -168,29 +204,23 @@ impl NamedReplica {
     pub(crate) fn drop_collected(&mut self)
         ensures { self.new ≡ uncollected self.old }
     {
-        self.names = None;
         self.replica.drop_collected();
+        self.coming.forget();
     }
 
     pub(crate) fn begin_again(&mut self)
         ensures { self.new ≡ begun_again self.old }
     {
-        self.names = None;
         self.replica.begin_again();
+        self.coming.forget();
     }
 
-    /// Takes the kept names out, if they are those of at most `count` entries, or else the names of no entries. The
-    /// caller puts them back.
-    #[tactic(auto, using(crate::proofs::Naming::none_named))]
-    fn take_names(&mut self, alloc: Global, count: usize) -> LogNames
-        ensures same { self.new ≡ self.old }
-        ensures of { AreOf self.old.log result.count result.names }
-        ensures ahead { result.count ≤ count }
+    /// Applies entries up to number `count` to the kept names, if any are missing. A question that asks after fewer
+    /// entries begins anew, so none should come.
+    pub(crate) fn go_along(&mut self, count: usize)
+        ensures { self.new ≡ self.old }
     {
-        match self.names.take() {
-            Some(names) => names.or_none(alloc, self.replica.log(), count),
-            None => LogNames::new(alloc),
-        }
+        self.names.go_along(self.replica.log(), count);
     }
 
     /// The value of a name after the first `count` entries of the log. It is an error if memory is short.
@@ -203,10 +233,7 @@ impl NamedReplica {
         ensures same { self.new ≡ self.old }
         ensures found { IfOk result (λ value. value ≡ get (names_of (take count self.old.log)) name.now) }
     {
-        let mut names = self.take_names(alloc, count);
-        let found = names.resolve(alloc, self.replica.log(), count, name);
-        self.names = Some(names);
-        found
+        self.names.resolve(alloc, self.replica.log(), count, name)
     }
 
     /// The first names with a point in the range, after the first `count` entries of the log. It is an error if memory
@@ -220,9 +247,6 @@ impl NamedReplica {
         ensures same { self.new ≡ self.old }
         ensures listed { IfOk result (λ names. names ≡ name_list (names_of (take count self.old.log)) range.now) }
     {
-        let mut names = self.take_names(alloc, count);
-        let listed = names.list(alloc, self.replica.log(), count, range);
-        self.names = Some(names);
-        listed
+        self.names.list(alloc, self.replica.log(), count, range)
     }
 }

@@ -5,6 +5,7 @@ ghost use Rattle.unit_replica.specs.Starts.{state_again, state_uncollected};
 
 use crate::named_replica::NamedReplica;
 use crate::progress::ReplicationProgress;
+use replica_core::Role;
 use ring_points::MAX_LOG_ENTRIES;
 use std::alloc::Global;
 use std::marker::Model;
@@ -42,6 +43,18 @@ impl ReplicaState {
             catch_up: None,
             progress: None,
         }
+    }
+
+    /// Applies taken entries to the kept names: at a primary those that are committed, since it answers by these, and
+    /// elsewhere all. A new primary answers only once it has committed more than it begins with.
+    pub(crate) fn name_entries(&mut self)
+        ensures { self.new ≡ self.old }
+    {
+        let count = match &self.progress {
+            Some(progress) if self.replica.role() == Role::Primary => progress.committed() as usize,
+            _ => self.replica.log().len(),
+        };
+        self.replica.go_along(count);
     }
 
     /// Forgets the collected entries.

@@ -1,6 +1,7 @@
-ghost use Rattle.std.specs.Prelude.{◌≤◌, ◌+◌, ◌∷◌, [], Some, length};
+ghost use Rattle.std.specs.Prelude.{◌≡◌, ◌≤◌, ◌+◌, ◌∷◌, [], Some, false, length};
 ghost use Rattle.fabric_terms.specs.declared.message.Body.TheVariants as body;
 ghost use Rattle.replica_core.specs.Calls.{adopt_own_call};
+ghost use Rattle.ring_points.specs.Epochs.{is_older};
 ghost use Rattle.unit_rules.specs.Copies.{adoption, copy_begun, fetch_next, own_adopted, sync_received};
 ghost use Rattle.unit_rules.specs.Deeds.{Deed};
 ghost use Rattle.unit_rules.specs.ReplicaStates.{last_of};
@@ -86,13 +87,18 @@ fn adopt_own(catch_up: CatchUp, state: &mut ReplicaState, effects: &mut UnitEffe
 
 /// The replica is idle until it gets a role, and takes a log: its own or an empty one at once, that of another node
 /// entry by entry.
+#[tactic(auto, using(crate::proofs::Calls::idle_taken))]
 fn begin_copy(me: u16, catch_up: CatchUp, state: &mut ReplicaState, effects: &mut UnitEffects)
     requires last { catch_up.last ≤ MAX_LOG_ENTRIES }
+    requires promised { is_older catch_up.epoch state.old.replica.promised ≡ false }
     requires room { HasRoomFor 1 1 1 effects.old }
     ensures does { Does (copy_begun me catch_up state.old) state.new effects.old effects.new }
     ensures few { length effects.new.out ≤ length effects.old.out + 1 }
 {
-    let _ = state.replica.idle(catch_up.epoch);
+    match state.replica.idle(catch_up.epoch) {
+        Ok(_) => {}
+        Err(_) => unreachable!(), // Only a greater promise refuses it.
+    }
     state.catch_up = Some(catch_up);
     if catch_up.last == 0 || catch_up.origin == me {
         adopt_own(catch_up, state, effects);
@@ -102,7 +108,7 @@ fn begin_copy(me: u16, catch_up: CatchUp, state: &mut ReplicaState, effects: &mu
 }
 
 /// Sync: the replica promises the epoch, and takes its log. If it has that log already, it only answers so.
-#[tactic(auto, unfolding(unit_rules::specs::Copies::sync_received))]
+#[tactic(auto, using(crate::proofs::Calls::promise_taken), unfolding(unit_rules::specs::Copies::sync_received))]
 pub(crate) fn sync_received(
     me: u16,
     catch_up: CatchUp,

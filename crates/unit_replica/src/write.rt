@@ -35,6 +35,7 @@ fn commit(state: &mut ReplicaState, effects: &mut UnitEffects)
         effects
             .told
             .push(Report::Committed(partition, state.replica.at(), lsn));
+        state.name_entries();
     }
 }
 
