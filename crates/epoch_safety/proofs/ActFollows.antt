@@ -48,8 +48,8 @@ use Rattle.replica_records.specs.Kept.{AreKept}
 use Rattle.epoch_refinement.proofs.Kept.{fit_lem}
 use Rattle.replica_records.proofs.Starting.{go_on_lem}
 use Rattle.replica_records.proofs.Stepping as records
-use Rattle.epoch_safety.specs.RingApart.{is_unit_frame, is_unit_report}
-use Rattle.epoch_safety.proofs.ApartSteps.{steps_apart_lem}
+use Rattle.run_facts.specs.RingApart.{is_unit_frame, is_unit_report}
+use Rattle.run_facts.proofs.ApartSteps.{steps_apart_lem}
 use Rattle.epoch_safety.proofs.Entries.{AreReal, no_commit, real_join, real_apart}
 use Rattle.epoch_safety.proofs.Follows.{Acting, Follows}
 use Rattle.epoch_safety.proofs.NodeFollows.{Follow}

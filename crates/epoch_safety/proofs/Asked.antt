@@ -36,8 +36,8 @@ use Rattle.world_rules.specs.Worlds.{World, Running}
 use Rattle.world_rules.proofs.Rows.{node_step-is}
 use Rattle.run_facts.proofs.Steps.{Stepped, ring_stepped}
 use Rattle.replica_records.specs.ReplicaStates.{state_at}
-use Rattle.epoch_safety.specs.RingApart.{is_unit_report}
-use Rattle.epoch_safety.proofs.ApartSteps.{steps_apart_lem}
+use Rattle.run_facts.specs.RingApart.{is_unit_report}
+use Rattle.run_facts.proofs.ApartSteps.{steps_apart_lem}
 use Rattle.epoch_safety.specs.Answers.{AnswersAreByEntries, named_at}
 use Rattle.run_promises.specs.Answers.{AnsweredBy}
 use Rattle.run_promises.specs.Questions.{tells_names}

@@ -30,9 +30,9 @@ use Rattle.epoch_refinement.proofs.Elsewhere.{manager_elsewhere}
 use Rattle.epoch_refinement.proofs.Rows.{restarts_are_deeds_lem}
 use Rattle.replica_records.specs.Kept.{AreKept}
 use Rattle.replica_records.proofs.Starting.{go_on_lem, starts_kept_lem, starts_rise_lem}
-use Rattle.epoch_safety.specs.RingApart.{is_unit_report}
-use Rattle.epoch_safety.proofs.ApartSaying.{none_more}
-use Rattle.epoch_safety.proofs.ApartSteps.{starts_apart_lem}
+use Rattle.run_facts.specs.RingApart.{is_unit_report}
+use Rattle.run_facts.proofs.ApartSaying.{none_more}
+use Rattle.run_facts.proofs.ApartSteps.{starts_apart_lem}
 use Rattle.epoch_safety.proofs.Follows.{Follows, no_units}
 use Rattle.epoch_safety.proofs.NodeFollows.{Follow}
 use Rattle.epoch_safety.proofs.Telling.{Tellings, tells_on, tells_none}

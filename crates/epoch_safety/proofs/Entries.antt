@@ -11,7 +11,7 @@ use Rattle.unit_rules.specs.Deeds.{Deed, Keep, Send, Tell, reports_of}
 use Rattle.unit_rules.specs.Units.{units}
 use Rattle.world_rules.specs.Above.{is_ring_report}
 use Rattle.epoch_refinement.specs.Nodes.{IsRealIn, AllReal}
-use Rattle.epoch_safety.specs.RingApart.{is_unit_report}
+use Rattle.run_facts.specs.RingApart.{is_unit_report}
 use Rattle.epoch_safety.proofs.Sending.{none_passes}
 use Rattle.epoch_safety.proofs.Telling.{none_of}
 use Rattle.cold_start.specs.Lives.{Lives, lives_step}

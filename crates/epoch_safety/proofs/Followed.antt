@@ -41,7 +41,7 @@ use Rattle.run_facts.proofs.Tables.{actor_of_number}
 use Rattle.epoch_refinement.specs.Epochs.{settings_to}
 use Rattle.epoch_refinement.specs.Nodes.{Machines}
 use Rattle.epoch_refinement.proofs.Beginning.{beginnings_lem}
-use Rattle.epoch_safety.specs.RingApart.{is_unit_report}
+use Rattle.run_facts.specs.RingApart.{is_unit_report}
 use Rattle.run_promises.specs.Reports.{IsAmong, HasReported, log_in}
 use Rattle.epoch_safety.proofs.ActCovers.{act_covers}
 use Rattle.epoch_safety.proofs.ActFollows.{Numbered, silent_follows, busy_follows, refined, real_reports, commit_above}

@@ -1,7 +1,3 @@
-pub mod ApartSaying
-pub mod ApartSessions
-pub mod ApartCommands
-pub mod ApartSteps
 pub mod Members
 pub mod Lasting
 pub mod Telling

@@ -10,7 +10,7 @@ use Rattle.unit_rules.specs.Deeds.{Deed, Keep, Send, Tell, frames_of}
 use Rattle.world_rules.specs.Above.{is_ring_frame}
 use Rattle.epoch_refinement.specs.Nodes.{Machines, AllSent}
 use Rattle.epoch_refinement.specs.Shown.{partition_of, Shown}
-use Rattle.epoch_safety.specs.RingApart.{is_unit_frame}
+use Rattle.run_facts.specs.RingApart.{is_unit_frame}
 
 pub append_cases : {X : Type 0} (x : X) (xs ys : List X) → IsMember x (xs ++ ys) → IsMember x xs ⊎ IsMember x ys
 append_cases x [] ys m = inr m

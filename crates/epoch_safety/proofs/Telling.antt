@@ -14,7 +14,7 @@ use Rattle.world_rules.specs.Runs.{History}
 use Rattle.world_rules.specs.Worlds.{World, Stepped}
 use Rattle.epoch_refinement.specs.Nodes.{is_told_of, tells_of}
 use Rattle.epoch_refinement.specs.Told.{tells}
-use Rattle.epoch_safety.specs.RingApart.{is_unit_report}
+use Rattle.run_facts.specs.RingApart.{is_unit_report}
 use Rattle.run_promises.specs.Reports.{log_in}
 use Rattle.cold_start.specs.Lives.{Lives, lives_step, one_life}
 

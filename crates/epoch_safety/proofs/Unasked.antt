@@ -31,9 +31,9 @@ use Rattle.world_rules.specs.Nodes.{above_if, comes_above, instance_begun, is_sp
 use Rattle.world_rules.specs.Worlds.{World, Running, frame_in, kept_of}
 use Rattle.world_rules.proofs.Rows.{node_begun-is, node_step-is}
 use Rattle.run_facts.proofs.ArbiterSteps.{arbiter_stepped}
-use Rattle.epoch_safety.specs.RingApart.{is_unit_report}
-use Rattle.epoch_safety.proofs.ApartSaying.{none_more}
-use Rattle.epoch_safety.proofs.ApartSteps.{starts_apart_lem}
+use Rattle.run_facts.specs.RingApart.{is_unit_report}
+use Rattle.run_facts.proofs.ApartSaying.{none_more}
+use Rattle.run_facts.proofs.ApartSteps.{starts_apart_lem}
 use Rattle.epoch_safety.specs.Answers.{OnlyQuestionsAreAnswered}
 use Rattle.run_promises.specs.Questions.{is_question, tells_names}
 use Rattle.run_promises.specs.Reports.{IsAmong}

@@ -1,5 +1,3 @@
-pub mod RingApart
-pub mod RingStaysApart
 pub mod Answers
 pub mod Laws
 pub mod Lives

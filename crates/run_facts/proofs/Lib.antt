@@ -10,3 +10,7 @@ pub mod Orderly
 pub mod Growth
 pub mod Tables
 pub mod Clocks
+pub mod ApartSaying
+pub mod ApartSessions
+pub mod ApartCommands
+pub mod ApartSteps

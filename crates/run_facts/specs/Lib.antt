@@ -1,2 +1,4 @@
 pub mod Held
 pub mod Laws
+pub mod RingApart
+pub mod RingStaysApart

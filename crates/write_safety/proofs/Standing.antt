@@ -21,9 +21,9 @@ use Rattle.ring_rules.specs.Slots.{fence_of}
 use Rattle.ring_rules.specs.Rings.{Work, settings_of}
 use Rattle.ring_rules.specs.Starts.{node_started}
 use Rattle.ring_rules.specs.Steps.{ring_step}
-use Rattle.epoch_safety.specs.RingApart.{is_unit_report}
-use Rattle.epoch_safety.proofs.ApartSaying.{none_more}
-use Rattle.epoch_safety.proofs.ApartSteps.{starts_apart_lem}
+use Rattle.run_facts.specs.RingApart.{is_unit_report}
+use Rattle.run_facts.proofs.ApartSaying.{none_more}
+use Rattle.run_facts.proofs.ApartSteps.{starts_apart_lem}
 use Rattle.unit_rules.specs.Stays.{units_stay}
 use Rattle.unit_rules.specs.Units.{units}
 use Rattle.world_rules.specs.Arbiters.{arbiter_step}

@@ -6,7 +6,7 @@ use Rattle.ring_rules.specs.declared.input.Input.{Input}
 use Rattle.ring_rules.specs.Rings.{Ring, Settings}
 use Rattle.ring_rules.specs.Starts.{node_started}
 use Rattle.ring_rules.specs.Steps.{ring_step}
-use Rattle.epoch_safety.specs.RingApart.{StaysApart}
+use Rattle.run_facts.specs.RingApart.{StaysApart}
 
 -- in no step of a node's ring
 abbrev pub StepsStayApart : Type 0

@@ -11,11 +11,11 @@ use Rattle.ring_rules.specs.Frames as m
 use Rattle.ring_rules.specs.Rings.{Settings, Work}
 use Rattle.ring_rules.specs.Starts.{begun, node_started, start_first}
 use Rattle.ring_rules.specs.Steps as s
-use Rattle.epoch_safety.specs.RingApart.{StaysApart}
-use Rattle.epoch_safety.specs.RingStaysApart.{StepsStayApart, StartsStayApart}
-use Rattle.epoch_safety.proofs.ApartSaying.{leaves, counts}
-use Rattle.epoch_safety.proofs.ApartSessions.{hello_received_apart, offer_received_apart, take_received_apart, renew_received_apart, ack_received_apart, transfer_received_apart, gone_received_apart, ruling_received_apart, kept_received_apart}
-use Rattle.epoch_safety.proofs.ApartCommands.{seek_received_apart, found_received_apart, command_received_apart, timer_fired_apart}
+use Rattle.run_facts.specs.RingApart.{StaysApart}
+use Rattle.run_facts.specs.RingStaysApart.{StepsStayApart, StartsStayApart}
+use Rattle.run_facts.proofs.ApartSaying.{leaves, counts}
+use Rattle.run_facts.proofs.ApartSessions.{hello_received_apart, offer_received_apart, take_received_apart, renew_received_apart, ack_received_apart, transfer_received_apart, gone_received_apart, ruling_received_apart, kept_received_apart}
+use Rattle.run_facts.proofs.ApartCommands.{seek_received_apart, found_received_apart, command_received_apart, timer_fired_apart}
 
 frame_apart : (set : Settings) (now : ℕ) (from : Who) (b : Body) (w : Work) → StaysApart w → StaysApart (m.frame_received set now from b w)
 unfolding m.frame_received

@@ -13,7 +13,7 @@ use Rattle.ring_rules.specs.Deeds.{send, tell, refuse, leave, has_numbers, count
 use Rattle.ring_rules.specs.Links.{hello_by, hello_body, offer_by, offer_body}
 use Rattle.ring_rules.specs.Rings.{Work}
 use Rattle.join_phases.specs.Phases.{is_left}
-use Rattle.epoch_safety.specs.RingApart.{is_unit_frame, is_unit_report, StaysApart}
+use Rattle.run_facts.specs.RingApart.{is_unit_frame, is_unit_report, StaysApart}
 
 -- none passes of a list and one more
 pub none_more : {X : Type 0} (test : X → Bool) (xs : List X) (x : X) → list_any test xs ≡ false → test x ≡ false → list_any test (xs ++ x ∷ []) ≡ false

@@ -31,8 +31,8 @@ use Rattle.ring_rules.specs.Renewals as n
 use Rattle.ring_rules.specs.Flights as f
 use Rattle.ring_rules.specs.Rulings as r
 use Rattle.ring_rules.specs.Claims as q
-use Rattle.epoch_safety.specs.RingApart.{is_unit_frame, StaysApart}
-use Rattle.epoch_safety.proofs.ApartSaying.{sends, tells, leaves, hello_apart, offer_apart}
+use Rattle.run_facts.specs.RingApart.{is_unit_frame, StaysApart}
+use Rattle.run_facts.proofs.ApartSaying.{sends, tells, leaves, hello_apart, offer_apart}
 
 -- A session is looked up.
 

@@ -29,9 +29,9 @@ use Rattle.ring_rules.specs.Commands as c
 use Rattle.ring_rules.specs.Seeks as k
 use Rattle.ring_rules.specs.Firing as g
 use Rattle.ring_rules.specs.Steps as s
-use Rattle.epoch_safety.specs.RingApart.{StaysApart}
-use Rattle.epoch_safety.proofs.ApartSaying.{sends, tells, refuses, leaves, counts, goes_on, hello_apart, offer_apart}
-use Rattle.epoch_safety.proofs.ApartSessions.{greet_apart, claims_apart}
+use Rattle.run_facts.specs.RingApart.{StaysApart}
+use Rattle.run_facts.proofs.ApartSaying.{sends, tells, refuses, leaves, counts, goes_on, hello_apart, offer_apart}
+use Rattle.run_facts.proofs.ApartSessions.{greet_apart, claims_apart}
 
 -- what an heir does not own yet
 abbrev added_by : Work → Link → List Interval
