@@ -1,5 +1,5 @@
 // Lists of partitions and of names, and what a name stands for.
-ghost use Rattle.std.specs.Prelude.{◌≡◌, [], ◌∷◌, ◌++◌, length, codes, decimal, OnOk};
+ghost use Rattle.std.specs.Prelude.{◌≡◌, ◌-◌, [], ◌∷◌, ◌++◌, length, codes, decimal, OnOk};
 ghost use Rattle.text_fields.specs.Fields.{Gives, made};
 ghost use Rattle.text_fields.specs.Lists.{list_at, some_at};
 ghost use Rattle.text_fields.specs.Texts.{Keeps, spaced};
@@ -146,7 +146,7 @@ pub fn push_unresolved(
 
 // Names joined by commas, and what follows them.
 fn some_names_at(alloc: Global, words: &[u8]) -> Result<(Vec<NameText>, &[u8]), LineRefusal>
-    ensures { Reads (λ x. (x.0.items, x.1.now)) result (some_at name_at 63 words.now) }
+    ensures { Reads (λ x. (x.0.items, x.1.now)) result (some_at name_at (MAX_LISTED_NAMES - 1) words.now) }
 {
     let mut names = Vec::new(alloc);
     let (first, mut rest) = name_at(words)?;
