@@ -15,7 +15,6 @@ use Rattle.ring_points.specs.declared.who.Ruling.{Ruling}
 use Rattle.ring_points.specs.declared.who.Ruling.TheVariants.{Granted, Taken}
 use Rattle.ring_points.specs.declared.who.Who.{Who}
 use Rattle.ring_points.specs.Ranges.{in_ranges}
-use Rattle.ring_points.specs.Whos.{node_instance}
 use Rattle.ring_machine.specs.Arbitration.{HeirBy, AnsweredBy, Tells, by_kept, by_grant}
 use Rattle.ring_machine.specs.Frames.{Ruled, Kept}
 use Rattle.fabric_lemmas.specs.Members.{IsMember}
