@@ -1,12 +1,11 @@
 -- What is known of one life is what is known of its schedule.
-use Rattle.std.proofs.Common.{◌≡◌, ℕ, zero, suc, List, [], ◌∷◌, refl, sym, ap, ◌∙◌}
+use Rattle.std.proofs.Common.{◌≡◌, ℕ, zero, suc, [], ◌∷◌, refl, ap, ◌∙◌}
 use Rattle.std.specs.Prelude.{drop}
 use Rattle.fabric_terms.specs.declared.config.FabricConfig.{FabricConfig}
 use Rattle.run_promises.specs.Reports.{log_in}
 use Rattle.run_promises.specs.Snapshots.{snapshots_of}
 use Rattle.unit_rules.specs.Units.{units}
 use Rattle.world_rules.specs.Runs.{History}
-use Rattle.world_rules.specs.Worlds.{World}
 use Rattle.cold_start.specs.Lives.{lives_run, lives_world, one_life}
 use Rattle.cold_start.proofs.OneLife.{run_one, world_one}
 use Rattle.epoch_safety.specs.Lives.{lives_snapshots}

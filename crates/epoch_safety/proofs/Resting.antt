@@ -7,7 +7,6 @@ use Rattle.fabric_terms.specs.declared.config.FabricConfig.{FabricConfig}
 use Rattle.fabric_terms.specs.declared.event.Event.{Event}
 use Rattle.fabric_terms.specs.declared.event.Event.TheVariants.{Start, Stop, Tick, Fire, Give, Do, Junk}
 use Rattle.fabric_terms.specs.declared.report.Report.{Report}
-use Rattle.fabric_terms.specs.Runs as runs
 use Rattle.fabric_terms.specs.Sound.{IsSound}
 use Rattle.join_phases.specs.Phases.{is_left}
 use Rattle.name_rules.specs.Names.{NameMap}
@@ -17,7 +16,7 @@ use Rattle.ring_points.specs.Whos.{node_instance}
 use Rattle.ring_rules.specs.declared.input.Input.{Input}
 use Rattle.ring_rules.specs.declared.input.Input.TheVariants as input
 use Rattle.ring_rules.specs.Rings.{settings_of}
-use Rattle.run_facts.proofs.Orderly.{Orderly, orderly}
+use Rattle.run_facts.proofs.Orderly.{orderly}
 use Rattle.run_facts.proofs.Steps.{ring_stepped}
 use Rattle.run_promises.specs.Answers.{AnsweredBy, AnswersCommand, AnswersEvent}
 use Rattle.run_promises.specs.Questions.{asks_names, is_question, tells_names}
@@ -33,7 +32,7 @@ use Rattle.world_rules.specs.Nodes.{boots_of}
 use Rattle.world_rules.specs.Runs.{History, world_after}
 use Rattle.world_rules.specs.Schedules.{Valid}
 use Rattle.world_rules.specs.Worlds.{World, Running, kept_of}
-use Rattle.cold_start.specs.Lives.{Again, Comes, Happening, Lives, ValidLives, happened, life_step, lives_world, whole_after}
+use Rattle.cold_start.specs.Lives.{Again, Comes, Happening, happened, life_step, lives_world, whole_after}
 use Rattle.cold_start.proofs.Facts.{orderly_lives}
 use Rattle.epoch_refinement.specs.Nodes.{Machines}
 use Rattle.epoch_refinement.specs.ReplicaStates.{ShowsReplicaState}
