@@ -41,9 +41,9 @@ does_left c now i n p new q sent told o a before after owned g e acts clear d ow
     let out : after.out ≡ frames_of a.deeds = d.left.sent ∙ ap (λ (ms : List (Who × Body)). ms ++ frames_of a.deeds) clear.units.sent in
     let tells : after.told ≡ reports_of a.deeds = d.left.told ∙ ap (λ (rs : List Report). rs ++ reports_of a.deeds) clear.units.told in
     does_step c now i n p new q sent told o a g e acts d.state
-    (records ∙ ap (λ (rs : List Record). rs ++ after.records) clear.records ∙ kept)
-    (frames ∙ ap (λ (ms : List Message). (ms ++ from_all new.ring.me sent) ++ from_all new.ring.me after.out) clear.frames ∙ ap (λ (ms : List (Who × Body)). from_all new.ring.me sent ++ from_all new.ring.me ms) out)
-    (reports ∙ ap (λ (rs : List Report). ((rs ++ told) ++ after.told) ++ own_since owned new) clear.reports
+    (records ∙ ap (λ (rs : List Record). rs ++ after.records) clear.left.records ∙ kept)
+    (frames ∙ ap (λ (ms : List Message). (ms ++ from_all new.ring.me sent) ++ from_all new.ring.me after.out) clear.left.frames ∙ ap (λ (ms : List (Who × Body)). from_all new.ring.me sent ++ from_all new.ring.me ms) out)
+    (reports ∙ ap (λ (rs : List Report). ((rs ++ told) ++ after.told) ++ own_since owned new) clear.left.reports
     ∙ ap (λ (rs : List Report). (told ++ rs) ++ own_since owned new) tells
     ∙ ap (λ (x : Owned). (told ++ reports_of a.deeds) ++ own_since x new) own)
 
@@ -58,9 +58,9 @@ pub does_fired : (c : FabricConfig) (now : ℕ) (i : Input) (n : Node) (p : Part
     → Does (node_step fabric c now i (core_of n p).state) (core_of new p) o
 does_fired c now i n p new sent told o a before owned handed fired g e acts clear state sends own first second records frames reports =
     does_step c now i n p new p sent told o a g e acts (sym state)
-    (records ∙ ap (λ (rs : List Record). rs ++ before.units.records) clear.records ∙ clear.units.records ∙ sym sends.records)
-    (frames ∙ second ∙ ap (λ (ms : List Message). ms ++ from_all new.ring.me (frames_of a.deeds)) (first ∙ ap (λ (ms : List Message). ms ++ from_all new.ring.me sent) clear.frames))
-    (reports ∙ ap (λ (rs : List Report). ((rs ++ told) ++ before.units.told) ++ own_since owned new) clear.reports
+    (records ∙ ap (λ (rs : List Record). rs ++ before.units.records) clear.left.records ∙ clear.units.records ∙ sym sends.records)
+    (frames ∙ second ∙ ap (λ (ms : List Message). ms ++ from_all new.ring.me (frames_of a.deeds)) (first ∙ ap (λ (ms : List Message). ms ++ from_all new.ring.me sent) clear.left.frames))
+    (reports ∙ ap (λ (rs : List Report). ((rs ++ told) ++ before.units.told) ++ own_since owned new) clear.left.reports
     ∙ ap (λ (rs : List Report). (told ++ rs) ++ own_since owned new) (clear.units.told ∙ sym sends.told)
     ∙ ap (λ (x : Owned). (told ++ reports_of a.deeds) ++ own_since x new) own)
 

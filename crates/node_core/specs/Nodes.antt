@@ -16,7 +16,10 @@ use Rattle.unit_rules.specs.ReplicaStates.{ReplicaState}
 use Rattle.unit_rules.specs.Starts.{states_begun}
 use Rattle.unit_replica.specs.Starts.{states_again}
 use Rattle.node_core.specs.UnitParts.{Part, domains_of, most_fired}
+use Rattle.ring_points.specs.Limits.{most_arbiters, most_messages, most_step_reports}
+use Rattle.unit_desk.specs.Limits.{most_row_records}
 use Rattle.node_core.specs.declared.kept.NodeKept.{NodeKept}
+use Rattle.node_core.specs.declared.node_parts.NodeParts.{NodeParts}
 use Rattle.node_core.specs.declared.outcome.Outcome.{Outcome}
 
 -- a whole node: what its ring goes by, the fault domains by which it places, its ring and what runs above it, and whether it
@@ -44,6 +47,10 @@ pub record GoesBy (c : FabricConfig) (n : Core) : Type 0 where
   pub settings : n.settings ≡ settings_of c n.state.ring.me.actor
   pub domains : n.domains ≡ domains_of c
 
+-- the node of these parts, without room
+abbrev pub core_in : NodeParts → Core
+core_in p = core_of p.ring p.units
+
 -- The node is now as the rules say, and the outcome has what they record, send and tell.
 pub record Does (d : Did (NodeState fabric)) (new : Core) (o : Outcome) : Type 0 where
   pub state : new.state ≡ d.state
@@ -66,18 +73,19 @@ nothing_kept = record { boots = 0; states = [] }
 -- the most that a step leaves
 
 abbrev pub most_records : ℕ
-most_records = 4
+most_records = most_row_records
 
--- by what stands at the node before the step
+-- by what stands at the node before the step: what the ring sends, a row above it, which asks each arbitrator once at most,
+-- and a firing
 unfoldable pub most_frames : NodeState fabric → ℕ
-most_frames s = 201 + most_fired s.above
+most_frames s = most_messages + most_arbiters + most_fired s.above
 
 -- whatever stands at it
 abbrev pub frames_limit : ℕ
 frames_limit = 1000000
 
 abbrev pub most_reports : ℕ
-most_reports = 72
+most_reports = most_step_reports
 
 pub record IsSmall (before : NodeState fabric) (o : Outcome) : Type 0 where
   pub records : length o.records ≤ most_records

@@ -1,10 +1,12 @@
 -- What runs above the ring at a node, as its code has it, and which of its rows come before the ring's own.
 use Rattle.std.specs.Prelude.{ℕ, ◌+◌, ◌*◌, Bool, true, false, List, map, length, is_some, if◌then◌else◌}
 use Rattle.fabric_terms.specs.declared.config.FabricConfig.{FabricConfig}
+use Rattle.ring_points.specs.Limits.{most_arbiters}
 use Rattle.ring_rules.specs.declared.input.Input.{Input}
 use Rattle.ring_rules.specs.declared.input.Input.TheVariants as input
 use Rattle.ring_rules.specs.Rings.{Ring, Settings}
 use Rattle.reconfig_phases.specs.Answers.{answered_unit}
+use Rattle.unit_replica.specs.Limits.{most_peers}
 use Rattle.unit_rules.specs.Deeds.{Acted, still}
 use Rattle.unit_rules.specs.Loads.{Site}
 use Rattle.unit_rules.specs.Steps.{Failover, failover_step}
@@ -34,6 +36,6 @@ first_row c now r s i = if is_later i then still s else failover_step c now r s 
 abbrev pub later_row : Site → ℕ → Ring → Failover → Input → Acted Failover
 later_row c now r s i = if is_later i then failover_step c now r s i else still s
 
--- the most frames that a firing sends: nine of a reconfiguration, six of a replica
+-- the most frames that a firing sends: a reconfiguration asks each arbitrator, and a replica each other member
 abbrev pub most_fired : Failover → ℕ
-most_fired s = 9 * length s.managed.reconfigs + 6 * length s.states
+most_fired s = most_arbiters * length s.managed.reconfigs + most_peers * length s.states

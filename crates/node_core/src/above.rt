@@ -19,6 +19,7 @@ use crate::unit_part::UnitNode;
 use fabric_terms::{Message, OutOfMemory, Outbox};
 use join_phases::Phase;
 use ring_node::{Input, RingNode};
+use ring_points::MAX_ARBITRATORS;
 use unit_desk::UnitEffects;
 
 /// Whether the ring lets the input come to what runs above it: any but a frame that does not pass.
@@ -53,7 +54,7 @@ fn take(
         (failover_step (site_at ring.now.settings units.old) now ring.now.ring units.old.state input.now)
         units.new.state effects.old effects.new) }
     ensures domains { units.new.domains ≡ units.old.domains }
-    ensures few { length effects.new.out ≤ length effects.old.out + 9 }
+    ensures few { length effects.new.out ≤ length effects.old.out + MAX_ARBITRATORS }
     ensures refused { OnErr result ((units.new ≡ units.old) × (effects.new ≡ effects.old)) }
     ensures memory { OnErr result
         (row_stores (site_at ring.now.settings units.old) now ring.now.ring units.old.state input.now ≡ true) }
@@ -82,7 +83,7 @@ pub(crate) fn take_first(
         now ring.now.ring units.old.state input.now) units.new.state effects.old effects.new) }
     ensures numbers { IsTrue (has_numbers ring.now.ring) }
     ensures domains { units.new.domains ≡ units.old.domains }
-    ensures few { length effects.new.out ≤ length effects.old.out + 9 }
+    ensures few { length effects.new.out ≤ length effects.old.out + MAX_ARBITRATORS }
     ensures refused { OnErr result ((units.new ≡ units.old) × (effects.new ≡ effects.old)) }
     ensures memory { OnErr result ((comes_first ring.now.settings now ring.now.ring input.now &&
         row_stores (site_at ring.now.settings units.old) now ring.now.ring units.old.state input.now) ≡ true) }
@@ -110,7 +111,7 @@ pub(crate) fn answer_later(
     ensures does { Does (row_if (comes_later comes ring.now.ring) (site_at ring.now.settings units.old)
         now ring.now.ring units.old.state (input.Frame message.now)) units.new.state effects.old effects.new }
     ensures domains { units.new.domains ≡ units.old.domains }
-    ensures few { length effects.new.out ≤ length effects.old.out + 9 }
+    ensures few { length effects.new.out ≤ length effects.old.out + MAX_ARBITRATORS }
 {
     if !has_left(ring) && comes {
         units.answered(now, ring, message, effects);

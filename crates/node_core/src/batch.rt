@@ -29,4 +29,11 @@ impl<T> Batch<T> {
     {
         self.items.as_slice()
     }
+
+    /// The vector in which the list lies.
+    pub(crate) fn into_vec(self) -> Vec<T>
+        ensures { result.items ≡ self }
+    {
+        self.items
+    }
 }

@@ -5,6 +5,7 @@ ghost use Rattle.fabric_terms.specs.Sound.{IsSound};
 ghost use Rattle.fabric_terms.specs.declared.config.FabricConfig.{FabricConfig as Configuration};
 ghost use Rattle.fabric_terms.specs.declared.record.Record.{Record};
 ghost use Rattle.keep_log.specs.Amounts.{Holds};
+ghost use Rattle.ring_points.specs.Limits.{most_arbiters, most_messages};
 ghost use Rattle.ring_rules.specs.Slots.{fence_of};
 ghost use Rattle.world_rules.specs.Nodes.{node_begun, node_step};
 ghost use Rattle.unit_rules.specs.Fabric.{fabric};
@@ -13,68 +14,64 @@ ghost use Rattle.ring_node.specs.Owned.{owned_of};
 ghost use Rattle.unit_replica.specs.Starts.{states_of};
 ghost use Rattle.unit_replica.specs.Tables.{replica_at};
 ghost use Rattle.node_core.specs.Memory.{may_store};
-ghost use Rattle.node_core.specs.NodeEffects.{IsClear, IsReady};
-ghost use Rattle.node_core.specs.Nodes.{Amounts, Does, FitsInput, GoesBy, IsSmall, KeepsRoom, frames_limit, kept_in};
-ghost use Rattle.node_core.specs.Nodes.{most_frames, nothing_kept, ring_of, with_states};
+ghost use Rattle.node_core.specs.NodeEffects.{HasRoom, IsAsLarge, IsClear, left_in};
+ghost use Rattle.node_core.specs.Nodes.{Amounts, Does, FitsInput, GoesBy, IsNothing, IsSmall, KeepsRoom, frames_limit};
+ghost use Rattle.node_core.specs.Nodes.{kept_in, most_frames, nothing_kept, ring_of, with_states};
 ghost use Rattle.node_core.specs.UnitParts.{most_fired};
 
 use crate::batch::Batch;
 use crate::boots::{boot, instance_after, is_spent};
 use crate::kept::NodeKept;
-use crate::node_effects::NodeEffects;
+use crate::node_effects::{NodeEffects, drop_boxed};
+use crate::node_parts::NodeParts;
 use crate::outcome::Outcome;
 use crate::unit_part::UnitNode;
 use crate::whole_step::step_at;
 use fabric_terms::{FabricConfig, OutOfMemory};
 use keep_log::Kept;
 use replica_core::Replica;
-use ring_node::{Input, Owned, RingNode};
-use ring_points::{MAX_READING, RangeSet, Who};
+use ring_node::{Input, RingNode};
+use ring_points::{MAX_ARBITRATORS, MAX_READING, OUTBOX_LIMIT, RangeSet, Who};
 use std::alloc::Global;
 use std::marker::Model;
 use std::mem;
-use unit_replica::ReplicaStates;
+use unit_replica::{MAX_PEERS, ReplicaStates};
 
 /// A whole node. Contracts see it as the record `Core`: what it goes by, its ring and what runs above it.
 #[derive(Drop)]
 pub struct NodeCore {
     alloc: Global,
-    ring: RingNode,
-    /// What it owns now, to tell after the next step what has changed.
-    owned: Owned,
-    /// What runs above the ring.
-    units: UnitNode,
-    /// Where its next step puts what it leaves, with room for that. A node has none before its first step, and where
-    /// memory for it was short since.
+    parts: NodeParts,
+    /// Where `step` puts what it leaves, with room for that. There are none before the first such step, where memory
+    /// for them was short since, and where the last step was done into effects of the caller's.
     effects: Option<Box<NodeEffects>>,
 }
 
 impl Model for NodeCore {
     ghost use Rattle.std.specs.Prelude.{◌≡◌, IfSome, is_some};
     ghost use Rattle.ring_node.specs.Owned.{owned_of};
-    ghost use Rattle.node_core.specs.NodeEffects.{IsReady};
-    ghost use Rattle.node_core.specs.Nodes.{Core, core_of, most_frames};
+    ghost use Rattle.node_core.specs.NodeEffects.{HasRoom};
+    ghost use Rattle.node_core.specs.Nodes.{Core, core_in, most_frames};
 
     ghost Value = { Core };
 
-    ghost view = { λ n. record (core_of n.ring n.units) { has_room = is_some n.effects } };
+    ghost view = { λ n. record (core_in n.parts) { has_room = is_some n.effects } };
 
-    ghost invariant = { λ n. (n.owned ≡ owned_of n.ring) ×
-        IfSome n.effects (λ d. IsReady (most_frames (core_of n.ring n.units).state) d.value) };
+    ghost invariant = { λ n. (n.parts.owned ≡ owned_of n.parts.ring) ×
+        IfSome n.effects (λ d. HasRoom (most_frames (core_in n.parts).state) d.value) };
 }
 
-/// Drops the room of a step. It is never inlined: effects are moved to the stack where they are dropped, and whoever calls
-/// that inline pays for a quarter of a megabyte each time.
-#[inline(never)]
-fn drop_room(_effects: Box<NodeEffects>) {}
-
-/// The most frames of a step with this above the ring: what the ring sends, and nine of a reconfiguration and six of a
-/// replica.
+/// The most frames of a step with this above the ring: what the ring sends, a row above it, which asks each arbitrator
+/// once at most, and a firing, at which a reconfiguration does so and a replica sends to each other member.
+#[tactic(auto, unfolding(crate::specs::Nodes::most_frames))]
 fn most_frames_of(units: &UnitNode) -> usize
-    ensures frames { result ≡ 201 + most_fired units.now.state }
+    ensures frames { result ≡ most_messages + most_arbiters + most_fired units.now.state }
     ensures limit { result ≤ frames_limit }
 {
-    201 + 9 * units.reconfig_count() + 6 * units.replica_count()
+    OUTBOX_LIMIT
+        + MAX_ARBITRATORS
+        + MAX_ARBITRATORS * units.reconfig_count()
+        + MAX_PEERS * units.replica_count()
 }
 
 impl NodeCore {
@@ -111,11 +108,14 @@ impl NodeCore {
         let mut reports = Vec::with_capacity(alloc, told.as_slice().len())?;
         told.hand_over(&mut reports);
         let owned = ring.owned();
-        let core = NodeCore {
-            alloc,
+        let parts = NodeParts {
             ring,
             owned,
             units: UnitNode::new(alloc, config),
+        };
+        let core = NodeCore {
+            alloc,
+            parts,
             effects: None,
         };
         let mut core = Box::new(alloc, core)?;
@@ -133,7 +133,7 @@ impl NodeCore {
         requires { self.old.has_room ≡ false }
         ensures { self.new ≡ with_states states self.old }
     {
-        self.units.put_states(states);
+        self.parts.units.put_states(states);
     }
 
     /// Starts a node as `begin` does, from what its records amount to. It is an error where memory is short, and then
@@ -169,56 +169,78 @@ impl NodeCore {
         ensures given { result ≡ kept_in self.old.state }
         ensures left { self.new ≡ record (with_states [] self.old) { has_room = false } }
     {
-        self.effects = None;
+        NodeEffects::drop_from(&mut self.effects);
         NodeKept {
-            boots: self.ring.me().instance,
-            states: self.units.take_states(self.alloc),
+            boots: self.parts.ring.me().instance,
+            states: self.parts.units.take_states(self.alloc),
         }
     }
 
-    /// Takes out the room for a step that sends so many frames at most, or makes it where there is none. It is an error
-    /// where memory for it is short.
-    #[tactic(auto, unfolding(crate::specs::Nodes::most_frames))]
-    fn take_room(&mut self, most: usize) -> Result<Box<NodeEffects>, OutOfMemory>
-        requires most { most ≡ most_frames self.old.state }
-        requires limit { most ≤ frames_limit }
-        ensures ready { IfOk result (λ d. IsReady (most_frames self.old.state) d.value) }
+    /// Takes out the effects that the node keeps, or makes some where there are none. It is an error where memory for
+    /// them is short.
+    fn take_effects(&mut self) -> Result<Box<NodeEffects>, OutOfMemory>
+        ensures room { self.old.has_room ≡ true →
+            IfOk result (λ d. HasRoom (most_frames self.old.state) d.value) }
         ensures taken { OnOk result (self.new ≡ record self.old { has_room = false }) }
         ensures refused { OnErr result ((self.new ≡ self.old) × (self.old.has_room ≡ false)) }
     {
-        match self.effects.take() {
-            Some(effects) => Ok(effects),
-            None => Ok(NodeEffects::boxed(self.alloc, most)?),
-        }
+        NodeEffects::take_from(&mut self.effects, self.alloc)
     }
 
-    /// Keeps the room of a step for the next one where it is wanted, and is large enough or can be made so.
+    /// Keeps effects for the next step where they are wanted, and have room for it or can be given it.
     #[tactic(auto, unfolding(crate::specs::Nodes::most_frames))]
-    fn keep_room(&mut self, mut effects: Box<NodeEffects>, is_wanted: bool)
+    fn keep_effects(&mut self, mut effects: Box<NodeEffects>, is_wanted: bool)
         requires taken { self.old.has_room ≡ false }
-        requires clear { IsClear effects.value }
+        requires nothing { IsNothing (left_in effects.value) }
         ensures rest { self.new ≡ record self.old { has_room = self.new.has_room } }
-        ensures kept { is_wanted ≡ true → IsReady (most_frames self.old.state) effects.value →
+        ensures kept { is_wanted ≡ true → HasRoom (most_frames self.old.state) effects.value →
             self.new.has_room ≡ true }
         ensures dropped { is_wanted ≡ false → self.new.has_room ≡ false }
     {
         if !is_wanted {
-            drop_room(effects);
+            drop_boxed(effects);
             return;
         }
-        match effects.make_room(most_frames_of(&self.units)) {
-            Ok(()) => match self.effects.replace(effects) {
-                None => {}
-                Some(former) => drop_room(former),
-            },
-            Err(_) => drop_room(effects),
+        match effects.make_room(most_frames_of(&self.parts.units)) {
+            Ok(()) => NodeEffects::keep_in(&mut self.effects, effects),
+            Err(_) => drop_boxed(effects),
         }
     }
 
-    /// The step of the node when this comes, at this reading of its clock, in ticks. It is an error where memory is
-    /// short, and then nothing is changed. A node with room for what the step leaves wants memory only for what a row
-    /// above the ring stores: an entry, a replica or a reconfiguration; and for the answer to a question about names or
-    /// units. So no late frame and no refusal is an error there.
+    /// The step of the node when this comes, at this reading of its clock, in ticks. What it leaves is in the effects
+    /// then, in the place of what they had. It is an error where memory is short, and then the node is as it was, and
+    /// the effects are clear. Effects with room for what the step leaves want memory only for what a row above the ring
+    /// stores: an entry, a replica or a reconfiguration; and for the answer to a question about names or units. So no
+    /// late frame and no refusal is an error there. The node drops the effects that it keeps itself.
+    #[tactic(auto, unfolding(crate::specs::Nodes::most_frames))]
+    pub fn step_into(
+        &mut self,
+        now: u64,
+        input: &Input,
+        effects: &mut NodeEffects,
+    ) -> Result<(), OutOfMemory>
+        requires now { now ≤ MAX_READING }
+        requires input { FitsInput input.now }
+        ensures does { OnOk result ((c : Configuration) → GoesBy c self.old →
+            Does (node_step fabric c now input.now self.old.state) self.new (left_in effects.new)) }
+        ensures small { OnOk result (IsSmall self.old.state (left_in effects.new)) }
+        ensures settings { self.new.settings ≡ self.old.settings }
+        ensures domains { self.new.domains ≡ self.old.domains }
+        ensures me { self.new.state.ring.me ≡ self.old.state.ring.me }
+        ensures refused { OnErr result ((self.new ≡ self.old) × IsClear effects.new) }
+        ensures memory { OnErr result (HasRoom (most_frames self.old.state) effects.old →
+            may_store now input.now self.old ≡ true) }
+        ensures room { IsAsLarge effects.old effects.new }
+        ensures dropped { OnOk result (self.new.has_room ≡ false) }
+    {
+        effects.make_ready(most_frames_of(&self.parts.units))?;
+        step_at(&mut self.parts, now, input, effects)?;
+        NodeEffects::drop_from(&mut self.effects);
+        Ok(())
+    }
+
+    /// The step of the node as `step_into` does it, into effects that the node keeps itself. A node with room wants
+    /// memory only for what a row above the ring stores or answers.
     #[tactic(auto, unfolding(crate::specs::Nodes::most_frames))]
     pub fn step(&mut self, now: u64, input: &Input) -> Result<Outcome, OutOfMemory>
         requires now { now ≤ MAX_READING }
@@ -234,24 +256,15 @@ impl NodeCore {
         ensures room { IfOk result (KeepsRoom self.old self.new) }
     {
         let had_room = self.effects.is_some();
-        let most = most_frames_of(&self.units);
-        let mut effects = self.take_room(most)?;
-        let done = step_at(
-            self.alloc,
-            &mut self.ring,
-            &mut self.owned,
-            &mut self.units,
-            now,
-            input,
-            &mut effects,
-        );
-        match done {
-            Ok(outcome) => {
-                self.keep_room(effects, true);
+        let mut effects = self.take_effects()?;
+        match self.step_into(now, input, &mut effects) {
+            Ok(()) => {
+                let outcome = effects.give_away(self.alloc);
+                self.keep_effects(effects, true);
                 Ok(outcome)
             }
             Err(refused) => {
-                self.keep_room(effects, had_room);
+                self.keep_effects(effects, had_room);
                 Err(refused)
             }
         }
@@ -263,41 +276,41 @@ impl NodeCore {
         ensures frames { result ≡ most_frames self.now.state }
         ensures limit { result ≤ frames_limit }
     {
-        most_frames_of(&self.units)
+        most_frames_of(&self.parts.units)
     }
 
     /// The node's replica of a partition, None exactly where it has none.
     pub fn replica(&self, partition: u16) -> Option<&Replica>
         ensures { option_copied result ≡ replica_at partition self.now.state.above.states }
     {
-        self.units.replica(partition)
+        self.parts.units.replica(partition)
     }
 
     /// Which instance it is.
     pub fn me(&self) -> Who
         ensures { result ≡ self.now.state.ring.me }
     {
-        self.ring.me()
+        self.parts.ring.me()
     }
 
     /// What it owns.
     pub fn ranges(&self) -> &RangeSet
         ensures { result.now ≡ self.now.state.ring.token.ranges }
     {
-        self.ring.ranges()
+        self.parts.ring.ranges()
     }
 
     /// Up to which reading it holds what it owns, in ticks, where there is an end.
     pub fn fence(&self) -> Option<u64>
         ensures { result ≡ fence_of self.now.settings.answer self.now.state.ring.slots }
     {
-        self.ring.fence()
+        self.parts.ring.fence()
     }
 
     /// The ring at the node.
     pub fn ring(&self) -> &RingNode
         ensures { result.now ≡ ring_of self.now }
     {
-        &self.ring
+        &self.parts.ring
     }
 }

@@ -10,7 +10,7 @@ ghost use Rattle.node_core.specs.UnitParts.{site_at};
 use crate::unit_part::UnitNode;
 use fabric_terms::{Command, OutOfMemory};
 use ring_node::RingNode;
-use ring_points::{MAX_MEMBERS, Point};
+use ring_points::{MAX_ARBITRATORS, MAX_MEMBERS, Point};
 use unit_desk::UnitEffects;
 use unit_rules::Kind;
 
@@ -31,7 +31,7 @@ impl UnitNode {
             (manage (site_at ring.now.settings self.old) now ring.now.ring partition kind self.old.state)
             self.new.state effects.old effects.new) }
         ensures domains { self.new.domains ≡ self.old.domains }
-        ensures few { length effects.new.out ≤ length effects.old.out + 9 }
+        ensures few { length effects.new.out ≤ length effects.old.out + MAX_ARBITRATORS }
         ensures refused { OnErr result ((self.new ≡ self.old) × (effects.new ≡ effects.old)) }
         ensures memory { OnErr result (grows_above self.old.state
             (manage (site_at ring.now.settings self.old) now ring.now.ring partition kind self.old.state) ≡ true) }
@@ -63,7 +63,7 @@ impl UnitNode {
             (command_row (site_at ring.now.settings self.old) now ring.now.ring command.now self.old.state)
             self.new.state effects.old effects.new) }
         ensures domains { self.new.domains ≡ self.old.domains }
-        ensures few { length effects.new.out ≤ length effects.old.out + 9 }
+        ensures few { length effects.new.out ≤ length effects.old.out + MAX_ARBITRATORS }
         ensures refused { OnErr result ((self.new ≡ self.old) × (effects.new ≡ effects.old)) }
         ensures memory { OnErr result (row_stores (site_at ring.now.settings self.old)
             now ring.now.ring self.old.state (inputs.Do command.now) ≡ true) }

@@ -12,7 +12,7 @@ use crate::unit_loads::{NO_NODE, fill_unloaded};
 use crate::unit_part::UnitNode;
 use fabric_terms::{Message, OutOfMemory};
 use ring_node::RingNode;
-use ring_points::MAX_NODES;
+use ring_points::{MAX_ARBITRATORS, MAX_NODES};
 use unit_desk::UnitEffects;
 
 impl UnitNode {
@@ -33,7 +33,7 @@ impl UnitNode {
             Does (frame_row c now r message.now.from message.now.body self.old.state)
             self.new.state effects.old effects.new) }
         ensures domains { self.new.domains ≡ self.old.domains }
-        ensures few { length effects.new.out ≤ length effects.old.out + 9 }
+        ensures few { length effects.new.out ≤ length effects.old.out + MAX_ARBITRATORS }
         ensures refused { OnErr result ((self.new ≡ self.old) × (effects.new ≡ effects.old)) }
         ensures memory { OnErr result ((c : Site) (now : ℕ) (r : Ring) → r.me.actor ≡ me →
             grows_above self.old.state (frame_row c now r message.now.from message.now.body self.old.state) ≡ true) }
@@ -57,7 +57,7 @@ impl UnitNode {
         ensures does { Does (frame_row (site_at ring.now.settings self.old)
             now ring.now.ring message.now.from message.now.body self.old.state) self.new.state effects.old effects.new }
         ensures domains { self.new.domains ≡ self.old.domains }
-        ensures few { length effects.new.out ≤ length effects.old.out + 9 }
+        ensures few { length effects.new.out ≤ length effects.old.out + MAX_ARBITRATORS }
     {
         let since = now.saturating_sub(2 * ring.lease());
         let mut places = [NO_NODE; MAX_NODES];

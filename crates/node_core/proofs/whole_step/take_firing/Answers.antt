@@ -5,6 +5,7 @@ use Rattle.ring_node.specs.Nodes.{Node}
 use Rattle.ring_points.specs.declared.who.Who.{Who}
 use Rattle.ring_rules.specs.declared.input.Input.TheVariants as input
 use Rattle.node_core.specs.UnitParts.{Part, site_at}
+use Rattle.node_core.specs.NodeEffects.{left_in}
 use Rattle.node_core.specs.Rows.{row_if}
 use Rattle.node_core.proofs.Leaving.{does_fired, none_more}
 use Rattle.node_core.proofs.Sending.{firing_sends}
@@ -13,13 +14,13 @@ use Rattle.node_core.proofs.whole_step.take_firing.Goals as goal
 
 pub returns-clause-does : goal.returns-clause-does
 returns-clause-does c = λ config by.
-    let n : Node = c.args.ring.now in
-    let p : Part = c.args.units.now in
+    let n : Node = c.args.parts.now.ring in
+    let p : Part = c.args.parts.now.units in
     let new : Node = c.advance.new.self in
     let d = site_at new.settings p in
     let b = not (is_left new.ring.phase) in
-    does_fired config c.args.now input.Fire n p new c.advance.new.out c.advance.new.told c.leave.result (row_if b d 0 new.ring p.state input.Fire)
-    c.args.effects.now c.args.owned.now c.hand_over.new.frames.items c.fire_later.new.frames.items by c.advance.ensures.step
+    does_fired config c.args.now input.Fire n p new c.advance.new.out c.advance.new.told (left_in c.leave.new.effects) (row_if b d 0 new.ring p.state input.Fire)
+    c.args.effects.now c.args.parts.now.owned c.hand_over.new.frames.items c.fire_later.new.frames.items by c.advance.ensures.step
     (fire_above config c.args.now n p new c.advance.new.out c.advance.new.told d by c.advance.ensures.step)
     c.requires.ready.clear (fire_keeps d 0 new.ring p.state b) (firing_sends d 0 new.ring p.state b) c.requires.owned
     (c.hand_over.ensures.frames ∙ ap (λ (w : Who). c.args.effects.now.frames.items ++ from_all w c.advance.new.out) c.me.ensures)
@@ -28,4 +29,4 @@ returns-clause-does c = λ config by.
     c.leave.ensures.reports
 
 pub returns-clause-me : goal.returns-clause-me
-returns-clause-me c = name_stays c.args.now input.Fire c.args.ring.now c.advance.new.self c.advance.new.out c.advance.new.told c.advance.ensures.step
+returns-clause-me c = name_stays c.args.now input.Fire c.args.parts.now.ring c.advance.new.self c.advance.new.out c.advance.new.told c.advance.ensures.step
