@@ -1,6 +1,7 @@
 pub mod Maps
 pub mod Nodes
 pub mod Limits
+pub mod Beside
 pub mod Growth
 pub mod FramesAfter
 pub mod NodePlaces

@@ -3,6 +3,7 @@ use Rattle.std.specs.Prelude.{◌≡◌, ℕ, ◌≤◌, List, [], ◌∷◌}
 use Rattle.drift_clock.specs.Extremes.{Stands as DriftStands}
 use Rattle.fabric_terms.specs.declared.config.FabricConfig.{FabricConfig}
 use Rattle.node_core.specs.Nodes.{GoesBy}
+use Rattle.ring_points.specs.Limits.{most_node_number}
 use Rattle.unit_rules.specs.Fabric.{fabric}
 use Rattle.world_rules.specs.Worlds.{Running as RuledRunning}
 use Rattle.world_rules.specs.EventLimits.{most_time}
@@ -10,7 +11,7 @@ use Rattle.ring_world.specs.declared.running.Running.{Running}
 
 -- the greatest number of a node
 abbrev pub last_node : ℕ
-last_node = 999
+last_node = most_node_number
 
 -- the node of the code is that of the rules under its number, and its clock has shown the same pairs
 pub record RunsAs (c : FabricConfig) (time : ℕ) (r : Running) (e : ℕ × RuledRunning fabric) : Type 0 where

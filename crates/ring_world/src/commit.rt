@@ -1,6 +1,7 @@
 ghost use Rattle.std.specs.Prelude.{◌≡◌, ◌≤◌, ◌<◌, ◌+◌, ◌^◌, ℕ, All, IsTrue, length};
 ghost use Rattle.point_places.specs.Spots.{place_at};
 ghost use Rattle.fabric_terms.specs.Messages.{is_sound};
+ghost use Rattle.world_rules.specs.EventLimits.{most_events};
 ghost use Rattle.ring_world.specs.Moves.{placed_by};
 ghost use Rattle.ring_world.specs.Commits.{posted_all, numbers_after};
 
@@ -49,21 +50,21 @@ impl World {
         line: u64,
         who: Who,
         reading: Option<u64>,
-        frames: Batch<Message>,
+        frames: &[Message],
         reports: Batch<Report>,
     ) -> Acted
-        requires events { self.old.events < 1000000 }
-        requires small { self.old.sent + length frames < 2 ^ 32 }
-        requires frames { length frames ≤ self.old.frames.room }
-        requires sound { All (λ m. IsTrue (is_sound m)) frames }
+        requires events { self.old.events < most_events }
+        requires small { self.old.sent + length frames.now < 2 ^ 32 }
+        requires frames { length frames.now ≤ self.old.frames.room }
+        requires sound { All (λ m. IsTrue (is_sound m)) frames.now }
         requires reports { length reports ≤ self.old.places.room }
         ensures rest { self.new ≡ record self.old {
           events = self.old.events + 1;
-          sent = self.old.sent + length frames;
+          sent = self.old.sent + length frames.now;
           frames = self.new.frames;
           places = self.new.places;
         } }
-        ensures frames { self.new.frames.frames ≡ posted_all frames self.old.frames.frames }
+        ensures frames { self.new.frames.frames ≡ posted_all frames.now self.old.frames.frames }
         ensures places { (p : ℕ) → p < 2 ^ 64 →
             place_at self.new.places p ≡ placed_by who reports p (place_at self.old.places p) }
         ensures acted { result ≡ record {
@@ -71,13 +72,13 @@ impl World {
           time = self.old.time;
           who = who;
           reading = reading;
-          sent = numbers_after self.old.sent (length frames);
+          sent = numbers_after self.old.sent (length frames.now);
           reports = reports;
         } }
     {
-        let count = frames.as_slice().len() as u32;
+        let count = frames.len() as u32;
         let sent = numbers_after(self.sent, count);
-        post_all(&mut self.frames, frames.as_slice());
+        post_all(&mut self.frames, frames);
         move_all(&mut self.places, who, reports.as_slice());
         self.events += 1;
         self.sent += count;

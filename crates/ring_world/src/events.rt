@@ -75,16 +75,10 @@ impl World {
 
     /// Bytes that are no frame come to an actor. It is never inlined, for the room of a frame that it tries to read.
     #[inline(never)]
-    pub(crate) fn junk(
-        &mut self,
-        line: u64,
-        actor: u16,
-        bytes: &[u8],
-    ) -> Result<Option<Acted>, EventRefusal>
-        ensures { (w : RuledWorld fabric) → Stands self.old w →
+    pub(crate) fn junk(&mut self, actor: u16, bytes: &[u8]) -> Result<Option<Acted>, EventRefusal>
+        ensures { (w : RuledWorld fabric) (line : ℕ) → Stands self.old w →
             Comes self.old self.new w line (Event.Junk actor bytes.now) result }
     {
-        let _ = line;
         if !self.runs(actor) {
             return Err(EventRefusal::NoSuch);
         }

@@ -80,7 +80,14 @@ impl World {
         let place = place_for(&self.clocks, node);
         put_in(&mut self.clocks, place, (who, reading));
         put_in(&mut self.running, place, Running { drift, node: core });
-        Ok(self.commit(line, who, Some(reading), outcome.frames, outcome.reports))
+        let reports = outcome.reports;
+        Ok(self.commit(
+            line,
+            who,
+            Some(reading),
+            outcome.frames.as_slice(),
+            reports,
+        ))
     }
 
     /// Starts a configured node that does not run.

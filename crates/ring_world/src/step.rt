@@ -11,6 +11,7 @@ ghost use Rattle.ring_world.specs.Steps.{CanStep};
 
 use crate::world::{Acted, World};
 use fabric_terms::OutOfMemory;
+use node_core::NodeEffects;
 use ring_node::Input;
 use ring_points::MAX_STEP_REPORTS;
 
@@ -28,6 +29,32 @@ impl World {
         Ok(())
     }
 
+    /// The running node at this place takes the input, and leaves what it does in these effects. Its frames are sent
+    /// from there, and its reports are taken out.
+    fn step_with(
+        &mut self,
+        line: u64,
+        place: usize,
+        input: &Input,
+        effects: &mut NodeEffects,
+    ) -> Result<Acted, OutOfMemory>
+        requires can { (w : RuledWorld fabric) × Stands self.old w × CanStep self.old.config w place input.now }
+        requires input { FitsInput input.now }
+        requires events { self.old.events < most_events }
+        requires frames { self.old.sent < most_frames }
+        ensures { (w : RuledWorld fabric) (node : ℕ) (s : RuledRunning fabric) → Stands self.old w →
+            slice_get w.nodes place ≡ Some (node, s) → at node w.nodes ≡ Some s →
+            Steps self.old self.new (node_acts fabric self.old.config w node input.now s) line result }
+    {
+        let most = self.running[place].node.most_frames();
+        self.make_room(most)?;
+        let (who, reading) = self.clocks[place];
+        let running = &mut self.running[place];
+        running.node.step_into(reading, input, effects)?;
+        let reports = effects.take_reports(self.alloc);
+        Ok(self.commit(line, who, Some(reading), effects.frames(), reports))
+    }
+
     /// The running node at this place takes the input.
     pub(crate) fn step_at(
         &mut self,
@@ -43,11 +70,9 @@ impl World {
             slice_get w.nodes place ≡ Some (node, s) → at node w.nodes ≡ Some s →
             Steps self.old self.new (node_acts fabric self.old.config w node input.now s) line result }
     {
-        let most = self.running[place].node.most_frames();
-        self.make_room(most)?;
-        let (who, reading) = self.clocks[place];
-        let running = &mut self.running[place];
-        let outcome = running.node.step(reading, input)?;
-        Ok(self.commit(line, who, Some(reading), outcome.frames, outcome.reports))
+        let mut effects = NodeEffects::take_from(&mut self.effects, self.alloc)?;
+        let acted = self.step_with(line, place, input, &mut effects);
+        NodeEffects::keep_in(&mut self.effects, effects);
+        acted
     }
 }

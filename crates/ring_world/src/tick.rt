@@ -10,7 +10,7 @@ ghost use Rattle.ring_world.specs.Stands.{Stands};
 ghost use Rattle.ring_world.specs.Ticks.{Shows, are_of_clocks};
 
 use crate::world::{EventRefusal, World};
-use drift_clock::DriftBroken;
+use drift_clock::{DriftBroken, MAX_TRUE_TIME};
 use fabric_terms::Event;
 use ring_points::{MAX_READING, Who};
 
@@ -34,7 +34,7 @@ impl World {
     fn first_broken(&self, time: u64, readings: &[(u16, u64)]) -> Option<DriftBroken>
         requires can { (w : RuledWorld fabric) × Stands self.now w × (are_of readings.now w.nodes ≡ true) }
         requires later { self.now.time ≤ time }
-        requires time { time ≤ 2 * 10 ^ 15 }
+        requires time { time ≤ MAX_TRUE_TIME }
         requires readings { All (λ r. r.1 ≤ most_time) readings.now }
         ensures broken { (w : RuledWorld fabric) → Stands self.now w → are_of readings.now w.nodes ≡ true →
             result ≡ first_broken self.now.config w time readings.now }
@@ -55,7 +55,7 @@ impl World {
     fn show(&mut self, time: u64, readings: &[(u16, u64)])
         requires can { (w : RuledWorld fabric) × Stands self.old w × (are_of readings.now w.nodes ≡ true) }
         requires later { self.old.time ≤ time }
-        requires time { time ≤ 2 * 10 ^ 15 }
+        requires time { time ≤ MAX_TRUE_TIME }
         requires readings { All (λ r. r.1 ≤ most_time) readings.now }
         requires fit { (w : RuledWorld fabric) → Stands self.old w →
             readings_fit self.old.config w time readings.now ≡ true }

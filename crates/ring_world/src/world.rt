@@ -1,4 +1,4 @@
-ghost use Rattle.std.specs.Prelude.{◌≡◌, ◌≢◌, ◌≤◌, [], Err, IfOk, OnOk, OnErr, length, replicate};
+ghost use Rattle.std.specs.Prelude.{◌≡◌, ◌≢◌, ◌≤◌, ℕ, [], Err, IfOk, OnOk, OnErr, length, replicate};
 ghost use Rattle.node_core.specs.Nodes.{nothing_kept};
 ghost use Rattle.fabric_terms.specs.Places.{place_of};
 ghost use Rattle.fabric_terms.specs.Reports.{told};
@@ -21,7 +21,7 @@ use arbiter_core::Arbiter;
 use drift_clock::DriftBroken;
 use fabric_terms::{Event, FabricConfig, OutOfMemory, Report};
 use frame_bag::FrameBag;
-use node_core::{Batch, NodeKept};
+use node_core::{Batch, NodeEffects, NodeKept};
 use point_places::Places;
 use ring_points::{MAX_ARBITRATORS, MAX_NODE_NUMBER, Who};
 use std::alloc::Global;
@@ -111,6 +111,8 @@ pub struct World {
     /// How many frames were sent.
     pub(crate) sent: u32,
     pub(crate) places: Places,
+    /// Where each node's step leaves what it does. There are none before the first step.
+    pub(crate) effects: Option<Box<NodeEffects>>,
 }
 
 impl World {
@@ -139,6 +141,7 @@ impl World {
             frames: FrameBag::new(alloc),
             sent: 0,
             places,
+            effects: None,
         })
     }
 
@@ -160,26 +163,36 @@ impl World {
             Event::Fire { node } => self.fire(line, *node),
             Event::Give { frame } => self.give(line, *frame),
             Event::Do { node, command } => self.command(line, *node, command),
-            Event::Junk { actor, bytes } => self.junk(line, *actor, bytes.as_slice()),
+            Event::Junk { actor, bytes } => self.junk(*actor, bytes.as_slice()),
         }
     }
 
-    /// Takes a tick: what `apply` does of it, with the readings where they lie. It takes no memory, and is refused for
-    /// one of the other three reasons alone.
-    pub fn tick(
-        &mut self,
-        line: u64,
-        advance: u64,
-        readings: &[(u16, u64)],
-    ) -> Result<(), EventRefusal>
+    /// Takes a tick: what `apply` does of it at any line, with the readings where they lie. It takes no memory, and is
+    /// refused for one of the other three reasons alone.
+    pub fn tick(&mut self, advance: u64, readings: &[(u16, u64)]) -> Result<(), EventRefusal>
         requires world { IsWorld self.old }
         requires fits { Fits (Event.Tick advance readings.now) }
-        ensures answers { (c : Configuration) (h : History) → StandsFor self.old c h →
+        ensures answers { (c : Configuration) (h : History) (line : ℕ) → StandsFor self.old c h →
             AnswersTick self.new c h line (Event.Tick advance readings.now) result }
         ensures memory { result ≢ Err EventRefusal.OutOfMemory }
     {
-        let _ = line;
         self.take_tick(advance, readings)
+    }
+
+    /// Takes back what `apply` gave, once it is read: the next step makes its reports in the memory of these. The world
+    /// stays as it is.
+    #[tactic(auto, using(crate::proofs::Beside::stands_beside))]
+    pub fn recycle(&mut self, acted: Option<Acted>)
+        ensures rest { self.new ≡ record self.old { effects = self.new.effects } }
+        ensures stands { (c : Configuration) (h : History) → StandsFor self.old c h → StandsFor self.new c h }
+    {
+        let Some(acted) = acted else {
+            return;
+        };
+        let Some(effects) = &mut self.effects else {
+            return;
+        };
+        effects.reuse_reports(acted.reports);
     }
 
     /// Appends the lines of the points that are with an instance which does not hold them, and of those in flight. It

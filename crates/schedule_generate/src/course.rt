@@ -76,7 +76,7 @@ impl Generator {
         let time = self.time + TICK;
         show_all(&mut self.readings, self.world.clocks(), time)?;
         push_firings(moves, &self.readings)?;
-        match self.world.tick(line, TICK, &self.readings) {
+        match self.world.tick(TICK, &self.readings) {
             Ok(()) => {
                 listener.ticked(&self.world, line, TICK, &self.readings, text)?;
                 self.line = line + 1;

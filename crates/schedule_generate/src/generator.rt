@@ -88,6 +88,7 @@ impl Generator {
         match self.world.apply(line, &made.event()) {
             Ok(acted) => {
                 listener.took(&self.world, line, made, &acted, text)?;
+                self.world.recycle(acted);
                 self.line = line + 1;
                 Ok(())
             }

@@ -52,6 +52,7 @@ fn take_event<T: RunObserver>(
     match world.apply(number, event) {
         Ok(acted) => {
             teller.tell(world, number, &acted, text)?;
+            world.recycle(acted);
             Ok(None)
         }
         Err(refusal) => Ok(Some(refusal_of(refusal, number)?)),
@@ -75,7 +76,7 @@ fn take_tick<T: RunObserver>(
         (T.knows teller.new) text.old.items text.new.items) }
     ensures kept { Keeps text.old.items text.new.items }
 {
-    match world.tick(number, advance, readings) {
+    match world.tick(advance, readings) {
         Ok(()) => {
             teller.tell(world, number, &None, text)?;
             Ok(None)

@@ -1,7 +1,8 @@
 -- The limits of a schedule: whether one more event has room.
-use Rattle.std.specs.Prelude.{ℕ, ◌+◌, ◌^◌, Bool, true, false, not, ◌&&◌, ◌||◌, nat_le, nat_lt}
+use Rattle.std.specs.Prelude.{ℕ, ◌+◌, Bool, true, false, not, ◌&&◌, ◌||◌, nat_le, nat_lt}
 use Rattle.fabric_terms.specs.declared.event.Event.{Event}
 use Rattle.fabric_terms.specs.declared.event.Event.TheVariants.{Start, Tick, Fire, Give, Do}
+use Rattle.ring_points.specs.Limits.{most_reading}
 use Rattle.world_rules.specs.Uppers.{Upper}
 use Rattle.world_rules.specs.Worlds.{World}
 
@@ -14,7 +15,7 @@ abbrev pub most_frames : ℕ
 most_frames = 200000
 
 abbrev pub most_time : ℕ
-most_time = 10 ^ 15
+most_time = most_reading
 
 -- so many events and frames leave room for one more event, at which an actor acts or none does
 abbrev pub is_room : (acts : Bool) → ℕ → ℕ → Bool

@@ -1,3 +1,4 @@
+use Rattle.std.proofs.Common.{◌∷◌}
 use Rattle.schedule_replay.proofs.Taking.{took_event, refused_event}
 use Rattle.schedule_replay.proofs.schedule.take_event.Goals as goal
 
@@ -6,7 +7,8 @@ returns-in_ok-tell-in-Ok-clause-follows g c config h at =
     let e = c.args.event.now in
     let takes = c.in-Ok.ensures config h at.0 in
     let told = c.in_ok-tell-in-Ok.ensures.told config h e at.1 takes in
-    took_event g.T.RunObserver.telling config h c.args.number e c.in-Ok.acted c.apply.new.self (g.T.RunObserver.knows c.tell.new.self) c.args.text.now.items c.tell.new.text.items takes told.0 told.1
+    took_event g.T.RunObserver.telling config h c.args.number e c.in-Ok.acted c.recycle.new.self (g.T.RunObserver.knows c.tell.new.self) c.args.text.now.items c.tell.new.text.items
+    (record { accepted = takes.accepted; stands = c.recycle.ensures.stands config ((c.args.number, e) ∷ h) takes.stands; entry = takes.entry; seen = takes.seen }) told.0 told.1
 
 pub returns-in_ok-refusal_of-in-Err-clause-follows : goal.returns-in_ok-refusal_of-in-Err-clause-follows
 returns-in_ok-refusal_of-in-Err-clause-follows g c config h at =

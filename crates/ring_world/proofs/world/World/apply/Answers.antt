@@ -101,4 +101,4 @@ returns-in-Do c k h s =
 pub returns-in-Junk : goal.returns-in-Junk
 returns-in-Junk c k h s =
     answered_as c.args.self.now c.junk.new.self k h c.args.line (Junk c.in-Junk.actor c.as_slice-in-Junk.result.now) c.args.event.now c.junk.result
-    (c.in-Junk.is ∙ ap (λ bs. Junk c.in-Junk.actor bs) (sym c.as_slice-in-Junk.ensures)) s c.requires.fits (c.junk.ensures (ruled k h) s.keeps.state)
+    (c.in-Junk.is ∙ ap (λ bs. Junk c.in-Junk.actor bs) (sym c.as_slice-in-Junk.ensures)) s c.requires.fits (c.junk.ensures (ruled k h) c.args.line s.keeps.state)

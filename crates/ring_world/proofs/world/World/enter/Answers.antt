@@ -1,4 +1,4 @@
-use Rattle.std.proofs.Common.{◌≡◌, ℕ, ◌<◌, List, length, Some, refl, ap, ◌∙◌, arith, get_or}
+use Rattle.std.proofs.Common.{◌≡◌, ℕ, ◌<◌, List, length, Some, refl, sym, ap, subst, ◌∙◌, arith, get_or}
 use Rattle.std.proofs.lemmas.Result.{err_from_is_err_and}
 use Rattle.fabric_terms.specs.declared.message.Message.{Message}
 use Rattle.ring_points.specs.declared.who.Who.{Who}
@@ -7,7 +7,8 @@ use Rattle.std.specs.Vec.{with_item}
 use Rattle.point_places.specs.Spots.{place_at}
 use Rattle.node_core.specs.Nodes.{Core}
 use Rattle.node_core.specs.declared.kept.NodeKept.{NodeKept}
-use Rattle.ring_world.specs.Starts.{place_for}
+use Rattle.node_core.specs.declared.outcome.Outcome.{Outcome}
+use Rattle.ring_world.specs.Starts.{Begins, place_for}
 use Rattle.ring_world.specs.Commits.{numbers_after}
 use Rattle.ring_world.specs.Moves.{placed_by}
 use Rattle.ring_world.specs.declared.running.Running.{Running}
@@ -32,7 +33,8 @@ commit-requires-clause-small c =
     let n : length c.in_ok-core.outcome.frames ≡ 0 = ap (λ (fs : List Message). length fs) (frames_none c.args.self.now can.0 c.args.node c.in_ok-core.core.value c.in_ok-core.outcome can.1 can.2
     (begun_from c.args.self.now c.args.node c.index_mut-kept.result.now (omega (arith, can.1.nodes.kept.table, c.requires.node)) (c.index_mut-kept.ensures.value ∙ ap (λ (i : ℕ). get_or c.args.self.now.kept.items i c.index_mut-kept.result.now) c.from.ensures)
     c.in_ok-core.core.value c.in_ok-core.outcome c.in_ok-core.ensures.begins c.in_ok-core.ensures.goes_by c.in_ok-core.ensures.small)) in
-    omega (arith, n, c.requires.sent)
+    let handed : length c.as_slice.result.now ≡ length c.in_ok-core.outcome.frames = ap (λ (fs : List Message). length fs) c.as_slice.ensures in
+    omega (arith, n, handed, c.requires.sent)
 
 pub commit-requires-clause-frames : goal.commit-requires-clause-frames
 commit-requires-clause-frames c =
@@ -40,7 +42,8 @@ commit-requires-clause-frames c =
     let n : length c.in_ok-core.outcome.frames ≡ 0 = ap (λ (fs : List Message). length fs) (frames_none c.args.self.now can.0 c.args.node c.in_ok-core.core.value c.in_ok-core.outcome can.1 can.2
     (begun_from c.args.self.now c.args.node c.index_mut-kept.result.now (omega (arith, can.1.nodes.kept.table, c.requires.node)) (c.index_mut-kept.ensures.value ∙ ap (λ (i : ℕ). get_or c.args.self.now.kept.items i c.index_mut-kept.result.now) c.from.ensures)
     c.in_ok-core.core.value c.in_ok-core.outcome c.in_ok-core.ensures.begins c.in_ok-core.ensures.goes_by c.in_ok-core.ensures.small)) in
-    omega (arith, n)
+    let handed : length c.as_slice.result.now ≡ length c.in_ok-core.outcome.frames = ap (λ (fs : List Message). length fs) c.as_slice.ensures in
+    omega (arith, n, handed)
 
 pub commit-requires-clause-sound : goal.commit-requires-clause-sound
 commit-requires-clause-sound c k d lt =
@@ -48,7 +51,8 @@ commit-requires-clause-sound c k d lt =
     let n : length c.in_ok-core.outcome.frames ≡ 0 = ap (λ (fs : List Message). length fs) (frames_none c.args.self.now can.0 c.args.node c.in_ok-core.core.value c.in_ok-core.outcome can.1 can.2
     (begun_from c.args.self.now c.args.node c.index_mut-kept.result.now (omega (arith, can.1.nodes.kept.table, c.requires.node)) (c.index_mut-kept.ensures.value ∙ ap (λ (i : ℕ). get_or c.args.self.now.kept.items i c.index_mut-kept.result.now) c.from.ensures)
     c.in_ok-core.core.value c.in_ok-core.outcome c.in_ok-core.ensures.begins c.in_ok-core.ensures.goes_by c.in_ok-core.ensures.small)) in
-    absurd (omega (arith, n, lt))
+    let handed : length c.as_slice.result.now ≡ length c.in_ok-core.outcome.frames = ap (λ (fs : List Message). length fs) c.as_slice.ensures in
+    absurd (omega (arith, n, handed, lt))
 
 pub returns-in_err-core : goal.returns-in_err-core
 returns-in_err-core c w s absent =
@@ -61,12 +65,13 @@ pub returns : goal.returns
 returns c w s absent =
     let a = c.args.self.now in
     let n = c.in_ok-core.core.value in
-    let o = c.in_ok-core.outcome in
+    let o : Outcome = record c.in_ok-core.outcome { frames = c.as_slice.result.now } in
+    let same : o ≡ c.in_ok-core.outcome = ap (λ (fs : List Message). record c.in_ok-core.outcome { frames = fs }) c.as_slice.ensures in
     let k = c.new-drift.result in
     let q : Running = record { drift = k; node = c.in_ok-core.core } in
     let within : c.args.node < length a.kept.items = omega (arith, s.nodes.kept.table, c.requires.node) in
-    let begins = begun_from a c.args.node c.index_mut-kept.result.now within (c.index_mut-kept.ensures.value ∙ ap (λ (i : ℕ). get_or a.kept.items i c.index_mut-kept.result.now) c.from.ensures) n o
-    c.in_ok-core.ensures.begins c.in_ok-core.ensures.goes_by c.in_ok-core.ensures.small in
+    let begins = subst (λ (x : Outcome). Begins a c.args.node n x) (sym same) (begun_from a c.args.node c.index_mut-kept.result.now within (c.index_mut-kept.ensures.value ∙ ap (λ (i : ℕ). get_or a.kept.items i c.index_mut-kept.result.now) c.from.ensures) n c.in_ok-core.outcome
+    c.in_ok-core.ensures.begins c.in_ok-core.ensures.goes_by c.in_ok-core.ensures.small) in
     let who : c.me-who.result ≡ n.state.ring.me = c.me-who.ensures ∙ ap (λ (x : Core). x.state.ring.me) c.deref.ensures in
     let place : c.place_for-place.result ≡ place_for c.args.node a.clocks.items = c.place_for-place.ensures.place ∙ ap (λ (ks : List (Who × ℕ)). place_for c.args.node ks) c.deref-2.ensures.value in
     begin_moves a w c.args.node c.args.reading n o k q s c.requires.node c.requires.reading begins

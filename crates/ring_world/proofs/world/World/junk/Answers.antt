@@ -11,18 +11,18 @@ use Rattle.ring_world.proofs.StopNames.{junk_runs}
 use Rattle.ring_world.proofs.world.World.junk.Goals as goal
 
 pub returns-then-not-runs : goal.returns-then-not-runs
-returns-then-not-runs c w s =
+returns-then-not-runs c w line s =
     let none : runs w c.args.actor ≡ false = sym (c.runs.ensures w s) ∙ c.if-not-runs.true in
     (junk_runs c.args.self.now w c.args.actor c.args.bytes.now false (is_frame c.args.bytes.now) none refl, same_world c.args.self.now)
 
 pub returns-then-is_frame : goal.returns-then-is_frame
-returns-then-is_frame c w s =
+returns-then-is_frame c w line s =
     let there : runs w c.args.actor ≡ true = sym (c.runs.ensures w s) ∙ c.if-not-runs.false in
     let frame : is_frame c.args.bytes.now ≡ true = sym c.is_frame.ensures ∙ c.if-is_frame.true in
     (junk_runs c.args.self.now w c.args.actor c.args.bytes.now true true there frame, same_world c.args.self.now)
 
 pub returns-then-not-may_come : goal.returns-then-not-may_come
-returns-then-not-may_come c w s =
+returns-then-not-may_come c w line s =
     let a = c.args.self.now in
     let there : runs w c.args.actor ≡ true = sym (c.runs.ensures w s) ∙ c.if-not-runs.false in
     let frame : is_frame c.args.bytes.now ≡ false = sym c.is_frame.ensures ∙ c.if-is_frame.false in
@@ -32,7 +32,7 @@ returns-then-not-may_come c w s =
     )
 
 pub returns : goal.returns
-returns c w s =
+returns c w line s =
     let a = c.args.self.now in
     let e = Junk c.args.actor c.args.bytes.now in
     let there : runs w c.args.actor ≡ true = sym (c.runs.ensures w s) ∙ c.if-not-runs.false in
@@ -43,5 +43,5 @@ returns c w s =
         bound = bound-junk a w c.args.actor c.args.bytes.now;
         room = room_is a w e false s refl refl ∙ room;
       },
-      subst (λ (st : Stepped fabric). Moves a c.pass.new.self st c.args.line None) (sym (world_step-junk fabric a.config w c.args.actor c.args.bytes.now)) (c.pass.ensures w c.args.line s),
+      subst (λ (st : Stepped fabric). Moves a c.pass.new.self st line None) (sym (world_step-junk fabric a.config w c.args.actor c.args.bytes.now)) (c.pass.ensures w line s),
     )

@@ -1,94 +1,19 @@
-use Rattle.std.proofs.Common.{◌≡◌, ℕ, arith, ap, refl, sym, ◌∙◌, length, get_or, Some}
-use Rattle.node_core.specs.Nodes.{Core, most_frames}
-use Rattle.ring_points.specs.declared.who.Who.{Who}
-use Rattle.std.specs.Box.{with_value}
-use Rattle.std.specs.Vec.{with_item}
+use Rattle.std.proofs.Common.{refl}
 use Rattle.std.proofs.lemmas.Result.{err_from_is_err_and}
-use Rattle.ring_world.specs.Commits.{numbers_after}
-use Rattle.ring_world.specs.Seen.{Seen}
-use Rattle.ring_world.specs.Moves.{placed_by}
-use Rattle.ring_world.specs.declared.running.Running.{Running}
-use Rattle.ring_world.specs.declared.world.World.{World}
-use Rattle.ring_world.proofs.NodePlaces.{placed, read_at}
-use Rattle.ring_world.proofs.NodeStep.{put_back, sends_sound, moves_next, seen_committed}
+use Rattle.unit_rules.specs.Fabric.{fabric}
+use Rattle.world_rules.specs.Events.{node_acts}
+use Rattle.ring_world.proofs.Beside.{steps_beside}
 use Rattle.ring_world.proofs.world.World.step_at.Goals as goal
 
-pub index-requires : goal.index-requires
-index-requires c =
-    let can = c.requires.can in
-    let here = placed c.args.self.now can.0 c.args.place can.2.node can.2.state can.1 can.2.here in
-    omega (arith, here.within)
+pub step_with-acted-requires-clause-can : goal.step_with-acted-requires-clause-can
+step_with-acted-requires-clause-can c = c.requires.can
 
-pub index-requires-2 : goal.index-requires-2
-index-requires-2 c =
-    let can = c.requires.can in
-    let here = placed c.args.self.now can.0 c.args.place can.2.node can.2.state can.1 can.2.here in
-    rw c.make_room.ensures.rest (omega (arith, here.clock_within))
-
-pub index_mut-running-requires : goal.index_mut-running-requires
-index_mut-running-requires c =
-    let can = c.requires.can in
-    let here = placed c.args.self.now can.0 c.args.place can.2.node can.2.state can.1 can.2.here in
-    rw c.make_room.ensures.rest (omega (arith, here.within))
-
-pub step-requires-clause-now : goal.step-requires-clause-now
-step-requires-clause-now c =
-    let can = c.requires.can in
-    let s = can.2.state in
-    let here = placed c.args.self.now can.0 c.args.place can.2.node s can.1 can.2.here in
-    let k = c.index-2.result.now in
-    let read : k ≡ get_or c.args.self.now.clocks.items c.args.place k = rw c.make_room.ensures.rest at c.index-2.ensures in
-    let is : k.1 ≡ s.reading = ap (λ (q : Who × ℕ). q.1) (read_at c.args.self.now.clocks.items c.args.place (s.node.ring.me, s.reading) k here.clock read) in
-    omega (arith, here.runs.reading)
-
-pub commit-requires-clause-small : goal.commit-requires-clause-small
-commit-requires-clause-small c =
-    rw c.make_room.ensures.rest (omega (arith, c.in_ok-outcome.ensures.small.limit, c.requires.frames))
-
-pub commit-requires-clause-frames : goal.commit-requires-clause-frames
-commit-requires-clause-frames c =
-    let can = c.requires.can in
-    let a = c.args.self.now in
-    let here = placed a can.0 c.args.place can.2.node can.2.state can.1 can.2.here in
-    let r = c.index_mut-running.result.now in
-    let read : r ≡ get_or a.running.items c.args.place r = rw c.make_room.ensures.rest at c.index_mut-running.ensures.value in
-    let same : c.index.result.now ≡ r = read_at a.running.items c.args.place here.code c.index.result.now here.here c.index.ensures ∙ sym (read_at a.running.items c.args.place here.code r here.here read) in
-    let node : c.deref.result.now ≡ c.deref_mut.result.now = c.deref.ensures ∙ (ap (λ (q : Running). q.node.value) same ∙ sym c.deref_mut.ensures.value) in
-    let most : c.most_frames-most.result ≡ most_frames c.deref_mut.result.now.state = c.most_frames-most.ensures.frames ∙ ap (λ (q : Core). most_frames q.state) node in
-    omega (arith, most, c.in_ok-outcome.ensures.small.frames, c.in_ok-make_room.ensures.frames)
-
-pub commit-requires-clause-sound : goal.commit-requires-clause-sound
-commit-requires-clause-sound c =
-    let can = c.requires.can in
-    let a = c.args.self.now in
-    let r = c.index_mut-running.result.now in
-    let k = c.index-2.result.now in
-    let node : r ≡ get_or a.running.items c.args.place r = rw c.make_room.ensures.rest at c.index_mut-running.ensures.value in
-    let clock : k ≡ get_or a.clocks.items c.args.place k = rw c.make_room.ensures.rest at c.index-2.ensures in
-    sends_sound a can.0 c.args.place can.2.node can.2.state c.args.input.now r k c.deref_mut.result.now c.step.new.self c.in_ok-outcome.outcome can.1 can.2.here
-    (record { is_node = node; is_clock = clock; inside = c.deref_mut.ensures.value }) c.requires.input
-    (record { does = c.in_ok-outcome.ensures.does; settings = c.in_ok-outcome.ensures.settings; domains = c.in_ok-outcome.ensures.domains; me = c.in_ok-outcome.ensures.me; small = c.in_ok-outcome.ensures.small })
-    can.2.sound
-
-pub returns-in_err-outcome : goal.returns-in_err-outcome
-returns-in_err-outcome c w node s st here there =
-    let p = err_from_is_err_and c.from_residual-in_err-outcome.result c.from_residual-in_err-outcome.ensures.1 in
-    rw p.1 (put_back c.args.self.now c.make_room.new.self c.args.place c.index_mut-running.result.now c.deref_mut.result.now c.step.new.self c.make_room.ensures.same
-    c.index_mut-running.ensures.value c.deref_mut.ensures.value c.in_err-outcome.ensures.refused)
+pub returns-in_err-effects : goal.returns-in_err-effects
+returns-in_err-effects c w node s st here there =
+    let p = err_from_is_err_and c.from_residual.result c.from_residual.ensures.1 in
+    rw p.1 (record { seen = refl; places = λ p lt. refl })
 
 pub returns : goal.returns
 returns c w node s st here there =
-    let a = c.args.self.now in
-    let r = c.index_mut-running.result.now in
-    let k = c.index-2.result.now in
-    let is_node : r ≡ get_or a.running.items c.args.place r = rw c.make_room.ensures.rest at c.index_mut-running.ensures.value in
-    let is_clock : k ≡ get_or a.clocks.items c.args.place k = rw c.make_room.ensures.rest at c.index-2.ensures in
-    let q : Running = record { drift = r.drift; node = with_value r.node c.step.new.self } in
-    moves_next a w c.args.place node s c.args.input.now r k c.deref_mut.result.now c.step.new.self c.in_ok-outcome.outcome st here
-    (record { is_node = is_node; is_clock = is_clock; inside = c.deref_mut.ensures.value }) c.requires.input
-    (record { does = c.in_ok-outcome.ensures.does; settings = c.in_ok-outcome.ensures.settings; domains = c.in_ok-outcome.ensures.domains; me = c.in_ok-outcome.ensures.me; small = c.in_ok-outcome.ensures.small })
-    c.commit.new.self q c.args.line c.commit.result refl refl c.requires.events c.requires.frames
-    (seen_committed a c.make_room.new.self c.commit.new.self (with_item c.make_room.new.self.running c.args.place q) c.args.place q c.in_ok-outcome.outcome c.make_room.ensures.same
-    (ap (λ (m : World). m.running) c.make_room.ensures.rest) refl c.commit.ensures.rest c.commit.ensures.frames)
-    (λ p lt. c.commit.ensures.places p lt ∙ ap (λ x. placed_by k.0 c.in_ok-outcome.outcome.reports p x) (c.make_room.ensures.same.places p lt))
-    (c.commit.ensures.acted ∙ ap (λ (x : Seen). record { line = c.args.line; time = x.time; who = k.0; reading = Some k.1; sent = numbers_after x.sent (length c.in_ok-outcome.outcome.frames); reports = c.in_ok-outcome.outcome.reports }) c.make_room.ensures.same.seen)
+    steps_beside c.args.self.now c.step_with-acted.new.self c.take_from.new.kept c.keep_in.new.kept (node_acts fabric c.args.self.now.config w node c.args.input.now s) c.args.line c.step_with-acted.result
+    (c.step_with-acted.ensures w node s st here there)

@@ -20,7 +20,9 @@ returns-in_ok-took-in-Ok-clause-went g c k sent at =
     let world = ruled (generated_config n) k.history in
     let takes : Takes c.apply.new.self (generated_config n) k.history c.args.self.now.line e c.in-Ok.acted =
     subst (λ (d : Event). Takes c.apply.new.self (generated_config n) k.history c.args.self.now.line d c.in-Ok.acted) c.event.ensures (c.in-Ok.ensures (generated_config n) k.history at.goes.world) in
-    took_on g.L.CourseObserver.writing (g.L.CourseObserver.knows c.args.listener.now) (g.L.CourseObserver.knows c.took.new.self) n c.args.self.now (record c.args.self.now { world = c.apply.new.self; line = c.args.self.now.line + 1 }) c.args.text.now.items c.took.new.text.items k sent e c.in-Ok.acted at takes
+    let again : Takes c.recycle.new.self (generated_config n) k.history c.args.self.now.line e c.in-Ok.acted =
+    record { accepted = takes.accepted; stands = c.recycle.ensures.stands (generated_config n) ((c.args.self.now.line, e) ∷ k.history) takes.stands; entry = takes.entry; seen = takes.seen } in
+    took_on g.L.CourseObserver.writing (g.L.CourseObserver.knows c.args.listener.now) (g.L.CourseObserver.knows c.took.new.self) n c.args.self.now (record c.args.self.now { world = c.recycle.new.self; line = c.args.self.now.line + 1 }) c.args.text.now.items c.took.new.text.items k sent e c.in-Ok.acted at again
     (c.in_ok-took-in-Ok.ensures n k.history at.known takes) refl refl (at.goes.time ∙ sym (time_still (generated_config n) world e (no_tick c.args.made))) refl refl (names_true n c.args.self.now k c.args.made at.goes c.requires.shows)
 
 -- memory was short for what is written of the event

@@ -37,7 +37,7 @@ returns-in_ok-ticked-in-Ok-clause-went g c k sent at =
     let first : Tick 100 c.deref-2.result.now ≡ tick_of w = ap (Tick 100) c.deref-2.ensures.value ∙ tick_is n k items are in
     let second : Tick 100 c.deref-in-Ok.result.now ≡ tick_of w = ap (Tick 100) c.deref-in-Ok.ensures.value ∙ tick_is n k items are in
     let takes : Takes c.tick.new.self (generated_config n) k.history c.args.self.now.line (tick_of w) None =
-    subst (λ (e : Event). Takes c.tick.new.self (generated_config n) k.history c.args.self.now.line e None) first (c.in-Ok.ensures.answers (generated_config n) k.history at.goes.world) in
+    subst (λ (e : Event). Takes c.tick.new.self (generated_config n) k.history c.args.self.now.line e None) first (c.in-Ok.ensures.answers (generated_config n) k.history c.args.self.now.line at.goes.world) in
     let told = subst (λ (e : Event). Takes c.tick.new.self (generated_config n) k.history c.args.self.now.line e None → g.L.CourseObserver.knows c.ticked.new.self n ((c.args.self.now.line, e) ∷ k.history) × (c.ticked.new.text.items ≡ c.args.text.now.items ++ (g.L.CourseObserver.writing n).line e)) second (c.in_ok-ticked-in-Ok.ensures n k.history at.known) takes in
     took_on g.L.CourseObserver.writing (g.L.CourseObserver.knows c.args.listener.now) (g.L.CourseObserver.knows c.ticked.new.self) n c.args.self.now (record c.args.self.now { world = c.tick.new.self; line = c.args.self.now.line + 1; time = c.args.self.now.time + 100; readings = c.show_all.new.readings }) c.args.text.now.items c.ticked.new.text.items k sent (tick_of w) None at takes told
     refl refl (tick_after n c.args.self.now k (c.args.self.now.time + 100) at.goes refl) refl refl refl
@@ -50,7 +50,7 @@ returns-in_ok-ticked-in-Ok-clause-shown g c k sent at =
     let are = readings_are n c.args.self.now k c.clocks.result.now (c.args.self.now.time + 100) items at.goes (c.clocks.ensures (generated_config n) k.history at.goes.world) refl c.in_ok-show_all.ensures in
     let first : Tick 100 c.deref-2.result.now ≡ tick_of w = ap (Tick 100) c.deref-2.ensures.value ∙ tick_is n k items are in
     let takes : Takes c.tick.new.self (generated_config n) k.history c.args.self.now.line (tick_of w) None =
-    subst (λ (e : Event). Takes c.tick.new.self (generated_config n) k.history c.args.self.now.line e None) first (c.in-Ok.ensures.answers (generated_config n) k.history at.goes.world) in
+    subst (λ (e : Event). Takes c.tick.new.self (generated_config n) k.history c.args.self.now.line e None) first (c.in-Ok.ensures.answers (generated_config n) k.history c.args.self.now.line at.goes.world) in
     nodes_are n c.args.self.now (record c.args.self.now { world = c.tick.new.self }) k items c.args.self.now.line None at.goes are takes
 
 pub returns-in_ok-ticked-in-Ok-clause-fit : goal.returns-in_ok-ticked-in-Ok-clause-fit
@@ -74,7 +74,7 @@ halt_of-requires g c =
     let are = readings_are n c.args.self.now k c.clocks.result.now (c.args.self.now.time + 100) items goes (c.clocks.ensures (generated_config n) k.history goes.world) refl c.in_ok-show_all.ensures in
     let first : Tick 100 c.deref-2.result.now ≡ tick_of w = ap (Tick 100) c.deref-2.ensures.value ∙ tick_is n k items are in
     let refuses : Refuses c.in-Err.refusal (generated_config n) k.history (tick_of w) =
-    subst (λ (e : Event). Refuses c.in-Err.refusal (generated_config n) k.history e) first (c.in-Err.ensures.answers (generated_config n) k.history goes.world).refused in
+    subst (λ (e : Event). Refuses c.in-Err.refusal (generated_config n) k.history e) first (c.in-Err.ensures.answers (generated_config n) k.history c.args.self.now.line goes.world).refused in
     for_a_limit c.in-Err.refusal (generated_config n) k.history (tick_of w) (tick_due n w goes.clocks) refuses
 
 pub returns-in-Err-clause-went : goal.returns-in-Err-clause-went
@@ -86,7 +86,7 @@ returns-in-Err-clause-went g c k sent at =
     let first : Tick 100 c.deref-2.result.now ≡ tick_of w = ap (Tick 100) c.deref-2.ensures.value ∙ tick_is n k items are in
     let fit : Fits (tick_of w) = subst (λ (e : Event). Fits e) (tick_is n k items are) (omega arith, readings_fit n c.args.self.now k items c.requires.few c.requires.early at.goes are) in
     let refuses : Refuses c.in-Err.refusal (generated_config n) k.history (tick_of w) =
-    subst (λ (e : Event). Refuses c.in-Err.refusal (generated_config n) k.history e) first (c.in-Err.ensures.answers (generated_config n) k.history at.goes.world).refused in
+    subst (λ (e : Event). Refuses c.in-Err.refusal (generated_config n) k.history e) first (c.in-Err.ensures.answers (generated_config n) k.history c.args.self.now.line at.goes.world).refused in
     let limit = for_a_limit c.in-Err.refusal (generated_config n) k.history (tick_of w) (tick_due n w at.goes.clocks) refuses in
     let b : Generator = record c.args.self.now { world = c.tick.new.self; readings = c.show_all.new.readings } in
     subst (λ (s : CourseHalt). Went g.L.CourseObserver.writing (g.L.CourseObserver.knows c.args.listener.now) n (Err s) b c.args.text.now.items (taken (generated_config n) (tick_of w) k) sent) (sym c.halt_of.ensures)
