@@ -12,6 +12,7 @@ use fabric_terms::{Command, OutOfMemory};
 use ring_node::RingNode;
 use ring_points::{MAX_ARBITRATORS, MAX_MEMBERS, Point};
 use unit_desk::UnitEffects;
+use unit_manager::Wanted;
 use unit_rules::Kind;
 
 impl UnitNode {
@@ -37,14 +38,13 @@ impl UnitNode {
             (manage (site_at ring.now.settings self.old) now ring.now.ring partition kind self.old.state) ≡ true) }
     {
         let is_manager = ring.holds(now, Point(0));
-        self.manager.commanded(
-            is_manager,
-            ring.arbitrators(),
+        let wanted = Wanted {
             partition,
             kind,
-            ring.me(),
-            effects,
-        )
+            arbitrators: ring.arbitrators(),
+            me: ring.me(),
+        };
+        self.manager.commanded(is_manager, wanted, effects)
     }
 
     /// The row of a command; a command to the ring changes nothing here. It is an error where memory is short for what

@@ -10,8 +10,8 @@ use ring_points::Who;
 
 impl UnitNode {
     /// A firing: the reconfigurations, then the replicas, each by rising partition. What they send comes behind the
-    /// messages that are there, in the name of `me`: at most nine of a reconfiguration and six of a replica, for which
-    /// there is room. The outbox is lent for one of them at a time.
+    /// messages that are there, in the name of `me`: at most one to each arbitrator of a reconfiguration, and one to each
+    /// other member of a replica, for which there is room. The outbox is lent for one of them at a time.
     #[tactic(auto, using(crate::proofs::UnitRows::fired_whole))]
     pub fn fire(&self, me: Who, out: &mut Outbox, frames: &mut Vec<Message>)
         requires clear { out.old ≡ [] }

@@ -1,10 +1,10 @@
 -- Polls, an answer later.
 use Rattle.std.proofs.Common.{◌≡◌, ℕ, suc, ◌+◌, ◌*◌, ◌<◌, ◌≤◌, Bool, true, false, List, [], ◌∷◌, ◌++◌, Option, Some, None, length, refl, ap, sym, ◌∙◌, arith, zero-add, set, get_or, take, map}
-use Rattle.std.specs.Prelude.{◌==◌, not, is_some, filter, count_by, nat_lt, unwrap_or}
+use Rattle.std.specs.Prelude.{◌==◌, not, is_some, filter, unwrap_or}
 use Rattle.std.specs.List.{position_from, position_or_len}
 use Rattle.std.proofs.lemmas.List.{append-nil, map-append}
 use Rattle.std.proofs.lemmas.List.Elements.{filter_more}
-use Rattle.unit_rules.specs.Polls.{Poll, answered, is_carried, waiting}
+use Rattle.unit_rules.specs.Polls.{Poll, answered, waiting}
 
 -- the place that a search gives, or the length where it finds none
 
@@ -87,6 +87,3 @@ module _ {A : Type 0} where
       ap (map (λ (e : ℕ × Option A). e.0))
       (filter_more (λ (e : ℕ × Option A). not (is_some e.1)) poll i d inside
       ∙ rw is (append-nil (filter (λ (e : ℕ × Option A). not (is_some e.1)) (take i poll))))
-
-  pub carried_is : (poll : Poll A) (k : ℕ) → k ≡ count_by (λ (e : ℕ × Option A). is_some e.1) poll → nat_lt (length poll) (2 * k) ≡ is_carried poll
-  carried_is poll k f = rw f refl

@@ -10,12 +10,12 @@ use crate::step::{Progress, Step};
 use crate::transitions::source_by;
 use fabric_terms::{Message, Outbox};
 use replica_place::NodeLoad;
-use ring_points::OUTBOX_LIMIT;
+use ring_points::{MAX_ARBITRATORS, OUTBOX_LIMIT};
 
 impl Reconfig {
     /// Counts an answer in the phase in which it is, and enters the next one where that ends.
     fn go_on(&mut self, answer: &Message, nodes: &[NodeLoad], out: &mut Outbox) -> Progress
-        requires { length out.old + 9 ≤ OUTBOX_LIMIT }
+        requires { length out.old + MAX_ARBITRATORS ≤ OUTBOX_LIMIT }
         ensures does { Does (goes_on nodes.now answer.now.from.actor answer.now.body (reconfig_of self.old))
             (step_with self.new result) out.old out.new }
         ensures task { task_of (reconfig_of self.new) ≡ task_of (reconfig_of self.old) }
@@ -71,10 +71,11 @@ impl Reconfig {
 
     /// Takes an answer for its partition, in place. An answer to another epoch changes nothing, and neither does a
     /// message that is no answer. A carried epoch is tested first: one that is not below its own supersedes it. After
-    /// any progress but `Stays` it is over; where it is finished it is left as it was. At most nine messages are sent.
+    /// any progress but `Stays` it is over; where it is finished it is left as it was. At most `MAX_ARBITRATORS`
+    /// messages are sent.
     #[tactic(auto, unfolding(unit_rules::specs::Transitions::answer_received))]
     pub fn answer(&mut self, answer: &Message, nodes: &[NodeLoad], out: &mut Outbox) -> Progress
-        requires { length out.old + 9 ≤ OUTBOX_LIMIT }
+        requires { length out.old + MAX_ARBITRATORS ≤ OUTBOX_LIMIT }
         ensures does { Does (received nodes.now answer.now (reconfig_of self.old)) (step_with self.new result)
             out.old out.new }
         ensures task { task_of (reconfig_of self.new) ≡ task_of (reconfig_of self.old) }
@@ -96,7 +97,7 @@ impl Reconfig {
 
     /// Takes an answer for its partition, by value: see `answer`.
     pub fn on(self, answer: &Message, nodes: &[NodeLoad], out: &mut Outbox) -> Step
-        requires { length out.old + 9 ≤ OUTBOX_LIMIT }
+        requires { length out.old + MAX_ARBITRATORS ≤ OUTBOX_LIMIT }
         ensures { Does (received nodes.now answer.now (reconfig_of self)) (step_of result) out.old out.new }
     {
         let mut reconfig = self;

@@ -2,12 +2,13 @@ ghost use Rattle.std.specs.Prelude.{◌≡◌, ◌≤◌, ◌<◌, ◌==◌, len
 ghost use Rattle.std.specs.List.{position_from, position_or_len};
 ghost use Rattle.unit_rules.specs.Polls.{answered, poll_of, is_carried, has_answered, waiting};
 
+use arbiter_quorum::is_majority;
 use arrayvec::ArrayVec;
 use ring_points::MAX_ARBITRATORS;
 use std::marker::Model;
 
-/// Those that are asked, at most 9, each with its answer once it came. Contracts see them as a list, in the order in
-/// which they are asked.
+/// Those that are asked, at most `MAX_ARBITRATORS`, each with its answer once it came. Contracts see them as a list, in
+/// the order in which they are asked.
 #[derive(Drop)]
 pub struct Poll<A> {
     entries: ArrayVec<(u16, Option<A>), MAX_ARBITRATORS>,
@@ -69,11 +70,11 @@ fn count_of<A>(entries: &[(u16, Option<A>)]) -> usize
 }
 
 /// Whether a majority has answered.
-#[tactic(auto, using(crate::proofs::Polled::carried_is))]
 fn are_carried<A>(entries: &[(u16, Option<A>)]) -> bool
+    requires { length entries.now ≤ MAX_ARBITRATORS }
     ensures { result ≡ is_carried entries.now }
 {
-    2 * count_of(entries) > entries.len()
+    is_majority(entries.len() as u8, count_of(entries))
 }
 
 /// Those that have not answered.

@@ -118,8 +118,8 @@ impl Reconfig {
         }
     }
 
-    /// Begins what is commanded of a partition: all arbitrators are asked to prepare the epoch, at most nine messages.
-    /// They go out in the name of `me`, who is to send what the outbox gets.
+    /// Begins what is commanded of a partition: all arbitrators are asked to prepare the epoch, in at most
+    /// `MAX_ARBITRATORS` messages. They go out in the name of `me`, who is to send what the outbox gets.
     pub fn begin(
         partition: u16,
         epoch: Epoch,
@@ -129,11 +129,11 @@ impl Reconfig {
         out: &mut Outbox,
     ) -> Reconfig
         requires task { IsTask (task arbitrators partition epoch kind) }
-        requires room { length out.old + 9 ≤ OUTBOX_LIMIT }
+        requires room { length out.old + MAX_ARBITRATORS ≤ OUTBOX_LIMIT }
         ensures begun { reconfig_of result ≡ begun (task arbitrators partition epoch kind) }
         ensures sent { out.new ≡ out.old ++ frames_of
             (asks (begun (task arbitrators partition epoch kind)) (arbiters_to arbitrators)) }
-        ensures few { length out.new ≤ length out.old + 9 }
+        ensures few { length out.new ≤ length out.old + MAX_ARBITRATORS }
     {
         let begun = Reconfig::Prepare(PreparePhase::new(Task {
             partition,
@@ -145,12 +145,12 @@ impl Reconfig {
         begun
     }
 
-    /// A firing: asks those again that have not answered, at most nine messages.
+    /// A firing: asks those again that have not answered, in at most `MAX_ARBITRATORS` messages.
     #[tactic(auto, unfolding(unit_rules::specs::Questions::reconfig_fired))]
     pub fn fire(&self, out: &mut Outbox)
-        requires { length out.old + 9 ≤ OUTBOX_LIMIT }
+        requires { length out.old + MAX_ARBITRATORS ≤ OUTBOX_LIMIT }
         ensures sent { out.new ≡ out.old ++ frames_of (reconfig_fired (reconfig_of self.now)) }
-        ensures few { length out.new ≤ length out.old + 9 }
+        ensures few { length out.new ≤ length out.old + MAX_ARBITRATORS }
     {
         self.ask(self.awaited().as_slice(), out);
     }

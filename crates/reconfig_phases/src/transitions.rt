@@ -21,7 +21,7 @@ use crate::vote::VotePhase;
 use fabric_terms::Outbox;
 use failover_units::UnitRefusal;
 use replica_place::{NodeLoad, place};
-use ring_points::{Config, MAX_MEMBERS, OUTBOX_LIMIT};
+use ring_points::{Config, MAX_ARBITRATORS, MAX_MEMBERS, OUTBOX_LIMIT};
 use unit_rules::{Kind, Standing, Task};
 
 /// The first of these nodes, 0 where there is none.
@@ -57,7 +57,7 @@ impl Reconfig {
         out: &mut Outbox,
     )
         requires task { IsTask task }
-        requires room { length out.old + 9 ≤ OUTBOX_LIMIT }
+        requires room { length out.old + MAX_ARBITRATORS ≤ OUTBOX_LIMIT }
         ensures does { Does (proposes task config source) (Stay (reconfig_of self.new)) out.old out.new }
         ensures task { task_of (reconfig_of self.new) ≡ task }
     {
@@ -74,7 +74,7 @@ impl Reconfig {
         out: &mut Outbox,
     )
         requires task { IsTask task }
-        requires room { length out.old + 9 ≤ OUTBOX_LIMIT }
+        requires room { length out.old + MAX_ARBITRATORS ≤ OUTBOX_LIMIT }
         ensures does { Does (copies task config source) (Stay (reconfig_of self.new)) out.old out.new }
         ensures task { task_of (reconfig_of self.new) ≡ task }
     {
@@ -86,7 +86,7 @@ impl Reconfig {
     /// The arbitrators are asked to keep the configuration as done.
     pub(crate) fn store(&mut self, task: Task, config: Config, out: &mut Outbox)
         requires task { IsTask task }
-        requires room { length out.old + 9 ≤ OUTBOX_LIMIT }
+        requires room { length out.old + MAX_ARBITRATORS ≤ OUTBOX_LIMIT }
         ensures does { Does (stores task config) (Stay (reconfig_of self.new)) out.old out.new }
         ensures task { task_of (reconfig_of self.new) ≡ task }
     {
@@ -97,7 +97,7 @@ impl Reconfig {
     /// The members are asked to take their roles.
     pub(crate) fn activate(&mut self, task: Task, config: Config, out: &mut Outbox)
         requires task { IsTask task }
-        requires room { length out.old + 9 ≤ OUTBOX_LIMIT }
+        requires room { length out.old + MAX_ARBITRATORS ≤ OUTBOX_LIMIT }
         ensures does { Does (activates task config) (Stay (reconfig_of self.new)) out.old out.new }
         ensures task { task_of (reconfig_of self.new) ≡ task }
     {
@@ -111,7 +111,7 @@ impl Reconfig {
         requires own { task_of (reconfig_of self.old) ≡ task }
         requires task { IsTask task }
         requires count { count ≤ MAX_MEMBERS }
-        requires room { length out.old + 9 ≤ OUTBOX_LIMIT }
+        requires room { length out.old + MAX_ARBITRATORS ≤ OUTBOX_LIMIT }
         ensures does { Does (create_placed task (placement nodes.now count)) (step_with self.new result)
             out.old out.new }
         ensures task { task_of (reconfig_of self.new) ≡ task }
@@ -141,7 +141,7 @@ impl Reconfig {
     fn swap(&mut self, task: Task, old: Config, node: u16, out: &mut Outbox) -> Progress
         requires own { task_of (reconfig_of self.old) ≡ task }
         requires task { IsTask task }
-        requires room { length out.old + 9 ≤ OUTBOX_LIMIT }
+        requires room { length out.old + MAX_ARBITRATORS ≤ OUTBOX_LIMIT }
         ensures does { Does (swap_begun task old node) (step_with self.new result) out.old out.new }
         ensures task { task_of (reconfig_of self.new) ≡ task }
         ensures over { IfFinished result ⊥ }
@@ -171,7 +171,7 @@ impl Reconfig {
         requires own { task_of (reconfig_of self.old) ≡ task }
         requires task { IsTask task }
         requires count { count ≤ MAX_MEMBERS }
-        requires room { length out.old + 9 ≤ OUTBOX_LIMIT }
+        requires room { length out.old + MAX_ARBITRATORS ≤ OUTBOX_LIMIT }
         ensures does { Does (heal_placed task old (placement nodes.now count)) (step_with self.new result)
             out.old out.new }
         ensures task { task_of (reconfig_of self.new) ≡ task }
@@ -194,7 +194,7 @@ impl Reconfig {
     fn lose(&mut self, task: Task, node: u16, out: &mut Outbox) -> Progress
         requires own { task_of (reconfig_of self.old) ≡ task }
         requires task { IsTask task }
-        requires room { length out.old + 9 ≤ OUTBOX_LIMIT }
+        requires room { length out.old + MAX_ARBITRATORS ≤ OUTBOX_LIMIT }
         ensures does { Does (lose_begun task node) (step_with self.new result) out.old out.new }
         ensures task { task_of (reconfig_of self.new) ≡ task }
         ensures over { IfFinished result ⊥ }
@@ -215,7 +215,7 @@ impl Reconfig {
     ) -> Progress
         requires own { task_of (reconfig_of self.old) ≡ task }
         requires task { IsTask task }
-        requires room { length out.old + 9 ≤ OUTBOX_LIMIT }
+        requires room { length out.old + MAX_ARBITRATORS ≤ OUTBOX_LIMIT }
         ensures does { Does (prepared_as nodes.now task task.kind old) (step_with self.new result) out.old out.new }
         ensures task { task_of (reconfig_of self.new) ≡ task }
         ensures over { IfFinished result ⊥ }
@@ -242,7 +242,7 @@ impl Reconfig {
     ) -> Progress
         requires own { task_of (reconfig_of self.old) ≡ task }
         requires task { IsTask task }
-        requires room { length out.old + 9 ≤ OUTBOX_LIMIT }
+        requires room { length out.old + MAX_ARBITRATORS ≤ OUTBOX_LIMIT }
         ensures does { Does (after_promise task (λ r. enters r old.now.members)
             (promised_with old.now.primary standing (asks_promises task old.now.members old.now.members primary)))
             (step_with self.new result) out.old out.new }

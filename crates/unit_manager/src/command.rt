@@ -102,13 +102,13 @@ fn reason_at_end(units: &Units, partition: u16, kind: Kind) -> Reason
 
 /// A reconfiguration that is commanded.
 #[derive(Clone, Copy)]
-struct Wanted {
-    partition: u16,
-    kind: Kind,
+pub struct Wanted {
+    pub partition: u16,
+    pub kind: Kind,
     /// How many arbitrators there are.
-    arbitrators: u8,
+    pub arbitrators: u8,
     /// In whose name they are asked.
-    me: Who,
+    pub me: Who,
 }
 
 /// Begins the wanted reconfiguration of a partition that has none under way, or gives the reason why it is refused. A
@@ -165,46 +165,38 @@ fn refuse(kind: Kind, reason: Reason, effects: &mut UnitEffects)
 }
 
 impl Manager {
-    /// A command to the manager: begins a new reconfiguration of the partition, and asks all arbitrators in the name of
-    /// `me` to prepare its epoch. The command is refused if the node is not the manager; if a reconfiguration of the
-    /// partition is under way; if a create finds a known configuration; if a new partition finds no place; or if the
-    /// epoch would be past the last one. The first of these that holds is reported, and nothing else changes. At most
-    /// `MAX_ARBITRATORS` messages are sent, and one report is made. It is an error if memory is short for the new
-    /// reconfiguration, and then nothing changes. No refusal needs memory.
+    /// A command to the manager: begins the wanted reconfiguration of a partition, and asks all arbitrators to prepare
+    /// its epoch. The command is refused if the node is not the manager; if a reconfiguration of the partition is under
+    /// way; if a create finds a known configuration; if a new partition finds no place; or if the epoch would be past
+    /// the last one. The first of these that holds is reported, and nothing else changes. At most `MAX_ARBITRATORS`
+    /// messages are sent, and one report is made. It is an error if memory is short for the new reconfiguration, and
+    /// then nothing changes. No refusal needs memory.
     #[tactic(auto, unfolding(unit_rules::specs::Manager::reconfig_commanded))]
     pub fn commanded(
         &mut self,
         is_manager: bool,
-        arbitrators: u8,
-        partition: u16,
-        kind: Kind,
-        me: Who,
+        wanted: Wanted,
         effects: &mut UnitEffects,
     ) -> Result<(), OutOfMemory>
-        requires arbitrators { arbitrators ≤ MAX_ARBITRATORS }
-        requires replicas { replicas_of kind ≤ MAX_MEMBERS }
+        requires arbitrators { wanted.arbitrators ≤ MAX_ARBITRATORS }
+        requires replicas { replicas_of wanted.kind ≤ MAX_MEMBERS }
         requires room { HasRoom effects.old }
-        ensures does { IfOk result (λ _. Does (reconfig_commanded is_manager arbitrators partition kind self.old)
+        ensures does { IfOk result (λ _. Does
+            (reconfig_commanded is_manager wanted.arbitrators wanted.partition wanted.kind self.old)
             self.new effects.old effects.new) }
         ensures refused { OnErr result ((self.new ≡ self.old) × (effects.new ≡ effects.old)) }
         ensures memory { OnErr result (begins_one self.old
-            (reconfig_commanded is_manager arbitrators partition kind self.old) ≡ true) }
+            (reconfig_commanded is_manager wanted.arbitrators wanted.partition wanted.kind self.old) ≡ true) }
         ensures few { Few effects.old effects.new }
     {
         if !is_manager {
-            refuse(kind, Reason::NotManager, effects);
+            refuse(wanted.kind, Reason::NotManager, effects);
             return Ok(());
         }
-        if find(&self.reconfigs, partition).is_some() {
-            refuse(kind, Reason::Busy, effects);
+        if find(&self.reconfigs, wanted.partition).is_some() {
+            refuse(wanted.kind, Reason::Busy, effects);
             return Ok(());
         }
-        let wanted = Wanted {
-            partition,
-            kind,
-            arbitrators,
-            me,
-        };
         let begun = begin(
             &mut self.units,
             &mut self.reconfigs,
@@ -212,7 +204,7 @@ impl Manager {
             &mut effects.out,
         )?;
         if let Some(reason) = begun {
-            refuse(kind, reason, effects);
+            refuse(wanted.kind, reason, effects);
         }
         Ok(())
     }

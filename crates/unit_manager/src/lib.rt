@@ -18,5 +18,6 @@ mod loads;
 mod manager;
 mod manager_firing;
 
+pub use command::Wanted;
 pub use laws::{answers_go_to_the_manager, nodes_are_loaded_as_the_rules_say};
 pub use manager::Manager;
