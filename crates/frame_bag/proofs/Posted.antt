@@ -1,6 +1,6 @@
 -- Messages that lie as frames are read as they were written.
 use Rattle.std.proofs.Common.{rules, true, false, ◌⊎◌, inl, inr, ◌≡◌, ℕ, zero, suc, ◌+◌, ◌-◌, ◌<◌, ◌≤◌, List, [], ◌∷◌, ◌++◌, length, take, get_or, refl, ap, sym, ◌∙◌, Option, Some, None, arith, map}
-use Rattle.std.specs.Prelude.{IsTrue, ◌≢◌, MatchResult, Result, Ok, Err, All, slice_get, slice_range, reverse, option_map, nat_le}
+use Rattle.std.specs.Prelude.{IsTrue, is_ok, ◌≢◌, MatchResult, Result, Ok, Err, All, slice_get, slice_range, reverse, option_map, nat_le}
 use Rattle.std.specs.Result.{result_ok}
 use Rattle.std.specs.List.{filter_map, concat}
 use Rattle.std.proofs.lemmas.List.{get_or-reverse, length-reverse, map-append, length-map, reverse-append}
@@ -122,3 +122,10 @@ pub decoded : {E : Type 0} (read : Result Message E) (frame : List ℕ) (m : Mes
 decoded (Ok n) frame m s e h =
     sym (message_again n h.0) ∙ (ap message_of (h.1 ∙ e) ∙ message_again m s)
 decoded (Err x) frame m s e h = absurd (h m s (sym e))
+
+-- and a place that it is read into has it then
+pub filled : {E : Type 0} (read : Result (Unit {0}) E) (place : Message) (frame : List ℕ) (m : Message) → IsTrue (is_sound m) → frame ≡ spelling m
+    → MatchResult read (λ _. IsTrue (is_sound place) × (spelling place ≡ frame)) (λ _. (n : Message) → IsTrue (is_sound n) → spelling n ≢ frame)
+    → (is_ok read ≡ true) × (Some m ≡ Some place)
+filled {E} (Ok x) place frame m s e h = (refl, sym (decoded {E = E} (Ok place) frame m s e h))
+filled (Err x) place frame m s e h = absurd (h m s (sym e))

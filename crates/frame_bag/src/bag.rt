@@ -1,11 +1,11 @@
-ghost use Rattle.std.specs.Prelude.{◌≡◌, ◌≤◌, ◌<◌, ◌+◌, ◌∷◌, [], OnOk, OnErr, IsTrue, length, slice_index, slice_range};
+ghost use Rattle.std.specs.Prelude.{◌≡◌, ◌≤◌, ◌<◌, ◌+◌, ◌∷◌, [], None, OnOk, OnErr, IsTrue, Some, false, length, slice_index, slice_range, true};
 ghost use Rattle.frame_bag.specs.Bags.{frame_of};
 ghost use Rattle.fabric_terms.specs.Messages.{is_sound};
 
 use bytes::BytesMut;
 use fabric_terms::{Message, OutOfMemory};
 use ring_points::FRAME_LIMIT;
-use ring_wire::{decode, encode};
+use ring_wire::{decode_into, encode};
 use std::alloc::Global;
 use std::marker::Model;
 
@@ -94,15 +94,17 @@ impl FrameBag {
         self.ends.as_slice().len()
     }
 
-    /// The frame of this number, if so many were sent.
-    pub fn get(&self, number: u64) -> Option<Message>
-        ensures { result ≡ frame_of number self.now.frames }
+    /// Reads the frame of this number into a place, which can serve one frame after the other. It is false where fewer
+    /// frames were sent, or the number is 0, and then any message may be there.
+    pub fn read(&self, number: u64, into: &mut Message) -> bool
+        ensures read { result ≡ true → frame_of number self.now.frames ≡ Some into.new }
+        ensures none { result ≡ false → frame_of number self.now.frames ≡ None }
     {
         let ends = self.ends.as_slice();
         if number == 0 || number > ends.len() as u64 {
-            return None;
+            return false;
         }
         let at = number as usize - 1;
-        decode(frame_at(self.bytes.as_slice(), ends, at)).ok()
+        decode_into(frame_at(self.bytes.as_slice(), ends, at), into).is_ok()
     }
 }

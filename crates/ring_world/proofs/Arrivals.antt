@@ -8,6 +8,7 @@ use Rattle.fabric_terms.specs.declared.message.Message.{Message}
 use Rattle.frame_bag.specs.Bags.{frame_if, frame_of}
 use Rattle.ring_points.specs.Whos.{arbiter_actor}
 use Rattle.ring_points.specs.declared.who.Who.{Who}
+use Rattle.ring_rules.specs.declared.input.Input.{Input}
 use Rattle.ring_rules.specs.declared.input.Input.TheVariants as input
 use Rattle.world_rules.specs.Arbiters.{ArbiterState, arbiter_step}
 use Rattle.world_rules.specs.Events.{arbiter_number, arrives, arrives_at, arrives_at_arbiter, arrives_at_node, arrives_if, is_arbiter_actor, node_acts}
@@ -43,8 +44,9 @@ module _ (a : World) (w : RuledWorld fabric) (m : Message) where
     pub lost_to_instance : is_meant_for m.to clock.0 ≡ false → arrives_at_node fabric a.config w m (at m.to.actor w.nodes) ≡ quiet fabric w
     lost_to_instance e = by_test false e
 
-    pub reaches_instance : is_meant_for m.to clock.0 ≡ true → arrives_at_node fabric a.config w m (at m.to.actor w.nodes) ≡ node_acts fabric a.config w m.to.actor (input.Frame m) k.value
-    reaches_instance e = by_test true e
+    pub reaches_instance : (i : Input) → i ≡ input.Frame m → is_meant_for m.to clock.0 ≡ true
+        → arrives_at_node fabric a.config w m (at m.to.actor w.nodes) ≡ node_acts fabric a.config w m.to.actor i k.value
+    reaches_instance i same e = by_test true e ∙ ap (λ (j : Input). node_acts fabric a.config w m.to.actor j k.value) (sym same)
 
 -- at an arbitrator
 

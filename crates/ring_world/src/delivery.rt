@@ -4,6 +4,7 @@ ghost use Rattle.fabric_lemmas.specs.Maps.{at};
 ghost use Rattle.unit_rules.specs.Fabric.{fabric};
 ghost use Rattle.world_rules.specs.Worlds.{World as RuledWorld};
 ghost use Rattle.ring_points.specs.Whos.{arbiter_actor};
+ghost use Rattle.ring_rules.specs.declared.input.Input.TheVariants as inputs;
 ghost use Rattle.fabric_terms.specs.Ranges.{Fits};
 ghost use Rattle.ring_world.specs.Answers.{IsWorld};
 ghost use Rattle.ring_world.specs.Moves.{Comes, Delivers};
@@ -12,9 +13,22 @@ ghost use Rattle.ring_world.specs.Stands.{Stands};
 ghost use Rattle.ring_world.specs.Steps.{IsSoundFrame, LeavesSound};
 
 use crate::world::{Acted, EventRefusal, World};
-use fabric_terms::{Event, Message, OutOfMemory};
+use fabric_terms::{Body, Event, Message, OutOfMemory};
 use ring_node::Input;
 use ring_points::{ARBITRATORS, Who};
+
+/// A place that a frame is read into: a frame is half a kilobyte, and is not moved from there.
+fn empty_message() -> Message {
+    let nobody = Who {
+        actor: 0,
+        instance: 0,
+    };
+    Message {
+        from: nobody,
+        to: nobody,
+        body: Body::Hello { mine: 0 },
+    }
+}
 
 /// Whether a message to this instance, or to whichever runs, is meant for the one that runs.
 fn is_meant(to: Who, me: Who) -> bool
@@ -25,14 +39,21 @@ fn is_meant(to: Who, me: Who) -> bool
 
 impl World {
     /// A message comes to a node. It is lost where the node does not run, or another instance than it names.
-    fn reach_node(&mut self, line: u64, message: Message) -> Result<Option<Acted>, OutOfMemory>
+    fn reach_node(
+        &mut self,
+        line: u64,
+        message: &Message,
+        input: &Input,
+    ) -> Result<Option<Acted>, OutOfMemory>
+        requires input { input.now ≡ inputs.Frame message.now }
         requires can { (w : RuledWorld fabric) × Stands self.old w ×
-            LeavesSound (arrives_at_node fabric self.old.config w message (at message.to.actor w.nodes)) }
-        requires sound { IsSoundFrame message }
+            LeavesSound (arrives_at_node fabric self.old.config w message.now (at message.now.to.actor w.nodes)) }
+        requires sound { IsSoundFrame message.now }
         requires events { self.old.events < most_events }
         requires frames { self.old.sent < most_frames }
         ensures { (w : RuledWorld fabric) → Stands self.old w →
-            Delivers self.old self.new (arrives_at_node fabric self.old.config w message (at message.to.actor w.nodes)) line result }
+            Delivers self.old self.new
+            (arrives_at_node fabric self.old.config w message.now (at message.now.to.actor w.nodes)) line result }
     {
         let to = message.to;
         let Some(place) = self.place_of(to.actor) else {
@@ -44,7 +65,7 @@ impl World {
             self.pass();
             return Ok(None);
         }
-        Ok(Some(self.step_at(line, place, &Input::Frame(message))?))
+        Ok(Some(self.step_at(line, place, input)?))
     }
 
     /// A message comes to an arbitrator. It is lost where the arbitrator does not run.
@@ -68,20 +89,26 @@ impl World {
         Ok(Some(self.rule_at(line, place, message)?))
     }
 
-    /// A message comes to its addressee.
-    fn reach(&mut self, line: u64, message: Message) -> Result<Option<Acted>, OutOfMemory>
+    /// A message comes to its addressee, for a node as this input.
+    fn reach(
+        &mut self,
+        line: u64,
+        message: &Message,
+        input: &Input,
+    ) -> Result<Option<Acted>, OutOfMemory>
+        requires input { input.now ≡ inputs.Frame message.now }
         requires can { (w : RuledWorld fabric) × Stands self.old w ×
-            LeavesSound (arrives fabric self.old.config w (Some message)) }
-        requires sound { IsSoundFrame message }
+            LeavesSound (arrives fabric self.old.config w (Some message.now)) }
+        requires sound { IsSoundFrame message.now }
         requires events { self.old.events < most_events }
         requires frames { self.old.sent < most_frames }
         ensures { (w : RuledWorld fabric) → Stands self.old w →
-            Delivers self.old self.new (arrives fabric self.old.config w (Some message)) line result }
+            Delivers self.old self.new (arrives fabric self.old.config w (Some message.now)) line result }
     {
         if message.to.actor <= ARBITRATORS {
-            self.reach_node(line, message)
+            self.reach_node(line, message, input)
         } else {
-            self.reach_arbiter(line, &message)
+            self.reach_arbiter(line, message)
         }
     }
 
@@ -92,12 +119,19 @@ impl World {
         ensures { (w : RuledWorld fabric) → Stands self.old w →
             Comes self.old self.new w line (Event.Give number) result }
     {
-        let Some(message) = self.frames.get(number) else {
-            return Err(EventRefusal::NoSuch);
+        let mut input = Input::Frame(empty_message());
+        let Input::Frame(place) = &mut input else {
+            unreachable!();
         };
+        if !self.frames.read(number, place) {
+            return Err(EventRefusal::NoSuch);
+        }
         if !self.may_act() {
             return Err(EventRefusal::TooLarge);
         }
-        Ok(self.reach(line, message)?)
+        let Input::Frame(message) = &input else {
+            unreachable!();
+        };
+        Ok(self.reach(line, message, &input)?)
     }
 }

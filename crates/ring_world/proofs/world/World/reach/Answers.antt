@@ -9,5 +9,5 @@ use Rattle.ring_world.proofs.world.World.reach.Goals as goal
 pub reach_node-requires-clause-can : goal.reach_node-requires-clause-can
 reach_node-requires-clause-can c =
     let can = c.requires.can in
-    let le : c.args.message.to.actor ≤ arbiter_actor 0 = omega arith in
-    (can.0, can.1, subst (λ (x : Stepped fabric). LeavesSound x) (to_node c.args.self.now can.0 c.args.message le) can.2)
+    let le : c.args.message.now.to.actor ≤ arbiter_actor 0 = omega arith in
+    (can.0, can.1, subst (λ (x : Stepped fabric). LeavesSound x) (to_node c.args.self.now can.0 c.args.message.now le) can.2)
