@@ -28,13 +28,12 @@ fn hello(from: Who, to: Who, mine: u32) -> Message
 
 /// The session of the frame of this number, if it is a Hello.
 fn session(bag: &FrameBag, number: u64) -> Option<u32> {
-    match bag.get(number) {
-        Some(
-            Message {
-                body: Body::Hello { mine },
-                ..
-            },
-        ) => Some(mine),
+    let mut message = hello(FIRST, SECOND, 0);
+    if !bag.read(number, &mut message) {
+        return None;
+    }
+    match message.body {
+        Body::Hello { mine } => Some(mine),
         _ => None,
     }
 }
