@@ -77,8 +77,16 @@ fn take_input(
     ensures memory { OnErr result (may_store now input.now (core_in parts.old) ≡ true) }
     ensures room { IsAsLarge effects.old effects.new }
 {
-    take_first(now, &parts.ring, &mut parts.units, input, &mut effects.units)?;
-    parts.ring.advance(now, input, &mut effects.out, &mut effects.told);
+    take_first(
+        now,
+        &parts.ring,
+        &mut parts.units,
+        input,
+        &mut effects.units,
+    )?;
+    parts
+        .ring
+        .advance(now, input, &mut effects.out, &mut effects.told);
     leave(&parts.ring, &mut parts.owned, effects);
     Ok(())
 }
@@ -142,9 +150,7 @@ fn take_firing(parts: &mut NodeParts, now: u64, effects: &mut NodeEffects)
     parts
         .ring
         .advance(now, &Input::Fire, &mut effects.out, &mut effects.told);
-    effects
-        .out
-        .hand_over(parts.ring.me(), &mut effects.frames);
+    effects.out.hand_over(parts.ring.me(), &mut effects.frames);
     fire_later(
         &parts.ring,
         &parts.units,

@@ -81,13 +81,7 @@ impl World {
         put_in(&mut self.clocks, place, (who, reading));
         put_in(&mut self.running, place, Running { drift, node: core });
         let reports = outcome.reports;
-        Ok(self.commit(
-            line,
-            who,
-            Some(reading),
-            outcome.frames.as_slice(),
-            reports,
-        ))
+        Ok(self.commit(line, who, Some(reading), outcome.frames.as_slice(), reports))
     }
 
     /// Starts a configured node that does not run.

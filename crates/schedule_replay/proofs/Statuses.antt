@@ -40,12 +40,15 @@ line_may c h n line = by_length (nat_lt most_line (length line) || nat_lt most_l
     by_there e true false room = refl
     by_there e true true false = refl
     by_there e true true true = tt
+
     by_event : (o : Option Event) → RefusesRightly (event_verdict c (ruled c h) (length h) n o)
     by_event None = refl
     by_event (Some e) = by_there e (is_there is_frame c (ruled c h) e) (keeps_bound c (ruled c h) e) (has_room (ruled c h) (length h) e)
+
     by_kind : (ignored : Bool) → RefusesRightly (unless_ignored c (ruled c h) (length h) n line ignored)
     by_kind true = tt
     by_kind false = by_event (event_of line)
+
     by_length : (large : Bool) → RefusesRightly (unless_large c (ruled c h) (length h) n line large)
     by_length true = refl
     by_length false = by_kind (is_ignored line)
