@@ -1,5 +1,6 @@
 -- What a line of a transcript says.
 use Rattle.std.specs.Prelude.{ℕ, zero, suc, ◌++◌, List, [], ◌∷◌, Option, Some, None, codes, if◌then◌else◌}
+use Rattle.ring_points.specs.Limits.{most_counter, most_nodes}
 use Rattle.ring_points.specs.declared.who.Who.{Who}
 use Rattle.fabric_terms.specs.declared.report.Report.{Report}
 use Rattle.fabric_terms.specs.Runs.{Clocks}
@@ -18,9 +19,13 @@ pub data Said : Type 0 where
   Shows : ℕ → Clocks → Said
   Tells : ℕ → Who → Option Report → Said
 
+-- the greatest number of a section
+abbrev pub most_section : ℕ
+most_section = 999
+
 -- `transcript N`
 abbrev pub section_at : List ℕ → Option ℕ
-section_at bytes = after_word (codes "transcript ") bytes >>= last (number_in 0 999)
+section_at bytes = after_word (codes "transcript ") bytes >>= last (number_in 0 most_section)
 
 -- ` N.K:READING`
 unfoldable pub clock_at : List ℕ → Field (Who × ℕ)
@@ -33,14 +38,14 @@ clocks_on zero above clocks (b ∷ bs) = None
 clocks_on (suc k) above clocks (b ∷ bs) =
     clock_at (b ∷ bs) >>= λ c. if comes_after above c.0.0 then clocks_on k (Some c.0.0) (clocks ++ c.0 ∷ []) c.1 else None
 
--- `LINE clocks N.K:READING ..`, with at most 64 clocks that rise
+-- `LINE clocks N.K:READING ..`, with clocks that rise, at most one of each node of a configuration
 unfoldable pub shown_of : List ℕ → Option (ℕ × Clocks)
 shown_of bytes =
-    word_of long_at bytes >>= λ line. after_word (codes "clocks") line.1 >>= λ rest. clocks_on 64 None [] rest >>= λ clocks. Some (line.0, clocks)
+    word_of long_at bytes >>= λ line. after_word (codes "clocks") line.1 >>= λ rest. clocks_on most_nodes None [] rest >>= λ clocks. Some (line.0, clocks)
 
 -- `FIRST-LAST`, from 1 and not falling
 abbrev pub span_of : List ℕ → Option ℕ
-span_of bytes = number_in 1 4294967295 bytes >>= λ first. after_word (codes "-") first.1 >>= last (number_in first.0 4294967295)
+span_of bytes = number_in 1 most_counter bytes >>= λ first. after_word (codes "-") first.1 >>= last (number_in first.0 most_counter)
 
 -- a head and `sent FIRST-LAST`: the LINE and who
 unfoldable pub sent_of : List ℕ → Option (ℕ × Who)

@@ -1,4 +1,5 @@
 ghost use Rattle.std.specs.Prelude.{[], None, option_map};
+ghost use Rattle.ring_points.specs.Limits.{most_nodes};
 ghost use Rattle.text_fields.specs.Fields.{Gives};
 ghost use Rattle.line_format.specs.Readers.{Reads};
 ghost use Rattle.transcript_audit.specs.Places.{summary_of};
@@ -45,7 +46,7 @@ fn clock_at(bytes: &[u8]) -> Result<((Who, u64), &[u8]), BadLine>
 
 // The clocks to the end of the line.
 fn fill(bytes: &[u8], clocks: &mut Vec<(Who, u64)>) -> Result<(), LineRefusal>
-    ensures { Reads (λ u. clocks.new.items) result (clocks_on 64 None [] bytes.now) }
+    ensures { Reads (λ u. clocks.new.items) result (clocks_on most_nodes None [] bytes.now) }
 {
     clocks.clear();
     let mut rest = bytes;

@@ -3,6 +3,7 @@ use Rattle.std.specs.Prelude.{ℕ, zero, suc, Bool, true, ◌==◌, List, [], �
 use Rattle.std.specs.List.{list_any}
 use Rattle.edge_io.specs.declared.endpoint.Endpoint.{Endpoint}
 use Rattle.fabric_terms.specs.declared.config.FabricConfig.{FabricConfig}
+use Rattle.ring_points.specs.Limits.{most_arbiters, most_node_number}
 use Rattle.ring_points.specs.Whos.{arbiter_actor}
 use Rattle.world_rules.specs.Schedules.{is_configured_node}
 use Rattle.turn_plans.specs.declared.crew.Crew.{Crew}
@@ -35,7 +36,7 @@ arbiters_to c (suc n) = arbiters_to c n ++ arbiter_at c (suc n)
 abbrev pub endpoints_of : FabricConfig → Crew → List Endpoint
 endpoints_of c (Node node) = node_at c node
 endpoints_of c (Arbiter arbiter) = arbiter_at c arbiter
-endpoints_of c Cluster = nodes_to c 999 ++ arbiters_to c 9
+endpoints_of c Cluster = nodes_to c most_node_number ++ arbiters_to c most_arbiters
 
 abbrev pub is_configured_arbitrator : FabricConfig → ℕ → Bool
 is_configured_arbitrator c number = list_any (λ a. a.0 == number) c.arbiters

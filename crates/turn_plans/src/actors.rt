@@ -1,5 +1,6 @@
 // The actors of a run, in the order of their turns.
 ghost use Rattle.std.specs.Prelude.{◌≡◌, ◌≤◌, ◌++◌, ◌∷◌, [], IfOk, OnOk, option_map};
+ghost use Rattle.ring_points.specs.Limits.{most_arbiters, most_node_number};
 ghost use Rattle.turn_plans.specs.Crews.{arbiter_at, arbiters_to, endpoints_of, listener, node_at, nodes_to};
 
 use crate::crew::Crew;
@@ -74,7 +75,7 @@ fn push_nodes(
     config: &FabricConfig,
     into: &mut Vec<Endpoint>,
 ) -> Result<(), OutOfMemory>
-    ensures { OnOk result (into.new.items ≡ into.old.items ++ nodes_to config.now 999) }
+    ensures { OnOk result (into.new.items ≡ into.old.items ++ nodes_to config.now most_node_number) }
 {
     for number in 0..MAX_NODE_NUMBER {
         push_node(alloc, config, number + 1, into)?;
@@ -88,7 +89,7 @@ fn push_arbiters(
     config: &FabricConfig,
     into: &mut Vec<Endpoint>,
 ) -> Result<(), OutOfMemory>
-    ensures { OnOk result (into.new.items ≡ into.old.items ++ arbiters_to config.now 9) }
+    ensures { OnOk result (into.new.items ≡ into.old.items ++ arbiters_to config.now most_arbiters) }
 {
     for number in 0..MAX_ARBITRATORS as u16 {
         push_arbiter(alloc, config, number + 1, into)?;
