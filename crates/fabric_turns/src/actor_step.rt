@@ -19,7 +19,7 @@ use edge_io::Outside;
 use fabric_terms::FabricConfig;
 use ring_node::Input;
 use std::alloc::Global;
-use turn_effects::carry_out;
+use turn_effects::{StepEffects, carry_out};
 use turn_members::{ArbiterError, Deed};
 use turn_rules::{Plan, StopCause};
 
@@ -35,15 +35,13 @@ fn carry_deed<O: Outside>(
     ensures { CarriesOut (work_in config.now deed) (O.told outside.old) (O.told outside.new) result }
 {
     let outcome = &deed.outcome;
-    carry_out(
-        outside,
-        alloc,
-        config,
-        &deed.head,
-        outcome.records.as_slice(),
-        outcome.frames.as_slice(),
-        outcome.reports.as_slice(),
-    )
+    let effects = StepEffects {
+        head: &deed.head,
+        records: outcome.records.as_slice(),
+        frames: outcome.frames.as_slice(),
+        reports: outcome.reports.as_slice(),
+    };
+    carry_out(outside, alloc, config, &effects)
 }
 
 /// Does what a deed of the actor at a place leaves to do, and ends the run where the actor has left.

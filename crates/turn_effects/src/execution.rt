@@ -8,30 +8,28 @@ ghost use Rattle.turn_rules.specs.Works.{work_with};
 use crate::frames::send_all;
 use crate::records::keep_all;
 use crate::reports::write_reports;
+use crate::step_effects::StepEffects;
 use edge_io::Outside;
-use fabric_terms::{FabricConfig, Head, Message, Record, Report};
+use fabric_terms::FabricConfig;
 use std::alloc::Global;
 use turn_rules::StopCause;
 
-/// Does what a step of the actor in the head leaves to do: it keeps the records, then sends the frames, then writes the
-/// reports. Where it stops before the end, a front of that is done: frames go out only where all records are kept.
+/// Does what a step of the actor in the head leaves to do. It keeps the records, then sends the frames, then writes the
+/// reports. If it stops before the end, a front of that is done: frames go out only if all records are kept.
 pub fn carry_out<O: Outside>(
     outside: &mut O,
     alloc: Global,
     config: &FabricConfig,
-    head: &Head,
-    records: &[Record],
-    frames: &[Message],
-    reports: &[Report],
+    effects: &StepEffects<'_>,
 ) -> Result<(), StopCause>
-    requires listens { IsListening head.now.who.actor (O.told outside.old).opened }
-    requires records { All (λ r. IsTrue (is_sound_record r)) records.now }
-    requires frames { All (λ m. IsTrue (is_sound_frame m)) frames.now }
-    ensures { CarriesOut (work_with config.now head.now records.now frames.now reports.now) (O.told outside.old)
-        (O.told outside.new) result }
+    requires listens { IsListening effects.now.head.now.who.actor (O.told outside.old).opened }
+    requires records { All (λ r. IsTrue (is_sound_record r)) effects.now.records.now }
+    requires frames { All (λ m. IsTrue (is_sound_frame m)) effects.now.frames.now }
+    ensures { CarriesOut (work_with config.now effects.now.head.now effects.now.records.now effects.now.frames.now
+        effects.now.reports.now) (O.told outside.old) (O.told outside.new) result }
 {
-    let actor = head.who.actor;
-    keep_all(outside, actor, records)?;
-    send_all(outside, config, actor, frames)?;
-    write_reports(outside, alloc, head, reports)
+    let actor = effects.head.who.actor;
+    keep_all(outside, actor, effects.records)?;
+    send_all(outside, config, actor, effects.frames)?;
+    write_reports(outside, alloc, effects.head, effects.reports)
 }

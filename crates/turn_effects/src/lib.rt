@@ -12,6 +12,8 @@ mod execution;
 mod frames;
 mod records;
 mod reports;
+mod step_effects;
 
 pub use execution::carry_out;
 pub use reports::write_lines;
+pub use step_effects::StepEffects;
