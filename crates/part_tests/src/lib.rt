@@ -50,6 +50,8 @@ mod routes;
 #[cfg(test)]
 mod rows;
 #[cfg(test)]
+mod seals;
+#[cfg(test)]
 mod sockets;
 #[cfg(test)]
 mod tokens;
