@@ -54,6 +54,8 @@ mod seals;
 #[cfg(test)]
 mod sockets;
 #[cfg(test)]
+mod streams;
+#[cfg(test)]
 mod tokens;
 #[cfg(test)]
 mod units;
