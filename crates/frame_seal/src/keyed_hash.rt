@@ -58,7 +58,8 @@ pub fn begin(block: &[u8; 64]) -> Sha256
 /// The keyed hash of what the inner hash has taken behind the key.
 #[tactic(auto, unfolding(crate::specs::Hmac::hmac_by))]
 pub fn end(block: &[u8; 64], inner: Sha256) -> [u8; 32]
-    ensures { (message : List ℕ) → Holds256 inner (turned 0x36 block.now ++ message) → result ≡ hmac_by block.now message }
+    ensures { (message : List ℕ) → Holds256 inner (turned 0x36 block.now ++ message) →
+        result ≡ hmac_by block.now message }
 {
     let digest = inner.finalize();
     let mut outer = Sha256::new();
