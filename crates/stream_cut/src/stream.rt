@@ -145,7 +145,8 @@ impl StreamCut {
     fn cut_to(&mut self, feed: usize)
         requires { position (λ b. b == 10) self.old.waiting ≡ Some feed }
         ensures fits { length self.old.waiting ≤ self.old.most + 1 }
-        ensures cut { self.new ≡ record self.old { waiting = drop (feed + 1) self.old.waiting; line = take feed self.old.waiting } }
+        ensures cut { self.new ≡
+            record self.old { waiting = drop (feed + 1) self.old.waiting; line = take feed self.old.waiting } }
     {
         self.from = self.next;
         self.to = self.next + feed;
