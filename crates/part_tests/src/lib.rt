@@ -50,11 +50,7 @@ mod routes;
 #[cfg(test)]
 mod rows;
 #[cfg(test)]
-mod seals;
-#[cfg(test)]
 mod sockets;
-#[cfg(test)]
-mod streams;
 #[cfg(test)]
 mod tokens;
 #[cfg(test)]

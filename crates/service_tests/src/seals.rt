@@ -1,5 +1,4 @@
 //! The test vectors of RFC 4231, and what a seal opens and what it does not.
-use crate::rows::agree;
 use frame_seal::{MAX_KEY, MIN_KEY, SEAL_BYTES, SealKey, hmac};
 use std::alloc::Global;
 use std::process::Abort;
@@ -92,5 +91,7 @@ fn keys_are_long_enough_and_not_too_long(rt: HostRuntime) {
         (SealKey::new(&bytes[..MAX_KEY], &[0; 32]).is_some(), true),
         (SealKey::new(&bytes, &[0; 32]).is_some(), false),
     ];
-    agree(&rt, &rows);
+    for (row, (found, want)) in rows.iter().enumerate() {
+        assert_eq!(rt; found, want, "in row {row}, from 0");
+    }
 }
