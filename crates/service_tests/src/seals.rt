@@ -5,7 +5,11 @@ use std::process::Abort;
 
 /// The value of a digit `0-9a-f`.
 fn digit(code: u8) -> u8 {
-    if code <= b'9' { code - b'0' } else { code - b'a' + 10 }
+    if code <= b'9' {
+        code - b'0'
+    } else {
+        code - b'a' + 10
+    }
 }
 
 /// Asserts that these digits spell the keyed hash.
@@ -14,7 +18,10 @@ fn is_mac(rt: &impl Abort, key: &[u8], message: &[u8], digits: &str) {
     let digits = digits.as_bytes();
     assert_eq!(rt; digits.len(), 64);
     for i in 0..32 {
-        assert_eq!(rt; mac[i], digit(digits[2 * i]) * 16 + digit(digits[2 * i + 1]));
+        assert_eq!(rt;
+            mac[i],
+            digit(digits[2 * i]) * 16 + digit(digits[2 * i + 1])
+        );
     }
 }
 
@@ -40,7 +47,8 @@ fn long_keys_are_hashed_as_in_rfc_4231(rt: HostRuntime) {
     let message = b"Test Using Larger Than Block-Size Key - Hash Key First";
     is_mac(&rt, &[0xaa; 131], message, sixth);
     let seventh = "9b09ffa71b942fcb27635fbcd5b0e944bfdc63644f0713938a7f51535c3a35e2";
-    let message = b"This is a test using a larger than block-size key and a larger than block-size data. \
+    let message =
+        b"This is a test using a larger than block-size key and a larger than block-size data. \
 The key needs to be hashed before being used by the HMAC algorithm.";
     is_mac(&rt, &[0xaa; 131], message, seventh);
 }
@@ -86,7 +94,10 @@ fn each_changed_byte_makes_junk(rt: HostRuntime) {
 fn keys_are_long_enough_and_not_too_long(rt: HostRuntime) {
     let bytes = [9; MAX_KEY + 1];
     let rows = [
-        (SealKey::new(&bytes[..MIN_KEY - 1], &[0; 32]).is_some(), false),
+        (
+            SealKey::new(&bytes[..MIN_KEY - 1], &[0; 32]).is_some(),
+            false,
+        ),
         (SealKey::new(&bytes[..MIN_KEY], &[0; 32]).is_some(), true),
         (SealKey::new(&bytes[..MAX_KEY], &[0; 32]).is_some(), true),
         (SealKey::new(&bytes, &[0; 32]).is_some(), false),

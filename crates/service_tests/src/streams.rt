@@ -35,7 +35,11 @@ fn cut_by(rt: &impl Abort, alloc: Global, length: usize) -> Vec<u8> {
 fn lines_do_not_depend_on_pieces(rt: HostRuntime) {
     for length in 1..STREAM.len() + 1 {
         let said = cut_by(&rt, rt.alloc(), length);
-        assert_eq!(rt; said.as_slice(), b"ab\n\nabcd\n!\nx\n!\nyz\n".as_slice(), "by {length}");
+        assert_eq!(rt;
+            said.as_slice(),
+            b"ab\n\nabcd\n!\nx\n!\nyz\n".as_slice(),
+            "by {length}"
+        );
     }
 }
 
