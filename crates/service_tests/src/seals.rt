@@ -3,14 +3,8 @@ use frame_seal::{MAX_KEY, MIN_KEY, SEAL_BYTES, SealKey, hmac};
 use std::alloc::Global;
 use std::process::Abort;
 
-/// The value of a digit `0-9a-f`.
-fn digit(code: u8) -> u8 {
-    if code <= b'9' {
-        code - b'0'
-    } else {
-        code - b'a' + 10
-    }
-}
+/// The digits of a text in hexadecimal.
+const DIGITS: [u8; 16] = *b"0123456789abcdef";
 
 /// Asserts that these digits spell the keyed hash.
 fn is_mac(rt: &impl Abort, key: &[u8], message: &[u8], digits: &str) {
@@ -18,10 +12,8 @@ fn is_mac(rt: &impl Abort, key: &[u8], message: &[u8], digits: &str) {
     let digits = digits.as_bytes();
     assert_eq!(rt; digits.len(), 64);
     for i in 0..32 {
-        assert_eq!(rt;
-            mac[i],
-            digit(digits[2 * i]) * 16 + digit(digits[2 * i + 1])
-        );
+        assert_eq!(rt; DIGITS.get(usize::from(mac[i] >> 4)), digits.get(2 * i));
+        assert_eq!(rt; DIGITS.get(usize::from(mac[i] & 15)), digits.get(2 * i + 1));
     }
 }
 

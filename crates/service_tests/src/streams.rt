@@ -1,5 +1,7 @@
 //! Lines of a stream that comes in pieces of each length.
-use std::alloc::Global;
+ghost use Rattle.std.specs.Prelude.{◌≤◌};
+
+use std::alloc::{AllocError, Global};
 use std::process::Abort;
 use stream_cut::{Cut, StreamCut};
 
@@ -7,8 +9,8 @@ use stream_cut::{Cut, StreamCut};
 const STREAM: &[u8] = b"ab\n\nabcd\nabcde\nx\nabcdefghij\nyz\npart";
 
 /// What comes out, each line with a line feed, and a line that is too long as `!`.
-fn cut_all(cutter: &mut StreamCut, said: &mut Vec<u8>) -> Result<(), std::alloc::AllocError> {
-    loop {
+fn cut_all(cutter: &mut StreamCut, said: &mut Vec<u8>) -> Result<(), AllocError> {
+    for _ in 0..STREAM.len() {
         match cutter.next() {
             Cut::Line => said.extend_from_slice(cutter.line())?,
             Cut::TooLong => said.push(b'!')?,
@@ -16,17 +18,28 @@ fn cut_all(cutter: &mut StreamCut, said: &mut Vec<u8>) -> Result<(), std::alloc:
         }
         said.push(b'\n')?;
     }
+    Ok(())
+}
+
+/// What comes out after this piece, of which the cutter may take a part at a time.
+fn feed(cutter: &mut StreamCut, piece: &[u8], said: &mut Vec<u8>) -> Result<(), AllocError> {
+    let mut rest = piece;
+    for _ in 0..piece.len() {
+        let count = cutter.take(rest);
+        rest = &rest[count..];
+        cut_all(cutter, said)?;
+    }
+    Ok(())
 }
 
 /// What comes out of the stream in pieces of this length.
-fn cut_by(rt: &impl Abort, alloc: Global, length: usize) -> Vec<u8> {
+fn cut_by(rt: &impl Abort, alloc: Global, length: usize) -> Vec<u8>
+    requires { 1 ≤ length }
+{
     let mut cutter = StreamCut::new(alloc, 4).expect(rt, "memory");
     let mut said = Vec::new(alloc);
-    let mut taken = 0;
-    while taken < STREAM.len() {
-        let end = STREAM.len().min(taken + length);
-        taken += cutter.take(&STREAM[taken..end]);
-        cut_all(&mut cutter, &mut said).expect(rt, "memory");
+    for piece in STREAM.chunks(length) {
+        feed(&mut cutter, piece, &mut said).expect(rt, "memory");
     }
     said
 }
