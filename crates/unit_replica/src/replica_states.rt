@@ -1,4 +1,4 @@
-ghost use Rattle.std.specs.Prelude.{◌≡◌, ◌≤◌, ◌+◌, [], None, IfOk, IsTrue, OnErr, length, true};
+ghost use Rattle.std.specs.Prelude.{◌≡◌, ◌≤◌, ◌+◌, [], None, IfOk, IsTrue, OnErr, length, map, true};
 ghost use Rattle.std.specs.Option.{option_copied};
 ghost use Rattle.fabric_lemmas.specs.Maps.{at};
 ghost use Rattle.fabric_terms.specs.Messages.{is_sound_body};
@@ -16,7 +16,7 @@ use crate::write::{refuse, write_commanded};
 use fabric_terms::{Body, NameText, OutOfMemory, Payload, Reason, Verb};
 use replica_core::Replica;
 use ring_points::{Interval, MAX_PARTITIONS, Who};
-use std::alloc::Global;
+use std::alloc::{AllocError, Global};
 use std::collections::BTreeMap;
 use std::marker::Model;
 use unit_desk::UnitEffects;
@@ -38,6 +38,20 @@ impl Model for ReplicaStates {
     ghost invariant = { λ s. IsTable s.map.entries };
 }
 
+/// The partitions of a map, rising.
+fn partitions_of(
+    alloc: Global,
+    states: &BTreeMap<u16, ReplicaState>,
+) -> Result<Vec<u16>, AllocError>
+    ensures { IfOk result (λ found. found.items ≡ map (λ e. e.0) states.now.entries) }
+{
+    let mut found = Vec::new(alloc);
+    for partition in states.keys() {
+        found.push(*partition)?;
+    }
+    Ok(found)
+}
+
 impl ReplicaStates {
     /// No replicas. The map and the logs grow by this allocator.
     pub fn new(alloc: Global) -> Self
@@ -55,6 +69,13 @@ impl ReplicaStates {
         ensures few { result ≤ MAX_PARTITIONS }
     {
         self.map.len()
+    }
+
+    /// The partitions of which the node has a replica, rising. It is an error if memory for them is short.
+    pub fn partitions(&self, alloc: Global) -> Result<Vec<u16>, OutOfMemory>
+        ensures { IfOk result (λ found. found.items ≡ map (λ e. e.0) self.now) }
+    {
+        Ok(partitions_of(alloc, &self.map)?)
     }
 
     /// The partition's replica, if there is one.
