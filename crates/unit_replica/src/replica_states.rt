@@ -5,15 +5,16 @@ ghost use Rattle.fabric_terms.specs.Messages.{is_sound_body};
 ghost use Rattle.unit_desk.specs.UnitEffects.{Does, HasRoom};
 ghost use Rattle.unit_rules.specs.Deeds.{still};
 ghost use Rattle.unit_replica.specs.Memory.{grows, is_ready_at, stores};
+ghost use Rattle.unit_replica.specs.PrimaryCommands.{command_at, most_sent, wants_memory_at};
 ghost use Rattle.unit_replica.specs.Tables.{at_state, at_standing, frame_at, list_at, replica_at, resolve_at, row_of};
 ghost use Rattle.unit_replica.specs.Tables.{write_at};
 
-use crate::answer::{names_commanded, resolve_commanded};
 use crate::frame::row_of;
+use crate::primary_command::{PrimaryCommand, commanded, verb_of};
 use crate::progress::MAX_PEERS;
 use crate::replica_state::ReplicaState;
-use crate::write::{refuse, write_commanded};
-use fabric_terms::{Body, NameText, OutOfMemory, Payload, Reason, Verb};
+use crate::write::refuse;
+use fabric_terms::{Body, NameText, OutOfMemory, Payload, Reason};
 use replica_core::Replica;
 use ring_points::{Interval, MAX_PARTITIONS, Who};
 use std::alloc::{AllocError, Global};
@@ -202,6 +203,27 @@ impl ReplicaStates {
         }
     }
 
+    /// The row of a command at the partition's replica. The command is refused if the node has none.
+    fn command(
+        &mut self,
+        partition: u16,
+        command: PrimaryCommand,
+        effects: &mut UnitEffects,
+    ) -> Result<(), OutOfMemory>
+        requires { HasRoom effects.old }
+        ensures does { IfOk result (λ _. Does (command_at partition command.entry self.old)
+            self.new effects.old effects.new) }
+        ensures few { length effects.new.out ≤ length effects.old.out + most_sent command.entry }
+        ensures refused { OnErr result ((self.new ≡ self.old) × (effects.new ≡ effects.old)) }
+        ensures memory { OnErr result (wants_memory_at partition command.entry self.old ≡ true) }
+    {
+        let Some(state) = self.map.get_mut(&partition) else {
+            refuse(verb_of(command), Reason::NotPrimary, effects);
+            return Ok(());
+        };
+        commanded(self.alloc, command, state, effects)
+    }
+
     /// Write: the partition's primary adds an entry. It is refused if the node has no replica of the partition, if the
     /// replica takes no writes, and if its log is full. It is an error if memory is short for a new entry, and then
     /// nothing changes.
@@ -217,11 +239,7 @@ impl ReplicaStates {
         ensures refused { OnErr result ((self.new ≡ self.old) × (effects.new ≡ effects.old)) }
         ensures memory { OnErr result (stores (write_at partition text.now self.old) ≡ true) }
     {
-        let Some(state) = self.map.get_mut(&partition) else {
-            refuse(Verb::Write, Reason::NotPrimary, effects);
-            return Ok(());
-        };
-        write_commanded(text, state, effects)
+        self.command(partition, PrimaryCommand::Write(text), effects)
     }
 
     /// Resolve: the partition's primary reports the value of a name. It is refused if the node has no replica of the
@@ -240,11 +258,7 @@ impl ReplicaStates {
         ensures refused { OnErr result ((self.new ≡ self.old) × (effects.new ≡ effects.old)) }
         ensures memory { OnErr result (is_ready_at partition self.old ≡ true) }
     {
-        let Some(state) = self.map.get_mut(&partition) else {
-            refuse(Verb::Resolve, Reason::NotPrimary, effects);
-            return Ok(());
-        };
-        resolve_commanded(self.alloc, name, state, effects)
+        self.command(partition, PrimaryCommand::Resolve(name), effects)
     }
 
     /// Names: the partition's primary reports the first names with a point in the range. It is refused, or an error,
@@ -261,10 +275,6 @@ impl ReplicaStates {
         ensures refused { OnErr result ((self.new ≡ self.old) × (effects.new ≡ effects.old)) }
         ensures memory { OnErr result (is_ready_at partition self.old ≡ true) }
     {
-        let Some(state) = self.map.get_mut(&partition) else {
-            refuse(Verb::Names, Reason::NotPrimary, effects);
-            return Ok(());
-        };
-        names_commanded(self.alloc, range, state, effects)
+        self.command(partition, PrimaryCommand::Names(range), effects)
     }
 }
