@@ -1,23 +1,22 @@
 ghost use Rattle.std.specs.Prelude.{◌≡◌, ◌≤◌, ◌+◌, ◌||◌, List, [], IfOk, IsTrue, OnOk, OnErr, false, not, true};
-ghost use Rattle.std.specs.Option.{option_copied};
 ghost use Rattle.fabric_lemmas.specs.Maps.{rises};
 ghost use Rattle.fabric_terms.specs.Sound.{IsSound};
 ghost use Rattle.fabric_terms.specs.declared.config.FabricConfig.{FabricConfig as Configuration};
 ghost use Rattle.fabric_terms.specs.declared.record.Record.{Record};
 ghost use Rattle.keep_log.specs.Amounts.{Holds};
 ghost use Rattle.ring_points.specs.Limits.{most_arbiters, most_messages};
-ghost use Rattle.ring_rules.specs.Slots.{fence_of};
 ghost use Rattle.world_rules.specs.Nodes.{node_begun, node_step};
 ghost use Rattle.unit_rules.specs.Fabric.{fabric};
 ghost use Rattle.world_rules.specs.Schedules.{is_configured_node};
 ghost use Rattle.ring_node.specs.Owned.{owned_of};
 ghost use Rattle.unit_replica.specs.Starts.{states_of};
-ghost use Rattle.unit_replica.specs.Tables.{replica_at};
 ghost use Rattle.node_core.specs.Memory.{may_store};
 ghost use Rattle.node_core.specs.NodeEffects.{HasRoom, IsAsLarge, IsClear, left_in};
 ghost use Rattle.node_core.specs.Nodes.{Amounts, Does, FitsInput, GoesBy, IsNothing, IsSmall, KeepsRoom, frames_limit};
-ghost use Rattle.node_core.specs.Nodes.{kept_in, most_frames, nothing_kept, ring_of, with_states};
+ghost use Rattle.node_core.specs.Nodes.{kept_in, most_frames, nothing_kept, with_states};
 ghost use Rattle.node_core.specs.UnitParts.{most_fired};
+
+mod state;
 
 use crate::batch::Batch;
 use crate::boots::{boot, instance_after, is_spent};
@@ -29,9 +28,8 @@ use crate::unit_part::UnitNode;
 use crate::whole_step::step_at;
 use fabric_terms::{FabricConfig, OutOfMemory};
 use keep_log::Kept;
-use replica_core::Replica;
 use ring_node::{Input, RingNode};
-use ring_points::{MAX_ARBITRATORS, MAX_READING, OUTBOX_LIMIT, RangeSet, Who};
+use ring_points::{MAX_ARBITRATORS, MAX_READING, OUTBOX_LIMIT, Who};
 use std::alloc::Global;
 use std::marker::Model;
 use std::mem;
@@ -268,49 +266,5 @@ impl NodeCore {
                 Err(refused)
             }
         }
-    }
-
-    /// How many frames the next step sends at most.
-    #[tactic(auto, unfolding(crate::specs::Nodes::most_frames))]
-    pub fn most_frames(&self) -> usize
-        ensures frames { result ≡ most_frames self.now.state }
-        ensures limit { result ≤ frames_limit }
-    {
-        most_frames_of(&self.parts.units)
-    }
-
-    /// The node's replica of a partition, None exactly where it has none.
-    pub fn replica(&self, partition: u16) -> Option<&Replica>
-        ensures { option_copied result ≡ replica_at partition self.now.state.above.states }
-    {
-        self.parts.units.replica(partition)
-    }
-
-    /// Which instance it is.
-    pub fn me(&self) -> Who
-        ensures { result ≡ self.now.state.ring.me }
-    {
-        self.parts.ring.me()
-    }
-
-    /// What it owns.
-    pub fn ranges(&self) -> &RangeSet
-        ensures { result.now ≡ self.now.state.ring.token.ranges }
-    {
-        self.parts.ring.ranges()
-    }
-
-    /// Up to which reading it holds what it owns, in ticks, where there is an end.
-    pub fn fence(&self) -> Option<u64>
-        ensures { result ≡ fence_of self.now.settings.answer self.now.state.ring.slots }
-    {
-        self.parts.ring.fence()
-    }
-
-    /// The ring at the node.
-    pub fn ring(&self) -> &RingNode
-        ensures { result.now ≡ ring_of self.now }
-    {
-        &self.parts.ring
     }
 }

@@ -21,6 +21,7 @@ use Rattle.ring_rules.specs.Links.{greeting_link}
 use Rattle.ring_rules.specs.Rings.{Settings, Work}
 use Rattle.ring_rules.specs.Slots.{bars_link, is_free, of_node, slot_where}
 use Rattle.ring_node.proofs.Stays.{patched_same}
+use Rattle.token_core.specs.Tokens.{last_number}
 
 abbrev silent : Reason → Work → Work
 silent r v = v
@@ -43,7 +44,7 @@ greeted_patched now node s = unless_patched (greeting_link s.settings now s.work
 
 -- what has no number gets none
 
-more_numbers : (v s f : ℕ) → (nat_le v 4294967295 && nat_le s 4294967296 && nat_le f 4294967296) ≡ false → (nat_le v 4294967295 && nat_le (s + 1) 4294967296 && nat_le f 4294967296) ≡ false
+more_numbers : (v s f : ℕ) → (nat_le v last_number && nat_le s (last_number + 1) && nat_le f (last_number + 1)) ≡ false → (nat_le v last_number && nat_le (s + 1) (last_number + 1) && nat_le f (last_number + 1)) ≡ false
 more_numbers v s f h = grind (arith, nat_tests)
 
 free_none : (l : Link) (w : Work) (place : Option ℕ) → has_numbers w.ring ≡ false → has_numbers (greet_free l silent w place).ring ≡ false

@@ -21,7 +21,7 @@ use Rattle.ring_rules.specs.Links.{flight_part, has_flight}
 use Rattle.ring_rules.specs.Renewals.{freeze_if, grant_if, may_freeze, near_part, owns_none}
 use Rattle.ring_rules.specs.Rings.{Work}
 use Rattle.ring_rules.specs.Slots.{slot_at}
-use Rattle.token_core.specs.Tokens.{Freeze, Token, can_gain, gained, inherited}
+use Rattle.token_core.specs.Tokens.{Freeze, Token, can_gain, gained, inherited, last_number}
 
 -- what a note keeps of a step
 pub record Keeps (w v : Work) : Type 0 where
@@ -143,7 +143,7 @@ pub all_noted_keeps : (cause : Cause) (ns : List LinkNote) (w : Work) → Keeps 
 all_noted_keeps cause [] w = keeps w
 all_noted_keeps cause (n ∷ ns) w = keeps_both w (noted cause n w) (all_noted cause ns (noted cause n w)) (noted_keeps cause n w) (all_noted_keeps cause ns (noted cause n w))
 
-no_numbers : (a b s f : ℕ) → a ≤ b → (nat_le a 4294967295 && nat_le s 4294967296 && nat_le f 4294967296) ≡ false → (nat_le b 4294967295 && nat_le s 4294967296 && nat_le f 4294967296) ≡ false
+no_numbers : (a b s f : ℕ) → a ≤ b → (nat_le a last_number && nat_le s (last_number + 1) && nat_le f (last_number + 1)) ≡ false → (nat_le b last_number && nat_le s (last_number + 1) && nat_le f (last_number + 1)) ≡ false
 no_numbers a b s f h e = grind (arith, nat_tests)
 
 -- what has no number gets none by notes

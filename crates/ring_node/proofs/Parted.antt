@@ -1,5 +1,5 @@
 -- A link is parted.
-use Rattle.std.proofs.Common.{◌≡◌, ℕ, Bool, true, false, ◌&&◌, List, [], ◌∷◌, ◌++◌, Option, Some, None, Result, Ok, Err, OnErr, OnOk, nat_le, nat_lt, refl, ap, arith}
+use Rattle.std.proofs.Common.{◌≡◌, ℕ, ◌+◌, Bool, true, false, ◌&&◌, List, [], ◌∷◌, ◌++◌, Option, Some, None, Result, Ok, Err, OnErr, OnOk, nat_le, nat_lt, refl, ap, arith}
 use Rattle.std.proofs.Math.Seq.{take-append_seam, take-length}
 use Rattle.std.proofs.lemmas.Bool.Decides.{nat_tests}
 use Rattle.fabric_terms.specs.declared.message.Body.{Body}
@@ -47,7 +47,7 @@ part_done node i k l token routes phase target near new out sent told p d e = rw
 
 -- it has no number
 
-too_far : (v s f : ℕ) → nat_lt 4294967295 v ≡ true → (nat_le v 4294967295 && nat_le s 4294967296 && nat_le f 4294967296) ≡ false
+too_far : (v s f : ℕ) → nat_lt last_number v ≡ true → (nat_le v last_number && nat_le s (last_number + 1) && nat_le f (last_number + 1)) ≡ false
 too_far v s f h = grind (arith, nat_tests)
 
 pub part_none : (node i : ℕ) (k l : Links) (token : Token) (routes : Routes) (phase : Phase) (target : Option ℕ) (near : ℕ) (out sent : List (Who × Body)) (told : List Report) → slot_where (of_node may_part node) k.slots ≡ Some i → IsParted k l i out sent → nat_lt last_number (undone i token).version ≡ true → has_numbers (part_commanded node (step (node_of k token routes phase target near) out told).work).ring ≡ false

@@ -12,6 +12,7 @@ use join_phases::Phase;
 use link_core::{Announced, Links16};
 use ring_points::{MAX_ARBITRATORS, MAX_COUNTER, MAX_LEASE, MAX_NODES, Point, Who};
 use ring_route::RouteTable;
+use ring_rules::Link;
 use std::marker::Model;
 use token_core::Token;
 
@@ -118,6 +119,13 @@ impl RingNode {
         &self.phase
     }
 
+    /// The slots of the links, free ones too: of each link its peer, its state and the length of its lease, in ticks.
+    pub fn slots(&self) -> &[Option<Link>]
+        ensures { result.now ≡ self.now.ring.slots }
+    {
+        self.links.slots()
+    }
+
     pub(crate) fn mark(&self, out: &Outbox, told: &Reports) -> Mark
         ensures version { result.version ≡ self.now.ring.token.version }
         ensures sessions { result.last_session + 1 ≡ self.now.ring.next_session }
@@ -151,7 +159,8 @@ impl RingNode {
         matches!(self.phase, Phase::Left(_))
     }
 
-    pub(crate) fn is_routing(&self) -> bool
+    /// Whether the node routes: it has had ranges, and has not left.
+    pub fn is_routing(&self) -> bool
         ensures { result ≡ is_routing self.now.ring.phase }
     {
         matches!(self.phase, Phase::Routing(_))

@@ -1,8 +1,13 @@
-ghost use Rattle.std.specs.Prelude.{◌≡◌, ◌≤◌, [], length};
+ghost use Rattle.std.specs.Prelude.{◌≡◌, ◌≤◌, [], is_some, length};
+ghost use Rattle.std.specs.Option.{option_copied};
+ghost use Rattle.fabric_lemmas.specs.Maps.{at};
+ghost use Rattle.failover_units.specs.Units.{unit_of};
+ghost use Rattle.unit_manager.specs.Managers.{reconfigs_of};
 
+use crate::entries::find;
 use failover_units::Units;
 use reconfig_phases::Reconfig;
-use ring_points::MAX_PARTITIONS;
+use ring_points::{Config, MAX_PARTITIONS};
 use std::alloc::Global;
 use std::marker::Model;
 
@@ -44,5 +49,26 @@ impl Manager {
         ensures few { result ≤ MAX_PARTITIONS }
     {
         self.reconfigs.len()
+    }
+
+    /// The configuration of greatest epoch that the manager knows of the partition, if it knows one.
+    pub fn config_of(&self, partition: u16) -> Option<&Config>
+        ensures { option_copied result ≡ (unit_of partition self.now.units).config }
+    {
+        self.units.get(partition).ok()
+    }
+
+    /// Whether a reconfiguration of the partition is under way.
+    pub fn is_changing(&self, partition: u16) -> bool
+        ensures { result ≡ is_some (at partition self.now.reconfigs) }
+    {
+        find(&self.reconfigs, partition).is_some()
+    }
+
+    /// The reconfigurations under way, each with its partition, by rising partition.
+    pub fn reconfigs(&self) -> &[(u16, Reconfig)]
+        ensures { reconfigs_of result.now ≡ self.now.reconfigs }
+    {
+        &self.reconfigs
     }
 }

@@ -3,6 +3,8 @@ use Rattle.std.proofs.Common.{◌≡◌, ℕ, ◌<◌, Bool, true, false, List, 
 use Rattle.std.proofs.lemmas.Bool.Decides.{nat_tests}
 use Rattle.std.specs.Prelude.{◌||◌, is_some, nat_lt, unwrap_or}
 use Rattle.fabric_lemmas.specs.Maps.{at}
+use Rattle.fabric_terms.specs.declared.report.Reason.TheVariants as reason
+use Rattle.fabric_terms.specs.declared.report.Verb.TheVariants as verb
 use Rattle.ring_points.specs.declared.unit.Epoch.{Epoch}
 use Rattle.ring_points.specs.declared.who.Who.{Who}
 use Rattle.replica_core.specs.declared.entry.Entry.{Entry}
@@ -11,11 +13,14 @@ use Rattle.replica_core.specs.Calls.{Outcome, append_call}
 use Rattle.replica_core.specs.declared.refusal.Done.{Done}
 use Rattle.unit_rules.specs.declared.progress.CatchUp.{CatchUp}
 use Rattle.unit_rules.specs.Copies.{piece_collected}
-use Rattle.unit_rules.specs.Deeds.{Acted}
+use Rattle.unit_rules.specs.Deeds.{Acted, refuse}
 use Rattle.unit_rules.specs.ReplicaStates.{ReplicaState, first_state}
-use Rattle.unit_rules.specs.Writes.{append_answered, append_received}
+use Rattle.unit_rules.specs.Writes.{append_answered, append_received, write_commanded}
 use Rattle.unit_desk.proofs.Puts.{one_more}
 use Rattle.unit_replica.specs.Memory.{grows, is_ready, is_ready_at, is_ready_state, stores}
+use Rattle.unit_replica.specs.PrimaryCommands.{wants_memory, wants_memory_at}
+use Rattle.unit_replica.specs.declared.primary_command.PrimaryCommand.{PrimaryCommand}
+use Rattle.unit_replica.specs.declared.primary_command.PrimaryCommand.TheVariants.{Write, Resolve, Names}
 use Rattle.unit_replica.specs.Tables.{ReplicaStates, at_found, at_state, at_standing, by_state}
 use Rattle.unit_replica.proofs.Places.{Written, stands}
 
@@ -44,6 +49,11 @@ module _ {k : ℕ} {es old new : ReplicaStates} {x w : ReplicaState} (it : Writt
 
   pub ready_there : is_ready x ≡ true → is_ready_at k old ≡ true
   ready_there h = subst (λ (o : Option ReplicaState). is_ready_state o ≡ true) (sym (stands it)) h
+
+  pub wants_there : (command : PrimaryCommand) → wants_memory command x ≡ true → wants_memory_at k command old ≡ true
+  wants_there (Write text) h = stores_there (write_commanded text.now) (refuse verb.Write reason.NotPrimary old) h
+  wants_there (Resolve name) h = ready_there h
+  wants_there (Names range) h = ready_there h
 
   pub grows_there : (row : ReplicaState → Acted ReplicaState) (none : Acted ReplicaStates) → stores (row x) ≡ true → grows old (at_standing k row none old) ≡ true
   grows_there row none h =

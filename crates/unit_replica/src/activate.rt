@@ -24,25 +24,32 @@ fn say_activated(asker: Who, config: &Config, effects: &mut UnitEffects)
     effects.out.send(asker, body);
 }
 
-/// The replica begins its new role, and answers Activated. A new primary reports itself too, and begins to track the
-/// other members.
-fn begin_role(
+/// An Activate, and the node of the replica that takes it.
+#[derive(Clone, Copy)]
+struct Activation<'a> {
     me: u16,
     asker: Who,
-    config: &Config,
+    config: &'a Config,
+}
+
+/// The replica begins its new role, and answers Activated. A new primary reports itself too, and begins to track the
+/// other members. `last` is the number of the last entry of its log.
+fn begin_role(
+    activation: Activation,
     role: Role,
     last: u32,
     state: &mut ReplicaState,
     effects: &mut UnitEffects,
 )
-    requires few { length config.now.members ≤ MAX_MEMBERS }
-    requires member { is_member me config.now ≡ true }
+    requires few { length activation.config.now.members ≤ MAX_MEMBERS }
+    requires member { is_member activation.me activation.config.now ≡ true }
     requires last { last ≡ last_of state.old.replica }
     requires room { HasRoomFor 0 1 1 effects.old }
-    ensures does { Does (role_begun me asker config.now state.old state.old.replica role)
-        state.new effects.old effects.new }
+    ensures does { Does (role_begun activation.entry.me activation.entry.asker activation.entry.config.now state.old
+        state.old.replica role) state.new effects.old effects.new }
     ensures few { length effects.new.out ≤ length effects.old.out + 1 }
 {
+    let Activation { me, asker, config } = activation;
     if role == Role::Primary {
         state.progress = Some(ReplicationProgress::first(me, config, last));
         effects
@@ -75,7 +82,8 @@ pub(crate) fn activate_received(
             if role == before {
                 say_activated(asker, config, effects);
             } else {
-                begin_role(me, asker, config, role, last, state, effects);
+                let activation = Activation { me, asker, config };
+                begin_role(activation, role, last, state, effects);
             }
         }
         Err(refusal) => say_older(asker, config.partition, config.epoch, refusal, effects),

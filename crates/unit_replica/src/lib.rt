@@ -18,6 +18,7 @@ mod laws;
 mod log_names;
 mod named_replica;
 mod piece;
+mod primary_command;
 mod progress;
 mod promise;
 mod replica_firing;

@@ -1,22 +1,23 @@
-ghost use Rattle.std.specs.Prelude.{◌≡◌, ◌≤◌, ◌+◌, [], None, IfOk, IsTrue, OnErr, length, true};
+ghost use Rattle.std.specs.Prelude.{◌≡◌, ◌≤◌, ◌+◌, [], None, IfOk, IsTrue, OnErr, length, map, true};
 ghost use Rattle.std.specs.Option.{option_copied};
 ghost use Rattle.fabric_lemmas.specs.Maps.{at};
 ghost use Rattle.fabric_terms.specs.Messages.{is_sound_body};
 ghost use Rattle.unit_desk.specs.UnitEffects.{Does, HasRoom};
 ghost use Rattle.unit_rules.specs.Deeds.{still};
 ghost use Rattle.unit_replica.specs.Memory.{grows, is_ready_at, stores};
+ghost use Rattle.unit_replica.specs.PrimaryCommands.{command_at, most_sent, wants_memory_at};
 ghost use Rattle.unit_replica.specs.Tables.{at_state, at_standing, frame_at, list_at, replica_at, resolve_at, row_of};
 ghost use Rattle.unit_replica.specs.Tables.{write_at};
 
-use crate::answer::{names_commanded, resolve_commanded};
 use crate::frame::row_of;
+use crate::primary_command::{PrimaryCommand, commanded, verb_of};
 use crate::progress::MAX_PEERS;
 use crate::replica_state::ReplicaState;
-use crate::write::{refuse, write_commanded};
-use fabric_terms::{Body, NameText, OutOfMemory, Payload, Reason, Verb};
+use crate::write::refuse;
+use fabric_terms::{Body, NameText, OutOfMemory, Payload, Reason};
 use replica_core::Replica;
 use ring_points::{Interval, MAX_PARTITIONS, Who};
-use std::alloc::Global;
+use std::alloc::{AllocError, Global};
 use std::collections::BTreeMap;
 use std::marker::Model;
 use unit_desk::UnitEffects;
@@ -38,6 +39,20 @@ impl Model for ReplicaStates {
     ghost invariant = { λ s. IsTable s.map.entries };
 }
 
+/// The partitions of a map, rising.
+fn partitions_of(
+    alloc: Global,
+    states: &BTreeMap<u16, ReplicaState>,
+) -> Result<Vec<u16>, AllocError>
+    ensures { IfOk result (λ found. found.items ≡ map (λ e. e.0) states.now.entries) }
+{
+    let mut found = Vec::new(alloc);
+    for partition in states.keys() {
+        found.push(*partition)?;
+    }
+    Ok(found)
+}
+
 impl ReplicaStates {
     /// No replicas. The map and the logs grow by this allocator.
     pub fn new(alloc: Global) -> Self
@@ -55,6 +70,13 @@ impl ReplicaStates {
         ensures few { result ≤ MAX_PARTITIONS }
     {
         self.map.len()
+    }
+
+    /// The partitions of which the node has a replica, rising. It is an error if memory for them is short.
+    pub fn partitions(&self, alloc: Global) -> Result<Vec<u16>, OutOfMemory>
+        ensures { IfOk result (λ found. found.items ≡ map (λ e. e.0) self.now) }
+    {
+        Ok(partitions_of(alloc, &self.map)?)
     }
 
     /// The partition's replica, if there is one.
@@ -181,6 +203,27 @@ impl ReplicaStates {
         }
     }
 
+    /// The row of a command at the partition's replica. The command is refused if the node has none.
+    fn command(
+        &mut self,
+        partition: u16,
+        command: PrimaryCommand,
+        effects: &mut UnitEffects,
+    ) -> Result<(), OutOfMemory>
+        requires { HasRoom effects.old }
+        ensures does { IfOk result (λ _. Does (command_at partition command.entry self.old)
+            self.new effects.old effects.new) }
+        ensures few { length effects.new.out ≤ length effects.old.out + most_sent command.entry }
+        ensures refused { OnErr result ((self.new ≡ self.old) × (effects.new ≡ effects.old)) }
+        ensures memory { OnErr result (wants_memory_at partition command.entry self.old ≡ true) }
+    {
+        let Some(state) = self.map.get_mut(&partition) else {
+            refuse(verb_of(command), Reason::NotPrimary, effects);
+            return Ok(());
+        };
+        commanded(self.alloc, command, state, effects)
+    }
+
     /// Write: the partition's primary adds an entry. It is refused if the node has no replica of the partition, if the
     /// replica takes no writes, and if its log is full. It is an error if memory is short for a new entry, and then
     /// nothing changes.
@@ -196,11 +239,7 @@ impl ReplicaStates {
         ensures refused { OnErr result ((self.new ≡ self.old) × (effects.new ≡ effects.old)) }
         ensures memory { OnErr result (stores (write_at partition text.now self.old) ≡ true) }
     {
-        let Some(state) = self.map.get_mut(&partition) else {
-            refuse(Verb::Write, Reason::NotPrimary, effects);
-            return Ok(());
-        };
-        write_commanded(text, state, effects)
+        self.command(partition, PrimaryCommand::Write(text), effects)
     }
 
     /// Resolve: the partition's primary reports the value of a name. It is refused if the node has no replica of the
@@ -219,11 +258,7 @@ impl ReplicaStates {
         ensures refused { OnErr result ((self.new ≡ self.old) × (effects.new ≡ effects.old)) }
         ensures memory { OnErr result (is_ready_at partition self.old ≡ true) }
     {
-        let Some(state) = self.map.get_mut(&partition) else {
-            refuse(Verb::Resolve, Reason::NotPrimary, effects);
-            return Ok(());
-        };
-        resolve_commanded(self.alloc, name, state, effects)
+        self.command(partition, PrimaryCommand::Resolve(name), effects)
     }
 
     /// Names: the partition's primary reports the first names with a point in the range. It is refused, or an error,
@@ -240,10 +275,6 @@ impl ReplicaStates {
         ensures refused { OnErr result ((self.new ≡ self.old) × (effects.new ≡ effects.old)) }
         ensures memory { OnErr result (is_ready_at partition self.old ≡ true) }
     {
-        let Some(state) = self.map.get_mut(&partition) else {
-            refuse(Verb::Names, Reason::NotPrimary, effects);
-            return Ok(());
-        };
-        names_commanded(self.alloc, range, state, effects)
+        self.command(partition, PrimaryCommand::Names(range), effects)
     }
 }
