@@ -41,7 +41,7 @@ full_of_first a partition epoch preparer up none =
     one_more (entries a) _
     (omega (arith, prepared_counted partition (record { epoch = epoch; preparer = preparer }) a.registers up, ap one_of none))
 
-pub full_of_next : (a : Arbiter) (partition : ℕ) (epoch : Epoch) (preparer : Who) (former : Preparation) → rises a.registers ≡ true → entries a ≤ 1000000
+pub full_of_next : (a : Arbiter) (partition : ℕ) (epoch : Epoch) (preparer : Who) (former : Preparation) → rises a.registers ≡ true → entries a ≤ most_entries
     → (register_of partition a.registers).prepared ≡ Some former → is_full_for (PreparedBy partition epoch preparer ∷ []) a ≡ false
 full_of_next a partition epoch preparer former up few some =
     grind (arith, nat_tests, prepared_counted partition (record { epoch = epoch; preparer = preparer }) a.registers up, ap one_of some, few)
@@ -53,7 +53,7 @@ pub full_of_first_done : (a : Arbiter) (config : Config) → rises a.registers �
 full_of_first_done a config up none =
     one_more (entries a) _ (omega (arith, done_counted config.partition config a.registers up, ap one_of none))
 
-pub full_of_next_done : (a : Arbiter) (config former : Config) → rises a.registers ≡ true → entries a ≤ 1000000
+pub full_of_next_done : (a : Arbiter) (config former : Config) → rises a.registers ≡ true → entries a ≤ most_entries
     → (register_of config.partition a.registers).done ≡ Some former → is_full_for (DoneFor config ∷ []) a ≡ false
 full_of_next_done a config former up few some =
     grind (arith, nat_tests, done_counted config.partition config a.registers up, ap one_of some, few)

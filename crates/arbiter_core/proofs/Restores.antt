@@ -24,7 +24,7 @@ pub record IsRestoring (own : ℕ) (records rest : List Record) (a : Arbiter) : 
   pub once : is_once a.table rest ≡ true
   pub placed : are_placed a.registers rest ≡ true
   pub rise : rises a.registers ≡ true
-  pub room : entries a ≤ 1000000
+  pub room : entries a ≤ most_entries
 
 -- A record more.
 
@@ -73,11 +73,11 @@ grown (r ∷ rest) a up =
     )
 
 -- where there is a place for a record, the entries stay in their limit, and else they pass it
-within : (records : List Record) (a : Arbiter) → is_full_for records a ≡ false → entries a ≤ 1000000 → entries (with_kept records a) ≤ 1000000
+within : (records : List Record) (a : Arbiter) → is_full_for records a ≡ false → entries a ≤ most_entries → entries (with_kept records a) ≤ most_entries
 within [] a e room = room
 within (r ∷ rs) a e room = grind (arith, nat_tests, e)
 
-past : (records : List Record) (a : Arbiter) → is_full_for records a ≡ true → 1000001 ≤ entries (with_kept records a)
+past : (records : List Record) (a : Arbiter) → is_full_for records a ≡ true → most_entries + 1 ≤ entries (with_kept records a)
 past [] a e = absurd (cc)
 past (r ∷ rs) a e = grind (arith, nat_tests, e)
 

@@ -36,13 +36,13 @@ impl Model for Arbiter {
     ghost use Rattle.std.specs.Prelude.{◌+◌, ◌≤◌};
     ghost use Rattle.arbiter_tables.specs.Registers.{registered};
     ghost use Rattle.arbiter_tables.specs.Tables.{entries_of};
-    ghost use Rattle.arbiter_core.specs.Arbiters.{Arbiter};
+    ghost use Rattle.arbiter_core.specs.Arbiters.{Arbiter, most_entries};
 
     ghost Value = { Arbiter };
 
     ghost view = { λ a. record { number = a.number; table = a.table; registers = a.registers } };
 
-    ghost invariant = { λ a. entries_of a.table + registered a.registers ≤ 1000000 };
+    ghost invariant = { λ a. entries_of a.table + registered a.registers ≤ most_entries };
 }
 
 impl Arbiter {

@@ -1,4 +1,4 @@
-ghost use Rattle.std.specs.Prelude.{◌≡◌, ◌≤◌, ◌+◌, [], None, option_map, true, is_some, IsTrue, IsOk, OnOk, OnErr};
+ghost use Rattle.std.specs.Prelude.{◌≡◌, ◌<◌, ◌^◌, ◌+◌, [], None, option_map, true, is_some, IsTrue, IsOk, OnOk, OnErr};
 ghost use Rattle.fabric_terms.specs.declared.record.Record.TheVariants.{PreparedBy, VotedFor, DoneFor};
 ghost use Rattle.fabric_lemmas.specs.Maps.{rises};
 ghost use Rattle.unit_rules.specs.Registers.{register_of, register_after, vote_in};
@@ -69,7 +69,7 @@ impl Registers {
     /// How many entries they have: the prepared epochs, the votes, and the done configurations.
     #[tactic(auto, using(crate::proofs::Counts::registers_counted, crate::proofs::Views::rises_always))]
     pub fn entries(&self) -> usize
-        requires few { registered self.now ≤ 1000000 }
+        requires few { registered self.now < 2 ^ 64 }
         ensures entries { result ≡ registered self.now }
         ensures rises { rises self.now ≡ true }
     {

@@ -3,6 +3,7 @@ use Rattle.std.specs.Prelude.{ℕ, ◌==◌, List, [], ◌∷◌, map, filter, t
 use Rattle.std.specs.declared.alloc.Global.{Global}
 use Rattle.edge_io.specs.declared.endpoint.Endpoint.{Endpoint}
 use Rattle.edge_io.specs.declared.datagram.Datagram.{Datagram}
+use Rattle.edge_io.specs.Limits.{most_datagram}
 use Rattle.edge_io.specs.Lists.{Lists}
 use Rattle.edge_io.specs.Plan.{Faults, fresh_faults}
 
@@ -58,9 +59,9 @@ fresh_clock readings = record { readings = readings_or readings 0; last = None; 
 abbrev pub told_list : (ℕ × Vec (Vec ℕ Global) Global) → ℕ × List (List ℕ)
 told_list list = (list.0, map vec_items list.1.items)
 
--- a datagram, as it was handed in; what it has beyond 1,500 bytes is lost
+-- a datagram, as it was handed in; what it has beyond a datagram's most bytes is lost
 abbrev pub told_datagram : Option (Vec ℕ Global) → Option (List ℕ)
-told_datagram datagram = option_map (λ v. take 1500 v.items) datagram
+told_datagram datagram = option_map (λ v. take most_datagram v.items) datagram
 
 -- an arrival, as it was handed in
 abbrev pub told_arrival : (ℕ × Option (Vec ℕ Global)) → ℕ × Option (List ℕ)

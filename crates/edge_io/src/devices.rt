@@ -1,4 +1,5 @@
 use crate::clock::Clock;
+use crate::datagram::DATAGRAM_BYTES;
 use crate::keeper::Keeper;
 use crate::links::Links;
 use crate::outside::Outside;
@@ -40,7 +41,11 @@ impl<'k, 'n, 'd, 'c, K: Sink, N: Links, D: Keeper, C: Clock> Outside
         self.links.send(from, to, bytes)
     }
 
-    fn receive(&mut self, actor: u16, into: &mut [u8; 1500]) -> Result<Option<usize>, Failed> {
+    fn receive(
+        &mut self,
+        actor: u16,
+        into: &mut [u8; DATAGRAM_BYTES],
+    ) -> Result<Option<usize>, Failed> {
         self.links.receive(actor, into)
     }
 

@@ -6,6 +6,7 @@ ghost use Rattle.edge_io.specs.Edge.{Grew, HasCause, HasCauseOf};
 ghost use Rattle.edge_io.specs.Arrivals.{IsListening, Receives};
 ghost use Rattle.edge_io.specs.Plan.{Plan, FollowsPlan};
 
+use crate::datagram::DATAGRAM_BYTES;
 use crate::refusal::{EdgeRefusal, Failed};
 
 /// What carries datagrams between actors, as a network: it may lose, repeat, delay and reorder them.
@@ -48,9 +49,13 @@ pub trait Links {
 
     /// Takes the next datagram that arrived at an actor that listens, puts its bytes at the start of the
     /// buffer and says how many they are; None where none is there. A refused call takes none.
-    fn receive(&mut self, actor: u16, into: &mut [u8; 1500]) -> Result<Option<usize>, Failed>
+    fn receive(
+        &mut self,
+        actor: u16,
+        into: &mut [u8; DATAGRAM_BYTES],
+    ) -> Result<Option<usize>, Failed>
         requires { IsListening actor (opened self.old) }
-        ensures length { IfOk result (λ answer. IfSome answer (λ n. n ≤ 1500)) }
+        ensures length { IfOk result (λ answer. IfSome answer (λ n. n ≤ DATAGRAM_BYTES)) }
         ensures ok { IfOk result (λ answer. Receives (arrivals self.old actor) answer into.new
             (arrivals self.new actor)) }
         ensures err { OnErr result (arrivals self.new actor ≡ arrivals self.old actor) }

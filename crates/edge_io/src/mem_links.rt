@@ -80,9 +80,9 @@ fn take_next(arrivals: &mut Vec<(u16, Option<Vec<u8>>)>, actor: u16) -> Option<V
 }
 
 /// Copies the bytes, as many as there is room for, to the start of the buffer, and says how many.
-fn copy_front(bytes: &[u8], into: &mut [u8; 1500]) -> usize
-    ensures count { result ≡ length (take 1500 bytes.now) }
-    ensures copied { take result into.new ≡ take 1500 bytes.now }
+fn copy_front(bytes: &[u8], into: &mut [u8; DATAGRAM_BYTES]) -> usize
+    ensures count { result ≡ length (take DATAGRAM_BYTES bytes.now) }
+    ensures copied { take result into.new ≡ take DATAGRAM_BYTES bytes.now }
 {
     let count = DATAGRAM_BYTES.min(bytes.len());
     into[..count].copy_from_slice(&bytes[..count]);
@@ -121,7 +121,11 @@ impl Links for MemLinks {
         Ok(())
     }
 
-    fn receive(&mut self, actor: u16, into: &mut [u8; 1500]) -> Result<Option<usize>, Failed> {
+    fn receive(
+        &mut self,
+        actor: u16,
+        into: &mut [u8; DATAGRAM_BYTES],
+    ) -> Result<Option<usize>, Failed> {
         if self.faults.next_fails() {
             return Err(Failed);
         }

@@ -2,6 +2,7 @@ ghost use Rattle.std.specs.Prelude.{◌≤◌, IfOk, IfSome};
 ghost use Rattle.edge_io.specs.Arrivals.{IsListening};
 ghost use Rattle.edge_io.specs.Told.{Told, Listens, Sends, Receives, Keeps, Recalls, Writes, ReadsClock};
 
+use crate::datagram::DATAGRAM_BYTES;
 use crate::refusal::{EdgeRefusal, Failed};
 
 /// What a running program sees of the world: its links, its keeper, its clock and its sink. Each call is that of the
@@ -21,9 +22,13 @@ pub trait Outside {
 
     /// Takes the next datagram that arrived at an actor that listens, puts its bytes at the start of the buffer and
     /// says how many they are; None where none is there. A refused call takes none.
-    fn receive(&mut self, actor: u16, into: &mut [u8; 1500]) -> Result<Option<usize>, Failed>
+    fn receive(
+        &mut self,
+        actor: u16,
+        into: &mut [u8; DATAGRAM_BYTES],
+    ) -> Result<Option<usize>, Failed>
         requires { IsListening actor (told self.old).opened }
-        ensures length { IfOk result (λ answer. IfSome answer (λ n. n ≤ 1500)) }
+        ensures length { IfOk result (λ answer. IfSome answer (λ n. n ≤ DATAGRAM_BYTES)) }
         ensures received { Receives actor into.new (told self.old) result (told self.new) };
 
     /// The records of an actor, oldest first. Reading changes no list.

@@ -5,7 +5,7 @@ use crate::failures::Failures;
 use crate::outage::Outage;
 use crate::pace::{MAX_RESTS, Pace};
 use crate::peers::Peers;
-use edge_io::{EdgeRefusal, Endpoint, Failed, Links, SocketAddress};
+use edge_io::{DATAGRAM_BYTES, EdgeRefusal, Endpoint, Failed, Links, SocketAddress};
 use std::alloc::{AllocError, Global};
 use std::io;
 use std::io::ErrorKind;
@@ -204,7 +204,7 @@ impl<R: Net + Clock + Eprint> Links for UdpLinks<'_, R> {
         }
     }
 
-    fn receive(&mut self, actor: u16, into: &mut [u8; 1500]) -> Result<Option<usize>, Failed> {
+    fn receive(&mut self, actor: u16, into: &mut [u8; DATAGRAM_BYTES]) -> Result<Option<usize>, Failed> {
         let place = listening_at(&self.sockets, actor);
         let socket = &self.sockets[place].socket;
         let found = if place == 0 {

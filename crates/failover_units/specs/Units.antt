@@ -6,6 +6,7 @@ use Rattle.ring_points.specs.declared.unit.Config.{Config}
 use Rattle.ring_points.specs.declared.unit.Epoch.{Epoch}
 use Rattle.ring_points.specs.Epochs.{is_older}
 use Rattle.fabric_lemmas.specs.Maps.{at, put}
+use Rattle.failover_units.specs.Limits.{most_units}
 use Rattle.failover_units.specs.declared.unit.KnownUnit.{KnownUnit}
 use Rattle.failover_units.specs.declared.refusal.UnitRefusal.{UnitRefusal}
 use Rattle.failover_units.specs.declared.refusal.UnitRefusal.TheVariants.{Exists, Full, OutOfMemory}
@@ -39,7 +40,7 @@ noted config unit = record { config = Some (newest unit.config config); highest 
 
 -- a new partition finds no place
 abbrev pub is_full_for : ℕ → Table → Bool
-is_full_for partition units = not (is_some (at partition units)) && nat_le 4096 (length units)
+is_full_for partition units = not (is_some (at partition units)) && nat_le most_units (length units)
 
 -- a partition changes so, where it stands or finds a place
 abbrev pub changed : ℕ → (KnownUnit → KnownUnit) → Table → Result Table UnitRefusal

@@ -2,7 +2,7 @@
 //!
 //! Per partition a node keeps the configuration of greatest epoch that it was told, and the greatest
 //! epoch that it has seen at all, so that the next reconfiguration begins above it. `Units` is a map from
-//! partitions to these two, for at most 4,096 partitions. The crate stands on the points and epochs of
+//! partitions to these two, for at most `MAX_UNITS` partitions. The crate stands on the points and epochs of
 //! `ring_points`, and searches a range of the ring by `lane_scan`. It promises that every call is the
 //! change of that map which its definition says, and that a refused call changes nothing.
 #![tactic(auto)]

@@ -10,7 +10,7 @@ pub enum UnitRefusal {
     Exists,
     /// The partition has no known configuration.
     NoUnit,
-    /// The partition is new, and 4,096 stand.
+    /// The partition is new, and `MAX_UNITS` stand.
     Full,
     /// The node is no member of the partition's configuration.
     NotMember,

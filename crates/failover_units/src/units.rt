@@ -28,13 +28,14 @@ impl Model for Units {
     ghost use Rattle.std.specs.Prelude.{◌≤◌, List, ℕ};
     ghost use Rattle.indexmap.specs.IndexMap.{index_map_len};
     ghost use Rattle.fabric_lemmas.specs.Maps.{map_of};
+    ghost use Rattle.failover_units.specs.Limits.{most_units};
     ghost use Rattle.failover_units.specs.declared.unit.KnownUnit.{KnownUnit};
 
     ghost Value = { List (ℕ × KnownUnit) };
 
     ghost view = { λ a. map_of a.table.entries };
 
-    ghost invariant = { λ a. index_map_len a.table ≤ 4096 };
+    ghost invariant = { λ a. index_map_len a.table ≤ most_units };
 }
 
 /// The partitions with a known configuration, in the order of the table.
@@ -72,7 +73,7 @@ impl Units {
         }
     }
 
-    /// Whether the partition is new and finds no place, since 4,096 stand.
+    /// Whether the partition is new and finds no place, since `MAX_UNITS` stand.
     #[tactic(auto, using(fabric_lemmas::proofs::Tables::as_maps))]
     pub fn is_full_for(&self, partition: u16) -> bool
         ensures { result ≡ is_full_for partition self.now }
@@ -96,7 +97,7 @@ impl Units {
     }
 
     /// Gives a new partition its place. `Exists` comes exactly where a configuration of it is known; else
-    /// `Full` exactly where it is new and 4,096 partitions stand. For one that stands no memory is taken.
+    /// `Full` exactly where it is new and `MAX_UNITS` partitions stand. For one that stands no memory is taken.
     pub fn create(&mut self, partition: u16) -> Result<(), UnitRefusal>
         ensures created { Answers (created partition self.old) self.old self.new result }
         ensures stands { IsTrue (is_some (at partition self.old)) → result ≢ Err UnitRefusal.OutOfMemory }
@@ -109,7 +110,7 @@ impl Units {
     }
 
     /// Notes a configuration: of its partition's, the one of greatest epoch stays. `Full` comes exactly
-    /// where the partition is new and 4,096 stand. For one that stands no memory is taken.
+    /// where the partition is new and `MAX_UNITS` stand. For one that stands no memory is taken.
     pub fn note(&mut self, config: &Config) -> Result<(), UnitRefusal>
         ensures noted { Answers (changed config.now.partition (noted config.now) self.old) self.old self.new result }
         ensures stands { IsTrue (is_some (at config.now.partition self.old)) → IsOk result }
@@ -119,7 +120,7 @@ impl Units {
     }
 
     /// Sees an epoch of a partition: the greatest stays. `Full` comes exactly where the partition is new
-    /// and 4,096 stand. For one that stands no memory is taken.
+    /// and `MAX_UNITS` stand. For one that stands no memory is taken.
     pub fn seen(&mut self, partition: u16, epoch: Epoch) -> Result<(), UnitRefusal>
         ensures seen { Answers (changed partition (seen_at epoch) self.old) self.old self.new result }
         ensures stands { IsTrue (is_some (at partition self.old)) → IsOk result }

@@ -1,13 +1,15 @@
--- No frame has more than 1,200 bytes.
+-- No frame has more bytes than it may.
 use Rattle.std.proofs.Common.{◌≤◌, ◌&&◌, length, arith, length-append}
 use Rattle.std.specs.Prelude.{IsTrue}
 use Rattle.std.proofs.lemmas.Bool.{and_parts}
 use Rattle.fabric_terms.specs.declared.message.Message.{Message}
 use Rattle.fabric_terms.specs.declared.message.Body.{Body}
 use Rattle.fabric_terms.specs.declared.message.Body.TheVariants.{Hello, HelloFor, Offer, OfferFor, Take, Renew, RenewAck, Transfer, Gone, Seek, Found, Accuse, Ruled, Claim, Kept, Prepare, Prepared, NoPrepare, Vote, Voted, NoVote, DoneAsk, DoneKept, NoDone, Promise, Promised, Sync, Fetch, Piece, Adopted, Activate, Activated, Append, Appended, Older}
+use Rattle.ring_points.specs.Limits.{most_frame}
 use Rattle.ring_points.specs.Ranges.{is_proper}
 use Rattle.fabric_terms.specs.Fields.{is_session, is_unit, is_word, is_counted, is_stamp, is_epoch, is_part, is_some, is_config, is_done, is_payload, is_sender, is_addressee, same_unit}
 use Rattle.fabric_terms.specs.Messages.{is_sound_body, is_sound}
+use Rattle.frame_format.specs.Sizes.{most_body_size}
 use Rattle.frame_format.specs.Frames.{body_bytes, spelling}
 use Rattle.wire_fields.proofs.Puts.{number_length}
 use Rattle.wire_fields.proofs.Standing.{who_length, epoch_length}
@@ -15,8 +17,7 @@ use Rattle.wire_fields.proofs.FieldLengths.{byte_length, session_length, unit_le
 
 ruleset sizes = (byte_length, session_length, unit_length, number_length, who_length, epoch_length, flag_length, ruling_length, length-append)
 
--- the longest bodies are a Renew, of at most 543 bytes, and a Piece
-pub body_short : (b : Body) → IsTrue (is_sound_body b) → length (body_bytes b) ≤ 600
+pub body_short : (b : Body) → IsTrue (is_sound_body b) → length (body_bytes b) ≤ most_body_size
 body_short (Hello mine) h = simp sizes (omega arith)
 body_short (HelloFor mine ticks) h = simp sizes (omega arith)
 body_short (Offer mine yours) h = simp sizes (omega arith)
@@ -53,7 +54,7 @@ body_short (Append partition epoch lsn text) h = let r = payload_length text (an
 body_short (Appended partition epoch last) h = simp sizes (omega arith)
 body_short (Older partition epoch kept) h = simp sizes (omega arith)
 
-pub spelling_short : (m : Message) → IsTrue (is_sound m) → length (spelling m) ≤ 1200
+pub spelling_short : (m : Message) → IsTrue (is_sound m) → length (spelling m) ≤ most_frame
 spelling_short m h =
     let b = body_short m.body (and_parts (is_sender m.from && is_addressee m.to) (is_sound_body m.body) h).1 in
     simp sizes (omega arith)

@@ -1,3 +1,4 @@
+pub mod Sizes
 pub mod Frames
 pub mod Links
 pub mod Searches

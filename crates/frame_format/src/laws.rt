@@ -6,7 +6,7 @@ pub fn one_spelling()
     ensures { OneSpelling }
 {}
 
-/// No message of the grammar has a spelling of more than 1,200 bytes.
+/// No message of the grammar has a spelling of more than `FRAME_LIMIT` bytes.
 pub fn short_spelling()
     ensures { ShortSpelling }
 {}

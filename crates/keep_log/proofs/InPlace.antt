@@ -3,6 +3,7 @@ use Rattle.std.proofs.Common.{◌≡◌, ℕ, ◌+◌, Bool, true, false, cond, 
 use Rattle.std.specs.Prelude.{IsTrue, is_ok, not, ◌==◌, nat_lt}
 use Rattle.std.proofs.lemmas.Bool.{and_parts, eqb-true, leb-true}
 use Rattle.std.proofs.lemmas.Bool.Decides.{nat_tests}
+use Rattle.ring_points.specs.Limits.{most_log_entries}
 use Rattle.ring_points.specs.declared.unit.Epoch.{Epoch}
 use Rattle.ring_points.specs.Epochs.{is_older, same_epoch}
 use Rattle.fabric_terms.specs.declared.record.Record.TheVariants.{Boot, AccusedBy, PreparedBy, VotedFor, DoneFor, PromisedAt, Wrote, Incoming, AdoptedAt, ClaimedBy}
@@ -51,12 +52,12 @@ write_taken epoch lsn text s low h =
     let p = and_parts (same_epoch s.at epoch && not (is_older epoch s.promised)) (lsn == length s.log + 1) h in
     let q = and_parts (same_epoch s.at epoch) (not (is_older epoch s.promised)) p.0 in
     let next = eqb-true lsn (length s.log + 1) p.1 in
-    let few = leb-true lsn 100000 low in
+    let few = leb-true lsn most_log_entries low in
     let behind : nat_lt (length s.log + 1) lsn ≡ false = grind (arith, nat_tests, next) in
     let ahead : is_ahead epoch lsn s ≡ false = rw (q.0, behind) refl in
-    let room : (length s.log == 100000) ≡ false = grind (arith, nat_tests, next, few) in
+    let room : (length s.log == most_log_entries) ≡ false = grind (arith, nat_tests, next, few) in
     past (is_older epoch s.promised) _ s _ (not_false (is_older epoch s.promised) q.1) (past (is_ahead epoch lsn s) _ s _ ahead
-    (held (nat_lt lsn (length s.log + 1)) s _ (past (length s.log == 100000) _ s _ room refl)))
+    (held (nat_lt lsn (length s.log + 1)) s _ (past (length s.log == most_log_entries) _ s _ room refl)))
 
 either : (b : Bool) (epoch : Epoch) (entry : Entry) (s : Replica) → IsTrue (is_ok (collected_call b epoch entry s).0)
 either true epoch entry s = refl

@@ -1,3 +1,4 @@
+pub mod Limits
 pub mod Spellings
 pub mod Readings
 pub mod Items

@@ -1,5 +1,6 @@
 ghost use Rattle.std.specs.Prelude.{◌≡◌, ◌≤◌, ◌+◌, ◌++◌, length, drop, IsTrue};
 ghost use Rattle.wire_fields.specs.Writers.{Puts};
+ghost use Rattle.keep_log.specs.Limits.{most_fields_size, most_record};
 ghost use Rattle.keep_log.specs.Spellings.{is_sound, kind_of, fields_of, spelling};
 
 use fabric_terms::Record;
@@ -33,7 +34,7 @@ fn kind_of(item: &Record) -> u8
 
 // The fields of a boot or of an accusation. Gives the place after them.
 fn put_early(into: &mut [u8; RECORD_LIMIT], at: usize, item: &Record) -> usize
-    requires room { at + 540 ≤ 600 }
+    requires room { at + most_fields_size ≤ RECORD_LIMIT }
     requires high { kind_of item.now ≤ 2 }
     ensures { Puts (fields_of item.now) into.old at into.new result }
 {
@@ -49,7 +50,7 @@ fn put_early(into: &mut [u8; RECORD_LIMIT], at: usize, item: &Record) -> usize
 
 // The fields of a register's record. Gives the place after them.
 fn put_registered(into: &mut [u8; RECORD_LIMIT], at: usize, item: &Record) -> usize
-    requires room { at + 540 ≤ 600 }
+    requires room { at + most_fields_size ≤ RECORD_LIMIT }
     requires sound { IsTrue (is_sound item.now) }
     requires low { 3 ≤ kind_of item.now }
     requires high { kind_of item.now ≤ 5 }
@@ -72,7 +73,7 @@ fn put_registered(into: &mut [u8; RECORD_LIMIT], at: usize, item: &Record) -> us
 
 // The fields of a replica's record. Gives the place after them.
 fn put_replicated(into: &mut [u8; RECORD_LIMIT], at: usize, item: &Record) -> usize
-    requires room { at + 540 ≤ 600 }
+    requires room { at + most_fields_size ≤ RECORD_LIMIT }
     requires sound { IsTrue (is_sound item.now) }
     requires low { 6 ≤ kind_of item.now }
     requires high { kind_of item.now ≤ 9 }
@@ -118,7 +119,7 @@ fn put_replicated(into: &mut [u8; RECORD_LIMIT], at: usize, item: &Record) -> us
 
 // The fields of a claim. Gives the place after them.
 fn put_claimed(into: &mut [u8; RECORD_LIMIT], at: usize, item: &Record) -> usize
-    requires room { at + 540 ≤ 600 }
+    requires room { at + most_fields_size ≤ RECORD_LIMIT }
     requires low { 10 ≤ kind_of item.now }
     ensures { Puts (fields_of item.now) into.old at into.new result }
 {
@@ -138,7 +139,7 @@ fn put_claimed(into: &mut [u8; RECORD_LIMIT], at: usize, item: &Record) -> usize
 
 // The fields of a record. Gives the place after them.
 fn put_fields(into: &mut [u8; RECORD_LIMIT], at: usize, item: &Record) -> usize
-    requires room { at + 540 ≤ 600 }
+    requires room { at + most_fields_size ≤ RECORD_LIMIT }
     requires sound { IsTrue (is_sound item.now) }
     ensures { Puts (fields_of item.now) into.old at into.new result }
 {
@@ -150,13 +151,13 @@ fn put_fields(into: &mut [u8; RECORD_LIMIT], at: usize, item: &Record) -> usize
     }
 }
 
-/// Writes the record to the front of `into`, and gives its length, which is at most 600. The bytes behind it are left
-/// as they were.
+/// Writes the record to the front of `into`, and gives its length, which is at most `RECORD_LIMIT`. The bytes behind
+/// it are left as they were.
 pub fn encode_record(item: &Record, into: &mut [u8; RECORD_LIMIT]) -> usize
     requires { IsTrue (is_sound item.now) }
     ensures written { into.new ≡ spelling item.now ++ drop (length (spelling item.now)) into.old }
     ensures length { result ≡ length (spelling item.now) }
-    ensures fits { result ≤ 600 }
+    ensures fits { result ≤ most_record }
 {
     let at = put_u8(into, 0, kind_of(item));
     put_fields(into, at, item)

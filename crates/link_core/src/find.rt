@@ -1,16 +1,9 @@
 ghost use Rattle.std.specs.Prelude.{◌≡◌, ◌<◌, IfSome, length};
-ghost use Rattle.ring_points.specs.Whos.{same_who};
 ghost use Rattle.ring_rules.specs.Slots.{slot_where, bars_link, greets_by, greets_node_by, is_free, is_hello, may_part};
 ghost use Rattle.ring_rules.specs.Slots.{of_instance, of_node, of_session};
 
 use ring_points::Who;
 use ring_rules::{Link, LinkState};
-
-fn same_who(one: Who, other: Who) -> bool
-    ensures { result ≡ same_who one other }
-{
-    one.actor == other.actor && one.instance == other.instance
-}
 
 fn is_hello(state: LinkState) -> bool
     ensures { result ≡ is_hello state }
@@ -40,7 +33,7 @@ fn is_session(slot: &Option<Link>, peer: Who, mine: u32, yours: u32) -> bool
     ensures { result ≡ of_session peer mine yours slot.now }
 {
     match slot {
-        Some(link) => same_who(link.peer, peer) && link.mine == mine && link.yours == yours,
+        Some(link) => link.peer == peer && link.mine == mine && link.yours == yours,
         None => false,
     }
 }
@@ -49,7 +42,7 @@ fn is_of_instance(slot: &Option<Link>, peer: Who) -> bool
     ensures { result ≡ of_instance peer slot.now }
 {
     match slot {
-        Some(link) => same_who(link.peer, peer),
+        Some(link) => link.peer == peer,
         None => false,
     }
 }

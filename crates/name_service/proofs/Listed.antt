@@ -4,6 +4,7 @@ use Rattle.std.specs.List.{slice_index, slice_index_or}
 use Rattle.std.proofs.lemmas.Bool.{both_ways, eqb-true}
 use Rattle.std.proofs.lemmas.List.{append-nil, append_assoc, take_all}
 use Rattle.lane_scan.specs.Masks.{bit_of, is_between}
+use Rattle.ring_points.specs.Limits.{most_listed_names}
 use Rattle.ring_points.specs.declared.interval.Interval.{Interval}
 use Rattle.name_rules.specs.Names.{is_within, point_of}
 use Rattle.name_service.specs.Stores.{Marks, marked, name_if}
@@ -53,11 +54,11 @@ marked_in range points mask names m e =
     ap (λ (k : ℕ). bit_of mask k == 1) (let at : 0 + j ≡ j = omega arith in at) ∙ alike (bit_of mask j) _ (m.each j (omega (arith, ap length e, length-points names, l))) ∙ ap (is_between range.lo range.hi) same)
 
 -- one more name of the window
-pub one_more : (mask : List ℕ) (i : ℕ) (n : List ℕ) (ns names names' all : List (List ℕ)) → i < 64 → names ++ marked mask i (take (64 - i) (n ∷ ns)) ≡ all
-    → names' ≡ names ++ name_if (bit_of mask i == 1) n → names' ++ marked mask (i + 1) (take (64 - (i + 1)) ns) ≡ all
+pub one_more : (mask : List ℕ) (i : ℕ) (n : List ℕ) (ns names names' all : List (List ℕ)) → i < most_listed_names → names ++ marked mask i (take (most_listed_names - i) (n ∷ ns)) ≡ all
+    → names' ≡ names ++ name_if (bit_of mask i == 1) n → names' ++ marked mask (i + 1) (take (most_listed_names - (i + 1)) ns) ≡ all
 one_more mask i n ns names names' all l so more =
-    let behind = marked mask (i + 1) (take (64 - (i + 1)) ns) in
-    let left : 64 - i ≡ suc (64 - (i + 1)) = omega arith in
+    let behind = marked mask (i + 1) (take (most_listed_names - (i + 1)) ns) in
+    let left : most_listed_names - i ≡ suc (most_listed_names - (i + 1)) = omega arith in
     ap (λ xs. xs ++ behind) more ∙ append_assoc names (name_if (bit_of mask i == 1) n) behind
     ∙ sym (ap (λ (k : ℕ). names ++ marked mask i (take k (n ∷ ns))) left) ∙ so
 
@@ -67,8 +68,8 @@ front : (xs ys : List ℕ) → take (length xs) (xs ++ ys) ≡ xs
 front [] ys = take-none ys
 front (x ∷ xs) ys = ap (λ rest. x ∷ rest) (front xs ys)
 
-pub window_full : (points behind all : List ℕ) → length points ≡ 64 → points ++ behind ≡ all → points ≡ take 64 all
-window_full points behind all full so = sym (front points behind) ∙ ap (λ (k : ℕ). take k (points ++ behind)) full ∙ ap (take 64) so
+pub window_full : (points behind all : List ℕ) → length points ≡ most_listed_names → points ++ behind ≡ all → points ≡ take most_listed_names all
+window_full points behind all full so = sym (front points behind) ∙ ap (λ (k : ℕ). take k (points ++ behind)) full ∙ ap (take most_listed_names) so
 
-pub window_ended : (points all : List ℕ) → length points ≤ 64 → points ++ [] ≡ all → points ≡ take 64 all
-window_ended points all few so = sym (take_all 64 points few) ∙ ap (take 64) (sym (append-nil points) ∙ so)
+pub window_ended : (points all : List ℕ) → length points ≤ most_listed_names → points ++ [] ≡ all → points ≡ take most_listed_names all
+window_ended points all few so = sym (take_all most_listed_names points few) ∙ ap (take most_listed_names) (sym (append-nil points) ∙ so)

@@ -1,4 +1,4 @@
--- The first names of a range, among rows that rise: they stand in a window of 64 rows.
+-- The first names of a range, among rows that rise: they stand in a window of as many rows as an answer has names.
 use Rattle.std.proofs.Common.{◌≡◌, ◌⊎◌, inl, inr, ℕ, zero, suc, ◌<◌, ◌≤◌, ◌&&◌, Bool, true, false, cond, List, [], ◌∷◌, filter, length, map, take, nat_le, arith, refl, ap, sym, subst, ◌∙◌}
 use Rattle.std.specs.BTreeMap.Range.{entries_between}
 use Rattle.std.specs.declared.ops.Bound.TheVariants.{Included, Unbounded}
@@ -12,6 +12,7 @@ use Rattle.std.specs.declared.alloc.Global.{Global}
 use Rattle.std.specs.FinMap.Entries.{below_all, where_key}
 use Rattle.std.specs.Ordering.{is_le, is_lt, nat_cmp, ordering_then}
 use Rattle.std.specs.declared.cmp.Ordering.{Ordering}
+use Rattle.ring_points.specs.Limits.{most_listed_names}
 use Rattle.ring_points.specs.declared.interval.Interval.{Interval}
 use Rattle.name_rules.specs.Names.{is_within, name_cmp, name_list, point_of}
 use Rattle.name_rules.specs.Rows.{Rows, map_of}
@@ -152,18 +153,18 @@ none_before range (r ∷ rs) =
       | false ↦ λ e. rest ∙ sym (ap (λ b. cond b (r.0 ∷ filter (is_within range) (names_in rs)) (filter (is_within range) (names_in rs))) (below_range range r.0 e))
     ] refl
 
--- the first names of the range are those of the 64 rows from there on
+-- the first names of the range are those of that many rows from there on
 in_window : (range : Interval) (rows : Rows) → is_sorted name_cmp rows ≡ true
-    → filter (is_within range) (take 64 (names_in (where_key name_cmp (from range.lo) rows))) ≡ take 64 (filter (is_within range) (names_in rows))
+    → filter (is_within range) (take most_listed_names (names_in (where_key name_cmp (from range.lo) rows))) ≡ take most_listed_names (filter (is_within range) (names_in rows))
 in_window range rows s =
-    sym (take-within range (where_key name_cmp (from range.lo) rows) 64 (rises-kept (from range.lo) rows s) (starts_from range.lo rows)) ∙ ap (take 64) (none_before range rows)
+    sym (take-within range (where_key name_cmp (from range.lo) rows) most_listed_names (rises-kept (from range.lo) rows s) (starts_from range.lo rows)) ∙ ap (take most_listed_names) (none_before range rows)
 
 pub listed : (range : Interval) (first : NameKey) (stored window : Stored) (points mask : List ℕ) → IsStore stored → first.point ≡ range.lo → first.name.items ≡ []
-    → window ≡ between first stored → points ≡ take 64 (points_in window) → Marks range points mask → marked mask 0 (take 64 (names_in (rows_of window))) ≡ name_list (map_of (rows_of stored)) range
+    → window ≡ between first stored → points ≡ take most_listed_names (points_in window) → Marks range points mask → marked mask 0 (take most_listed_names (names_in (rows_of window))) ≡ name_list (map_of (rows_of stored)) range
 listed range first stored window points mask s at none is asked m =
     let placed = subst AllPlaced (sym is) (placed_from first stored s.placed) in
     let rows : rows_of window ≡ where_key name_cmp (from range.lo) (rows_of stored) = ap rows_of is ∙ rows_from first stored none s.placed ∙ ap (λ lo. where_key name_cmp (from lo) (rows_of stored)) at in
-    marked_in range points mask (take 64 (names_in (rows_of window))) m (asked ∙ ap (take 64) (points_placed window placed) ∙ take-map point_of 64 (names_in (rows_of window)))
-    ∙ ap (λ rs. filter (is_within range) (take 64 (names_in rs))) rows
+    marked_in range points mask (take most_listed_names (names_in (rows_of window))) m (asked ∙ ap (take most_listed_names) (points_placed window placed) ∙ take-map point_of most_listed_names (names_in (rows_of window)))
+    ∙ ap (λ rs. filter (is_within range) (take most_listed_names (names_in rs))) rows
     ∙ in_window range (rows_of stored) s.rises
-    ∙ sym (ap (λ es. take 64 (filter (is_within range) (names_in es))) (entries_are (rows_of stored) s.rises))
+    ∙ sym (ap (λ es. take most_listed_names (filter (is_within range) (names_in es))) (entries_are (rows_of stored) s.rises))

@@ -42,9 +42,13 @@ pub record IsStore (stored : Stored) : Type 0 where
   pub rises : is_sorted name_cmp (rows_of stored) ≡ true
   pub placed : AllPlaced stored
 
+-- bits of a word
+abbrev pub word_bits : ℕ
+word_bits = 64
+
 -- the mask has a bit for each point, and it is 1 for those in the range
 pub record Marks (range : Interval) (points mask : List ℕ) : Type 0 where
-  pub room : length points ≤ 64 * length mask
+  pub room : length points ≤ word_bits * length mask
   pub each : (i : ℕ) → i < length points → (bit_of mask i ≡ 1) ↔ IsTrue (is_between range.lo range.hi (slice_index points i))
 
 -- the name, where the test says so

@@ -6,7 +6,7 @@ use ring_points::MAX_NAME;
 use std::alloc::Global;
 use std::marker::Model;
 
-/// A name: 1 to 64 visible signs of ASCII without the comma. Contracts see it as its bytes.
+/// A name: 1 to `MAX_NAME` visible signs of ASCII without the comma. Contracts see it as its bytes.
 #[derive(Drop)]
 pub struct Name {
     bytes: Vec<u8>,

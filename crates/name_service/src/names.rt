@@ -116,9 +116,9 @@ impl Names {
         self.rows.clear();
     }
 
-    /// The first 64 names with a point in the range, in their order. It goes to the range's first point, and asks the
-    /// 64 points from there on, in lanes: the points rise, so where not all of these are in the range, no row behind
-    /// them is.
+    /// The first `MAX_LISTED_NAMES` names with a point in the range, in their order. It goes to the range's first
+    /// point, and asks that many points from there on, in lanes: the points rise, so where not all of these are in
+    /// the range, no row behind them is.
     pub fn select(&self, range: &Interval) -> Result<Vec<Name>, OutOfMemory>
         ensures { IfOk result (λ names. names.items ≡ name_list self.now range.now) }
     {

@@ -2,6 +2,7 @@
 use Rattle.std.proofs.Common.{◌≡◌, ℕ, ◌+◌, ◌≤◌, Bool, true, false, List, [], ◌∷◌, ◌++◌, length, refl, arith, length-append}
 use Rattle.std.specs.Prelude.{◌==◌, ◌&&◌, not}
 use Rattle.std.proofs.lemmas.Bool.Decides.{nat_tests}
+use Rattle.ring_points.specs.Limits.{most_log_entries}
 use Rattle.ring_points.specs.declared.unit.Epoch.{Epoch}
 use Rattle.ring_points.specs.Epochs.{is_older}
 use Rattle.replica_core.specs.declared.entry.Entry.{Entry}
@@ -21,7 +22,7 @@ is_numbered-append next (y ∷ ys) x numbered at =
     by false f numbered rest = absurd (cc)
 
 -- the next entry is one that a log can take
-pub log_grown : (xs : List Entry) (x : Entry) → IsLog xs → x.lsn ≡ length xs + 1 → x.lsn ≤ 100000 → IsLog (xs ++ x ∷ [])
+pub log_grown : (xs : List Entry) (x : Entry) → IsLog xs → x.lsn ≡ length xs + 1 → x.lsn ≤ most_log_entries → IsLog (xs ++ x ∷ [])
 log_grown xs x log next room = record {
   numbered = is_numbered-append 1 xs x log.numbered (omega arith);
   room = omega (arith, length-append xs (x ∷ []));

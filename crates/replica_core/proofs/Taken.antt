@@ -1,6 +1,7 @@
 -- A call that is taken makes its epoch the promised one.
 use Rattle.std.proofs.Common.{◌≡◌, ℕ, Bool, true, false, List, Some, Ok, refl, subst}
 use Rattle.std.specs.Prelude.{◌+◌, ◌==◌, ◌&&◌, ◌||◌, not, nat_lt, length}
+use Rattle.ring_points.specs.Limits.{most_log_entries}
 use Rattle.ring_points.specs.declared.unit.Epoch.{Epoch}
 use Rattle.ring_points.specs.Epochs.{is_older, same_epoch}
 use Rattle.replica_core.specs.declared.entry.Entry.{Entry}
@@ -73,7 +74,7 @@ append_promises s behind e lsn bytes =
     (λ ok. unless_promises e (is_ahead e lsn s) _ s _
     (λ near. let same : s.promised ≡ e = at_is_promised e s behind ok (either (same_epoch s.at e) _ near) in
     held_promises e (nat_lt lsn (length s.log + 1)) s _ (λ _. same)
-    (λ _. unless_promises e (length s.log == 100000) _ s _ (λ _. accepted Done e New _ same))))
+    (λ _. unless_promises e (length s.log == most_log_entries) _ s _ (λ _. accepted Done e New _ same))))
 
 adopt_own_promises : (s : Replica) → IsNotAhead s → (e : Epoch) (last : ℕ) → Promises e (adopt_own_call e last s)
 adopt_own_promises s behind e last =

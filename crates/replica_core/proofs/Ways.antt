@@ -1,6 +1,7 @@
 -- In which ways a call changes the promised epoch, the epoch of the log, and the log.
 use Rattle.std.proofs.Common.{◌≡◌, ℕ, ◌+◌, Bool, true, false, List, [], ◌∷◌, ◌++◌, refl}
 use Rattle.std.specs.Prelude.{◌==◌, ◌&&◌, nat_lt, not, length}
+use Rattle.ring_points.specs.Limits.{most_log_entries}
 use Rattle.ring_points.specs.declared.unit.Config.{Config}
 use Rattle.ring_points.specs.declared.unit.Epoch.{Epoch}
 use Rattle.ring_points.specs.Epochs.{is_older, same_epoch}
@@ -54,7 +55,7 @@ append_way P s w e lsn bytes =
     unless_way P (is_older e s.promised) _ s _ w
     (λ ok. unless_way P (is_ahead e lsn s) _ s _ w
     (λ _. held_way P (nat_lt lsn (length s.log + 1)) s _ w
-    (λ _. unless_way P (length s.log == 100000) _ s _ w
+    (λ _. unless_way P (length s.log == most_log_entries) _ s _ w
     (λ _. record { way = w.writes (record { epoch = e; lsn = lsn; bytes = bytes }) }))))
 
 adopt_own_way : (P : Epoch → Epoch → List Entry → Type 0) (s : Replica) → Ways P s → (e : Epoch) (last : ℕ) → Goes P (adopt_own_call e last s)

@@ -1,6 +1,7 @@
 ghost use Rattle.std.specs.Prelude.{◌≡◌, ◌≤◌, ◌+◌, ◌++◌, [], ◌∷◌, length, drop, IsTrue};
 ghost use Rattle.fabric_terms.specs.Messages.{is_sound, is_sound_body};
 ghost use Rattle.frame_format.specs.Frames.{version_of, kind_of, body_bytes, spelling};
+ghost use Rattle.frame_format.specs.Sizes.{most_body_size};
 ghost use Rattle.wire_fields.specs.Writers.{Puts};
 
 mod greetings;
@@ -89,7 +90,7 @@ fn put_start(into: &mut [u8; FRAME_LIMIT], body: &Body) -> usize
 
 // The fields of the body. Gives the place after them.
 fn put_body(into: &mut [u8; FRAME_LIMIT], at: usize, body: &Body) -> usize
-    requires room { at + 600 ≤ FRAME_LIMIT }
+    requires room { at + most_body_size ≤ FRAME_LIMIT }
     requires sound { IsTrue (is_sound_body body.now) }
     ensures { Puts (body_bytes body.now) into.old at into.new result }
 {
@@ -104,8 +105,8 @@ fn put_body(into: &mut [u8; FRAME_LIMIT], at: usize, body: &Body) -> usize
     }
 }
 
-/// Writes the message as a frame to the front of `into`, and gives the frame's length, which is at most 1,200. The
-/// bytes behind it are left as they were.
+/// Writes the message as a frame to the front of `into`, and gives the frame's length, which is at most `FRAME_LIMIT`.
+/// The bytes behind it are left as they were.
 pub fn encode(message: &Message, into: &mut [u8; FRAME_LIMIT]) -> usize
     requires { IsTrue (is_sound message.now) }
     ensures written { into.new ≡ spelling message.now ++ drop (length (spelling message.now)) into.old }

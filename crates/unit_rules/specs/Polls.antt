@@ -1,7 +1,8 @@
 -- Polls: those that are asked, each with its answer once it came.
-use Rattle.std.specs.Prelude.{ℕ, zero, suc, Bool, not, ◌&&◌, ◌==◌, List, [], ◌∷◌, ◌++◌, length, map, filter, filter_map, count_by, Option, Some, None, is_some, option_map, unwrap_or, if◌then◌else◌}
+use Rattle.std.specs.Prelude.{ℕ, zero, suc, Bool, not, ◌&&◌, ◌==◌, List, [], ◌∷◌, ◌++◌, length, map, filter, filter_map, Option, Some, None, is_some, option_map, unwrap_or, if◌then◌else◌}
 use Rattle.std.specs.List.{list_any}
 use Rattle.ring_points.specs.Whos.{arbiter_actor}
+use Rattle.arbiter_quorum.specs.Counted.{count_given}
 use Rattle.arbiter_quorum.specs.Tallies.{is_majority}
 
 -- actors in the order in which they are asked
@@ -32,7 +33,7 @@ waiting poll = map (λ e. e.0) (filter (λ e. not (is_some e.1)) poll)
 
 -- a majority of the asked has answered
 abbrev pub is_carried : {A : Type 0} → Poll A → Bool
-is_carried poll = is_majority (length poll) (count_by (λ e. is_some e.1) poll)
+is_carried poll = is_majority (length poll) (count_given is_some poll)
 
 -- this one has answered
 abbrev pub has_answered : {A : Type 0} → ℕ → Poll A → Bool

@@ -1,5 +1,6 @@
 -- The replicas of a node at its start: what its records amount to.
-use Rattle.std.specs.Prelude.{ℕ, Bool, ◌||◌, ◌==◌, List, [], ◌∷◌, map, unwrap_or, if◌then◌else◌}
+use Rattle.std.specs.Prelude.{ℕ, ◌+◌, Bool, ◌||◌, ◌==◌, List, [], ◌∷◌, map, unwrap_or, if◌then◌else◌}
+use Rattle.ring_points.specs.Limits.{most_log_entries}
 use Rattle.ring_points.specs.declared.unit.Epoch.{Epoch}
 use Rattle.fabric_lemmas.specs.Maps.{at, put}
 use Rattle.fabric_terms.specs.declared.record.Record.{Record}
@@ -26,7 +27,7 @@ without_collected rs = map (λ e. (e.0, uncollected e.1)) rs
 
 -- more than any entry of a log, so that an entry is only collected
 abbrev pub past_all : ℕ
-past_all = 100001
+past_all = most_log_entries + 1
 
 -- the own log is adopted, or none, or what was collected
 abbrev pub adopt_kept : Epoch → ℕ → (is_own : Bool) → Replica → Outcome Done

@@ -3,6 +3,7 @@ use Rattle.std.proofs.Common.{◌≡◌, ℕ, ◌+◌, ◌^◌, ◌<◌, ◌≤�
 use Rattle.std.specs.Prelude.{IsTrue, ◌==◌}
 use Rattle.std.specs.List.{list_all}
 use Rattle.std.proofs.lemmas.Bool.{leb-true, lt-ltb, ltb-true, eqb-true, eqb-false, and_parts, and_from, or_cases}
+use Rattle.ring_points.specs.Limits.{least_lease, most_intervals, most_lease, most_log_entries, most_node_number, most_reading}
 use Rattle.ring_points.specs.declared.who.Who.{Who}
 use Rattle.ring_points.specs.declared.who.Ruling.{Ruling}
 use Rattle.ring_points.specs.declared.who.Ruling.TheVariants.{Granted, Taken, Refused}
@@ -27,19 +28,19 @@ counted_is =
 
 pub last_is : IsField last_at is_last (number_bytes 4)
 unfolding last_at
-last_is = such_is (number_is 4) is_last is_last (λ n a b. b) (λ n h. (below n 100000 4294967296 h (omega arith), h))
+last_is = such_is (number_is 4) is_last is_last (λ n a b. b) (λ n h. (below n most_log_entries 4294967296 h (omega arith), h))
 
 pub stamp_is : IsField stamp_at is_stamp (number_bytes 8)
 unfolding stamp_at
-stamp_is = such_is (number_is 8) is_stamp is_stamp (λ n a b. b) (λ n h. (below n 1000000000000000 18446744073709551616 h (omega arith), h))
+stamp_is = such_is (number_is 8) is_stamp is_stamp (λ n a b. b) (λ n h. (below n most_reading 18446744073709551616 h (omega arith), h))
 
 pub lease_is : IsField lease_at is_lease (number_bytes 8)
 unfolding lease_at
 lease_is =
-    such_is (number_is 8) is_lease is_lease (λ n a b. b) (λ n h. (below n 1000000000 18446744073709551616 (and_parts (nat_le 10 n) (nat_le n 1000000000) h).1 (omega arith), h))
+    such_is (number_is 8) is_lease is_lease (λ n a b. b) (λ n h. (below n most_lease 18446744073709551616 (and_parts (nat_le least_lease n) (nat_le n most_lease) h).1 (omega arith), h))
 
 node_short : (n : ℕ) → IsTrue (is_node n) → IsTrue (is_short n)
-node_short n h = below n 999 65536 (and_parts (nat_le 1 n) (nat_le n 999) h).1 (omega arith)
+node_short n h = below n most_node_number 65536 (and_parts (nat_le 1 n) (nat_le n most_node_number) h).1 (omega arith)
 
 pub node_is : IsField node_at is_node (number_bytes 2)
 unfolding node_at
@@ -208,14 +209,14 @@ rising_long low (i ∷ is) h =
     let lo = leb-true i.lo i.hi r.1 in
     and_from (are_long i) (list_all are_long is) (and_from (is_long i.lo) (is_long i.hi) (lt-ltb i.lo 18446744073709551616 (omega arith)) q.1) (rising_long (i.hi + 2) is p.1)
 
-intervals_is : IsField intervals_at (λ is. nat_le (length is) 32 && list_all are_long is) ranges_bytes
+intervals_is : IsField intervals_at (λ is. nat_le (length is) most_intervals && list_all are_long is) ranges_bytes
 unfolding intervals_at ranges_bytes
-intervals_is = list_is interval_is 32
+intervals_is = list_is interval_is most_intervals
 
-proper_long : (is : List Interval) → IsTrue (is_proper is) → IsTrue (nat_le (length is) 32 && list_all are_long is)
+proper_long : (is : List Interval) → IsTrue (is_proper is) → IsTrue (nat_le (length is) most_intervals && list_all are_long is)
 proper_long is h =
     let p = and_parts (fits is) (rises_from 0 is) h in
-    and_from (nat_le (length is) 32) (list_all are_long is) p.0 (rising_long 0 is p.1)
+    and_from (nat_le (length is) most_intervals) (list_all are_long is) p.0 (rising_long 0 is p.1)
 
 pub ranges_is : IsField ranges_at is_proper ranges_bytes
 ranges_is = such_is intervals_is is_proper is_proper (λ is a b. b) (λ is h. (proper_long is h, h))

@@ -4,12 +4,14 @@ use Rattle.std.specs.Prelude.{IsTrue}
 use Rattle.std.specs.List.{flat_map}
 use Rattle.std.proofs.Math.Nat.{mul-le-mul_left}
 use Rattle.std.proofs.lemmas.Bool.{leb-true, and_parts}
+use Rattle.ring_points.specs.Limits.{most_intervals, most_members, most_write}
 use Rattle.ring_points.specs.declared.unit.Epoch.{Epoch}
 use Rattle.ring_points.specs.declared.unit.Config.{Config}
 use Rattle.ring_points.specs.declared.who.Ruling.{Ruling}
 use Rattle.ring_points.specs.declared.interval.Interval.{Interval}
 use Rattle.ring_points.specs.Ranges.{is_proper, fits, rises_from}
 use Rattle.fabric_terms.specs.Fields.{is_unit, is_config, is_done, is_payload, has_members, is_short}
+use Rattle.wire_fields.specs.Sizes.{interval_size, most_ranges_size, most_config_size, most_done_size, most_payload_size}
 use Rattle.wire_fields.specs.Texts.{number_bytes, one_byte, session_bytes, epoch_bytes, unit_bytes, interval_bytes, list_bytes, ranges_bytes, config_bytes, payload_bytes, flag_bytes, flag_code, ruling_bytes, done_bytes}
 use Rattle.wire_fields.proofs.Puts.{number_length}
 use Rattle.wire_fields.proofs.Standing.{epoch_length}
@@ -34,7 +36,7 @@ unit_length partition epoch =
     let l = length-append (number_bytes 2 partition) (epoch_bytes epoch) in
     omega arith
 
-interval_length : (i : Interval) → length (interval_bytes i) ≡ 16
+interval_length : (i : Interval) → length (interval_bytes i) ≡ interval_size
 unfolding interval_bytes
 interval_length i =
     let a = number_length 8 i.lo in
@@ -60,28 +62,28 @@ list_length spell size most h xs few =
     let m = mul-le-mul_left size few in
     omega arith
 
-pub ranges_length : (ranges : List Interval) → IsTrue (is_proper ranges) → length (ranges_bytes ranges) ≤ 513
+pub ranges_length : (ranges : List Interval) → IsTrue (is_proper ranges) → length (ranges_bytes ranges) ≤ most_ranges_size
 unfolding ranges_bytes
 ranges_length ranges h =
-    list_length interval_bytes 16 32 interval_length ranges (leb-true (length ranges) 32 (and_parts (fits ranges) (rises_from 0 ranges) h).0)
+    list_length interval_bytes interval_size most_intervals interval_length ranges (leb-true (length ranges) most_intervals (and_parts (fits ranges) (rises_from 0 ranges) h).0)
 
-pub config_length : (c : Config) → IsTrue (is_config c) → length (config_bytes c) ≤ 27
+pub config_length : (c : Config) → IsTrue (is_config c) → length (config_bytes c) ≤ most_config_size
 unfolding config_bytes
 config_length c h =
-    let p = and_parts (is_unit c.partition c.epoch && is_short c.primary && nat_le (length c.members) 7) (has_members c) h in
-    let q = and_parts (is_unit c.partition c.epoch && is_short c.primary) (nat_le (length c.members) 7) p.0 in
+    let p = and_parts (is_unit c.partition c.epoch && is_short c.primary && nat_le (length c.members) most_members) (has_members c) h in
+    let q = and_parts (is_unit c.partition c.epoch && is_short c.primary) (nat_le (length c.members) most_members) p.0 in
     let a = unit_length c.partition c.epoch in
     let b = number_length 2 c.primary in
-    let m = list_length (number_bytes 2) 2 7 (number_length 2) c.members (leb-true (length c.members) 7 q.1) in
+    let m = list_length (number_bytes 2) 2 most_members (number_length 2) c.members (leb-true (length c.members) most_members q.1) in
     let l = length-append (unit_bytes c.partition c.epoch) (number_bytes 2 c.primary) in
     let k = length-append (unit_bytes c.partition c.epoch ++ number_bytes 2 c.primary) (list_bytes (number_bytes 2) c.members) in
     omega arith
 
-pub payload_length : (text : List ℕ) → IsTrue (is_payload text) → length (payload_bytes text) ≤ 514
+pub payload_length : (text : List ℕ) → IsTrue (is_payload text) → length (payload_bytes text) ≤ most_payload_size
 unfolding payload_bytes
 payload_length text h =
     let a = number_length 2 (length text) in
-    let b = leb-true (length text) 512 h in
+    let b = leb-true (length text) most_write h in
     let l = length-append (number_bytes 2 (length text)) text in
     omega arith
 
@@ -93,7 +95,7 @@ pub ruling_length : (ruling : Ruling) → length (ruling_bytes ruling) ≡ 1
 unfolding ruling_bytes one_byte
 ruling_length ruling = refl
 
-pub done_length : (c : Option Config) → IsTrue (is_done c) → length (done_bytes c) ≤ 28
+pub done_length : (c : Option Config) → IsTrue (is_done c) → length (done_bytes c) ≤ most_done_size
 unfolding done_bytes
 done_length None h = let a = flag_length false in omega arith
 done_length (Some c) h =

@@ -1,3 +1,4 @@
+pub mod Sizes
 pub mod Texts
 pub mod Stands
 pub mod Readers

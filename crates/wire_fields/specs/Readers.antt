@@ -1,6 +1,7 @@
 -- How fields are read: at the front of some bytes, each with its value and the bytes after it.
 use Rattle.std.specs.Prelude.{◌≡◌, ℕ, zero, suc, Bool, true, false, ◌&&◌, ◌||◌, List, [], ◌∷◌, length, take, drop, Option, Some, None, Result, Ok, Err, nat_le, ◌==◌, if◌then◌else◌}
 use Rattle.byteorder.specs.Endian.{big_number}
+use Rattle.ring_points.specs.Limits.{most_intervals, most_members, most_write}
 use Rattle.ring_points.specs.declared.point.Point.{Point}
 use Rattle.ring_points.specs.declared.who.Who.{Who}
 use Rattle.ring_points.specs.declared.who.Ruling.{Ruling}
@@ -137,7 +138,7 @@ unfoldable pub interval_at : List ℕ → Field Interval
 interval_at = made (λ x. record { lo = x.0; hi = x.1 }) (pair (number_at 8) (number_at 8))
 
 unfoldable pub intervals_at : List ℕ → Field (List Interval)
-intervals_at = list_at 32 interval_at
+intervals_at = list_at most_intervals interval_at
 
 abbrev pub ranges_at : List ℕ → Field (List Interval)
 ranges_at = such is_proper intervals_at
@@ -149,10 +150,10 @@ abbrev pub config_from : ((ℕ × Epoch) × ℕ) × List ℕ → Config
 config_from x = record { partition = x.0.0.0; epoch = x.0.0.1; primary = x.0.1; members = x.1 }
 
 unfoldable pub config_at : List ℕ → Field Config
-config_at = such has_members (made config_from (pair (pair unit_at (number_at 2)) (list_at 7 (number_at 2))))
+config_at = such has_members (made config_from (pair (pair unit_at (number_at 2)) (list_at most_members (number_at 2))))
 
 unfoldable pub done_at : List ℕ → Field (Option Config)
 done_at bytes = flag_at bytes >>= λ x. elim x.0 [ true ↦ made Some config_at x.1 | false ↦ Some (None, x.1) ]
 
 unfoldable pub payload_at : List ℕ → Field (List ℕ)
-payload_at bytes = such (λ n. nat_le n 512) (number_at 2) bytes >>= λ x. bytes_at x.0 x.1
+payload_at bytes = such (λ n. nat_le n most_write) (number_at 2) bytes >>= λ x. bytes_at x.0 x.1

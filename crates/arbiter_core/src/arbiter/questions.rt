@@ -8,7 +8,6 @@ ghost use Rattle.arbiter_core.specs.Memory.{KeepsIfShort};
 
 use crate::answer::{Answer, ArbiterError};
 use crate::arbiter::Arbiter;
-use crate::arbiter::rulings::same_who;
 use fabric_terms::Body;
 use ring_points::{Config, Epoch, Who};
 use unit_rules::{Preparation, is_above, is_newer};
@@ -29,7 +28,7 @@ fn is_prepared_for(prepared: Option<Preparation>, epoch: Epoch, asker: Who) -> b
 {
     match prepared {
         None => false,
-        Some(prepared) => prepared.epoch == epoch && same_who(prepared.preparer, asker),
+        Some(prepared) => prepared.epoch == epoch && prepared.preparer == asker,
     }
 }
 

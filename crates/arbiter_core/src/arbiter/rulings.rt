@@ -1,7 +1,6 @@
 //! Accusations of instances, and claims of rounds about them.
 
 ghost use Rattle.std.specs.Prelude.{◌≡◌, Some};
-ghost use Rattle.ring_points.specs.Whos.{same_who};
 ghost use Rattle.ring_rules.specs.Arbiters.{accusation_ruled};
 ghost use Rattle.arbiter_core.specs.Arbiters.{Answers, accuse_call, claim_call, claim_told};
 ghost use Rattle.arbiter_core.specs.Memory.{KeepsIfShort};
@@ -13,12 +12,6 @@ use ring_points::{Ruling, Who};
 
 /// The first round of heirs, whose claimers are the accusers.
 const FIRST_ROUND: u8 = 1;
-
-pub(super) fn same_who(v: Who, w: Who) -> bool
-    ensures { result ≡ same_who v w }
-{
-    v.actor == w.actor && v.instance == w.instance
-}
 
 /// What the claimer of a round is told: whom the arbitrator keeps of it.
 fn told(item: Option<Record>, to: Who, victim: Who, round: u8, claimer: Who) -> Answer
@@ -45,7 +38,7 @@ impl Arbiter {
             return Ruling::Refused;
         }
         match self.first_accuser(victim) {
-            Some(first) if !same_who(first, accuser) => Ruling::Taken,
+            Some(first) if first != accuser => Ruling::Taken,
             _ => Ruling::Granted,
         }
     }

@@ -3,6 +3,7 @@
 ghost use Rattle.std.specs.Prelude.{◌≤◌, ◌+◌, IsTrue};
 ghost use Rattle.fabric_terms.specs.Messages.{is_sound_body};
 ghost use Rattle.frame_format.specs.Frames.{kind_of, body_bytes};
+ghost use Rattle.frame_format.specs.Sizes.{most_body_size};
 ghost use Rattle.wire_fields.specs.Writers.{Puts};
 
 use fabric_terms::Body;
@@ -11,7 +12,7 @@ use wire_fields::write::{put_ruling, put_u8, put_who};
 
 /// A body of a kind from 16 to 19. Gives the place after it.
 pub fn put_ruling_body(into: &mut [u8; FRAME_LIMIT], at: usize, body: &Body) -> usize
-    requires room { at + 600 ≤ FRAME_LIMIT }
+    requires room { at + most_body_size ≤ FRAME_LIMIT }
     requires sound { IsTrue (is_sound_body body.now) }
     requires low { 16 ≤ kind_of body.now }
     requires high { kind_of body.now ≤ 31 }

@@ -29,14 +29,14 @@ fn fill<'a>(places: &mut [Interval], bytes: &'a [u8]) -> Result<&'a [u8], NotFie
     Ok(rest)
 }
 
-/// A count of at most 32, and as many intervals, which are put into the first places.
+/// A count of at most `MAX_INTERVALS`, and as many intervals, which are put into the first places.
 #[tactic(auto, unfolding(crate::specs::Readers::intervals_at, crate::specs::Readers::list_at))]
 pub fn intervals_at<'a>(
     places: &mut [Interval; MAX_INTERVALS],
     bytes: &'a [u8],
 ) -> Result<(usize, &'a [u8]), NotField>
     ensures read { Gives (λ x. (take x.0 places.new, x.1.now)) result (intervals_at bytes.now) }
-    ensures count { IfOk result (λ x. x.0 ≤ 32) }
+    ensures count { IfOk result (λ x. x.0 ≤ MAX_INTERVALS) }
 {
     let (count, rest) = u8_at(bytes)?;
     let count = usize::from(count);

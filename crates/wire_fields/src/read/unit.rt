@@ -2,6 +2,7 @@
 
 ghost use Rattle.std.specs.Prelude.{◌≡◌, ◌≤◌, ◌==◌, length, IfOk};
 ghost use Rattle.std.specs.List.{list_any};
+ghost use Rattle.ring_points.specs.Limits.{most_members};
 ghost use Rattle.fabric_terms.specs.Fields.{rises_above, has_members};
 ghost use Rattle.wire_fields.specs.Readers.{Gives, number_at, times, list_at, epoch_at, unit_at, config_at, done_at};
 ghost use Rattle.wire_fields.specs.Readers.{payload_at};
@@ -51,10 +52,10 @@ fn members_of(count: u8, bytes: &[u8]) -> Result<(Members, &[u8]), NotField>
     Ok((members, rest))
 }
 
-// A count of at most 7, and as many nodes.
+// A count of at most `MAX_MEMBERS`, and as many nodes.
 #[tactic(auto, unfolding(crate::specs::Readers::list_at))]
 fn members_at(bytes: &[u8]) -> Result<(Members, &[u8]), NotField>
-    ensures { Gives (λ x. (x.0, x.1.now)) result (list_at 7 (number_at 2) bytes.now) }
+    ensures { Gives (λ x. (x.0, x.1.now)) result (list_at most_members (number_at 2) bytes.now) }
 {
     let (count, rest) = u8_at(bytes)?;
     if usize::from(count) <= MAX_MEMBERS {
@@ -126,7 +127,7 @@ pub fn done_at(bytes: &[u8]) -> Result<(Option<Config>, &[u8]), NotField>
     }
 }
 
-/// A length of at most 512, and as many bytes, which are lent.
+/// A length of at most `MAX_WRITE`, and as many bytes, which are lent.
 #[tactic(auto, unfolding(crate::specs::Readers::payload_at, crate::specs::Readers::bytes_at))]
 pub fn text_at(bytes: &[u8]) -> Result<(&[u8], &[u8]), NotField>
     ensures text { Gives (λ x. (x.0.now, x.1.now)) result (payload_at bytes.now) }
@@ -143,7 +144,7 @@ pub fn text_at(bytes: &[u8]) -> Result<(&[u8], &[u8]), NotField>
     Ok((&rest[..length], &rest[length..]))
 }
 
-/// A length of at most 512, and as many bytes, which are copied.
+/// A length of at most `MAX_WRITE`, and as many bytes, which are copied.
 pub fn payload_at(bytes: &[u8]) -> Result<(Payload, &[u8]), NotField>
     ensures { Gives (λ x. (x.0, x.1.now)) result (payload_at bytes.now) }
 {

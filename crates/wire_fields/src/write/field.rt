@@ -6,11 +6,13 @@ ghost use Rattle.fabric_terms.specs.Fields.{is_done};
 ghost use Rattle.wire_fields.specs.Texts.{number_bytes, who_bytes, ruling_bytes, epoch_bytes, unit_bytes};
 ghost use Rattle.wire_fields.specs.Texts.{interval_bytes, ranges_bytes, list_bytes, config_bytes, done_bytes};
 ghost use Rattle.wire_fields.specs.Texts.{payload_bytes};
+ghost use Rattle.wire_fields.specs.Sizes.{interval_size, most_ranges_size, most_members_size};
+ghost use Rattle.wire_fields.specs.Sizes.{most_config_size, most_done_size, most_payload_size};
 ghost use Rattle.wire_fields.specs.Writers.{Puts};
 
 use crate::write::number::{put_flag, put_u8, put_u16, put_u32, put_u64};
 use fabric_terms::Payload;
-use ring_points::{Config, Epoch, Interval, MAX_WRITE, RangeSet, Ruling, Who};
+use ring_points::{Config, Epoch, Interval, MAX_MEMBERS, MAX_WRITE, RangeSet, Ruling, Who};
 
 /// An actor and its instance.
 #[tactic(auto, unfolding(crate::specs::Texts::who_bytes))]
@@ -63,9 +65,9 @@ pub fn put_unit(into: &mut [u8], at: usize, partition: u16, epoch: Epoch) -> usi
 // The points from one to another.
 #[tactic(auto, unfolding(crate::specs::Texts::interval_bytes))]
 fn put_interval(into: &mut [u8], at: usize, interval: Interval) -> usize
-    requires { at + 16 ≤ length into.old }
+    requires { at + interval_size ≤ length into.old }
     ensures wrote { Puts (interval_bytes interval) into.old at into.new result }
-    ensures end { result ≡ at + 16 }
+    ensures end { result ≡ at + interval_size }
 {
     let at = put_u64(into, at, interval.lo);
     put_u64(into, at, interval.hi)
@@ -73,7 +75,7 @@ fn put_interval(into: &mut [u8], at: usize, interval: Interval) -> usize
 
 // Intervals, one after the other.
 fn put_intervals(into: &mut [u8], at: usize, intervals: &[Interval]) -> usize
-    requires { at + 16 * length intervals.now ≤ length into.old }
+    requires { at + interval_size * length intervals.now ≤ length into.old }
     ensures { Puts (flat_map interval_bytes intervals.now) into.old at into.new result }
 {
     let mut end = at;
@@ -86,7 +88,7 @@ fn put_intervals(into: &mut [u8], at: usize, intervals: &[Interval]) -> usize
 /// A range set: how many intervals it has, and each of them.
 #[tactic(auto, unfolding(crate::specs::Texts::ranges_bytes, crate::specs::Texts::list_bytes))]
 pub fn put_ranges(into: &mut [u8], at: usize, ranges: &RangeSet) -> usize
-    requires { at + 513 ≤ length into.old }
+    requires { at + most_ranges_size ≤ length into.old }
     ensures { Puts (ranges_bytes ranges.now) into.old at into.new result }
 {
     let intervals = ranges.intervals();
@@ -109,19 +111,19 @@ fn put_nodes(into: &mut [u8], at: usize, nodes: &[u16]) -> usize
 // How many members there are, and each of them.
 #[tactic(auto, unfolding(crate::specs::Texts::list_bytes))]
 fn put_members(into: &mut [u8], at: usize, members: &[u16]) -> usize
-    requires room { at + 15 ≤ length into.old }
-    requires few { length members.now ≤ 7 }
+    requires room { at + most_members_size ≤ length into.old }
+    requires few { length members.now ≤ MAX_MEMBERS }
     ensures { Puts (list_bytes (number_bytes 2) members.now) into.old at into.new result }
 {
     let at = put_u8(into, at, members.len() as u8);
     put_nodes(into, at, members)
 }
 
-/// A configuration, which has at most 7 members.
+/// A configuration, which has at most `MAX_MEMBERS` members.
 #[tactic(auto, unfolding(crate::specs::Texts::config_bytes))]
 pub fn put_config(into: &mut [u8], at: usize, config: &Config) -> usize
-    requires room { at + 27 ≤ length into.old }
-    requires few { length config.now.members ≤ 7 }
+    requires room { at + most_config_size ≤ length into.old }
+    requires few { length config.now.members ≤ MAX_MEMBERS }
     ensures { Puts (config_bytes config.now) into.old at into.new result }
 {
     let at = put_unit(into, at, config.partition, config.epoch);
@@ -132,7 +134,7 @@ pub fn put_config(into: &mut [u8], at: usize, config: &Config) -> usize
 /// A flag that says whether there is a configuration, and the configuration.
 #[tactic(auto, unfolding(crate::specs::Texts::done_bytes))]
 pub fn put_done(into: &mut [u8], at: usize, done: &Option<Config>) -> usize
-    requires room { at + 28 ≤ length into.old }
+    requires room { at + most_done_size ≤ length into.old }
     requires sound { IsTrue (is_done done.now) }
     ensures { Puts (done_bytes done.now) into.old at into.new result }
 {
@@ -155,10 +157,10 @@ fn put_bytes(into: &mut [u8], at: usize, bytes: &[u8]) -> usize
     end
 }
 
-/// A text of at most 512 bytes: its length, and its bytes.
+/// A text of at most `MAX_WRITE` bytes: its length, and its bytes.
 #[tactic(auto, unfolding(crate::specs::Texts::payload_bytes))]
 pub fn put_payload(into: &mut [u8], at: usize, text: &Payload) -> usize
-    requires room { at + 514 ≤ length into.old }
+    requires room { at + most_payload_size ≤ length into.old }
     requires short { length text.now ≤ MAX_WRITE }
     ensures { Puts (payload_bytes text.now) into.old at into.new result }
 {
