@@ -7,8 +7,8 @@ use Rattle.unit_rules.specs.Fabric.{fabric}
 use Rattle.ring_rules.specs.declared.input.Input.{Input}
 use Rattle.ring_rules.specs.declared.input.Input.TheVariants as input
 use Rattle.turn_rules.specs.Plans.{Setting, is_node_at, is_of_node}
-use Rattle.turn_rules.specs.Process.{Process, acts, acts_as, acts_at, acts_with, unless_full}
-use Rattle.turn_rules.specs.Steps.{Arbiter, Member, Node, arbiter_stepped, exceeds, present, stepped}
+use Rattle.turn_rules.specs.Process.{Process, acts, acts_as, acts_at, acts_with, rests_at, unless_full}
+use Rattle.turn_rules.specs.Steps.{Arbiter, Member, Node, arbiter_stepped, exceeds, present, rested, stepped}
 use Rattle.world_rules.specs.Arbiters.{ArbiterState, arbiter_step}
 use Rattle.world_rules.specs.Events.{is_arbiter_actor}
 use Rattle.world_rules.specs.Nodes.{NodeState}
@@ -17,9 +17,9 @@ use Rattle.world_rules.specs.Uppers.{Did, idle}
 use Rattle.cluster_safety.specs.Moments.{frames_of, last_reading}
 use Rattle.cluster_safety.specs.Plans.{Rise}
 use Rattle.cluster_safety.proofs.ArbiterSteps.{arbiter_hears, arbiter_idle}
-use Rattle.cluster_safety.proofs.Joined.{Joined}
+use Rattle.cluster_safety.proofs.Joined.{Joined, joined_silent}
 use Rattle.cluster_safety.proofs.Members.{actor_here, length_still}
-use Rattle.cluster_safety.proofs.NodeSteps.{node_bid, node_fires, node_hears, number_of}
+use Rattle.cluster_safety.proofs.NodeSteps.{later_no_start, node_bid, node_fires, node_hears, number_of}
 
 -- the process goes with a cluster
 abbrev pub JoinedBy : Setting → Process → Type 0
@@ -87,6 +87,36 @@ module _ (s : Setting) (p : Process) (turn place : ℕ) (rise : Rise 0 s.plan.ac
       let e = actor_here p.members s.plan.actors place (Arbiter k a) j.places here in
       arbiter_did k (idle a) reading (arbiter_idle s p.members p.last p.steps turn place k a rise later j here e.1.2 reading)
 
+  -- an actor that has not started, where all have, is none of the plan
+  no_node_there : length s.plan.actors ≤ length p.members → slice_get p.members place ≡ None → is_node_at s.plan place ≡ false
+  no_node_there all here = by_actor (slice_get s.plan.actors place) refl
+    where
+      by_actor : (o : Option Endpoint) → slice_get s.plan.actors place ≡ o → is_node_at s.plan place ≡ false
+      by_actor None none = ap is_of_node none
+      by_actor (Some e) some =
+          let past = none_past p.members place here in
+          let within = slice_get_within s.plan.actors place e some in
+          let no : place < place = omega (arith, all) in
+          absurd (omega (arith, no))
+
+  -- a node's turn ends without a firing
+  pub rests_joined : length s.plan.actors ≤ length p.members → is_node_at s.plan place ≡ true → Acts s p (rests_at turn p (slice_get p.members place))
+  rests_joined all node = by_member (slice_get p.members place) refl
+    where
+      by_member : (o : Option Member) → slice_get p.members place ≡ o → Acts s p (rests_at turn p o)
+      by_member (Some (Node st)) here = record {
+        joined =
+            joined_silent s p.members p.last p.steps (rested turn p.last (Node st)) j (later_no_start turn (Some (present p.last)) later) refl refl refl refl;
+        same_length = refl;
+        reading = refl;
+      }
+      by_member (Some (Arbiter k a)) here =
+          let e = actor_here p.members s.plan.actors place (Arbiter k a) j.places here in
+          let kind : is_arbiter_actor e.0.actor ≡ true = ap is_arbiter_actor (sym e.1.1) ∙ e.1.2 in
+          let no : true ≡ false = sym node ∙ no_node_at s place e.0 e.1.0 kind in
+          cc
+      by_member None here = let no : true ≡ false = sym node ∙ no_node_there all here in cc
+
   -- all actors have started, and at an arbitrator's place the clock's last reading is that of the last step of a node
   pub acts_joined : (i : Input) → FitsInput s p place i → length s.plan.actors ≤ length p.members →
       (is_node_at s.plan place ≡ false → last_reading p.steps ≡ present p.last) → Acts s p (acts s turn p place i)
@@ -98,12 +128,4 @@ module _ (s : Setting) (p : Process) (turn place : ℕ) (rise : Rise 0 s.plan.ac
           let e = actor_here p.members s.plan.actors place (Arbiter k a) j.places here in
           let kind : is_arbiter_actor e.0.actor ≡ true = ap is_arbiter_actor (sym e.1.1) ∙ e.1.2 in
           arbiter_acts i k a fits (settled (no_node_at s place e.0 e.1.0 kind)) here
-      by_member None here = record { joined = j; same_length = refl; reading = settled (by_actor (slice_get s.plan.actors place) refl) }
-        where
-          by_actor : (o : Option Endpoint) → slice_get s.plan.actors place ≡ o → is_node_at s.plan place ≡ false
-          by_actor None none = ap is_of_node none
-          by_actor (Some e) some =
-              let past = none_past p.members place here in
-              let within = slice_get_within s.plan.actors place e some in
-              let no : place < place = omega (arith, all) in
-              absurd (omega (arith, no))
+      by_member None here = record { joined = j; same_length = refl; reading = settled (no_node_there all here) }

@@ -16,11 +16,11 @@ use Rattle.ring_rules.specs.declared.input.Input.{Input}
 use Rattle.ring_rules.specs.declared.input.Input.TheVariants as input
 use Rattle.run_facts.proofs.ArbiterSteps as arbiters
 use Rattle.run_promises.specs.Questions.{tells_names}
-use Rattle.turn_rules.specs.Happenings.{Absent, Begins, Bids, Comes, Datagram, Failed, Fires, Hears, History, Turns}
-use Rattle.turn_rules.specs.Order.{IsInOrder, TurnPosition}
+use Rattle.turn_rules.specs.Happenings.{Absent, Begins, Bids, Comes, Datagram, Failed, Fires, Hears, History, Rests, Turns}
+use Rattle.turn_rules.specs.Order.{IsServedOrder, TurnPosition}
 use Rattle.turn_rules.specs.Plans.{Setting}
-use Rattle.turn_rules.specs.Process.{End, Process, acts, acts_at, acts_with, after, begins, clamped, hears_frame, joins, joins_at, joins_with, reads_as, takes, unless_ended, unless_full}
-use Rattle.turn_rules.specs.Steps.{Arbiter, Member, Node, Step, Stepped, begun, begun_as, exceeds, present, stepped}
+use Rattle.turn_rules.specs.Process.{End, Process, acts, acts_at, acts_with, after, begins, clamped, hears_frame, joins, joins_at, joins_with, reads_as, rests_at, takes, unless_ended, unless_full}
+use Rattle.turn_rules.specs.Steps.{Arbiter, Member, Node, Step, Stepped, begun, begun_as, exceeds, present, rested, stepped}
 use Rattle.world_rules.specs.Events.{is_arbiter_actor}
 use Rattle.world_rules.specs.Nodes.{NodeState, node_begun, node_step}
 use Rattle.world_rules.specs.Worlds.{empty_world}
@@ -79,6 +79,13 @@ module _ (s : Setting) (r : Report) where
       by_member (Some m) here t =
           let d : Stepped = stepped s.plan.config turn p.last i m in
           member_tells p turn place i m here (taken_tells p (acts_with p place d) (exceeds d.member) d.step refl t)
+
+  -- a turn that ends without a firing tells nothing
+  rests_silent : (p : Process) (turn : ℕ) (o : Option Member) → TellsMore (rests_at turn p o).steps p.steps → ⊥
+  rests_silent p turn None t = none_more p.steps t
+  rests_silent p turn (Some (Node n)) t = nothing_in r [] refl (taken_tells p (rests_at turn p (Some (Node n))) false (rested turn p.last (Node n)) refl t)
+  rests_silent p turn (Some (Arbiter k a)) t =
+      nothing_in r [] refl (taken_tells p (rests_at turn p (Some (Arbiter k a))) false (rested turn p.last (Arbiter k a)) refl t)
 
   -- A start tells no answer.
 
@@ -140,8 +147,9 @@ module _ (s : Setting) (r : Report) where
       answers_comes (Hears Absent) t = absurd (none_more p.steps t)
       answers_comes (Hears Failed) t = absurd (none_more p.steps t)
       answers_comes Fires t = absurd (unasked input.Fire refl (acts_tells p turn place input.Fire t))
+      answers_comes Rests t = absurd (rests_silent p turn (slice_get p.members place) t)
 
-pub answers_of_committed : (s : Setting) (h : History) (p : TurnPosition) → IsSound s.plan.config → IsClusterPlan s.plan → KeepsNothing s → IsInOrder s.plan h p → OwnFrames s h →
+pub answers_of_committed : (s : Setting) (h : History) (p : TurnPosition) → IsSound s.plan.config → IsClusterPlan s.plan → KeepsNothing s → IsServedOrder s.plan h p → OwnFrames s h →
     StepsAnswerOfCommitted s h
 answers_of_committed s [] p sound cp kn order own = tt
 answers_of_committed s (now ∷ earlier) p sound cp kn order own = λ step r more told names.

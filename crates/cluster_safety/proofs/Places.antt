@@ -6,8 +6,8 @@ use Rattle.std.proofs.lemmas.Bool.Decides.{nat_tests}
 use Rattle.edge_io.specs.declared.endpoint.Endpoint.{Endpoint}
 use Rattle.fabric_terms.specs.declared.command.Command.{Command}
 use Rattle.fabric_terms.specs.declared.config.FabricConfig.{FabricConfig}
-use Rattle.turn_rules.specs.Happenings.{Datagram, Absent, Failed, Comes, Begins, Turns, Bids, Hears, Fires, History}
-use Rattle.turn_rules.specs.Order.{Busy, Doing, Firing, Goes, IsInOrder, TurnPosition, Starting, Turning, arrive, coming, hearing, onward, rests}
+use Rattle.turn_rules.specs.Happenings.{Datagram, Absent, Failed, Comes, Begins, Turns, Bids, Hears, Fires, Rests, History}
+use Rattle.turn_rules.specs.Order.{Busy, Doing, Firing, GoesServed, IsServedOrder, TurnPosition, Starting, Turning, arrive, coming, hearing, onward, heard_all}
 use Rattle.turn_rules.specs.Plans.{Plan, commands_in, is_node_at, is_order_at}
 use Rattle.turn_rules.specs.declared.order.Order.{Order}
 use Rattle.world_rules.specs.Schedules.{command_names}
@@ -46,8 +46,8 @@ stands_coming plan turn at = by_test (nat_lt at (length plan.actors))
     by_test true = stands_arrive plan turn at
     by_test false = stands_arrive plan (turn + 1) 0
 
-stands_rests : (plan : Plan) (turn at : ℕ) → 1 ≤ turn → StandsAt plan (rests plan turn at)
-stands_rests plan turn at le = by_test (is_node_at plan at) refl
+stands_heard_all : (plan : Plan) (turn at : ℕ) → 1 ≤ turn → StandsAt plan (heard_all plan turn at)
+stands_heard_all plan turn at le = by_test (is_node_at plan at) refl
   where
     by_test : (b : Bool) → is_node_at plan at ≡ b → StandsAt plan (if b then record { turn = turn; at = at; doing = Firing } else onward plan turn at)
     by_test true e = (le, e)
@@ -56,9 +56,9 @@ stands_rests plan turn at le = by_test (is_node_at plan at) refl
 stands_hearing : (plan : Plan) (turn at n : ℕ) → 1 ≤ turn → StandsAt plan (hearing plan turn at n)
 stands_hearing plan turn at n le = by_test (nat_lt n 64)
   where
-    by_test : (b : Bool) → StandsAt plan (if b then record { turn = turn; at = at; doing = Busy [] n } else rests plan turn at)
+    by_test : (b : Bool) → StandsAt plan (if b then record { turn = turn; at = at; doing = Busy [] n } else heard_all plan turn at)
     by_test true = (le, λ d h. tt)
-    by_test false = stands_rests plan turn at le
+    by_test false = stands_heard_all plan turn at le
 
 -- the commands of a turn are commands of the plan
 named_in : (plan : Plan) (turn at : ℕ) (e : Endpoint) → slice_get plan.actors at ≡ Some e → (os : List Order) →
@@ -73,38 +73,43 @@ named_in plan turn at e here (o ∷ os) named = by_tests (o.turn == turn) (o.pla
     by_tests true false f rest = rest
     by_tests false b f rest = rest
 
-stands_next : (plan : Plan) (turn at : ℕ) (doing : Doing) (x : Comes) (p : TurnPosition) → IsClusterPlan plan → Stands plan turn at doing → Goes plan turn at doing x p → StandsAt plan p
+stands_next : (plan : Plan) (turn at : ℕ) (doing : Doing) (x : Comes) (p : TurnPosition) → IsClusterPlan plan → Stands plan turn at doing → GoesServed plan turn at doing x p → StandsAt plan p
 stands_next plan turn at Starting (Begins None) p cp s g = subst (StandsAt plan) (sym g.1) (stands_coming plan turn (at + 1))
 stands_next plan turn at Starting (Begins (Some reading)) p cp s g = subst (StandsAt plan) (sym g.1) (stands_coming plan turn (at + 1))
 stands_next plan turn at Starting (Turns reading) p cp s g = absurd g
 stands_next plan turn at Starting (Bids command) p cp s g = absurd g
 stands_next plan turn at Starting (Hears answer) p cp s g = absurd g
 stands_next plan turn at Starting Fires p cp s g = absurd g
+stands_next plan turn at Starting Rests p cp s g = absurd g
 stands_next plan turn at Turning (Begins reading) p cp s g = absurd g
 stands_next plan turn at Turning (Turns reading) p cp s g =
     subst (StandsAt plan) (sym g) (s.0, λ e here. named_in plan turn at e here plan.orders cp.named)
 stands_next plan turn at Turning (Bids command) p cp s g = absurd g
 stands_next plan turn at Turning (Hears answer) p cp s g = absurd g
 stands_next plan turn at Turning Fires p cp s g = absurd g
+stands_next plan turn at Turning Rests p cp s g = absurd g
 stands_next plan turn at (Busy [] n) (Begins reading) p cp s g = absurd g
 stands_next plan turn at (Busy [] n) (Turns reading) p cp s g = absurd g
-stands_next plan turn at (Busy [] n) (Bids command) p cp s g = absurd g
+stands_next plan turn at (Busy [] n) (Bids command) p cp s g = subst (StandsAt plan) (sym g.2) s
 stands_next plan turn at (Busy [] n) (Hears (Datagram bytes)) p cp s g = subst (StandsAt plan) (sym g) (stands_hearing plan turn at (n + 1) s.0)
-stands_next plan turn at (Busy [] n) (Hears Absent) p cp s g = subst (StandsAt plan) (sym g) (stands_rests plan turn at s.0)
-stands_next plan turn at (Busy [] n) (Hears Failed) p cp s g = subst (StandsAt plan) (sym g) (stands_rests plan turn at s.0)
+stands_next plan turn at (Busy [] n) (Hears Absent) p cp s g = subst (StandsAt plan) (sym g) (stands_heard_all plan turn at s.0)
+stands_next plan turn at (Busy [] n) (Hears Failed) p cp s g = subst (StandsAt plan) (sym g) (stands_heard_all plan turn at s.0)
 stands_next plan turn at (Busy [] n) Fires p cp s g = absurd g
+stands_next plan turn at (Busy [] n) Rests p cp s g = absurd g
 stands_next plan turn at (Busy (d ∷ ds) n) (Begins reading) p cp s g = absurd g
 stands_next plan turn at (Busy (d ∷ ds) n) (Turns reading) p cp s g = absurd g
 stands_next plan turn at (Busy (d ∷ ds) n) (Bids command) p cp s g = subst (StandsAt plan) (sym g.1) (s.0, λ e here. (s.1 e here).1)
 stands_next plan turn at (Busy (d ∷ ds) n) (Hears answer) p cp s g = absurd g
 stands_next plan turn at (Busy (d ∷ ds) n) Fires p cp s g = absurd g
+stands_next plan turn at (Busy (d ∷ ds) n) Rests p cp s g = absurd g
 stands_next plan turn at Firing (Begins reading) p cp s g = absurd g
 stands_next plan turn at Firing (Turns reading) p cp s g = absurd g
 stands_next plan turn at Firing (Bids command) p cp s g = absurd g
 stands_next plan turn at Firing (Hears answer) p cp s g = absurd g
 stands_next plan turn at Firing Fires p cp s g = subst (StandsAt plan) (sym g) (stands_coming plan turn (at + 1))
+stands_next plan turn at Firing Rests p cp s g = subst (StandsAt plan) (sym g) (stands_coming plan turn (at + 1))
 
-pub stands : (plan : Plan) (h : History) (p : TurnPosition) → IsClusterPlan plan → IsInOrder plan h p → StandsAt plan p
+pub stands : (plan : Plan) (h : History) (p : TurnPosition) → IsClusterPlan plan → IsServedOrder plan h p → StandsAt plan p
 stands plan [] p cp o = subst (StandsAt plan) (sym o) (stands_arrive plan 0 0)
 stands plan (x ∷ h) p cp o = let q = o.0 in stands_next plan q.turn q.at q.doing x.comes p cp (stands plan h q cp o.1.0) o.1.1.goes
 
@@ -117,8 +122,8 @@ on_coming plan turn at = by_test (nat_lt at (length plan.actors))
     by_test true = omega arith
     by_test false = omega arith
 
-pub on_rests : (plan : Plan) (turn at : ℕ) → turn ≤ (rests plan turn at).turn
-on_rests plan turn at = by_test (is_node_at plan at)
+pub on_heard_all : (plan : Plan) (turn at : ℕ) → turn ≤ (heard_all plan turn at).turn
+on_heard_all plan turn at = by_test (is_node_at plan at)
   where
     by_test : (b : Bool) → turn ≤ (if b then record { turn = turn; at = at; doing = Firing } else onward plan turn at).turn
     by_test true = omega arith
@@ -127,9 +132,9 @@ on_rests plan turn at = by_test (is_node_at plan at)
 pub on_hearing : (plan : Plan) (turn at n : ℕ) → turn ≤ (hearing plan turn at n).turn
 on_hearing plan turn at n = by_test (nat_lt n 64)
   where
-    by_test : (b : Bool) → turn ≤ (if b then record { turn = turn; at = at; doing = Busy [] n } else rests plan turn at).turn
+    by_test : (b : Bool) → turn ≤ (if b then record { turn = turn; at = at; doing = Busy [] n } else heard_all plan turn at).turn
     by_test true = omega arith
-    by_test false = on_rests plan turn at
+    by_test false = on_heard_all plan turn at
 
 pub turns_on : (turn : ℕ) (p q : TurnPosition) → turn ≤ q.turn → p ≡ q → turn ≤ p.turn
 turns_on turn p q le e = subst (λ (r : TurnPosition). turn ≤ r.turn) (sym e) le

@@ -15,9 +15,10 @@ use Rattle.fabric_terms.specs.Sound.{IsSound}
 use Rattle.ring_safety.proofs.Safe.{leaves_before_take_over_lem, ring_is_safe_lem}
 use Rattle.turn_rules.specs.Plans.{Setting}
 use Rattle.turn_rules.specs.Process.{Process, after}
+use Rattle.turn_rules.proofs.Served.{plans_are_served}
 use Rattle.world_rules.specs.Runs.{History, run_of}
 use Rattle.write_safety.proofs.Agreed.{commits_agree_lem}
-use Rattle.cluster_safety.specs.Laws.{ClusterIsSafe}
+use Rattle.cluster_safety.specs.Laws.{ClusterIsSafe, ServedClusterIsSafe}
 use Rattle.cluster_safety.specs.Moments.{moments_of}
 use Rattle.cluster_safety.proofs.Acts.{JoinedBy}
 use Rattle.cluster_safety.proofs.Answers.{answers_of_committed}
@@ -42,8 +43,8 @@ run_is_safe s p sound j =
     let steps : Safe (steps_of run) = tells_alike (steps_of run) run (told_steps run) is_schedule.steps_ring is_schedule.steps_taken safe in
     safe_shown (moments_of p.steps) (moments fabric c j.xs) j.shows (subst Safe is_schedule.steps steps)
 
-pub cluster_is_safe_lem : ClusterIsSafe
-cluster_is_safe_lem s h p sound cp kn order own =
+pub served_cluster_is_safe_lem : ServedClusterIsSafe
+served_cluster_is_safe_lem s h p sound cp kn order own =
     let q : Process = after s h in
     let j : JoinedBy s q = (all_joined s cp kn h p order own).joined in
     let schedule : History = events_of fabric s.plan.config j.xs in
@@ -55,3 +56,6 @@ cluster_is_safe_lem s h p sound cp kn order own =
       names = names_covered s q.members q.last q.steps j sound cp.rise;
       answers = answers_of_committed s h p sound cp kn order own;
     }
+
+pub cluster_is_safe_lem : ClusterIsSafe
+cluster_is_safe_lem s h p sound cp kn order own = served_cluster_is_safe_lem s h p sound cp kn (plans_are_served s.plan h p order) own

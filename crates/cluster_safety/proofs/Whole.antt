@@ -10,10 +10,10 @@ use Rattle.fabric_terms.specs.declared.record.Record.{Record}
 use Rattle.ring_rules.specs.declared.input.Input.{Input}
 use Rattle.ring_rules.specs.declared.input.Input.TheVariants as input
 use Rattle.frame_format.specs.Kinds.{message_of}
-use Rattle.turn_rules.specs.Happenings.{Absent, Begins, Bids, Comes, Datagram, Failed, Fires, Hears, History, Turns}
-use Rattle.turn_rules.specs.Order.{Busy, Doing, Firing, Goes, IsInOrder, IsNext, TurnPosition, Starting, Turning, arrive, hearing, onward, rests}
+use Rattle.turn_rules.specs.Happenings.{Absent, Begins, Bids, Comes, Datagram, Failed, Fires, Hears, History, Rests, Turns}
+use Rattle.turn_rules.specs.Order.{Busy, Doing, Firing, GoesServed, IsNext, IsServedOrder, TurnPosition, Starting, Turning, arrive, hearing, onward, heard_all}
 use Rattle.turn_rules.specs.Plans.{Plan, Setting, is_node_at, is_of_node}
-use Rattle.turn_rules.specs.Process.{End, Process, acts, after, begins, clamped, hears_frame, joins, joins_as, joins_at, joins_with, nothing_yet, reads, reads_as, takes, unless_ended, unless_full}
+use Rattle.turn_rules.specs.Process.{End, Process, acts, after, begins, clamped, hears_frame, joins, joins_as, joins_at, joins_with, nothing_yet, reads, reads_as, rests_at, takes, unless_ended, unless_full}
 use Rattle.unit_rules.specs.Fabric.{fabric}
 use Rattle.turn_rules.specs.Steps.{Stepped, arbiter_stepped, begun, begun_as, exceeds, node_stepped, present}
 use Rattle.world_rules.specs.Arbiters.{arbiter_begun}
@@ -23,10 +23,10 @@ use Rattle.world_rules.specs.Schedules.{command_names}
 use Rattle.world_rules.specs.Uppers.{idle}
 use Rattle.cluster_safety.specs.Moments.{frames_of, last_reading}
 use Rattle.cluster_safety.specs.Plans.{IsClusterPlan, IsOneOf, IsOwn, KeepsNothing, OwnFrames}
-use Rattle.cluster_safety.proofs.Acts.{FitsInput, JoinedBy, acts_joined, none_past}
+use Rattle.cluster_safety.proofs.Acts.{FitsInput, JoinedBy, acts_joined, none_past, rests_joined}
 use Rattle.cluster_safety.proofs.Joined.{joined_at, joined_first}
 use Rattle.cluster_safety.proofs.Members.{length_more}
-use Rattle.cluster_safety.proofs.Places.{Stands, on_coming, on_hearing, on_rests, stands, turns_on}
+use Rattle.cluster_safety.proofs.Places.{Stands, on_coming, on_hearing, on_heard_all, stands, turns_on}
 use Rattle.cluster_safety.proofs.Starts.{arbiter_starts, node_starts}
 
 -- before a node's firing its reading may be newer than the last step of a node
@@ -59,8 +59,8 @@ live_on : (plan : Plan) (p : TurnPosition) (old new : Process) (turn : ℕ) → 
 live_on plan p old new turn later le all same settled = record { started = λ zero. absurd (omega (arith, zero)); all = λ t. omega arith; settled = settled }
 
 -- nothing settles at a node's place before its firing
-unsettled_rests : (plan : Plan) (turn at : ℕ) → is_node_at plan at ≡ true → Settled plan (rests plan turn at).at (rests plan turn at).doing → ⊥
-unsettled_rests plan turn at e =
+unsettled_heard_all : (plan : Plan) (turn at : ℕ) → is_node_at plan at ≡ true → Settled plan (heard_all plan turn at).at (heard_all plan turn at).doing → ⊥
+unsettled_heard_all plan turn at e =
     let fires : TurnPosition = record { turn = turn; at = at; doing = Firing } in
     let P : Bool → Type 0 = λ b. let q = if b then fires else onward plan turn at in Settled plan q.at q.doing → ⊥ in
     subst P (sym e) (λ h. h)
@@ -68,9 +68,9 @@ unsettled_rests plan turn at e =
 unsettled_hearing : (plan : Plan) (turn at n : ℕ) → is_node_at plan at ≡ true → Settled plan (hearing plan turn at n).at (hearing plan turn at n).doing → ⊥
 unsettled_hearing plan turn at n e = by_test (nat_lt n 64)
   where
-    by_test : (b : Bool) → let q = if b then record { turn = turn; at = at; doing = Busy [] n } else rests plan turn at in Settled plan q.at q.doing → ⊥
+    by_test : (b : Bool) → let q = if b then record { turn = turn; at = at; doing = Busy [] n } else heard_all plan turn at in Settled plan q.at q.doing → ⊥
     by_test true h = let no : true ≡ false = sym e ∙ h in cc
-    by_test false h = unsettled_rests plan turn at e h
+    by_test false h = unsettled_heard_all plan turn at e h
 
 -- where nothing was done
 still_settled : (plan : Plan) (at : ℕ) (p : TurnPosition) (q : Process) → (is_node_at plan at ≡ true → Settled plan p.at p.doing → ⊥) →
@@ -191,6 +191,12 @@ module _ (s : Setting) (cp : IsClusterPlan s.plan) (kn : KeepsNothing s) (turn a
       let a = acts_joined s p turn at cp.rise later j i fits all settled in
       record { joined = a.joined; live = λ h. live_on s.plan q p (acts s turn p at i) turn later le all a.same_length (λ k. a.reading) }
 
+  -- a node's turn ends without a firing
+  fired_not : 1 ≤ turn → turn ≤ q.turn → length s.plan.actors ≤ length p.members → is_node_at s.plan at ≡ true → Next (rests_at turn p (slice_get p.members at))
+  fired_not later le all node =
+      let a = rests_joined s p turn at cp.rise later j all node in
+      record { joined = a.joined; live = λ h. live_on s.plan q p (rests_at turn p (slice_get p.members at)) turn later le all a.same_length (λ k. a.reading) }
+
   -- nothing
   rested : 1 ≤ turn → turn ≤ q.turn → length s.plan.actors ≤ length p.members → (is_node_at s.plan at ≡ false → last_reading p.steps ≡ present p.last) →
       (is_node_at s.plan at ≡ true → Settled s.plan q.at q.doing → ⊥) → Next p
@@ -213,7 +219,7 @@ module _ (s : Setting) (cp : IsClusterPlan s.plan) (kn : KeepsNothing s) (turn a
       }
 
 goes_on : (s : Setting) (cp : IsClusterPlan s.plan) (kn : KeepsNothing s) (turn at : ℕ) (doing : Doing) (x : Comes) (p : Process) (q : TurnPosition) → p.end ≡ None → JoinedBy s p →
-    Stands s.plan turn at doing → Live s.plan (record { turn = turn; at = at; doing = doing }) p → IsOwn (frames_of p.steps) x → Goes s.plan turn at doing x q → GoesOn s q (takes s turn p at x)
+    Stands s.plan turn at doing → Live s.plan (record { turn = turn; at = at; doing = doing }) p → IsOwn (frames_of p.steps) x → GoesServed s.plan turn at doing x q → GoesOn s q (takes s turn p at x)
 goes_on s cp kn turn at Starting (Begins None) p q live j st l own g =
     subst (λ (r : TurnPosition). GoesOn s r (joins s turn at p)) (sym g.1) (begins_arbiter s cp kn turn at p st (l.started st) (l.settled tt) live j g.0)
 goes_on s cp kn turn at Starting (Begins (Some r)) p q live j st l own g =
@@ -222,6 +228,7 @@ goes_on s cp kn turn at Starting (Turns r) p q live j st l own g = absurd g
 goes_on s cp kn turn at Starting (Bids d) p q live j st l own g = absurd g
 goes_on s cp kn turn at Starting (Hears a) p q live j st l own g = absurd g
 goes_on s cp kn turn at Starting Fires p q live j st l own g = absurd g
+goes_on s cp kn turn at Starting Rests p q live j st l own g = absurd g
 goes_on s cp kn turn at Turning (Begins r) p q live j st l own g = absurd g
 goes_on s cp kn turn at Turning (Turns r) p q live j st l own g =
     clock_read s cp kn turn at p q live j r st.0 st.1 (l.all st.0) (turns_on turn q _ (omega arith) g)
@@ -229,19 +236,22 @@ goes_on s cp kn turn at Turning (Turns r) p q live j st l own g =
 goes_on s cp kn turn at Turning (Bids d) p q live j st l own g = absurd g
 goes_on s cp kn turn at Turning (Hears a) p q live j st l own g = absurd g
 goes_on s cp kn turn at Turning Fires p q live j st l own g = absurd g
+goes_on s cp kn turn at Turning Rests p q live j st l own g = absurd g
 goes_on s cp kn turn at (Busy [] n) (Begins r) p q live j st l own g = absurd g
 goes_on s cp kn turn at (Busy [] n) (Turns r) p q live j st l own g = absurd g
-goes_on s cp kn turn at (Busy [] n) (Bids d) p q live j st l own g = absurd g
+goes_on s cp kn turn at (Busy [] n) (Bids d) p q live j st l own g =
+    acted s cp kn turn at p q live j (input.Do d) st.0 (turns_on turn q _ (omega arith) g.2) (l.all st.0) l.settled g.1
 goes_on s cp kn turn at (Busy [] n) (Hears (Datagram bytes)) p q live j st l own g =
     heard s cp kn turn at p q live j (message_of bytes) own st.0 (turns_on turn q _ (on_hearing s.plan turn at (n + 1)) g) (l.all st.0) l.settled
     (λ e. subst (λ (x : TurnPosition). Settled s.plan x.at x.doing → ⊥) (sym g) (unsettled_hearing s.plan turn at (n + 1) e))
 goes_on s cp kn turn at (Busy [] n) (Hears Absent) p q live j st l own g =
-    rested s cp kn turn at p q live j st.0 (turns_on turn q _ (on_rests s.plan turn at) g) (l.all st.0) l.settled
-    (λ e. subst (λ (x : TurnPosition). Settled s.plan x.at x.doing → ⊥) (sym g) (unsettled_rests s.plan turn at e))
+    rested s cp kn turn at p q live j st.0 (turns_on turn q _ (on_heard_all s.plan turn at) g) (l.all st.0) l.settled
+    (λ e. subst (λ (x : TurnPosition). Settled s.plan x.at x.doing → ⊥) (sym g) (unsettled_heard_all s.plan turn at e))
 goes_on s cp kn turn at (Busy [] n) (Hears Failed) p q live j st l own g =
-    rested s cp kn turn at p q live j st.0 (turns_on turn q _ (on_rests s.plan turn at) g) (l.all st.0) l.settled
-    (λ e. subst (λ (x : TurnPosition). Settled s.plan x.at x.doing → ⊥) (sym g) (unsettled_rests s.plan turn at e))
+    rested s cp kn turn at p q live j st.0 (turns_on turn q _ (on_heard_all s.plan turn at) g) (l.all st.0) l.settled
+    (λ e. subst (λ (x : TurnPosition). Settled s.plan x.at x.doing → ⊥) (sym g) (unsettled_heard_all s.plan turn at e))
 goes_on s cp kn turn at (Busy [] n) Fires p q live j st l own g = absurd g
+goes_on s cp kn turn at (Busy [] n) Rests p q live j st l own g = absurd g
 goes_on s cp kn turn at (Busy (c ∷ cs) n) (Begins r) p q live j st l own g = absurd g
 goes_on s cp kn turn at (Busy (c ∷ cs) n) (Turns r) p q live j st l own g = absurd g
 goes_on s cp kn turn at (Busy (c ∷ cs) n) (Bids d) p q live j st l own g =
@@ -249,6 +259,7 @@ goes_on s cp kn turn at (Busy (c ∷ cs) n) (Bids d) p q live j st l own g =
     (λ e here. ap (command_names s.plan.config e.actor) g.0 ∙ (st.1 e here).0)
 goes_on s cp kn turn at (Busy (c ∷ cs) n) (Hears a) p q live j st l own g = absurd g
 goes_on s cp kn turn at (Busy (c ∷ cs) n) Fires p q live j st l own g = absurd g
+goes_on s cp kn turn at (Busy (c ∷ cs) n) Rests p q live j st l own g = absurd g
 goes_on s cp kn turn at Firing (Begins r) p q live j st l own g = absurd g
 goes_on s cp kn turn at Firing (Turns r) p q live j st l own g = absurd g
 goes_on s cp kn turn at Firing (Bids d) p q live j st l own g = absurd g
@@ -256,10 +267,12 @@ goes_on s cp kn turn at Firing (Hears a) p q live j st l own g = absurd g
 goes_on s cp kn turn at Firing Fires p q live j st l own g =
     acted s cp kn turn at p q live j input.Fire st.0 (turns_on turn q _ (on_coming s.plan turn (at + 1)) g) (l.all st.0)
     (λ e. let no : true ≡ false = sym st.1 ∙ e in cc) tt
+goes_on s cp kn turn at Firing Rests p q live j st l own g =
+    fired_not s cp kn turn at p q live j st.0 (turns_on turn q _ (on_coming s.plan turn (at + 1)) g) (l.all st.0) st.1
 
 -- The whole history.
 
-pub all_joined : (s : Setting) → IsClusterPlan s.plan → KeepsNothing s → (h : History) (p : TurnPosition) → IsInOrder s.plan h p → OwnFrames s h → GoesOn s p (after s h)
+pub all_joined : (s : Setting) → IsClusterPlan s.plan → KeepsNothing s → (h : History) (p : TurnPosition) → IsServedOrder s.plan h p → OwnFrames s h → GoesOn s p (after s h)
 all_joined s cp kn [] p o own =
     subst (λ (q : TurnPosition). GoesOn s q nothing_yet) (sym o) (record {
       joined = joined_first s;
@@ -274,7 +287,7 @@ all_joined s cp kn (x ∷ h) p o own = by_end (all_joined s cp kn h o.0 o.1.0 ow
         subst (GoesOn s p) (sym same) (record { joined = before.joined; live = λ none. absurd (over none) })
     by_end before None e =
         let q : TurnPosition = o.0 in
-        let n : IsNext s.plan q x p = o.1.1 in
+        let n : IsNext GoesServed s.plan q x p = o.1.1 in
         let same : after s (x ∷ h) ≡ takes s q.turn (after s h) q.at x.comes =
         ap (λ (o : Option End). unless_ended (after s h) o (takes s x.turn (after s h) x.place x.comes)) e
         ∙ (λ i. takes s (n.turn i) (after s h) (n.place i) x.comes) in

@@ -8,7 +8,7 @@ use Rattle.edge_io.specs.Told.{Told}
 use Rattle.ring_points.specs.Whos.{node_instance}
 use Rattle.ring_points.specs.declared.who.Who.{Who}
 use Rattle.turn_rules.specs.Happenings.{History}
-use Rattle.turn_rules.specs.Order.{IsInOrder, TurnPosition}
+use Rattle.turn_rules.specs.Order.{Goes, GoesServed, IsInOrderBy, Rows, TurnPosition}
 use Rattle.turn_rules.specs.Plans.{Plan, Setting}
 use Rattle.turn_rules.specs.Recalled.{Recalled}
 use Rattle.turn_rules.specs.Steps.{Step}
@@ -17,11 +17,19 @@ use Rattle.cluster_safety.specs.Moments.{moments_of}
 use Rattle.cluster_safety.specs.Plans.{HoldsNothing, IsClusterPlan, KeepsNothing, OwnFrames}
 use Rattle.cluster_safety.specs.Promises.{SafeSteps}
 
--- The steps of a cluster are safe: of a sound configuration, from empty records, in the order of its plan, where it hears its
+-- The steps of a cluster are safe: of a sound configuration, from empty records, in an order by these rows, where it hears its
 -- own frames alone. A reading above 10^15 counts as 10^15, as in the steps.
+abbrev pub ClusterIsSafeBy : Rows → Type 0
+ClusterIsSafeBy may_go = (s : Setting) (h : History) (p : TurnPosition) → IsSound s.plan.config → IsClusterPlan s.plan → KeepsNothing s →
+    IsInOrderBy may_go s.plan h p → OwnFrames s h → SafeSteps s h
+
+-- in the order of its plan
 abbrev pub ClusterIsSafe : Type 0
-ClusterIsSafe = (s : Setting) (h : History) (p : TurnPosition) → IsSound s.plan.config → IsClusterPlan s.plan → KeepsNothing s → IsInOrder s.plan h p → OwnFrames s h →
-    SafeSteps s h
+ClusterIsSafe = ClusterIsSafeBy Goes
+
+-- in a served order: commands may come as it runs, and turns may end without a firing
+abbrev pub ServedClusterIsSafe : Type 0
+ServedClusterIsSafe = ClusterIsSafeBy GoesServed
 
 -- a run that begins with a keeper that holds nothing begins with no record
 abbrev pub NothingIsRecalled : Type 0

@@ -22,7 +22,7 @@ use Rattle.turn_rules.specs.Effects.{Did, Stays, FailedSince, lost, records_of, 
 use Rattle.turn_rules.specs.Ends.{Stopped}
 use Rattle.turn_rules.specs.Handed.{Handed, Gave, Answered, Arrival, readings_of, answers_at, answer_in, is_at, is_endpoint_of, failures_of}
 use Rattle.turn_rules.specs.Happenings.{LinkAnswer, Datagram, Absent, Failed, Hears, Happening, History}
-use Rattle.turn_rules.specs.Order.{TurnPosition, Busy, IsInOrder, rests, hearing}
+use Rattle.turn_rules.specs.Order.{TurnPosition, Busy, IsInOrder, heard_all, hearing}
 use Rattle.turn_rules.specs.Plans.{Plan, Setting}
 use Rattle.turn_rules.specs.Process.{Process, after, hears_frame}
 use Rattle.turn_rules.specs.Steps.{Step}
@@ -154,7 +154,7 @@ stands_on s b c run h x e t clock = record {
   clock = clock;
 }
 
-pub nothing_comes : (s : Setting) (a b c : Told) (run : Run) (h : History) (turn place n : ℕ) (e : Endpoint) (into : List ℕ) (answer : Option ℕ) → answer ≡ None → n < 64 → slice_get s.plan.actors place ≡ Some e → At s a b run h (hearing s.plan turn place n) → Receives e.actor into b (Ok answer) c → (now : History) × At s a c run now (rests s.plan turn place)
+pub nothing_comes : (s : Setting) (a b c : Told) (run : Run) (h : History) (turn place n : ℕ) (e : Endpoint) (into : List ℕ) (answer : Option ℕ) → answer ≡ None → n < 64 → slice_get s.plan.actors place ≡ Some e → At s a b run h (hearing s.plan turn place n) → Receives e.actor into b (Ok answer) c → (now : History) × At s a c run now (heard_all s.plan turn place)
 nothing_comes s a b c run h turn place n e into answer none small here t k =
     let x = hears_at turn place Absent in
     let same : after s (x ∷ h) ≡ after s h = after_next s h x t.stands.on in
@@ -170,7 +170,7 @@ nothing_comes s a b c run h turn place n e into answer none small here t k =
       },
     )
 
-pub failure_comes : (s : Setting) (a b c : Told) (run : Run) (h : History) (turn place n : ℕ) (e : Endpoint) (into : List ℕ) (failed : HasFailed) → n < 64 → slice_get s.plan.actors place ≡ Some e → At s a b run h (hearing s.plan turn place n) → Receives e.actor into b (Err failed) c → (now : History) × At s a c run now (rests s.plan turn place)
+pub failure_comes : (s : Setting) (a b c : Told) (run : Run) (h : History) (turn place n : ℕ) (e : Endpoint) (into : List ℕ) (failed : HasFailed) → n < 64 → slice_get s.plan.actors place ≡ Some e → At s a b run h (hearing s.plan turn place n) → Receives e.actor into b (Err failed) c → (now : History) × At s a c run now (heard_all s.plan turn place)
 failure_comes s a b c run h turn place n e into failed small here t k =
     let x = hears_at turn place Failed in
     let same : after s (x ∷ h) ≡ after s h = after_next s h x t.stands.on in

@@ -6,7 +6,7 @@ use Rattle.fabric_turns.specs.Moves.{Asks, Goes, Leads, at_place}
 use Rattle.fabric_turns.specs.Runs.{Run}
 use Rattle.edge_io.specs.Told.{Told}
 use Rattle.std.specs.Prelude.{Ok}
-use Rattle.turn_rules.specs.Order.{TurnPosition, Starting, Turning, Busy, Firing, arrive, coming, onward, rests, hearing}
+use Rattle.turn_rules.specs.Order.{TurnPosition, Starting, Turning, Busy, Firing, arrive, coming, onward, heard_all, hearing}
 use Rattle.turn_rules.specs.Plans.{Plan, Setting, is_node_at}
 use Rattle.turn_rules.specs.declared.stop_cause.StopCause.{StopCause}
 
@@ -37,14 +37,14 @@ arbiter_arrives plan turn at h arbiter =
     ap (λ (b : Bool). at_place turn at (if b then Starting else if is_node_at plan at then Turning else Busy [] 0)) (no_start turn h)
     ∙ ap (λ (b : Bool). at_place turn at (if b then Turning else Busy [] 0)) arbiter
 
-pub node_rests : (plan : Plan) (turn at : ℕ) → is_node_at plan at ≡ true → rests plan turn at ≡ at_place turn at Firing
-node_rests plan turn at node = ap (λ (b : Bool). if b then at_place turn at Firing else onward plan turn at) node
+pub node_heard_all : (plan : Plan) (turn at : ℕ) → is_node_at plan at ≡ true → heard_all plan turn at ≡ at_place turn at Firing
+node_heard_all plan turn at node = ap (λ (b : Bool). if b then at_place turn at Firing else onward plan turn at) node
 
-pub arbiter_rests : (plan : Plan) (turn at : ℕ) → is_node_at plan at ≡ false → rests plan turn at ≡ onward plan turn at
-arbiter_rests plan turn at arbiter = ap (λ (b : Bool). if b then at_place turn at Firing else onward plan turn at) arbiter
+pub arbiter_heard_all : (plan : Plan) (turn at : ℕ) → is_node_at plan at ≡ false → heard_all plan turn at ≡ onward plan turn at
+arbiter_heard_all plan turn at arbiter = ap (λ (b : Bool). if b then at_place turn at Firing else onward plan turn at) arbiter
 
 pub hears_on : (plan : Plan) (turn at n : ℕ) → n < 64 → hearing plan turn at n ≡ at_place turn at (Busy [] n)
-hears_on plan turn at n h = ap (λ (b : Bool). if b then at_place turn at (Busy [] n) else rests plan turn at) (below n 64 h)
+hears_on plan turn at n h = ap (λ (b : Bool). if b then at_place turn at (Busy [] n) else heard_all plan turn at) (below n 64 h)
 
 -- by other names of the places
 

@@ -5,7 +5,7 @@ ghost use Rattle.fabric_terms.specs.declared.record.Record.{Record};
 ghost use Rattle.fabric_turns.specs.Moves.{Reaches, Goes, Asks, at_place};
 ghost use Rattle.fabric_turns.specs.Runs.{IsReady, Meets};
 ghost use Rattle.turn_rules.specs.Happenings.{Datagram, Hears, History};
-ghost use Rattle.turn_rules.specs.Order.{TurnPosition, Busy, hearing, rests};
+ghost use Rattle.turn_rules.specs.Order.{TurnPosition, Busy, hearing, heard_all};
 ghost use Rattle.turn_rules.specs.Whole.{setting};
 
 use crate::actor_step::act;
@@ -79,7 +79,7 @@ fn hear_one<O: Outside>(
     ensures done { (kept : List (List Record)) (n : ℕ) → n < MAX_DATAGRAMS →
         Asks (setting plan.now kept) (O.told outside.old) run.old
         (hearing plan.now at.turn.number at.place n) (O.told outside.new) run.new
-        (hearing plan.now at.turn.number at.place (n + 1)) (rests plan.now at.turn.number at.place) result }
+        (hearing plan.now at.turn.number at.place (n + 1)) (heard_all plan.now at.turn.number at.place) result }
     ensures ready { IsReady plan.now run.new (O.told outside.new) }
     ensures same { length run.new.members ≡ length run.old.members }
 {
@@ -108,7 +108,7 @@ pub(crate) fn hear<O: Outside>(
     ensures done { (kept : List (List Record)) →
         Goes (setting plan.now kept) (O.told outside.old) run.old
         (at_place at.turn.number at.place (Busy [] 0)) (O.told outside.new) run.new
-        (rests plan.now at.turn.number at.place) result }
+        (heard_all plan.now at.turn.number at.place) result }
     ensures ready { IsReady plan.now run.new (O.told outside.new) }
     ensures same { length run.new.members ≡ length run.old.members }
 {

@@ -1,4 +1,5 @@
 mod OnePlace
+pub mod Served
 mod Ended
 mod Strangers
 mod Example

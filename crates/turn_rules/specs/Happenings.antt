@@ -9,13 +9,14 @@ pub data LinkAnswer : Type 0 where
   Failed : LinkAnswer
 
 -- What comes to an actor: its start, a node's with a reading; a node's turn, with a reading; a command; an answer of the
--- links; a firing.
+-- links; a firing; the end of a turn without a firing.
 pub data Comes : Type 0 where
   Begins : (reading : Option ℕ) → Comes
   Turns : (reading : ℕ) → Comes
   Bids : (command : Command) → Comes
   Hears : (answer : LinkAnswer) → Comes
   Fires : Comes
+  Rests : Comes
 
 -- in which turn it comes, and to whom: the actor's place in the order of turns
 pub record Happening : Type 0 where

@@ -9,9 +9,9 @@ use Rattle.ring_rules.specs.declared.input.Input.{Input}
 use Rattle.ring_rules.specs.declared.input.Input.TheVariants as input
 use Rattle.frame_format.specs.Kinds.{message_of}
 use Rattle.ring_points.specs.Limits.{most_reading}
-use Rattle.turn_rules.specs.Happenings.{Datagram, Absent, Failed, Comes, Begins, Turns, Bids, Hears, Fires, Happening, History}
+use Rattle.turn_rules.specs.Happenings.{Datagram, Absent, Failed, Comes, Begins, Turns, Bids, Hears, Fires, Rests, Happening, History}
 use Rattle.turn_rules.specs.Plans.{Setting}
-use Rattle.turn_rules.specs.Steps.{Member, Step, Stepped, begun, exceeds, left_of, present, stepped}
+use Rattle.turn_rules.specs.Steps.{Member, Step, Stepped, begun, exceeds, left_of, present, rested, stepped}
 
 -- how a run ends before its last turn: the clock fell, a node left the ring, or an arbitrator can keep no more
 pub data End : Type 0 where
@@ -93,6 +93,11 @@ abbrev pub hears_frame : Setting → ℕ → Process → ℕ → Option Message 
 hears_frame s turn p place None = p
 hears_frame s turn p place (Some m) = acts s turn p place (input.Frame m)
 
+-- A turn ends without a firing: the actor stays as it is, and its step says at which reading.
+abbrev pub rests_at : ℕ → Process → Option Member → Process
+rests_at turn p None = p
+rests_at turn p (Some m) = record p { steps = rested turn p.last m ∷ p.steps }
+
 abbrev pub takes : Setting → ℕ → Process → ℕ → Comes → Process
 takes s turn p place (Begins reading) = begins s turn place p reading
 takes s turn p place (Turns reading) = reads p reading
@@ -101,6 +106,7 @@ takes s turn p place (Hears (Datagram bytes)) = hears_frame s turn p place (mess
 takes s turn p place (Hears Absent) = p
 takes s turn p place (Hears Failed) = p
 takes s turn p place Fires = acts s turn p place input.Fire
+takes s turn p place Rests = rests_at turn p (slice_get p.members place)
 
 -- what has ended goes on no more
 abbrev pub happens : Setting → Process → Happening → Process

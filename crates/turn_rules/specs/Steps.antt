@@ -69,6 +69,11 @@ stepped c turn last i (Node s) = node_stepped turn (present last) (node_step fab
 stepped c turn last (input.Frame m) (Arbiter number s) = arbiter_stepped turn number (arbiter_step fabric c number m s)
 stepped c turn last i (Arbiter number s) = arbiter_stepped turn number (idle s)
 
+-- the step of an actor that does nothing, at this last reading of the clock
+abbrev pub rested : ℕ → Option ℕ → Member → Step
+rested turn last (Node s) = (node_stepped turn (present last) (idle s)).step
+rested turn last (Arbiter number s) = (arbiter_stepped turn number (idle s)).step
+
 -- an arbitrator has no more entries than this
 abbrev pub most_entries : ℕ
 most_entries = 1000000

@@ -18,8 +18,8 @@ mod stop_cause;
 
 pub use address::{arbiter_address, node_address};
 pub use laws::{
-    a_bad_record_bars_a_run, a_frame_to_nobody_makes_no_datagram, a_turn_in_order,
-    nothing_comes_after_an_end, what_has_come_leads_to_one_place,
+    a_bad_record_bars_a_run, a_frame_to_nobody_makes_no_datagram, a_resting_turn_does_nothing, a_run_of_a_plan_is_served,
+    a_turn_in_order, nothing_comes_after_an_end, served_turns_in_order, what_has_come_leads_to_one_place,
 };
 pub use order::Order;
 pub use orders::Orders;
