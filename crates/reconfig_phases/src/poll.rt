@@ -1,5 +1,6 @@
-ghost use Rattle.std.specs.Prelude.{◌≡◌, ◌≤◌, ◌<◌, ◌==◌, length, is_some, count_by, unwrap_or, Some};
+ghost use Rattle.std.specs.Prelude.{◌≡◌, ◌≤◌, ◌<◌, ◌==◌, length, is_some, unwrap_or, Some};
 ghost use Rattle.std.specs.List.{position_from, position_or_len};
+ghost use Rattle.arbiter_quorum.specs.Counted.{count_given};
 ghost use Rattle.unit_rules.specs.Polls.{answered, poll_of, is_carried, has_answered, waiting};
 
 use arbiter_quorum::is_majority;
@@ -62,8 +63,9 @@ fn count_answer<A: Drop>(entries: &mut [(u16, Option<A>)], actor: u16, answer: A
     }
 }
 
-fn count_of<A>(entries: &[(u16, Option<A>)]) -> usize
-    ensures count { result ≡ count_by (λ e. is_some e.1) entries.now }
+/// How many have answered.
+fn count_given<A>(entries: &[(u16, Option<A>)]) -> usize
+    ensures count { result ≡ count_given is_some entries.now }
     ensures few { result ≤ length entries.now }
 {
     entries.iter().filter(|entry| entry.1.is_some()).count()
@@ -74,7 +76,7 @@ fn are_carried<A>(entries: &[(u16, Option<A>)]) -> bool
     requires { length entries.now ≤ MAX_ARBITRATORS }
     ensures { result ≡ is_carried entries.now }
 {
-    is_majority(entries.len() as u8, count_of(entries))
+    is_majority(entries.len() as u8, count_given(entries))
 }
 
 /// Those that have not answered.

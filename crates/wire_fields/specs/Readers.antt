@@ -134,6 +134,10 @@ epoch_at = made (λ x. record { data_loss = x.0; configuration = x.1 }) (pair (n
 unfoldable pub unit_at : List ℕ → Field (ℕ × Epoch)
 unit_at = pair (number_at 2) epoch_at
 
+-- a partition, an epoch, and a number of 4 bytes, of an entry that there may not be
+abbrev pub numbered_at : List ℕ → Field ((ℕ × Epoch) × ℕ)
+numbered_at = pair unit_at word_at
+
 unfoldable pub interval_at : List ℕ → Field Interval
 interval_at = made (λ x. record { lo = x.0; hi = x.1 }) (pair (number_at 8) (number_at 8))
 

@@ -31,6 +31,14 @@ epoch_bytes e = number_bytes 4 e.data_loss ++ number_bytes 4 e.configuration
 unfoldable pub unit_bytes : ℕ → Epoch → List ℕ
 unit_bytes partition epoch = number_bytes 2 partition ++ epoch_bytes epoch
 
+-- a partition, an epoch, and the number of an entry
+abbrev pub numbered_bytes : ℕ → Epoch → ℕ → List ℕ
+numbered_bytes partition epoch number = unit_bytes partition epoch ++ number_bytes 4 number
+
+-- a victim, a round about it, and its claimer
+abbrev pub claim_bytes : Who → ℕ → Who → List ℕ
+claim_bytes victim round claimer = who_bytes victim ++ one_byte round ++ who_bytes claimer
+
 unfoldable pub interval_bytes : Interval → List ℕ
 interval_bytes i = number_bytes 8 i.lo ++ number_bytes 8 i.hi
 

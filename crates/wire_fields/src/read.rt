@@ -11,4 +11,4 @@ pub use number::{
     u8_at, u16_at, u32_at, u64_at,
 };
 pub use ranges::{intervals_at, ranges_at};
-pub use unit::{config_at, done_at, epoch_at, payload_at, text_at, unit_at};
+pub use unit::{config_at, done_at, epoch_at, numbered_at, payload_at, text_at, unit_at};

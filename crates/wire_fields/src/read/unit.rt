@@ -5,7 +5,7 @@ ghost use Rattle.std.specs.List.{list_any};
 ghost use Rattle.ring_points.specs.Limits.{most_members};
 ghost use Rattle.fabric_terms.specs.Fields.{rises_above, has_members};
 ghost use Rattle.wire_fields.specs.Readers.{Gives, number_at, times, list_at, epoch_at, unit_at, config_at, done_at};
-ghost use Rattle.wire_fields.specs.Readers.{payload_at};
+ghost use Rattle.wire_fields.specs.Readers.{numbered_at, payload_at};
 
 use crate::not_field::NotField;
 use crate::read::number::{flag_at, u8_at, u16_at, u32_at};
@@ -35,6 +35,15 @@ pub fn unit_at(bytes: &[u8]) -> Result<(u16, Epoch, &[u8]), NotField>
     let (partition, rest) = u16_at(bytes)?;
     let (epoch, rest) = epoch_at(rest)?;
     Ok((partition, epoch, rest))
+}
+
+/// A partition, an epoch, and a number of 4 bytes, of an entry that there may not be.
+pub fn numbered_at(bytes: &[u8]) -> Result<(u16, Epoch, u32, &[u8]), NotField>
+    ensures { Gives (λ x. (((x.0, x.1), x.2), x.3.now)) result (numbered_at bytes.now) }
+{
+    let (partition, epoch, rest) = unit_at(bytes)?;
+    let (number, rest) = u32_at(rest)?;
+    Ok((partition, epoch, number, rest))
 }
 
 // As many nodes as `count` says.

@@ -5,7 +5,7 @@ ghost use Rattle.std.specs.List.{flat_map};
 ghost use Rattle.fabric_terms.specs.Fields.{is_done};
 ghost use Rattle.wire_fields.specs.Texts.{number_bytes, who_bytes, ruling_bytes, epoch_bytes, unit_bytes};
 ghost use Rattle.wire_fields.specs.Texts.{interval_bytes, ranges_bytes, list_bytes, config_bytes, done_bytes};
-ghost use Rattle.wire_fields.specs.Texts.{payload_bytes};
+ghost use Rattle.wire_fields.specs.Texts.{payload_bytes, numbered_bytes, claim_bytes};
 ghost use Rattle.wire_fields.specs.Sizes.{interval_size, most_ranges_size, most_members_size};
 ghost use Rattle.wire_fields.specs.Sizes.{most_config_size, most_done_size, most_payload_size};
 ghost use Rattle.wire_fields.specs.Writers.{Puts};
@@ -60,6 +60,27 @@ pub fn put_unit(into: &mut [u8], at: usize, partition: u16, epoch: Epoch) -> usi
 {
     let at = put_u16(into, at, partition);
     put_epoch(into, at, epoch)
+}
+
+/// A partition, an epoch and the number of an entry.
+pub fn put_numbered(into: &mut [u8], at: usize, partition: u16, epoch: Epoch, number: u32) -> usize
+    requires { at + 14 ≤ length into.old }
+    ensures wrote { Puts (numbered_bytes partition epoch number) into.old at into.new result }
+    ensures end { result ≡ at + 14 }
+{
+    let at = put_unit(into, at, partition, epoch);
+    put_u32(into, at, number)
+}
+
+/// A victim, a round about it and its claimer.
+pub fn put_claim(into: &mut [u8], at: usize, victim: Who, round: u8, claimer: Who) -> usize
+    requires { at + 13 ≤ length into.old }
+    ensures wrote { Puts (claim_bytes victim round claimer) into.old at into.new result }
+    ensures end { result ≡ at + 13 }
+{
+    let at = put_who(into, at, victim);
+    let at = put_u8(into, at, round);
+    put_who(into, at, claimer)
 }
 
 // The points from one to another.
