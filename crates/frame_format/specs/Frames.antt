@@ -3,7 +3,7 @@ use Rattle.std.specs.Prelude.{ℕ, List, [], ◌∷◌, ◌++◌}
 use Rattle.fabric_terms.specs.declared.message.Message.{Message}
 use Rattle.fabric_terms.specs.declared.message.Body.{Body}
 use Rattle.fabric_terms.specs.declared.message.Body.TheVariants.{Hello, HelloFor, Offer, OfferFor, Take, Renew, RenewAck, Transfer, Gone, Seek, Found, Accuse, Ruled, Claim, Kept, Prepare, Prepared, NoPrepare, Vote, Voted, NoVote, DoneAsk, DoneKept, NoDone, Promise, Promised, Sync, Fetch, Piece, Adopted, Activate, Activated, Append, Appended, Older}
-use Rattle.wire_fields.specs.Texts.{number_bytes, one_byte, who_bytes, epoch_bytes, ranges_bytes, unit_bytes, config_bytes, payload_bytes, flag_bytes, ruling_bytes, done_bytes, session_bytes}
+use Rattle.wire_fields.specs.Texts.{number_bytes, one_byte, who_bytes, claim_bytes, numbered_bytes, epoch_bytes, ranges_bytes, unit_bytes, config_bytes, payload_bytes, flag_bytes, ruling_bytes, done_bytes, session_bytes}
 
 -- leases of their own length have the version 2
 abbrev pub version_of : Body → ℕ
@@ -64,7 +64,7 @@ body_bytes (Found key holder) = number_bytes 8 key.0 ++ who_bytes holder
 body_bytes (Accuse victim) = who_bytes victim
 body_bytes (Ruled victim ruling) = who_bytes victim ++ ruling_bytes ruling
 body_bytes (Claim victim round) = who_bytes victim ++ one_byte round
-body_bytes (Kept victim round claimer) = who_bytes victim ++ one_byte round ++ who_bytes claimer
+body_bytes (Kept victim round claimer) = claim_bytes victim round claimer
 body_bytes (Prepare partition epoch) = unit_bytes partition epoch
 body_bytes (Prepared partition epoch config) = unit_bytes partition epoch ++ done_bytes config
 body_bytes (NoPrepare partition epoch kept) = unit_bytes partition epoch ++ epoch_bytes kept
@@ -77,13 +77,13 @@ body_bytes (NoDone partition epoch kept) = unit_bytes partition epoch ++ epoch_b
 body_bytes (Promise partition epoch) = unit_bytes partition epoch
 body_bytes (Promised partition epoch at last) = unit_bytes partition epoch ++ epoch_bytes at ++ number_bytes 4 last
 body_bytes (Sync partition epoch origin last) = unit_bytes partition epoch ++ number_bytes 2 origin ++ number_bytes 4 last
-body_bytes (Fetch partition epoch lsn) = unit_bytes partition epoch ++ number_bytes 4 lsn
-body_bytes (Piece partition epoch lsn entry_epoch text) = unit_bytes partition epoch ++ number_bytes 4 lsn ++ epoch_bytes entry_epoch ++ payload_bytes text
-body_bytes (Adopted partition epoch last) = unit_bytes partition epoch ++ number_bytes 4 last
+body_bytes (Fetch partition epoch lsn) = numbered_bytes partition epoch lsn
+body_bytes (Piece partition epoch lsn entry_epoch text) = numbered_bytes partition epoch lsn ++ epoch_bytes entry_epoch ++ payload_bytes text
+body_bytes (Adopted partition epoch last) = numbered_bytes partition epoch last
 body_bytes (Activate config) = config_bytes config
 body_bytes (Activated partition epoch) = unit_bytes partition epoch
-body_bytes (Append partition epoch lsn text) = unit_bytes partition epoch ++ number_bytes 4 lsn ++ payload_bytes text
-body_bytes (Appended partition epoch last) = unit_bytes partition epoch ++ number_bytes 4 last
+body_bytes (Append partition epoch lsn text) = numbered_bytes partition epoch lsn ++ payload_bytes text
+body_bytes (Appended partition epoch last) = numbered_bytes partition epoch last
 body_bytes (Older partition epoch kept) = unit_bytes partition epoch ++ epoch_bytes kept
 
 -- a message as a frame: 53 in hexadecimal, the version, the kind, from whom, to whom, and the fields of the body

@@ -2,7 +2,7 @@
 use Rattle.std.specs.Prelude.{ℕ, List, Option, None, ◌==◌, if◌then◌else◌}
 use Rattle.fabric_terms.specs.declared.record.Record.{Record}
 use Rattle.fabric_terms.specs.declared.record.Record.TheVariants.{Boot, AccusedBy, PreparedBy, VotedFor, DoneFor, PromisedAt, Wrote, Incoming, AdoptedAt, ClaimedBy}
-use Rattle.wire_fields.specs.Readers.{◌>>=◌, such, pair, whole, byte_at, config_at, counted_at, epoch_at, flag_at, last_at, payload_at, unit_at, who_at, word_at}
+use Rattle.wire_fields.specs.Readers.{◌>>=◌, such, pair, whole, byte_at, config_at, counted_at, epoch_at, flag_at, last_at, numbered_at, payload_at, unit_at, who_at}
 use Rattle.keep_log.specs.Spellings.{is_later_round}
 
 unfoldable pub later_round_at : List ℕ → Option (ℕ × List ℕ)
@@ -33,7 +33,7 @@ unfoldable pub incoming_of : List ℕ → Option Record
 incoming_of = whole (λ x. Incoming x.0.0.0.0 x.0.0.0.1 x.0.0.1 x.0.1 x.1) (pair (pair (pair unit_at last_at) epoch_at) payload_at)
 
 unfoldable pub adopted_at_of : List ℕ → Option Record
-adopted_at_of = whole (λ x. AdoptedAt x.0.0.0 x.0.0.1 x.0.1 x.1) (pair (pair unit_at word_at) flag_at)
+adopted_at_of = whole (λ x. AdoptedAt x.0.0.0 x.0.0.1 x.0.1 x.1) (pair numbered_at flag_at)
 
 unfoldable pub claimed_by_of : List ℕ → Option Record
 claimed_by_of = whole (λ x. ClaimedBy x.0.0 x.0.1 x.1) (pair (pair who_at later_round_at) who_at)

@@ -3,7 +3,7 @@ use Rattle.std.specs.Prelude.{ℕ, Bool, ◌&&◌, nat_lt, List, ◌∷◌, ◌+
 use Rattle.fabric_terms.specs.declared.record.Record.{Record}
 use Rattle.fabric_terms.specs.declared.record.Record.TheVariants.{Boot, AccusedBy, PreparedBy, VotedFor, DoneFor, PromisedAt, Wrote, Incoming, AdoptedAt, ClaimedBy}
 use Rattle.fabric_terms.specs.Fields.{is_config, is_counted, is_epoch, is_last, is_payload, is_round, is_unit, is_who, is_word}
-use Rattle.wire_fields.specs.Texts.{config_bytes, epoch_bytes, flag_bytes, number_bytes, one_byte, payload_bytes, unit_bytes, who_bytes}
+use Rattle.wire_fields.specs.Texts.{claim_bytes, config_bytes, epoch_bytes, flag_bytes, number_bytes, numbered_bytes, payload_bytes, unit_bytes, who_bytes}
 
 -- a round after the first
 abbrev pub is_later_round : ℕ → Bool
@@ -44,11 +44,11 @@ fields_of (PreparedBy partition epoch preparer) = unit_bytes partition epoch ++ 
 fields_of (VotedFor config) = config_bytes config
 fields_of (DoneFor config) = config_bytes config
 fields_of (PromisedAt partition epoch) = unit_bytes partition epoch
-fields_of (Wrote partition epoch lsn text) = (unit_bytes partition epoch ++ number_bytes 4 lsn) ++ payload_bytes text
+fields_of (Wrote partition epoch lsn text) = numbered_bytes partition epoch lsn ++ payload_bytes text
 fields_of (Incoming partition epoch lsn entry_epoch text) =
-    ((unit_bytes partition epoch ++ number_bytes 4 lsn) ++ epoch_bytes entry_epoch) ++ payload_bytes text
-fields_of (AdoptedAt partition epoch last is_own) = (unit_bytes partition epoch ++ number_bytes 4 last) ++ flag_bytes is_own
-fields_of (ClaimedBy victim round claimer) = (who_bytes victim ++ one_byte round) ++ who_bytes claimer
+    (numbered_bytes partition epoch lsn ++ epoch_bytes entry_epoch) ++ payload_bytes text
+fields_of (AdoptedAt partition epoch last is_own) = numbered_bytes partition epoch last ++ flag_bytes is_own
+fields_of (ClaimedBy victim round claimer) = claim_bytes victim round claimer
 
 abbrev pub spelling : Record → List ℕ
 spelling r = kind_of r ∷ fields_of r

@@ -6,7 +6,8 @@ ghost use Rattle.keep_log.specs.Spellings.{is_sound, kind_of, fields_of, spellin
 use fabric_terms::Record;
 use ring_points::MAX_WRITE;
 use wire_fields::write::{
-    put_config, put_epoch, put_flag, put_payload, put_u8, put_u32, put_unit, put_who,
+    put_claim, put_config, put_epoch, put_flag, put_numbered, put_payload, put_u8, put_u32,
+    put_unit, put_who,
 };
 
 /// No record has more bytes.
@@ -87,8 +88,7 @@ fn put_replicated(into: &mut [u8; RECORD_LIMIT], at: usize, item: &Record) -> us
             lsn,
             text,
         } => {
-            let at = put_unit(into, at, *partition, *epoch);
-            let at = put_u32(into, at, *lsn);
+            let at = put_numbered(into, at, *partition, *epoch, *lsn);
             put_payload(into, at, text)
         }
         Record::Incoming {
@@ -98,8 +98,7 @@ fn put_replicated(into: &mut [u8; RECORD_LIMIT], at: usize, item: &Record) -> us
             entry_epoch,
             text,
         } => {
-            let at = put_unit(into, at, *partition, *epoch);
-            let at = put_u32(into, at, *lsn);
+            let at = put_numbered(into, at, *partition, *epoch, *lsn);
             let at = put_epoch(into, at, *entry_epoch);
             put_payload(into, at, text)
         }
@@ -109,8 +108,7 @@ fn put_replicated(into: &mut [u8; RECORD_LIMIT], at: usize, item: &Record) -> us
             last,
             own,
         } => {
-            let at = put_unit(into, at, *partition, *epoch);
-            let at = put_u32(into, at, *last);
+            let at = put_numbered(into, at, *partition, *epoch, *last);
             put_flag(into, at, *own)
         }
         _ => unreachable!(),
@@ -128,11 +126,7 @@ fn put_claimed(into: &mut [u8; RECORD_LIMIT], at: usize, item: &Record) -> usize
             victim,
             round,
             claimer,
-        } => {
-            let at = put_who(into, at, *victim);
-            let at = put_u8(into, at, *round);
-            put_who(into, at, *claimer)
-        }
+        } => { put_claim(into, at, *victim, *round, *claimer) }
         _ => unreachable!(),
     }
 }

@@ -7,7 +7,8 @@ ghost use Rattle.keep_log.specs.Readings.{claimed_by_of, fields_read, record_of}
 use ring_points::{Config, Epoch, MAX_ROUNDS, Who};
 use wire_fields::NotField;
 use wire_fields::read::{
-    config_at, counted_at, end, epoch_at, flag_at, last_at, text_at, u8_at, u32_at, unit_at, who_at,
+    config_at, counted_at, end, epoch_at, flag_at, last_at, numbered_at, text_at, u8_at, unit_at,
+    who_at,
 };
 
 /// A record, the text of which lies in the bytes that it was read from.
@@ -171,8 +172,7 @@ fn incoming(bytes: &[u8]) -> Result<Item<'_>, NotField>
 fn adopted_at(bytes: &[u8]) -> Result<Item<'_>, NotField>
     ensures { Gives recorded result (adopted_at_of bytes.now) }
 {
-    let (partition, epoch, rest) = unit_at(bytes)?;
-    let (last, rest) = u32_at(rest)?;
+    let (partition, epoch, last, rest) = numbered_at(bytes)?;
     let (own, rest) = flag_at(rest)?;
     end(rest)?;
     Ok(Item::AdoptedAt {

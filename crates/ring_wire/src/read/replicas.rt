@@ -6,7 +6,9 @@ ghost use Rattle.frame_format.specs.Replicas.{activate_of, activated_of, append_
 
 use crate::not_frame::NotFrame;
 use fabric_terms::Body;
-use wire_fields::read::{config_at, end, epoch_at, last_at, node_at, payload_at, u32_at, unit_at};
+use wire_fields::read::{
+    config_at, end, epoch_at, last_at, node_at, numbered_at, payload_at, unit_at,
+};
 
 #[tactic(auto, unfolding(frame_format::specs::Replicas::promise_of))]
 fn promise(bytes: &[u8], body: &mut Body) -> Result<(), NotFrame>
@@ -56,8 +58,7 @@ fn sync(bytes: &[u8], body: &mut Body) -> Result<(), NotFrame>
 fn fetch(bytes: &[u8], body: &mut Body) -> Result<(), NotFrame>
     ensures { Fills result body.new (fetch_of bytes.now) }
 {
-    let (partition, epoch, rest) = unit_at(bytes)?;
-    let (lsn, rest) = u32_at(rest)?;
+    let (partition, epoch, lsn, rest) = numbered_at(bytes)?;
     end(rest)?;
     *body = Body::Fetch {
         partition,
@@ -71,8 +72,7 @@ fn fetch(bytes: &[u8], body: &mut Body) -> Result<(), NotFrame>
 fn piece(bytes: &[u8], body: &mut Body) -> Result<(), NotFrame>
     ensures { Fills result body.new (piece_of bytes.now) }
 {
-    let (partition, epoch, rest) = unit_at(bytes)?;
-    let (lsn, rest) = u32_at(rest)?;
+    let (partition, epoch, lsn, rest) = numbered_at(bytes)?;
     let (entry_epoch, rest) = epoch_at(rest)?;
     let (text, rest) = payload_at(rest)?;
     end(rest)?;
@@ -90,8 +90,7 @@ fn piece(bytes: &[u8], body: &mut Body) -> Result<(), NotFrame>
 fn adopted(bytes: &[u8], body: &mut Body) -> Result<(), NotFrame>
     ensures { Fills result body.new (adopted_of bytes.now) }
 {
-    let (partition, epoch, rest) = unit_at(bytes)?;
-    let (last, rest) = u32_at(rest)?;
+    let (partition, epoch, last, rest) = numbered_at(bytes)?;
     end(rest)?;
     *body = Body::Adopted {
         partition,
@@ -125,8 +124,7 @@ fn activated(bytes: &[u8], body: &mut Body) -> Result<(), NotFrame>
 fn append(bytes: &[u8], body: &mut Body) -> Result<(), NotFrame>
     ensures { Fills result body.new (append_of bytes.now) }
 {
-    let (partition, epoch, rest) = unit_at(bytes)?;
-    let (lsn, rest) = u32_at(rest)?;
+    let (partition, epoch, lsn, rest) = numbered_at(bytes)?;
     let (text, rest) = payload_at(rest)?;
     end(rest)?;
     *body = Body::Append {
@@ -142,8 +140,7 @@ fn append(bytes: &[u8], body: &mut Body) -> Result<(), NotFrame>
 fn appended(bytes: &[u8], body: &mut Body) -> Result<(), NotFrame>
     ensures { Fills result body.new (appended_of bytes.now) }
 {
-    let (partition, epoch, rest) = unit_at(bytes)?;
-    let (last, rest) = u32_at(rest)?;
+    let (partition, epoch, last, rest) = numbered_at(bytes)?;
     end(rest)?;
     *body = Body::Appended {
         partition,

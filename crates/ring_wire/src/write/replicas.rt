@@ -8,7 +8,7 @@ ghost use Rattle.wire_fields.specs.Writers.{Puts};
 
 use fabric_terms::Body;
 use ring_points::FRAME_LIMIT;
-use wire_fields::write::{put_epoch, put_payload, put_u16, put_u32, put_unit};
+use wire_fields::write::{put_epoch, put_numbered, put_payload, put_u16, put_u32, put_unit};
 
 /// A body of a kind from 48 to 53. Gives the place after it.
 pub fn put_replica(into: &mut [u8; FRAME_LIMIT], at: usize, body: &Body) -> usize
@@ -44,10 +44,7 @@ pub fn put_replica(into: &mut [u8; FRAME_LIMIT], at: usize, body: &Body) -> usiz
             partition,
             epoch,
             lsn,
-        } => {
-            let at = put_unit(into, at, *partition, *epoch);
-            put_u32(into, at, *lsn)
-        }
+        } => { put_numbered(into, at, *partition, *epoch, *lsn) }
         Body::Piece {
             partition,
             epoch,
@@ -55,8 +52,7 @@ pub fn put_replica(into: &mut [u8; FRAME_LIMIT], at: usize, body: &Body) -> usiz
             entry_epoch,
             text,
         } => {
-            let at = put_unit(into, at, *partition, *epoch);
-            let at = put_u32(into, at, *lsn);
+            let at = put_numbered(into, at, *partition, *epoch, *lsn);
             let at = put_epoch(into, at, *entry_epoch);
             put_payload(into, at, text)
         }
@@ -64,10 +60,7 @@ pub fn put_replica(into: &mut [u8; FRAME_LIMIT], at: usize, body: &Body) -> usiz
             partition,
             epoch,
             last,
-        } => {
-            let at = put_unit(into, at, *partition, *epoch);
-            put_u32(into, at, *last)
-        }
+        } => { put_numbered(into, at, *partition, *epoch, *last) }
         _ => unreachable!(),
     }
 }

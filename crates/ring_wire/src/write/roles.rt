@@ -8,7 +8,7 @@ ghost use Rattle.wire_fields.specs.Writers.{Puts};
 
 use fabric_terms::Body;
 use ring_points::FRAME_LIMIT;
-use wire_fields::write::{put_config, put_epoch, put_payload, put_u32, put_unit};
+use wire_fields::write::{put_config, put_epoch, put_numbered, put_payload, put_unit};
 
 /// A body of a kind from 54 on. Gives the place after it.
 pub fn put_role(into: &mut [u8; FRAME_LIMIT], at: usize, body: &Body) -> usize
@@ -26,18 +26,14 @@ pub fn put_role(into: &mut [u8; FRAME_LIMIT], at: usize, body: &Body) -> usize
             lsn,
             text,
         } => {
-            let at = put_unit(into, at, *partition, *epoch);
-            let at = put_u32(into, at, *lsn);
+            let at = put_numbered(into, at, *partition, *epoch, *lsn);
             put_payload(into, at, text)
         }
         Body::Appended {
             partition,
             epoch,
             last,
-        } => {
-            let at = put_unit(into, at, *partition, *epoch);
-            put_u32(into, at, *last)
-        }
+        } => { put_numbered(into, at, *partition, *epoch, *last) }
         Body::Older {
             partition,
             epoch,

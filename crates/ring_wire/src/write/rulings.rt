@@ -8,7 +8,7 @@ ghost use Rattle.wire_fields.specs.Writers.{Puts};
 
 use fabric_terms::Body;
 use ring_points::FRAME_LIMIT;
-use wire_fields::write::{put_ruling, put_u8, put_who};
+use wire_fields::write::{put_claim, put_ruling, put_u8, put_who};
 
 /// A body of a kind from 16 to 19. Gives the place after it.
 pub fn put_ruling_body(into: &mut [u8; FRAME_LIMIT], at: usize, body: &Body) -> usize
@@ -32,11 +32,7 @@ pub fn put_ruling_body(into: &mut [u8; FRAME_LIMIT], at: usize, body: &Body) -> 
             victim,
             round,
             claimer,
-        } => {
-            let at = put_who(into, at, *victim);
-            let at = put_u8(into, at, *round);
-            put_who(into, at, *claimer)
-        }
+        } => { put_claim(into, at, *victim, *round, *claimer) }
         _ => unreachable!(),
     }
 }
