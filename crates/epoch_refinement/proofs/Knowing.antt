@@ -6,6 +6,7 @@ use Rattle.fabric_lemmas.specs.Maps.{at, put, without}
 use Rattle.fabric_lemmas.proofs.Maps.{at-put, at-without}
 use Rattle.ring_points.specs.declared.unit.Epoch.{Epoch}
 use Rattle.ring_points.specs.Epochs.{is_older}
+use Rattle.failover_units.specs.Limits.{most_units}
 use Rattle.failover_units.specs.declared.refusal.UnitRefusal.TheVariants.{Full}
 use Rattle.failover_units.specs.declared.unit.KnownUnit.{KnownUnit}
 use Rattle.failover_units.specs.Units.{Table, unit_of, greater, is_full_for, changed}
@@ -53,4 +54,4 @@ known_changed p f units known =
     ap (λ o. unwrap_or o (record { config = None; highest = record { data_loss = 0; configuration = 0 } })) (at_put p (f (unit_of p units)) units)
   where
     full : is_full_for p units ≡ false
-    full = and_left (not (is_some (at p units))) (nat_le 4096 (length units)) (ap not known)
+    full = and_left (not (is_some (at p units))) (nat_le most_units (length units)) (ap not known)

@@ -14,7 +14,8 @@ use Rattle.failover_units.specs.Units.{Table, changed, greater, is_full_for, is_
 use Rattle.fabric_terms.specs.Fields.{is_config, is_done, is_epoch, is_short}
 use Rattle.fabric_terms.specs.declared.report.Report.TheVariants.{UnitList}
 use Rattle.fabric_terms.specs.Ranges.{FitsReason, IsPartition}
-use Rattle.frames_fit.specs.Formats.{ReportInRange, most_units}
+use Rattle.failover_units.specs.Limits.{most_units}
+use Rattle.frames_fit.specs.Formats.{ReportInRange}
 use Rattle.frames_fit.proofs.Each.{Each, at_each, put_each}
 use Rattle.ring_points.specs.declared.interval.Interval.{Interval}
 use Rattle.ring_points.specs.declared.unit.Config.{Config}
@@ -64,8 +65,8 @@ put_few partition u units h room = found (at partition units) refl
     found : (o : Option KnownUnit) → at partition units ≡ o → length (put partition u units) ≤ most_units
     found (Some v) e = let same = put_same 0 partition u v units h.rise e in let few = h.few in omega arith
     found None e =
-        let free : nat_le 4096 (length units) ≡ false = subst (λ (o : Option KnownUnit). (not (is_some o) && nat_le 4096 (length units)) ≡ false) e room in
-        let less = leb-false 4096 (length units) free in
+        let free : nat_le most_units (length units) ≡ false = subst (λ (o : Option KnownUnit). (not (is_some o) && nat_le most_units (length units)) ≡ false) e room in
+        let less = leb-false most_units (length units) free in
         let more = put_more partition u units in
         omega arith
 

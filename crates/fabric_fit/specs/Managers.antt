@@ -5,7 +5,7 @@ use Rattle.arbiter_quorum.specs.Votes.{VoteTally}
 use Rattle.fabric_lemmas.specs.Maps.{rises}
 use Rattle.failover_units.specs.declared.unit.KnownUnit.{KnownUnit}
 use Rattle.failover_units.specs.Units.{Table}
-use Rattle.frames_fit.specs.Formats.{most_units}
+use Rattle.failover_units.specs.Limits.{most_units}
 use Rattle.unit_rules.specs.declared.reconfig.Kind.{Kind}
 use Rattle.unit_rules.specs.declared.reconfig.Kind.TheVariants.{Create, Swap, Heal, Lose}
 use Rattle.unit_rules.specs.declared.reconfig.Standing.{Standing}

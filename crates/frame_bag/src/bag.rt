@@ -17,12 +17,13 @@ pub struct FrameBag {
     bytes: BytesMut,
     /// Where each frame ends, in bytes.
     ends: Vec<usize>,
-    /// For so many frames more there are spare bytes, 1,200 each, and spare places for their ends.
+    /// For so many frames more there are spare bytes, `FRAME_LIMIT` each, and spare places for their ends.
     room: usize,
 }
 
 impl Model for FrameBag {
     ghost use Rattle.std.specs.Prelude.{◌+◌, ◌*◌, ◌≤◌, reverse, length, vec_len, vec_capacity};
+    ghost use Rattle.ring_points.specs.Limits.{most_frame};
     ghost use Rattle.frame_bag.specs.Stored.{messages_in, AreFrames};
     ghost use Rattle.frame_bag.specs.Bags.{Bag};
 
@@ -31,7 +32,7 @@ impl Model for FrameBag {
     ghost view = { λ b. record { frames = reverse (messages_in b.ends.items b.bytes.items); room = b.room } };
 
     ghost invariant = { λ b. AreFrames b.ends.items b.bytes.items (messages_in b.ends.items b.bytes.items)
-        × (1200 * b.room ≤ b.bytes.spare) × (vec_len b.ends + b.room ≤ vec_capacity b.ends) };
+        × (most_frame * b.room ≤ b.bytes.spare) × (vec_len b.ends + b.room ≤ vec_capacity b.ends) };
 }
 
 // The bytes of the frame at this place: from where the frame before it ends to where it ends.

@@ -1,7 +1,8 @@
 -- A ring whose numbers, names and ranges a frame can carry.
-use Rattle.std.specs.Prelude.{◌≡◌, ℕ, ◌≤◌, Bool, true, false, ◌&&◌, Option, Some, None, All, IsTrue}
+use Rattle.std.specs.Prelude.{◌≡◌, ℕ, ◌+◌, ◌≤◌, Bool, true, false, ◌&&◌, Option, Some, None, All, IsTrue}
 use Rattle.fabric_terms.specs.declared.config.FabricConfig.{FabricConfig}
 use Rattle.heir_rounds.specs.Rounds.{RoundTally}
+use Rattle.ring_points.specs.Limits.{most_lease, most_reading}
 use Rattle.ring_points.specs.declared.who.Flight.{Flight}
 use Rattle.ring_points.specs.declared.who.Who.{Who}
 use Rattle.ring_points.specs.Ranges.{fits, is_proper}
@@ -32,7 +33,7 @@ pub record RoundsInRange (t : RoundTally) : Type 0 where
 
 -- the end of the latest lease: the longest lease from the last reading
 abbrev pub latest_end : ℕ
-latest_end = 1000001000000000
+latest_end = most_reading + most_lease
 
 -- what a link's frames carry, its end, and the record that its heir would take over
 pub record LinkInRange (l : Link) : Type 0 where

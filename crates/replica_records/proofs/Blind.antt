@@ -1,6 +1,7 @@
 -- The calls that records make do not ask for the role.
 use Rattle.std.proofs.Common.{◌≡◌, ℕ, Bool, true, false, cond, List, [], Ok, refl, ap}
 use Rattle.std.specs.Prelude.{length, ◌==◌, ◌+◌, nat_lt}
+use Rattle.ring_points.specs.Limits.{most_log_entries}
 use Rattle.ring_points.specs.declared.unit.Epoch.{Epoch}
 use Rattle.ring_points.specs.Epochs.{is_older, same_epoch}
 use Rattle.replica_core.specs.declared.entry.Entry.{Entry}
@@ -48,7 +49,7 @@ append_blind e lsn text r =
     unless_blind (is_older e r.promised) _ r _ _
     (unless_blind _ _ r _ _
     (held_blind (nat_lt lsn (length r.log + 1)) r _ _
-    (unless_blind (length r.log == 100000) _ r _ _ (record { same = refl; partition = refl }))))
+    (unless_blind (length r.log == most_log_entries) _ r _ _ (record { same = refl; partition = refl }))))
 
 pub own_blind : (e : Epoch) (last : ℕ) (r : Replica) → Blind r (adopt_own_call e last r) (adopt_own_call e last (without_role r))
 own_blind e last r =

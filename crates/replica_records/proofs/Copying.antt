@@ -3,6 +3,7 @@ use Rattle.std.proofs.Common.{◌≡◌, ℕ, ◌≤◌, Bool, true, false, cond
 use Rattle.std.proofs.lemmas.Bool.{eqb-true, leb-true, and_parts}
 use Rattle.std.specs.Prelude.{not, if◌then◌else◌}
 use lib.Pointwise.{pointwise}
+use Rattle.ring_points.specs.Limits.{most_log_entries}
 use Rattle.ring_points.specs.declared.unit.Epoch.{Epoch}
 use Rattle.ring_points.specs.Epochs.{is_older, same_epoch}
 use Rattle.fabric_terms.specs.declared.record.Record.TheVariants as kept
@@ -123,9 +124,9 @@ settles_last e x r d t = go (is_older e r.promised) refl (same_epoch r.at e) ref
 
 module _ (p : ℕ) (s : ReplicaState) (fit : IsFit p s) where
   -- an entry within the log of the Sync
-  module _ (t : CatchUp) (x : Entry) (some : 1 ≤ x.lsn) (within : x.lsn ≤ t.last) (room : t.last ≤ 100000) where
+  module _ (t : CatchUp) (x : Entry) (some : 1 ≤ x.lsn) (within : x.lsn ≤ t.last) (room : t.last ≤ most_log_entries) where
     past : (x.lsn == past_all) ≡ false
-    past = apart_test x.lsn past_all (λ (e : x.lsn ≡ 100001). omega arith)
+    past = apart_test x.lsn past_all (λ (e : x.lsn ≡ past_all). omega arith)
 
     collected : (o : Outcome Done) → adopt_call t.epoch x t.last s.replica ≡ o → Recorded p s (piece_collected t x s o)
     collected (Err why, r) i = record { of = tt; folds = refl }
@@ -173,7 +174,7 @@ module _ (p : ℕ) (s : ReplicaState) (fit : IsFit p s) where
   unfolding piece_received
   piece_recorded e x = go s.catch_up refl
     where
-      by : (t : CatchUp) → t.last ≤ 100000 → (b : Bool) → is_wanted t e x.lsn s.replica ≡ b →
+      by : (t : CatchUp) → t.last ≤ most_log_entries → (b : Bool) → is_wanted t e x.lsn s.replica ≡ b →
           Recorded p s (if b then piece_collected t x s (adopt_call t.epoch x t.last s.replica) else still s)
       by t room false i = record { of = tt; folds = refl }
       by t room true i =

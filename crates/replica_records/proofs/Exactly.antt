@@ -13,6 +13,7 @@ use Rattle.fabric_terms.specs.declared.message.Body.TheVariants as body
 use Rattle.fabric_terms.specs.declared.record.Record.{Record}
 use Rattle.fabric_terms.specs.declared.report.Reason.TheVariants as reason
 use Rattle.fabric_terms.specs.declared.report.Verb.TheVariants as verb
+use Rattle.ring_points.specs.Limits.{most_log_entries}
 use Rattle.ring_points.specs.declared.unit.Epoch.{Epoch}
 use Rattle.ring_points.specs.declared.who.Who.{Who}
 use Rattle.ring_rules.specs.declared.input.Input.{Input}
@@ -154,7 +155,7 @@ module _ (records : List Record) (s : Failover) (k : KeptAs records s) where
         state q _ (promise_recorded q (state_at q s) (k.fit q).partition from e) (promise_stood (state_at q s) (k.fit q).room from e)
     frame_leaves from (body.Sync q e origin last) h =
         let t : CatchUp = record { epoch = e; origin = origin; last = last; asker = from } in
-        let small = leb-true last 100000 (and_parts (is_unit q e && is_node origin) (is_last last) h).1 in
+        let small = leb-true last most_log_entries (and_parts (is_unit q e && is_node origin) (is_last last) h).1 in
         state q _ (sync_recorded q r.me.actor t (state_at q s) (k.fit q).partition)
         (sync_stood r.me.actor t small (state_at q s) (k.fit q).room (k.fit q).at_promised)
     frame_leaves from (body.Fetch q e lsn) h =

@@ -3,6 +3,7 @@ use Rattle.std.proofs.Common.{◌≡◌, ℕ, ◌≤◌, Bool, true, false, ◌|
 use Rattle.std.specs.Prelude.{if◌then◌else◌}
 use Rattle.fabric_terms.specs.declared.record.Record.{Record}
 use Rattle.fabric_terms.specs.declared.record.Record.TheVariants.{PromisedAt, Wrote, Incoming, AdoptedAt}
+use Rattle.ring_points.specs.Limits.{most_log_entries}
 use Rattle.ring_points.specs.declared.unit.Epoch.{Epoch}
 use Rattle.ring_points.specs.Epochs.{is_older}
 use Rattle.replica_core.specs.Calls.{adopt_own_call, adopt_collected_call}
@@ -53,7 +54,7 @@ all_behind r (x ∷ xs) h = all_behind (replica_after r x) xs (stays_behind r x 
 
 -- a replica that differs in its role alone is as fit, if it takes no log that has no room
 pub same_fit : (p : ℕ) (s u : ReplicaState) → IsFit p s → without_role s.replica ≡ without_role u.replica →
-    ((t : CatchUp) → u.catch_up ≡ Some t → t.last ≤ 100000) → IsFit p u
+    ((t : CatchUp) → u.catch_up ≡ Some t → t.last ≤ most_log_entries) → IsFit p u
 same_fit p s u fit same room = record {
   partition = sym (ap (λ (r : Replica). r.partition) same) ∙ fit.partition;
   at_promised = sym (ap (λ (r : Replica). is_older r.promised r.at) same) ∙ fit.at_promised;
@@ -61,7 +62,7 @@ same_fit p s u fit same room = record {
 }
 
 -- what is recorded is fit
-pub recorded_fit : (p : ℕ) (s : ReplicaState) (a : Acted ReplicaState) → Recorded p s a → IsFit p s → ((t : CatchUp) → a.state.catch_up ≡ Some t → t.last ≤ 100000) →
+pub recorded_fit : (p : ℕ) (s : ReplicaState) (a : Acted ReplicaState) → Recorded p s a → IsFit p s → ((t : CatchUp) → a.state.catch_up ≡ Some t → t.last ≤ most_log_entries) →
     IsFit p a.state
 recorded_fit p s a r fit room = record {
   partition =

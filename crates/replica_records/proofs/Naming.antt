@@ -2,6 +2,7 @@
 use Rattle.std.proofs.Common.{◌≡◌, ℕ, ◌+◌, Bool, true, false, ◌==◌, ◌&&◌, nat_lt, List, [], ◌∷◌, ◌++◌, length, Some, Ok, Err, refl, sym, ap, ◌∙◌, subst, arith}
 use Rattle.std.proofs.lemmas.Bool.Decides.{nat_tests}
 use Rattle.std.specs.Prelude.{Result, not}
+use Rattle.ring_points.specs.Limits.{most_log_entries}
 use Rattle.ring_points.specs.declared.unit.Epoch.{Epoch}
 use Rattle.ring_points.specs.Epochs.{is_older, same_epoch}
 use Rattle.replica_core.specs.declared.entry.Entry.{Entry}
@@ -51,7 +52,7 @@ IsNew (Err why) = ⊥
 
 pub append_named : (e : Epoch) (lsn : ℕ) (text : List ℕ) (r t : Replica) → append_call e lsn text r ≡ (Ok New, t) → is_named t ≡ true
 append_named e lsn text r t =
-    go (is_older e r.promised) (is_ahead e lsn r) (nat_lt lsn (length r.log + 1)) (length r.log == 100000)
+    go (is_older e r.promised) (is_ahead e lsn r) (nat_lt lsn (length r.log + 1)) (length r.log == most_log_entries)
   where
     held_not : ◌≡◌ {A = Outcome Done} (Ok Held, r) (Ok New, t) → ⊥
     held_not k = subst (λ (o : Outcome Done). IsNew o.0) (sym k) tt

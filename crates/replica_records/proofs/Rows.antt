@@ -2,6 +2,7 @@
 use Rattle.std.proofs.Common.{◌≡◌, ◌⊎◌, inl, inr, ℕ, ◌+◌, ◌≤◌, Bool, true, false, ◌&&◌, nat_le, List, [], ◌∷◌, length, Option, None, Some, Ok, Err, refl, sym, ap, ◌∙◌, subst}
 use Rattle.std.proofs.lemmas.Bool.{and_parts}
 use Rattle.std.specs.Prelude.{not, nat_lt, if◌then◌else◌}
+use Rattle.ring_points.specs.Limits.{most_log_entries}
 use Rattle.ring_points.specs.declared.unit.Config.{Config}
 use Rattle.ring_points.specs.declared.unit.Epoch.{Epoch}
 use Rattle.ring_points.specs.declared.who.Who.{Who}
@@ -33,7 +34,7 @@ use Rattle.replica_records.proofs.Recorded.{left}
 use Rattle.replica_records.proofs.Writing.{committed_noted, next_added}
 
 abbrev pub HasRoom : ReplicaState → Type 0
-HasRoom s = (t : CatchUp) → s.catch_up ≡ Some t → t.last ≤ 100000
+HasRoom s = (t : CatchUp) → s.catch_up ≡ Some t → t.last ≤ most_log_entries
 
 pub record Stood (a : Acted ReplicaState) : Type 0 where
   pub room : HasRoom a.state

@@ -2,6 +2,7 @@
 use Rattle.std.proofs.Common.{◌≡◌, ◌⊎◌, inl, inr, ⊎_elim, ℕ, ◌≤◌, Bool, true, false, ◌==◌, ◌||◌, [], ◌∷◌, Some, Ok, Err, refl, sym, ap, ◌∙◌, subst}
 use Rattle.std.specs.Prelude.{if◌then◌else◌}
 use Rattle.std.proofs.lemmas.Option.{same_Some}
+use Rattle.ring_points.specs.Limits.{most_log_entries}
 use Rattle.ring_points.specs.Epochs.{is_older, same_epoch}
 use Rattle.fabric_terms.specs.declared.message.Body.TheVariants as body
 use Rattle.replica_core.specs.declared.refusal.Done.{Done}
@@ -23,7 +24,7 @@ use Rattle.replica_records.proofs.Promising.{idle_same}
 use Rattle.replica_records.proofs.Recorded.{left}
 use Rattle.replica_records.proofs.Rows.{HasRoom, Stood}
 
-module _ (me : ℕ) (t : CatchUp) (small : t.last ≤ 100000) where
+module _ (me : ℕ) (t : CatchUp) (small : t.last ≤ most_log_entries) where
   -- the epoch is promised, and if anything is recorded it is not the first
   record Promised (a : Acted ReplicaState) : Type 0 where
     room : HasRoom a.state
@@ -61,7 +62,7 @@ module _ (me : ℕ) (t : CatchUp) (small : t.last ≤ 100000) where
       go true i = record { room = room; promised = promised; above = inl refl }
       go false i =
           log_promised (record s { replica = left (idle_call t.epoch s.replica); catch_up = Some t })
-          (λ u h. subst (λ (z : CatchUp). z.last ≤ 100000) (same_Some t u h) small)
+          (λ u h. subst (λ (z : CatchUp). z.last ≤ most_log_entries) (same_Some t u h) small)
           (ap (λ (r : Replica). is_older r.promised r.at) same ∙ behind)
           (ap (λ (r : Replica). r.promised) same ∙ promised)
           (not_first s.replica.at t.epoch (subst (λ e. is_older e s.replica.at ≡ false) promised behind) i)

@@ -3,6 +3,7 @@ use Rattle.std.proofs.Common.{◌≡◌, ℕ, ◌+◌, Bool, true, false, ◌==�
 use Rattle.std.proofs.lemmas.Bool.{ltb-true}
 use Rattle.std.specs.Prelude.{map, nat_lt, if◌then◌else◌}
 use Rattle.std.specs.List.{flat_map}
+use Rattle.ring_points.specs.Limits.{most_log_entries}
 use Rattle.ring_points.specs.declared.unit.Epoch.{Epoch}
 use Rattle.ring_points.specs.declared.who.Who.{Who}
 use Rattle.ring_points.specs.Epochs.{is_older, same_epoch}
@@ -43,7 +44,7 @@ appends_silent e r lsn text (q ∷ qs) = appends_silent e r lsn text qs
 pub next_added : (e : Epoch) (text : List ℕ) (r : Replica) (d : Done) (t : Replica) → append_call e (length r.log + 1) text r ≡ (Ok d, t) →
     t ≡ written (record { epoch = e; lsn = length r.log + 1; bytes = text }) r
 next_added e text r d t =
-    go (is_older e r.promised) (is_ahead e (length r.log + 1) r) (nat_lt (length r.log + 1) (length r.log + 1)) refl (length r.log == 100000)
+    go (is_older e r.promised) (is_ahead e (length r.log + 1) r) (nat_lt (length r.log + 1) (length r.log + 1)) refl (length r.log == most_log_entries)
   where
     go : (older ahead held : Bool) → nat_lt (length r.log + 1) (length r.log + 1) ≡ held → (full : Bool) →
         ◌≡◌ {A = Outcome Done}

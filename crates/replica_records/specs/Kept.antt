@@ -1,6 +1,7 @@
 -- What a node recorded of its replicas, beside what stands.
 use Rattle.std.specs.Prelude.{◌≡◌, ℕ, ◌≤◌, false, List, [], Some}
 use Rattle.fabric_terms.specs.declared.record.Record.{Record}
+use Rattle.ring_points.specs.Limits.{most_log_entries}
 use Rattle.ring_points.specs.Epochs.{is_older}
 use Rattle.replica_core.specs.declared.role.Role.TheVariants.{None as NoRole}
 use Rattle.replica_core.specs.Replicas.{Replica}
@@ -22,4 +23,4 @@ AreKept records s = (p : ℕ) → replica_of p (replicas_after_all [] records) �
 pub record IsFit (p : ℕ) (s : ReplicaState) : Type 0 where
   pub partition : s.replica.partition ≡ p
   pub at_promised : is_older s.replica.promised s.replica.at ≡ false
-  pub room : (t : CatchUp) → s.catch_up ≡ Some t → t.last ≤ 100000
+  pub room : (t : CatchUp) → s.catch_up ≡ Some t → t.last ≤ most_log_entries
