@@ -15,6 +15,8 @@ mod links;
 #[cfg(test)]
 mod names;
 #[cfg(test)]
+mod node_state;
+#[cfg(test)]
 mod nodes;
 #[cfg(test)]
 mod reconfigs;

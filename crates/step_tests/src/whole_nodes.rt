@@ -72,7 +72,7 @@ fn told(begun: &Outcome) -> &'static str {
 }
 
 /// Node 1 as it begins at reading 7 with what it has kept, whose boot it records, and what it tells.
-fn begun(
+pub(crate) fn begun(
     rt: &impl Abort,
     alloc: Global,
     kept: &mut NodeKept,
