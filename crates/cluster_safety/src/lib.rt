@@ -11,5 +11,6 @@
 mod laws;
 
 pub use laws::{
-    a_cluster_is_safe, a_served_cluster_is_safe, nothing_is_recalled_from_an_empty_keeper, steps_as_moments,
+    a_cluster_is_safe, a_served_cluster_is_safe, nothing_is_recalled_from_an_empty_keeper,
+    steps_as_moments,
 };

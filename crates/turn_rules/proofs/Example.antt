@@ -3,7 +3,7 @@ use Rattle.std.proofs.Common.{ℕ, List, [], ◌∷◌, refl}
 use Rattle.fabric_terms.specs.declared.command.Command.TheVariants.{Join}
 use Rattle.fabric_terms.specs.declared.config.FabricConfig.{FabricConfig}
 use Rattle.turn_rules.specs.Laws.{ServedExample, example, example_plan, served_example, served_plan}
-use Rattle.turn_rules.specs.Order.{Busy, Doing, Firing, IsInOrder, IsServedOrder, TurnPosition, arrive}
+use Rattle.turn_rules.specs.Order.{Busy, Firing, IsInOrder, IsServedOrder, arrive}
 use Rattle.turn_rules.proofs.Served.{never_rests}
 
 pub in_order : (c : FabricConfig) (bytes : List ℕ) → IsInOrder (example_plan c) (example bytes) (arrive (example_plan c) 2 0)

@@ -1,8 +1,8 @@
 -- The place after what has come is one.
 use Rattle.std.proofs.Common.{◌≡◌, ℕ, [], ◌∷◌, Some, None, sym, subst, ◌∙◌}
-use Rattle.turn_rules.specs.Happenings.{Datagram, Absent, Failed, Comes, Begins, Turns, Bids, Hears, Fires, Rests, History}
+use Rattle.turn_rules.specs.Happenings.{Datagram, Absent, Failed, Comes, Begins, Turns, Bids, Hears, Fires, Rests}
 use Rattle.turn_rules.specs.Laws.{OnePlace}
-use Rattle.turn_rules.specs.Order.{Doing, Starting, Turning, Busy, Firing, Goes, GoesServed, IsNext, IsServedOrder, TurnPosition}
+use Rattle.turn_rules.specs.Order.{Doing, Starting, Turning, Busy, Firing, Goes, GoesServed, IsNext, TurnPosition}
 use Rattle.turn_rules.specs.Plans.{Plan}
 use Rattle.turn_rules.proofs.Served.{plans_are_served}
 

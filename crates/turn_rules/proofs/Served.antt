@@ -1,7 +1,7 @@
 -- Whatever comes in a run of a plan may come in a served run, and a turn that rests does nothing.
 use Rattle.std.proofs.Common.{◌≡◌, ℕ, [], ◌∷◌, Option, Some, refl, ap}
 use Rattle.std.specs.Prelude.{slice_get}
-use Rattle.turn_rules.specs.Happenings.{Comes, Begins, Turns, Bids, Hears, Fires, Rests, History}
+use Rattle.turn_rules.specs.Happenings.{Comes, Begins, Turns, Bids, Hears, Fires, Rests}
 use Rattle.turn_rules.specs.Laws.{IsIdleTurn, PlansAreServed, RestsAreIdle}
 use Rattle.turn_rules.specs.Order.{Doing, Starting, Turning, Busy, Firing, Goes, GoesServed, TurnPosition}
 use Rattle.turn_rules.specs.Plans.{Plan, Setting}
