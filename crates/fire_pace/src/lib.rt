@@ -5,9 +5,11 @@
 //! pace and at most an eighth of the lease after the last one, whatever came. It takes no memory.
 #![tactic(auto)]
 
+mod laws;
 mod left;
 mod news;
 mod pace;
 
+pub use laws::firings_keep_their_bounds;
 pub use left::left_of;
 pub use pace::FiringPace;

