@@ -16,8 +16,12 @@ came (said.TooLong client) into = Asked client None ∷ []
 came (said.Gone client) into = Gone client ∷ []
 came said.Quiet into = []
 
+-- the most bytes of a line, without its line feed
+abbrev pub most_asked : ℕ
+most_asked = 4096
+
 abbrev pub FitsBuffer : Said → Type 0
-FitsBuffer (said.Line client count) = count ≤ 4096
+FitsBuffer (said.Line client count) = count ≤ most_asked
 FitsBuffer _ = Unit {0}
 
 -- where the door tells what is to come, this came first, and the rest is still to come

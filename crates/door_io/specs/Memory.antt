@@ -3,7 +3,7 @@ use Rattle.std.specs.Prelude.{ℕ, Bool, true, false, List, [], length, nat_le, 
 use Rattle.std.specs.List.{filter_map}
 use Rattle.door_io.specs.declared.mem_door.Scripted.{Scripted}
 use Rattle.door_io.specs.declared.mem_door.Scripted.TheVariants as script
-use Rattle.door_io.specs.Doors.{Arrived, Asked, Gone}
+use Rattle.door_io.specs.Doors.{Arrived, Asked, Gone, most_asked}
 
 -- a client: how many bytes it takes in all, what was said to it, and whether it was dropped
 pub record ToldClient : Type 0 where
@@ -35,9 +35,9 @@ pub record ToldLog : Type 0 where
   pub lines : List (List ℕ)
   pub dropped : ℕ
 
--- no line is longer: a line that a script has beyond 4,096 bytes is too long
+-- no line is longer: a longer one of a script is too long
 abbrev pub line_or_long : List ℕ → Option (List ℕ)
-line_or_long line = if nat_le (length line) 4096 then Some line else None
+line_or_long line = if nat_le (length line) most_asked then Some line else None
 
 -- an entry of a script, as it was handed in
 abbrev pub told_scripted : Scripted → Option Arrived

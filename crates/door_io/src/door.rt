@@ -1,12 +1,14 @@
 ghost use Rattle.std.specs.Prelude.{◌≡◌, ℕ, Bool, List, Option};
 ghost use Rattle.door_io.specs.Doors.{Arrived, FitsBuffer, GivesFirst, SaysOrDrops, came};
 
+use crate::limits::MAX_ASKED;
+
 /// What a door has to say.
 #[derive(Clone, Copy, Debug, PartialEq, Eq)]
 pub enum Said {
     /// A line of a client, with so many bytes, without its line feed.
     Line(u32, usize),
-    /// A line of a client is longer than 4,096 bytes.
+    /// A line of a client has more than `MAX_ASKED` bytes.
     TooLong(u32),
     /// A client has gone. Nothing more comes of it.
     Gone(u32),
@@ -26,7 +28,7 @@ pub trait Door {
     ghost dropped: { Self → ℕ → Bool };
 
     /// Takes what came next, a line into the front of the buffer. It does not wait.
-    fn next(&mut self, into: &mut [u8; 4096]) -> Said
+    fn next(&mut self, into: &mut [u8; MAX_ASKED]) -> Said
         ensures length { FitsBuffer result }
         ensures asked { GivesFirst (asked self.old) (came result into.new) (asked self.new) }
         ensures answered { (any : ℕ) → answered self.new any ≡ answered self.old any }

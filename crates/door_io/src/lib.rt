@@ -16,7 +16,7 @@ mod mem_rest;
 mod rest;
 
 pub use door::{Door, Said};
-pub use limits::{MAX_CLIENTS, MAX_UNREAD};
+pub use limits::{MAX_ASKED, MAX_CLIENTS, MAX_UNREAD};
 pub use log::ReportLog;
 pub use mem_client::MemClient;
 pub use mem_door::{MemDoor, Scripted};

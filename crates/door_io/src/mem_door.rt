@@ -2,13 +2,14 @@ ghost use Rattle.std.specs.Prelude.{◌≡◌, ◌≤◌, map, length, take};
 ghost use Rattle.door_io.specs.Memory.{told_scripted};
 
 use crate::door::{Door, Said};
+use crate::limits::MAX_ASKED;
 use crate::mem_client::MemClient;
 use std::marker::Model;
 
 /// What a door in memory is to say.
 #[derive(Drop)]
 pub enum Scripted {
-    /// A line of a client. With more than 4,096 bytes it is too long.
+    /// A line of a client. With more than `MAX_ASKED` bytes it is too long.
     Line(u32, Vec<u8>),
     /// A line of a client is too long.
     TooLong(u32),
@@ -59,8 +60,8 @@ impl MemDoor {
 }
 
 /// Copies the line to the front of the buffer.
-fn copy_line(line: &[u8], into: &mut [u8; 4096])
-    requires { length line.now ≤ 4096 }
+fn copy_line(line: &[u8], into: &mut [u8; MAX_ASKED])
+    requires { length line.now ≤ MAX_ASKED }
     ensures { take (length line.now) into.new ≡ line.now }
 {
     into[..line.len()].copy_from_slice(line);
@@ -76,7 +77,7 @@ impl Door for MemDoor {
 
     ghost dropped = { λ d client. is_dropped (slice_get d.clients client) };
 
-    fn next(&mut self, into: &mut [u8; 4096]) -> Said {
+    fn next(&mut self, into: &mut [u8; MAX_ASKED]) -> Said {
         if self.given == self.script.len() {
             return Said::Quiet;
         }

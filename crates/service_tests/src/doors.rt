@@ -1,7 +1,13 @@
 //! A door, a log and a rest in memory: what they give, whom they drop, and what they count.
-use door_io::{Door, MemClient, MemDoor, MemReportLog, MemRest, ReportLog, Rest, Said, Scripted};
+use door_io::{
+    Door, MAX_ASKED, MemClient, MemDoor, MemReportLog, MemRest, ReportLog, Rest, Said, Scripted,
+};
+use source_lines::MAX_LINE;
 use std::alloc::{AllocError, Global};
 use std::process::Abort;
+
+// A line of a client may be as long as a line of a schedule, and no longer.
+const _: () = prove!(MAX_ASKED == MAX_LINE);
 
 /// A door to two clients. The second takes eight bytes.
 fn door(alloc: Global, script: Vec<Scripted>) -> Result<MemDoor, AllocError> {
@@ -12,11 +18,16 @@ fn door(alloc: Global, script: Vec<Scripted>) -> Result<MemDoor, AllocError> {
 }
 
 /// What was said to the first and to the second client.
-fn said(rt: &impl Abort, door: &MemDoor) -> (&[u8], &[u8]) {
+fn said<'a>(rt: &impl Abort, door: &'a MemDoor) -> (&'a [u8], &'a [u8]) {
     match door.clients() {
         [first, second] => (first.said(), second.said()),
         _ => panic!(rt; "two clients"),
     }
+}
+
+/// A line of so many equal bytes.
+fn line_of(alloc: Global, byte: u8, count: usize) -> Result<Vec<u8>, AllocError> {
+    vec![in alloc; byte; count]
 }
 
 /// A line of client 0, a quiet moment, a line of 4,097 bytes of client 1, one that is too long, and the end of client 0.
@@ -24,8 +35,8 @@ fn script(alloc: Global) -> Result<Vec<Scripted>, AllocError> {
     let mut script = Vec::new(alloc);
     script.push(Scripted::Line(0, Vec::from_slice(alloc, b"@1 state")?))?;
     script.push(Scripted::Quiet)?;
-    script.push(Scripted::Line(1, vec![in alloc; b'x'; 4097]?))?;
-    script.push(Scripted::Line(1, vec![in alloc; b'y'; 4096]?))?;
+    script.push(Scripted::Line(1, line_of(alloc, b'x', 4097)?))?;
+    script.push(Scripted::Line(1, line_of(alloc, b'y', 4096)?))?;
     script.push(Scripted::TooLong(1))?;
     script.push(Scripted::Gone(0))?;
     Ok(script)
@@ -35,7 +46,7 @@ fn script(alloc: Global) -> Result<Vec<Scripted>, AllocError> {
 fn a_door_gives_its_script(rt: HostRuntime) {
     let script = script(rt.alloc()).expect(&rt, "memory");
     let mut door = door(rt.alloc(), script).expect(&rt, "memory");
-    let mut into = [0; 4096];
+    let mut into = [0; MAX_ASKED];
     assert_eq!(rt; door.next(&mut into), Said::Line(0, 8));
     assert_eq!(rt; into[..8], b"@1 state"[..]);
     assert_eq!(rt; door.next(&mut into), Said::Quiet);

@@ -1,7 +1,10 @@
 //! Which reports a log has, and what comes out of a queue that was full.
+ghost use Rattle.std.specs.Prelude.{◌≤◌};
+
 use fabric_terms::Report;
 use log_lines::{Asking, LineQueue, MAX_QUEUE, Pushed, Written};
 use ring_points::{Interval, Point, RangeSet, Who};
+use std::alloc::Global;
 use std::process::Abort;
 
 /// A client asks about one point.
@@ -59,18 +62,35 @@ fn an_answer_is_written_if_a_client_asks(rt: HostRuntime) {
     assert!(rt; all.is_written(&own(&rt, 9), &asking));
 }
 
+/// A line of so many bytes, with its line feed.
+fn line_of(rt: &impl Abort, alloc: Global, count: usize) -> Vec<u8>
+    requires { 1 ≤ count }
+{
+    let mut line = vec![in alloc; b'x'; count].expect(rt, "memory");
+    line[count - 1] = b'\n';
+    line
+}
+
 #[test]
 fn a_full_queue_counts_and_says_so(rt: HostRuntime) {
-    let mut queue = LineQueue::new(rt.alloc()).expect(&rt, "memory");
-    let mut long = [b'x'; MAX_QUEUE];
-    long[MAX_QUEUE - 1] = b'\n';
-    assert_eq!(rt; queue.push(b"T ", &long), Pushed::Dropped);
-    assert_eq!(rt; queue.push(b"", &long[9..]), Pushed::Dropped);
+    let alloc = rt.alloc();
+    let mut queue = LineQueue::new(alloc).expect(&rt, "memory");
+    assert_eq!(rt;
+        queue.push(b"T ", &line_of(&rt, alloc, MAX_QUEUE)),
+        Pushed::Dropped
+    );
+    assert_eq!(rt;
+        queue.push(b"", &line_of(&rt, alloc, MAX_QUEUE - 9)),
+        Pushed::Dropped
+    );
     assert_eq!(rt; queue.push(b"T ", b"first\n"), Pushed::Whole);
     assert_eq!(rt; queue.front(), b"T dropped 2\nT first\n".as_slice());
     queue.taken(queue.front().len().min(4));
     assert_eq!(rt; queue.front(), b"opped 2\nT first\n".as_slice());
-    assert_eq!(rt; queue.push(b"", &long[16..]), Pushed::Whole);
+    assert_eq!(rt;
+        queue.push(b"", &line_of(&rt, alloc, MAX_QUEUE - 16)),
+        Pushed::Whole
+    );
     assert_eq!(rt; queue.front().len(), MAX_QUEUE);
     assert_eq!(rt; queue.push(b"T ", b"\n"), Pushed::Dropped);
     queue.taken(queue.front().len().saturating_sub(1));
