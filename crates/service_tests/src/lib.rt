@@ -1,9 +1,16 @@
 //! Tests of the parts of the service: the test vectors of the keyed hash, what a seal opens and what it does not, that
-//! the lines of a stream do not depend on the pieces in which it comes, and spans by hand.
+//! the lines of a stream do not depend on the pieces in which it comes, and spans by hand. Doors and logs in memory, the
+//! queue of the log, and when firings are due.
 //!
 //! What each call does is proved where it stands; here is what no clause says. The crate has no code of its own.
 #![tactic(auto)]
 
+#[cfg(test)]
+mod doors;
+#[cfg(test)]
+mod logs;
+#[cfg(test)]
+mod paces;
 #[cfg(test)]
 mod seals;
 #[cfg(test)]

@@ -1,0 +1,2 @@
+pub mod Doublings
+pub mod Bounds
