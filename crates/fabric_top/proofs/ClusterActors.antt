@@ -9,6 +9,7 @@ use Rattle.edge_io.specs.declared.endpoint.Endpoint.{Endpoint}
 use Rattle.fabric_terms.specs.declared.config.FabricConfig.{FabricConfig}
 use Rattle.fabric_terms.specs.declared.config.NodeEntry.{NodeEntry}
 use Rattle.fabric_terms.specs.Sound.{IsSound}
+use Rattle.ring_points.specs.Limits.{most_arbiters, most_node_number}
 use Rattle.ring_points.specs.Whos.{arbiter_actor}
 use Rattle.world_rules.specs.Events.{is_arbiter_actor}
 use Rattle.turn_plans.specs.Crews.{arbiter_at, arbiters_to, listener, node_at, nodes_to}
@@ -70,17 +71,17 @@ one c actor (Some at) known = record {
 
 -- Nodes.
 
-no_arbiter : (n : ℕ) → n ≤ 999 → is_arbiter_actor n ≡ false
+no_arbiter : (n : ℕ) → n ≤ most_node_number → is_arbiter_actor n ≡ false
 no_arbiter n le = le-ltb (arbiter_actor 0) n (omega (arith, le))
 
-node_is_one : (c : FabricConfig) (n : ℕ) → n ≤ 999 → Stretch c n (suc n) (node_at c n)
+node_is_one : (c : FabricConfig) (n : ℕ) → n ≤ most_node_number → Stretch c n (suc n) (node_at c n)
 node_is_one c n le = by_find (find (λ e. e.node == n) c.nodes) refl
   where
     by_find : (o : Option NodeEntry) → find (λ e. e.node == n) c.nodes ≡ o → Stretch c n (suc n) (listener n (option_map (λ e. e.at) o))
     by_find None f = one c n None (λ at h. cc)
     by_find (Some e) f = one c n (Some e.at) (λ at h. ap (is_configured_as c n) (no_arbiter n le) ∙ listed (λ (x : NodeEntry). x.node == n) c.nodes e f)
 
-nodes_rise : (c : FabricConfig) (n : ℕ) → n ≤ 999 → Stretch c 1 (suc n) (nodes_to c n)
+nodes_rise : (c : FabricConfig) (n : ℕ) → n ≤ most_node_number → Stretch c 1 (suc n) (nodes_to c n)
 unfolding nodes_to
 nodes_rise c zero le = nobody c 1
 nodes_rise c (suc n) le =
@@ -126,7 +127,7 @@ arbiters_rise c (suc n) sound =
     one_behind c (arbiter_actor 1) (arbiter_actor (suc n)) (arbiter_actor (suc (suc n))) (arbiters_to c n) (arbiter_at c (suc n)) (arbiters_rise c n sound) (arbiter_is_one c n sound)
 
 -- all actors of a cluster
-pub cluster_rises : (c : FabricConfig) → IsSound c → Stretch c 0 (arbiter_actor 10) (nodes_to c 999 ++ arbiters_to c 9)
+pub cluster_rises : (c : FabricConfig) → IsSound c → Stretch c 0 (arbiter_actor (suc most_arbiters)) (nodes_to c most_node_number ++ arbiters_to c most_arbiters)
 cluster_rises c sound =
-    let later : Stretch c 1000 (arbiter_actor 10) (arbiters_to c 9) = from_lower c 1000 (arbiter_actor 1) (arbiter_actor 10) (arbiters_to c 9) (omega arith) (arbiters_rise c 9 sound) in
-    from_lower c 0 1 (arbiter_actor 10) (nodes_to c 999 ++ arbiters_to c 9) (omega arith) (one_behind c 1 1000 (arbiter_actor 10) (nodes_to c 999) (arbiters_to c 9) (nodes_rise c 999 (omega arith)) later)
+    let later : Stretch c (suc most_node_number) (arbiter_actor (suc most_arbiters)) (arbiters_to c most_arbiters) = from_lower c (suc most_node_number) (arbiter_actor 1) (arbiter_actor (suc most_arbiters)) (arbiters_to c most_arbiters) (omega arith) (arbiters_rise c most_arbiters sound) in
+    from_lower c 0 1 (arbiter_actor (suc most_arbiters)) (nodes_to c most_node_number ++ arbiters_to c most_arbiters) (omega arith) (one_behind c 1 (suc most_node_number) (arbiter_actor (suc most_arbiters)) (nodes_to c most_node_number) (arbiters_to c most_arbiters) (nodes_rise c most_node_number (omega arith)) later)

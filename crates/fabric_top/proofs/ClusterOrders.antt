@@ -12,6 +12,7 @@ use Rattle.edge_io.specs.declared.endpoint.Endpoint.{Endpoint}
 use Rattle.fabric_status.specs.declared.status.Refusal.TheVariants.{NoSuch}
 use Rattle.fabric_terms.specs.Sound.{IsSound, IsSoundNode}
 use Rattle.fabric_terms.specs.declared.config.FabricConfig.{FabricConfig}
+use Rattle.ring_points.specs.Limits.{most_arbiters, most_node_number}
 use Rattle.fabric_terms.specs.declared.config.NodeEntry.{NodeEntry}
 use Rattle.source_lines.specs.Lines.{is_ignored, most_line, most_lines}
 use Rattle.turn_rules.specs.declared.order.Order.{Order}
@@ -71,14 +72,14 @@ among_nodes c node (suc n) e f some most = by_test (node == suc n) refl (among_n
         let no : node ≡ suc n → ⊥ = λ h. (let yes : (node == suc n) ≡ true = eq-eqb node (suc n) h in cc) in
         any_left (is_of node) (nodes_to c n) (node_at c (suc n)) (before (omega (arith, some, most, no)))
 
-pub among : (c : FabricConfig) (node : ℕ) → IsSound c → is_configured_node c node ≡ true → list_any (is_of node) (nodes_to c 999 ++ arbiters_to c 9) ≡ true
+pub among : (c : FabricConfig) (node : ℕ) → IsSound c → is_configured_node c node ≡ true → list_any (is_of node) (nodes_to c most_node_number ++ arbiters_to c most_arbiters) ≡ true
 among c node sound there =
     let f = found (λ (e : NodeEntry). e.node == node) c.nodes there in
     let h = holds_of IsSoundNode (λ (e : NodeEntry). e.node == node) c.nodes f.0 sound.nodes f.1 in
     let is : f.0.node ≡ node = eqb-true f.0.node node h.1 in
     let low : 1 ≤ f.0.node = h.0.node.from_low in
-    let high : f.0.node ≤ 999 = h.0.node.to_high in
-    any_left (is_of node) (nodes_to c 999) (arbiters_to c 9) (among_nodes c node 999 f.0 f.1 (omega (arith, is, low)) (omega (arith, is, high)))
+    let high : f.0.node ≤ most_node_number = h.0.node.to_high in
+    any_left (is_of node) (nodes_to c most_node_number) (arbiters_to c most_arbiters) (among_nodes c node most_node_number f.0 f.1 (omega (arith, is, low)) (omega (arith, is, high)))
 
 -- So the place of a command is its node's.
 

@@ -1,5 +1,5 @@
 -- What a source defines for a cluster is a cluster's plan.
-use Rattle.std.proofs.Common.{◌≡◌, ℕ, Bool, true, false, cond, List, [], ◌∷◌, ◌++◌, length, Some, Result, Ok, Err, refl, subst}
+use Rattle.std.proofs.Common.{◌≡◌, ℕ, suc, Bool, true, false, cond, List, [], ◌∷◌, ◌++◌, length, Some, Result, Ok, Err, refl, subst}
 use Rattle.std.specs.Prelude.{All, nat_lt, slice_get}
 use Rattle.std.proofs.lemmas.List.Elements.{All-get_or, All-nil}
 use Rattle.std.proofs.lemmas.Option.{get_or_from_slice_get, slice_get_within}
@@ -13,6 +13,7 @@ use Rattle.fabric_status.specs.declared.status.Refusal.{Refusal}
 use Rattle.fabric_status.specs.declared.status.Refusal.TheVariants.{BadConfig, NoSuch}
 use Rattle.fabric_terms.specs.Sound.{IsSound}
 use Rattle.fabric_terms.specs.declared.config.FabricConfig.{FabricConfig}
+use Rattle.ring_points.specs.Limits.{most_arbiters, most_node_number}
 use Rattle.ring_points.specs.Whos.{arbiter_actor}
 use Rattle.line_format.specs.Lines.{lines_of}
 use Rattle.source_lines.specs.Lines.{most_first_line}
@@ -58,11 +59,11 @@ IsRead plan = IsSound plan.config × IsClusterPlan plan
 with_orders : (c : FabricConfig) (turns : ℕ) (orders : List Order) → IsSound c → All (Names c (endpoints_of c Cluster)) orders →
     IsRead (record { config = c; actors = endpoints_of c Cluster; orders = orders; turns = turns })
 with_orders c turns orders sound named =
-    let stretch : Stretch c 0 (arbiter_actor 10) (nodes_to c 999 ++ arbiters_to c 9) = cluster_rises c sound in (
+    let stretch : Stretch c 0 (arbiter_actor (suc most_arbiters)) (nodes_to c most_node_number ++ arbiters_to c most_arbiters) = cluster_rises c sound in (
       sound,
       record {
         rise = stretch.rise;
-        configured = all_at (IsOf c) (nodes_to c 999 ++ arbiters_to c 9) stretch.known;
+        configured = all_at (IsOf c) (nodes_to c most_node_number ++ arbiters_to c most_arbiters) stretch.known;
         named = λ k o e here at. all_at (Names c (endpoints_of c Cluster)) orders named k o here e at;
       },
     )

@@ -1,3 +1,4 @@
+ghost use Rattle.std.specs.Prelude.{◌≡◌};
 ghost use Rattle.fabric_top.specs.CrewCauses.{IsCrewRun};
 ghost use Rattle.fabric_status.specs.Codes.{status_of};
 ghost use Rattle.fabric_status.specs.Faults.{fault_line};
@@ -5,7 +6,7 @@ ghost use Rattle.fabric_status.specs.Writes.{Wrote};
 ghost use Rattle.edge_io.specs.Told.{Loans};
 ghost use Rattle.turn_rules.specs.Whole.{told_of};
 
-use edge_io::{Clock, Keeper, Links, Sink, Source};
+use edge_io::{Clock, Devices, Keeper, Links, Sink, Source};
 use fabric_status::{Refusal, Status, push_fault, write_last};
 use fabric_turns::run_on;
 use std::alloc::Global;
@@ -31,28 +32,40 @@ pub fn run_crew<S: Source, K: Sink, N: Links, D: Keeper, C: Clock>(
     crew: Crew,
     turns: u64,
     source: &mut S,
-    sink: &mut K,
-    links: &mut N,
-    keeps: &mut D,
-    clock: &mut C,
+    devices: &mut Devices<'_, '_, '_, '_, K, N, D, C>,
 ) -> Status
-    ensures { (l : Loans) × IsCrewRun crew turns
+    ensures run { (l : Loans) × IsCrewRun crew turns
         (record {
           left = S.left source.old;
           source_faults = S.faults source.old;
-          told = told_of l (K.held sink.old) (K.faults sink.old) (D.kept keeps.old) (D.faults keeps.old) (N.opened links.old) (N.arrivals links.old) (N.sent links.old) (N.faults links.old) (C.readings clock.old) (C.last clock.old) (C.falls clock.old);
+          told = told_of l (K.held devices.old.sink.now) (K.faults devices.old.sink.now) (D.kept devices.old.keeps.now) (D.faults devices.old.keeps.now) (N.opened devices.old.links.now) (N.arrivals devices.old.links.now) (N.sent devices.old.links.now) (N.faults devices.old.links.now) (C.readings devices.old.clock.now) (C.last devices.old.clock.now) (C.falls devices.old.clock.now);
         })
         result
         (record {
           left = S.left source.new;
           source_faults = S.faults source.new;
-          told = told_of l (K.held sink.new) (K.faults sink.new) (D.kept keeps.new) (D.faults keeps.new) (N.opened links.new) (N.arrivals links.new) (N.sent links.new) (N.faults links.new) (C.readings clock.new) (C.last clock.new) (C.falls clock.new);
+          told = told_of l (K.held devices.new.sink.now) (K.faults devices.new.sink.now) (D.kept devices.new.keeps.now) (D.faults devices.new.keeps.now) (N.opened devices.new.links.now) (N.arrivals devices.new.links.now) (N.sent devices.new.links.now) (N.faults devices.new.links.now) (C.readings devices.new.clock.now) (C.last devices.new.clock.now) (C.falls devices.new.clock.now);
         }) }
+    ensures sink { devices.new.sink.ghost_name ≡ devices.old.sink.ghost_name }
+    ensures links { devices.new.links.ghost_name ≡ devices.old.links.ghost_name }
+    ensures keeps { devices.new.keeps.ghost_name ≡ devices.old.keeps.ghost_name }
+    ensures clock { devices.new.clock.ghost_name ≡ devices.old.clock.ghost_name }
 {
     match read_plan(alloc, crew, turns, source) {
-        Err(PlanError::SourceFailed) => write_last(sink, b"fault read\n", Status::ReadFault),
+        Err(PlanError::SourceFailed) => write_last(
+            devices.sink,
+            b"fault read\n",
+            Status::ReadFault,
+        ),
         Err(PlanError::OutOfMemory) => Status::OutOfMemory,
-        Err(PlanError::Refused(refusal)) => refuse(alloc, refusal, sink),
-        Ok(plan) => run_on(alloc, &plan, sink, links, keeps, clock),
+        Err(PlanError::Refused(refusal)) => refuse(alloc, refusal, devices.sink),
+        Ok(plan) => run_on(
+            alloc,
+            &plan,
+            devices.sink,
+            devices.links,
+            devices.keeps,
+            devices.clock,
+        ),
     }
 }

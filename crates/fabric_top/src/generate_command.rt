@@ -1,5 +1,6 @@
 ghost use Rattle.std.specs.Prelude.{◌≤◌};
 ghost use Rattle.fabric_top.specs.Generating.{WritesMade};
+ghost use Rattle.schedule_generate.specs.Settings.{most_generated_nodes};
 ghost use Rattle.schedule_generate.specs.Texts.{drill_writing, generate_writing};
 
 use edge_io::Sink;
@@ -16,7 +17,7 @@ pub fn generate_schedule<K: Sink>(
     sink: &mut K,
 ) -> Status
     requires some { 1 ≤ nodes }
-    requires few { nodes ≤ 16 }
+    requires few { nodes ≤ most_generated_nodes }
     ensures { WritesMade generate_writing seed nodes rounds result (K.held sink.old) (K.held sink.new)
         (K.faults sink.old) (K.faults sink.new) }
 {
@@ -32,7 +33,7 @@ pub fn drill_schedule<K: Sink>(
     sink: &mut K,
 ) -> Status
     requires some { 1 ≤ nodes }
-    requires few { nodes ≤ 16 }
+    requires few { nodes ≤ most_generated_nodes }
     ensures { WritesMade drill_writing seed nodes rounds result (K.held sink.old) (K.held sink.new) (K.faults sink.old)
         (K.faults sink.new) }
 {

@@ -9,7 +9,7 @@ ghost use Rattle.turn_rules.specs.Whole.{told_of};
 use crate::forms::run_form;
 use crate::usage::usage;
 use crate::words::read_form;
-use edge_io::{Clock, Keeper, Links, Sink, Source};
+use edge_io::{Clock, Devices, Keeper, Links, Sink, Source};
 use fabric_status::Status;
 use std::alloc::Global;
 
@@ -53,7 +53,15 @@ pub fn fabric_main<S: Source, K: Sink, N: Links, D: Keeper, C: Clock>(
     ensures safe { (bytes : List ℕ) → S.left source.old ≡ Some bytes → IsSafe (judge bytes) }
 {
     match read_form(alloc, words) {
-        Ok(Some(form)) => run_form(alloc, form, source, sink, links, keeps, clock),
+        Ok(Some(form)) => {
+            let mut devices = Devices {
+                sink,
+                links,
+                keeps,
+                clock,
+            };
+            run_form(alloc, form, source, &mut devices)
+        }
         Ok(None) => usage(sink),
         Err(_) => Status::OutOfMemory,
     }

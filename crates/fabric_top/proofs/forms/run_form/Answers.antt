@@ -10,41 +10,41 @@ use Rattle.transcript_audit.specs.Statuses.{may_end_audit}
 
 pub returns-in-Replay-clause-does : goal.returns-in-Replay-clause-does
 returns-in-Replay-clause-does g c =
-    let loans : Loans = record { sink = c.args.sink.ghost_name; links = c.args.links.ghost_name; keeps = c.args.keeps.ghost_name; clock = c.args.clock.ghost_name } in
+    let loans : Loans = record { sink = c.args.devices.now.sink.ghost_name; links = c.args.devices.now.links.ghost_name; keeps = c.args.devices.now.keeps.ghost_name; clock = c.args.devices.now.clock.ghost_name } in
     (loans, rw c.in-Replay.is (record { replays = c.replay_source.ensures; rest = refl }))
 
 pub returns-in-Node-clause-does : goal.returns-in-Node-clause-does
-returns-in-Node-clause-does g c = let runs = c.run_actors.ensures in (runs.0, rw c.in-Node.is runs.1)
+returns-in-Node-clause-does g c = let runs = c.run_actors.ensures.run in (runs.0, rw c.in-Node.is runs.1)
 
 pub returns-in-Arbiter-clause-does : goal.returns-in-Arbiter-clause-does
-returns-in-Arbiter-clause-does g c = let runs = c.run_actors-in-Arbiter.ensures in (runs.0, rw c.in-Arbiter.is runs.1)
+returns-in-Arbiter-clause-does g c = let runs = c.run_actors-in-Arbiter.ensures.run in (runs.0, rw c.in-Arbiter.is runs.1)
 
 pub returns-in-Cluster-clause-does : goal.returns-in-Cluster-clause-does
-returns-in-Cluster-clause-does g c = let runs = c.run_actors-in-Cluster.ensures in (runs.0, rw c.in-Cluster.is (cluster_runs _ _ _ _ runs.1))
+returns-in-Cluster-clause-does g c = let runs = c.run_actors-in-Cluster.ensures.run in (runs.0, rw c.in-Cluster.is (cluster_runs _ _ _ _ runs.1))
 
 pub returns-in-Trace-clause-does : goal.returns-in-Trace-clause-does
 returns-in-Trace-clause-does g c =
-    let loans : Loans = record { sink = c.args.sink.ghost_name; links = c.args.links.ghost_name; keeps = c.args.keeps.ghost_name; clock = c.args.clock.ghost_name } in
+    let loans : Loans = record { sink = c.args.devices.now.sink.ghost_name; links = c.args.devices.now.links.ghost_name; keeps = c.args.devices.now.keeps.ghost_name; clock = c.args.devices.now.clock.ghost_name } in
     (loans, rw c.in-Trace.is (record { traces = c.trace_source.ensures; rest = refl }))
 
 pub returns-in-Audit-clause-does : goal.returns-in-Audit-clause-does
 returns-in-Audit-clause-does g c =
-    let loans : Loans = record { sink = c.args.sink.ghost_name; links = c.args.links.ghost_name; keeps = c.args.keeps.ghost_name; clock = c.args.clock.ghost_name } in
+    let loans : Loans = record { sink = c.args.devices.now.sink.ghost_name; links = c.args.devices.now.links.ghost_name; keeps = c.args.devices.now.keeps.ghost_name; clock = c.args.devices.now.clock.ghost_name } in
     (loans, rw c.in-Audit.is (record { audits = c.audit_source.ensures; rest = refl }))
 
 pub returns-in-Writes-clause-does : goal.returns-in-Writes-clause-does
 returns-in-Writes-clause-does g c =
-    let loans : Loans = record { sink = c.args.sink.ghost_name; links = c.args.links.ghost_name; keeps = c.args.keeps.ghost_name; clock = c.args.clock.ghost_name } in
+    let loans : Loans = record { sink = c.args.devices.now.sink.ghost_name; links = c.args.devices.now.links.ghost_name; keeps = c.args.devices.now.keeps.ghost_name; clock = c.args.devices.now.clock.ghost_name } in
     (loans, rw c.in-Writes.is (record { writes = c.writes_source.ensures; rest = refl }))
 
 pub returns-in-Generate-clause-does : goal.returns-in-Generate-clause-does
 returns-in-Generate-clause-does g c =
-    let loans : Loans = record { sink = c.args.sink.ghost_name; links = c.args.links.ghost_name; keeps = c.args.keeps.ghost_name; clock = c.args.clock.ghost_name } in
+    let loans : Loans = record { sink = c.args.devices.now.sink.ghost_name; links = c.args.devices.now.links.ghost_name; keeps = c.args.devices.now.keeps.ghost_name; clock = c.args.devices.now.clock.ghost_name } in
     (loans, rw c.in-Generate.is (record { made = c.generate_schedule.ensures; safe = accepted_is_safe _; rest = refl }))
 
 pub returns-in-Drill-clause-does : goal.returns-in-Drill-clause-does
 returns-in-Drill-clause-does g c =
-    let loans : Loans = record { sink = c.args.sink.ghost_name; links = c.args.links.ghost_name; keeps = c.args.keeps.ghost_name; clock = c.args.clock.ghost_name } in
+    let loans : Loans = record { sink = c.args.devices.now.sink.ghost_name; links = c.args.devices.now.links.ghost_name; keeps = c.args.devices.now.keeps.ghost_name; clock = c.args.devices.now.clock.ghost_name } in
     (loans, rw c.in-Drill.is (record { made = c.drill_schedule.ensures; safe = accepted_is_safe _; rest = refl }))
 
 pub returns-in-Replay-clause-usage : goal.returns-in-Replay-clause-usage
