@@ -1,0 +1,5 @@
+pub mod Checks
+pub mod Fields
+pub mod Keys
+pub mod Entries
+pub mod Settings
