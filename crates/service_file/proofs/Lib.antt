@@ -1,2 +1,4 @@
+pub mod Given
+pub mod Soundness
 pub mod Texts
 pub mod Views

@@ -3,3 +3,5 @@ pub mod Fields
 pub mod Keys
 pub mod Entries
 pub mod Settings
+pub mod Sound
+pub mod Worked

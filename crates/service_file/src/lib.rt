@@ -12,14 +12,18 @@ mod entries;
 mod error;
 mod field;
 mod keys;
+mod laws;
 mod limits;
 mod numbers;
 mod partitions;
 mod read;
 mod settings;
+mod worked;
 
 pub use error::ServiceError;
 pub use field::ServiceField;
+pub use laws::what_is_read_is_sound;
 pub use limits::MAX_DECLARED;
 pub use read::read_service;
 pub use settings::{Again, Declared, DeclaredList, Joins, LineChoice, ServiceSettings};
+pub use worked::worked_lines;
