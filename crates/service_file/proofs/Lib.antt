@@ -1,4 +1,5 @@
 pub mod Given
 pub mod Soundness
+pub mod TextLaws
 pub mod Texts
 pub mod Views

@@ -4,4 +4,5 @@ pub mod Keys
 pub mod Entries
 pub mod Settings
 pub mod Sound
+pub mod Texts
 pub mod Worked

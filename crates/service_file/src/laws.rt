@@ -5,10 +5,23 @@ ghost use Rattle.fabric_terms.specs.declared.config.FabricConfig.{FabricConfig a
 ghost use Rattle.service_file.specs.declared.settings.ServiceSettings.{ServiceSettings as Settings};
 ghost use Rattle.service_file.specs.Settings.{service_of};
 ghost use Rattle.service_file.specs.Sound.{IsSoundService};
+ghost use Rattle.service_file.specs.Texts.{text_of_config, without_addresses};
 
 /// What a line is read as is sound: nodes that join are configured and come once, partitions come once, and each
 /// number is in its range.
 pub fn what_is_read_is_sound()
     ensures { (c : Configuration) (line : List ℕ) (s : Settings) →
         IsSound c → service_of c line ≡ Ok s → IsSoundService c s }
+{}
+
+/// Sound configurations with equal texts have everything in common but their addresses.
+pub fn texts_know_everything_but_addresses()
+    ensures { (c d : Configuration) → IsSound c → IsSound d → text_of_config c ≡ text_of_config d →
+        without_addresses c ≡ without_addresses d }
+{}
+
+/// Configurations that differ in addresses only have the same text.
+pub fn texts_have_no_addresses()
+    ensures { (c d : Configuration) → without_addresses c ≡ without_addresses d →
+        text_of_config c ≡ text_of_config d }
 {}

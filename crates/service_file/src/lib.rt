@@ -8,6 +8,7 @@
 //! that the file `actor` is read exactly where it is spelled as it would be written.
 #![tactic(auto)]
 
+mod checksum;
 mod entries;
 mod error;
 mod field;
@@ -20,9 +21,12 @@ mod read;
 mod settings;
 mod worked;
 
+pub use checksum::checksum_of;
 pub use error::ServiceError;
 pub use field::ServiceField;
-pub use laws::what_is_read_is_sound;
+pub use laws::{
+    texts_have_no_addresses, texts_know_everything_but_addresses, what_is_read_is_sound,
+};
 pub use limits::MAX_DECLARED;
 pub use read::read_service;
 pub use settings::{Again, Declared, DeclaredList, Joins, LineChoice, ServiceSettings};
