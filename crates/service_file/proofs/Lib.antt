@@ -1,3 +1,7 @@
+pub mod AgainLines
+pub mod Passing
+pub mod FileFields
+pub mod FileLaws
 pub mod Given
 pub mod Soundness
 pub mod TextLaws

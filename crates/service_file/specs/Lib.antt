@@ -1,3 +1,5 @@
+pub mod ActorFiles
+pub mod Beginnings
 pub mod Checks
 pub mod Fields
 pub mod Keys

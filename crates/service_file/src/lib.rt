@@ -8,6 +8,9 @@
 //! that the file `actor` is read exactly where it is spelled as it would be written.
 #![tactic(auto)]
 
+mod actor_file;
+mod actor_lines;
+mod beginning;
 mod checksum;
 mod entries;
 mod error;
@@ -21,11 +24,15 @@ mod read;
 mod settings;
 mod worked;
 
+pub use actor_file::{ActorFile, ActorFileError, Agains, read_actor_file};
+pub use actor_lines::{again_line, began_line, head_line};
+pub use beginning::{Beginning, begins_by};
 pub use checksum::checksum_of;
 pub use error::ServiceError;
 pub use field::ServiceField;
 pub use laws::{
-    texts_have_no_addresses, texts_know_everything_but_addresses, what_is_read_is_sound,
+    actor_files_have_one_text, no_instance_begins_anew_twice, texts_have_no_addresses,
+    texts_know_everything_but_addresses, what_is_read_is_sound,
 };
 pub use limits::MAX_DECLARED;
 pub use read::read_service;
