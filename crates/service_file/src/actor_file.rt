@@ -1,4 +1,4 @@
-ghost use Rattle.std.specs.Prelude.{◌≡◌, ◌<◌, length, IfOk};
+ghost use Rattle.std.specs.Prelude.{◌≡◌};
 ghost use Rattle.hex.specs.Hex.{encode_lower};
 ghost use Rattle.text_fields.specs.Fields.{Gives};
 ghost use Rattle.service_file.specs.declared.actor_file.ActorFileError.TheVariants.{Bad, OutOfMemory};
@@ -139,8 +139,7 @@ fn began_at(bytes: &[u8]) -> (bool, &[u8])
 /// A line `again`, and what follows it.
 #[tactic(auto, unfolding(crate::specs::ActorFiles::again_at))]
 fn again_at(bytes: &[u8]) -> Result<(Again, &[u8]), BadField>
-    ensures read { Gives (λ x. (x.0, x.1.now)) result (again_at bytes.now) }
-    ensures shorter { IfOk result (λ x. length x.1.now < length bytes.now) }
+    ensures { Gives (λ x. (x.0, x.1.now)) result (again_at bytes.now) }
 {
     let (node, rest) = node_at(after_word(b"again ", bytes)?)?;
     let (instance, rest) = number_in(2, MAX_COUNTER, after_word(b".", rest)?)?;
