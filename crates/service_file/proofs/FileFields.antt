@@ -86,7 +86,7 @@ line_is {A} {field} {Fits} {text} law word ends = record {
       subst P {x = pair} (some_same pair x n.2) (
         f.0,
         word_found word bytes w.0 w.1
-        ∙ (ap (λ t. word ++ t) (f.1 ∙ ap (λ t. text a.0.0 ++ t) (word_found (codes "\n") a.0.1 n.0 n.1)) ∙ grouped word (text a.0.0) (codes "\n") n.0),
+            ∙ (ap (λ t. word ++ t) (f.1 ∙ ap (λ t. text a.0.0 ++ t) (word_found (codes "\n") a.0.1 n.0 n.1)) ∙ grouped word (text a.0.0) (codes "\n") n.0),
       );
   again = λ x rest h end.
       ap (line_at word field) (sym (grouped word (text x) (codes "\n") rest))

@@ -157,7 +157,7 @@ declared_partitions (e ∷ es) p r = by (partition_in e) refl (replicas_in e) re
     by : (o : Option ℕ) → partition_in e ≡ o → (q : Option ℕ) → replicas_in e ≡ q
         → list_all (λ e. is_some (partition_in e)) (e ∷ es) ≡ true → list_all (λ e. is_some (replicas_in e)) (e ∷ es) ≡ true
         → (list_all (λ e. is_some (partition_in e)) es ≡ true → list_all (λ e. is_some (replicas_in e)) es ≡ true
-          → map (λ x. x.partition) (filter_map declared_in es) ≡ filter_map partition_in es)
+        → map (λ x. x.partition) (filter_map declared_in es) ≡ filter_map partition_in es)
         → map (λ x. x.partition) (filter_map declared_in (e ∷ es)) ≡ filter_map partition_in (e ∷ es)
     by None f q g a b rest = let never : false ≡ true = rw f at a in absurd (cc)
     by (Some n) f None g a b rest = let never : false ≡ true = rw g at b in absurd (cc)
@@ -229,7 +229,7 @@ settings_sound c d s =
       again = t;
     }
 
-defaults_sound : (c : FabricConfig) → IsSound c → IsSoundService c (defaults c)
+pub defaults_sound : (c : FabricConfig) → IsSound c → IsSoundService c (defaults c)
 defaults_sound c s = record {
   join_count = omega arith;
   joined = λ k d h. absurd (omega arith);
@@ -248,3 +248,8 @@ line_sound c (b ∷ bs) s = after (document_of (b ∷ bs)) (settings_of c) _ λ 
 
 pub read_sound : (c : FabricConfig) (line : List ℕ) (s : ServiceSettings) → IsSound c → service_of c line ≡ Ok s → IsSoundService c s
 read_sound c line s sound e = IfOk-at_ok (IsSoundService c) e (line_sound c line sound)
+
+-- the same of a reader's answer
+pub answer_sound : (c : FabricConfig) (d : Data) (r : Result ServiceSettings ServiceError) → IsSound c → Reads (settings_of c d) r → IfOk r (IsSoundService c)
+answer_sound c d (Ok s) sound e = IfOk-at_ok (IsSoundService c) e (settings_sound c d sound)
+answer_sound c d (Err e) sound why = tt

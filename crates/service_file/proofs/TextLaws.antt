@@ -71,11 +71,12 @@ nodes_same m n r s p q e =
     let A = a.0 in
     let C = c.0 in
     let D = d.0 in
-    let F = f.0 in
-    (ap (λ x. bare x m.point.0 m.domain m.longest) A
-    ∙ (ap (λ x. bare n.node x m.domain m.longest) C
-    ∙ (ap (λ x. bare n.node n.point.0 x m.longest) D ∙ ap (λ x. bare n.node n.point.0 n.domain x) F)),
-    f.1)
+    let F = f.0 in (
+      ap (λ x. bare x m.point.0 m.domain m.longest) A
+          ∙ (ap (λ x. bare n.node x m.domain m.longest) C
+          ∙ (ap (λ x. bare n.node n.point.0 x m.longest) D ∙ ap (λ x. bare n.node n.point.0 n.domain x) F)),
+      f.1,
+    )
 
 abbrev AreLong : List (ℕ × List ℕ) → Type 0
 AreLong arbiters = All (λ a. a.0 < 2 ^ 64) arbiters

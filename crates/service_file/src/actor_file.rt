@@ -110,7 +110,9 @@ fn checksum_at(bytes: &[u8]) -> Result<([u8; 32], &[u8]), BadField>
     }
     let (digits, rest) = bytes.split_at(64);
     let mut checksum = [0; 32];
-    if decode_to_slice(digits, &mut checksum).is_err() || digits_of(&checksum).as_slice() != digits {
+    if decode_to_slice(digits, &mut checksum).is_err()
+        || digits_of(&checksum).as_slice() != digits
+    {
         return Err(BadField);
     }
     Ok((checksum, rest))

@@ -24,9 +24,7 @@ pub enum Beginning {
 fn is_noted(again: Again, noted: &[Again]) -> bool
     ensures { result ≡ is_noted again noted.now }
 {
-    noted
-        .iter()
-        .any(|it| it.node == again.node && it.instance == again.instance)
+    noted.iter().any(|it| it.node == again.node && it.instance == again.instance)
 }
 
 /// By the last instance of the records, and whether the file has the line of this one.

@@ -31,18 +31,31 @@ pub fn read_list(object: &Value, field: ServiceField, most: usize) -> Result<&[V
 fn are_configured(config: &FabricConfig, entries: &[Value]) -> bool
     ensures { result ≡ list_all (λ v. is_some (configured_in config.now (view v))) entries.now }
 {
-    entries.iter().all(|entry| configured_in(config, entry).is_some())
+    entries
+        .iter()
+        .all(|entry| configured_in(config, entry).is_some())
 }
 
-fn collect_nodes(alloc: Global, config: &FabricConfig, entries: &[Value]) -> Result<Vec<u16>, AllocError>
+fn collect_nodes(
+    alloc: Global,
+    config: &FabricConfig,
+    entries: &[Value],
+) -> Result<Vec<u16>, AllocError>
     ensures { IfOk result (λ nodes. nodes.items ≡ filter_map (λ v. configured_in config.now (view v)) entries.now) }
 {
-    entries.iter().filter_map(|entry| configured_in(config, entry)).collect(alloc)
+    entries
+        .iter()
+        .filter_map(|entry| configured_in(config, entry))
+        .collect(alloc)
 }
 
 /// Configured nodes, each once.
 #[tactic(auto, using(crate::proofs::Views::views), unfolding(crate::specs::Entries::join_of))]
-pub fn read_join(alloc: Global, config: &FabricConfig, object: &Value) -> Result<Joins, ServiceError>
+pub fn read_join(
+    alloc: Global,
+    config: &FabricConfig,
+    object: &Value,
+) -> Result<Joins, ServiceError>
     ensures { Reads (join_of config.now (view object.now)) result }
 {
     let entries = read_list(object, ServiceField::Join, MAX_NODES)?;
@@ -68,8 +81,9 @@ pub fn read_again(config: &FabricConfig, object: &Value) -> Result<Option<Again>
     let node_value = value.get(ServiceField::Node.words()).ok_or(absent)?;
     let instance_value = value.get(ServiceField::Instance.words()).ok_or(absent)?;
     let node = configured_in(config, node_value).ok_or(ServiceError::Bad(ServiceField::Node))?;
-    let instance =
-        number_in(2, MAX_COUNTER, instance_value).ok_or(ServiceError::Bad(ServiceField::Instance))?;
+    let instance = number_in(2, MAX_COUNTER, instance_value).ok_or(ServiceError::Bad(
+        ServiceField::Instance,
+    ))?;
     Ok(Some(Again {
         node,
         instance: instance as u32,

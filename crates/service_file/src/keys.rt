@@ -59,7 +59,10 @@ fn have_only(fields: &[ServiceField], entries: &[Value]) -> bool
 fn has_known_entries(object: &Value) -> bool
     ensures { result ≡ list_all (has_only (Partition ∷ Replicas ∷ [])) (entries_in Partitions (view object.now)) }
 {
-    match object.get(ServiceField::Partitions.words()).and_then(Value::as_array) {
+    match object
+        .get(ServiceField::Partitions.words())
+        .and_then(Value::as_array)
+    {
         None => true,
         Some(entries) => have_only(&DECLARED, entries),
     }

@@ -37,4 +37,4 @@ pub use laws::{
 pub use limits::MAX_DECLARED;
 pub use read::read_service;
 pub use settings::{Again, Declared, DeclaredList, Joins, LineChoice, ServiceSettings};
-pub use worked::worked_lines;
+pub use worked::{worked_beginnings, worked_lines};

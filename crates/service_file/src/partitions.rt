@@ -38,7 +38,10 @@ fn declared_in(entry: &Value) -> Option<Declared>
 {
     let partition = partition_in(entry)?;
     let replicas = replicas_in(entry)?;
-    Some(Declared { partition, replicas })
+    Some(Declared {
+        partition,
+        replicas,
+    })
 }
 
 fn are_objects(entries: &[Value]) -> bool
@@ -51,7 +54,10 @@ fn are_objects(entries: &[Value]) -> bool
 fn collect_partitions(alloc: Global, entries: &[Value]) -> Result<Vec<u16>, AllocError>
     ensures { IfOk result (λ numbers. numbers.items ≡ filter_map (λ v. partition_in (view v)) entries.now) }
 {
-    entries.iter().filter_map(|entry| partition_in(entry)).collect(alloc)
+    entries
+        .iter()
+        .filter_map(|entry| partition_in(entry))
+        .collect(alloc)
 }
 
 fn are_numbered(entries: &[Value]) -> bool
@@ -69,7 +75,10 @@ fn are_counted(entries: &[Value]) -> bool
 fn collect_declared(alloc: Global, entries: &[Value]) -> Result<Vec<Declared>, AllocError>
     ensures { IfOk result (λ list. list.items ≡ filter_map (λ v. declared_in (view v)) entries.now) }
 {
-    entries.iter().filter_map(|entry| declared_in(entry)).collect(alloc)
+    entries
+        .iter()
+        .filter_map(|entry| declared_in(entry))
+        .collect(alloc)
 }
 
 /// The declared partitions: a list of objects, each partition once, and then the fields of each.

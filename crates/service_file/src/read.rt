@@ -1,5 +1,7 @@
-ghost use Rattle.std.specs.Prelude.{◌≡◌, ◌<◌, length, IsErrOf};
+ghost use Rattle.std.specs.Prelude.{◌≡◌, ◌<◌, length, IfOk, IsErrOf};
 ghost use Rattle.serde_json.specs.View.{view};
+ghost use Rattle.fabric_terms.specs.Sound.{IsSound};
+ghost use Rattle.service_file.specs.Sound.{IsSoundService};
 ghost use Rattle.service_file.specs.Checks.{Reads, ReadsAs};
 ghost use Rattle.service_file.specs.Settings.{choice_named, choice_or_some, defaults, document_of, service_of};
 ghost use Rattle.service_file.specs.Settings.{settings_of, ticks_or_lease};
@@ -67,7 +69,11 @@ fn read_lines(object: &Value) -> Result<LineChoice, ServiceError>
 
 /// The checks of an object, in their order.
 #[tactic(auto, unfolding(crate::specs::Settings::settings_of))]
-fn read_object(alloc: Global, config: &FabricConfig, object: &Value) -> Result<ServiceSettings, ServiceError>
+fn read_object(
+    alloc: Global,
+    config: &FabricConfig,
+    object: &Value,
+) -> Result<ServiceSettings, ServiceError>
     ensures { Reads (settings_of config.now (view object.now)) result }
 {
     if !has_known_keys(object) {
@@ -102,9 +108,14 @@ fn defaults(alloc: Global, config: &FabricConfig) -> ServiceSettings
 
 /// What the line says for this configuration, or the first check that it fails. An empty line gives each field its
 /// default, and takes no memory; for another line want of memory may come in place of any answer.
-#[tactic(auto, unfolding(crate::specs::Settings::service_of))]
-pub fn read_service(alloc: Global, config: &FabricConfig, line: &[u8]) -> Result<ServiceSettings, ServiceError>
+#[tactic(auto, unfolding(crate::specs::Settings::service_of), using(crate::proofs::Soundness::answer_sound, crate::proofs::Soundness::defaults_sound))]
+pub fn read_service(
+    alloc: Global,
+    config: &FabricConfig,
+    line: &[u8],
+) -> Result<ServiceSettings, ServiceError>
     ensures value { Reads (service_of config.now line.now) result }
+    ensures sound { IsSound config.now → IfOk result (IsSoundService config.now) }
     ensures memory { IsErrOf result ServiceError.OutOfMemory → 0 < length line.now }
 {
     if line.is_empty() {

@@ -30,3 +30,7 @@ returns-clause-unknown c = refl
 pub returns-clause-once : goal.returns-clause-once
 unfolding serde_json_on_literals chars is_utf8 encode_utf8 number_in configured_in list_of join_of partition_in replicas_in declared_in partitions_of again_of has_only has_known_keys document_of settings_of service_of
 returns-clause-once c = refl
+
+pub returns-clause-instance : goal.returns-clause-instance
+unfolding serde_json_on_literals chars is_utf8 encode_utf8 number_in configured_in list_of join_of partition_in replicas_in declared_in partitions_of again_of has_only has_known_keys document_of settings_of service_of
+returns-clause-instance c = refl
