@@ -1,5 +1,5 @@
 -- The fields and lines of the file `actor` are read exactly where they are spelled.
-use Rattle.std.proofs.Common.{lit<, ◌≡◌, ℕ, suc, ◌+◌, ◌*◌, ◌<◌, ◌≤◌, Bool, true, false, cond, nat_le, ⊎_elim, List, [], ◌∷◌, ◌++◌, length, take, drop, Option, Some, None, Result, Ok, Err, refl, ap, sym, subst, ◌∙◌, arith}
+use Rattle.std.proofs.Common.{lit<, ◌≡◌, ℕ, true, nat_le, ⊎_elim, List, ◌++◌, length, take, drop, Option, Some, None, Result, Ok, Err, refl, ap, sym, subst, ◌∙◌, arith}
 use Rattle.std.specs.Prelude.{decimal, codes}
 use Rattle.std.specs.Str.{bytes_eq}
 use Rattle.std.proofs.lemmas.List.{append_assoc, drop_at, length-append, take-append-drop, take_at}
@@ -10,12 +10,12 @@ use Rattle.hex.proofs.HexLemmas.{decode_of-ok, decode_sized-encode_lower, decode
 use Rattle.ring_points.specs.Limits.{most_counter}
 use Rattle.fabric_terms.specs.Ranges.{IsActor}
 use Rattle.text_fields.specs.Actors.{actor_at, actor_text}
-use Rattle.text_fields.specs.Fields.{◌>>=◌, Field, after_word, made_at, pair_at, word_of}
-use Rattle.text_fields.specs.Inverses.{IsField, EndsAnyhow, EndsNumber}
+use Rattle.text_fields.specs.Fields.{◌>>=◌, Field, after_word, word_of}
+use Rattle.text_fields.specs.Inverses.{IsField, EndsAnyhow}
 use Rattle.text_fields.proofs.ActorLaws.{actor_is, node_is}
 use Rattle.text_fields.proofs.FieldLaws.{bind_some, made_at_is, pair_is, word_again, word_found, word_of_again, word_of_found}
 use Rattle.text_fields.proofs.NumberLaws.{number_is}
-use Rattle.text_fields.proofs.Numbers.{chosen, none_found, not_above, some_same, within}
+use Rattle.text_fields.proofs.Numbers.{chosen, none_found, not_above, some_same}
 use Rattle.service_file.specs.declared.settings.Again.{Again}
 use Rattle.service_file.specs.ActorFiles.{IsAgain, IsChecksum, again_at, again_made, again_text, checksum_at, head_at, head_text, line_at, owner_at, spelled}
 

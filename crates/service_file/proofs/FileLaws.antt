@@ -1,10 +1,10 @@
 -- The file `actor` is read exactly where it is spelled.
-use Rattle.std.proofs.Common.{◌≡◌, ℕ, zero, suc, ◌+◌, ◌<◌, ◌≤◌, Bool, true, false, cond, ⊎_elim, ◌⊎◌, inl, inr, List, [], ◌∷◌, ◌++◌, length, get_or, Option, Some, None, refl, ap, sym, subst, ◌∙◌, arith}
-use Rattle.std.specs.Prelude.{codes, All}
+use Rattle.std.proofs.Common.{◌≡◌, ℕ, zero, suc, ◌≤◌, Bool, true, false, cond, ⊎_elim, List, [], ◌∷◌, ◌++◌, length, Some, None, refl, ap, subst, ◌∙◌, arith}
+use Rattle.std.specs.Prelude.{All}
 use Rattle.std.specs.List.{flat_map}
-use Rattle.std.proofs.lemmas.List.{append-nil, length-append}
+use Rattle.std.proofs.lemmas.List.{length-append}
 use Rattle.std.proofs.lemmas.List.Elements.{All-cons}
-use Rattle.text_fields.specs.Fields.{◌>>=◌, after_word, behind, given}
+use Rattle.text_fields.specs.Fields.{◌>>=◌, after_word, given}
 use Rattle.text_fields.specs.Inverses.{IsRest}
 use Rattle.text_fields.proofs.FieldLaws.{behind_again, behind_found, behind_other, bind_some}
 use Rattle.text_fields.proofs.Numbers.{none_found, some_same}
@@ -12,7 +12,6 @@ use Rattle.service_file.specs.declared.settings.Again.{Again}
 use Rattle.service_file.specs.declared.actor_file.ActorFile.{ActorFile}
 use Rattle.service_file.specs.ActorFiles.{IsActorFile, IsAgain, actor_file_of, again_at, again_text, agains_in, agains_of, began_at, began_text, head_at, head_text, text_of}
 use Rattle.service_file.proofs.FileFields.{again_is, head_is}
-use Rattle.service_file.proofs.AgainLines.{one_read}
 
 abbrev lines_text : List Again → List ℕ
 lines_text again = flat_map again_text again

@@ -1,7 +1,7 @@
 -- What a function gives of the entries of a list, and numbers of which none comes twice.
-use Rattle.std.proofs.Common.{◌≡◌, ◌≢◌, ℕ, suc, ◌≤◌, ◌&&◌, ◌==◌, Bool, true, false, not, List, [], ◌∷◌, length, map, Option, Some, None, is_some, arith, refl, ap, sym, ◌∙◌}
+use Rattle.std.proofs.Common.{◌≡◌, ◌≢◌, ℕ, suc, ◌≤◌, ◌&&◌, ◌==◌, Bool, true, false, not, List, [], ◌∷◌, length, Option, Some, None, arith, refl}
 use Rattle.std.specs.Prelude.{All}
-use Rattle.std.specs.List.{AllPairs, cons_option, filter_map, list_all, list_any}
+use Rattle.std.specs.List.{AllPairs, cons_option, filter_map, list_any}
 use Rattle.std.proofs.lemmas.Bool.Decides.{nat_tests}
 use Rattle.std.proofs.lemmas.List.Elements.{All-cons}
 use Rattle.std.proofs.lemmas.List.Kept.{AllPairs-cons}

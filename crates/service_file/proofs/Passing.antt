@@ -1,5 +1,5 @@
 -- An instance that has begun passes `again`.
-use Rattle.std.proofs.Common.{◌≡◌, ℕ, ◌+◌, ◌≤◌, ◌==◌, nat_le, Bool, true, false, Some, refl, sym, arith}
+use Rattle.std.proofs.Common.{◌≡◌, ℕ, ◌+◌, ◌≤◌, ◌==◌, nat_le, Bool, true, false, Some, refl, arith}
 use Rattle.std.proofs.lemmas.Bool.Decides.{nat_tests}
 use Rattle.service_file.specs.declared.actor_file.ActorFile.{ActorFile}
 use Rattle.service_file.specs.declared.beginning.Beginning.TheVariants.{Passed}

@@ -1,9 +1,9 @@
 -- The settings that were read are sound: a law of the definitions alone.
-use Rattle.std.proofs.Common.{◌≡◌, ◌≢◌, ℕ, suc, ◌≤◌, ◌&&◌, ◌==◌, nat_le, Bool, true, false, List, [], ◌∷◌, length, map, Option, Some, None, is_some, option_and_then, Result, Ok, Err, IfOk, IfSome, refl, ap, sym, ◌∙◌, subst, arith}
-use Rattle.std.specs.Prelude.{All, Any, option_map, find}
-use Rattle.std.specs.List.{AllPairs, cons_option, filter_map, list_all}
+use Rattle.std.proofs.Common.{◌≡◌, ◌≢◌, ℕ, suc, ◌≤◌, ◌==◌, nat_le, Bool, true, false, List, [], ◌∷◌, length, map, Option, Some, None, is_some, option_and_then, Result, Ok, Err, IfOk, IfSome, refl, ap, subst, arith}
+use Rattle.std.specs.Prelude.{All, Any, option_map}
+use Rattle.std.specs.List.{AllPairs, filter_map, list_all}
 use Rattle.std.proofs.lemmas.Bool.Decides.{nat_tests}
-use Rattle.std.proofs.lemmas.Result.{IfOk-weaker, IfOk-at_ok}
+use Rattle.std.proofs.lemmas.Result.{IfOk-at_ok}
 use Rattle.serde_json.specs.Data.{Data}
 use Rattle.serde_json.specs.Find.{as_array, as_number, as_u64}
 use Rattle.fabric_terms.specs.Sound.{Within, IsSound}
@@ -13,16 +13,15 @@ use Rattle.fabric_config.specs.Entries.{elements}
 use Rattle.fabric_config.specs.Nodes.{listed}
 use Rattle.service_file.specs.declared.error.ServiceError.{ServiceError}
 use Rattle.service_file.specs.declared.field.ServiceField.{ServiceField}
-use Rattle.service_file.specs.declared.settings.Again.{Again}
 use Rattle.service_file.specs.declared.settings.Declared.{Declared}
 use Rattle.service_file.specs.declared.settings.ServiceSettings.{ServiceSettings}
 use Rattle.service_file.specs.Checks.{◌>>=◌, or_bad, checked, Reads}
 use Rattle.service_file.specs.Fields.{given}
-use Rattle.service_file.specs.Entries.{number_in, in_range, configured_in, are_apart, short_list, list_or_none, list_of, all_pass, join_of, is_object, partition_in, replicas_in, declared, declared_in, partitions_of, again_given, again_or_none, again_of}
+use Rattle.service_file.specs.Entries.{number_in, in_range, configured_in, are_apart, list_or_none, list_of, join_of, is_object, partition_in, replicas_in, declared, declared_in, partitions_of, again_or_none, again_of}
 use Rattle.service_file.specs.Settings.{document_of, ticks_or_lease, choice_or_some, settings_of, service_of, defaults}
 use Rattle.service_file.specs.Keys.{has_known_keys}
 use Rattle.service_file.specs.Sound.{IsConfigured, IsSoundDeclared, IsSoundAgain, IsSoundService}
-use Rattle.service_file.proofs.Given.{both_true, no_more_given, all_given, numbers_apart}
+use Rattle.service_file.proofs.Given.{no_more_given, all_given, numbers_apart}
 
 -- what the first check gives holds for the second
 over : {A B : Type 0} (r : Result A ServiceError) (f : A → Result B ServiceError) (P : A → Type 0) (Q : B → Type 0)

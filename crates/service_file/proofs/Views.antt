@@ -1,12 +1,9 @@
 -- The entries of an array and the keys of an object, as the code and the definitions see them.
-use Rattle.std.proofs.Common.{◌≡◌, List, [], ◌∷◌, length, map, Option, Some, None, String, Global, string_bytes, refl, ap, ◌∙◌}
-use Rattle.std.specs.Prelude.{ℕ}
-use Rattle.std.specs.List.{cons_option, filter_map, list_all}
+use Rattle.std.proofs.Common.{◌≡◌, List, [], ◌∷◌, map, Option, String, Global, string_bytes, refl, ap}
+use Rattle.std.specs.List.{cons_option, filter_map}
 use Rattle.std.specs.Map.{keys_of}
-use Rattle.std.proofs.lemmas.List.{length-map}
 use Rattle.std.proofs.lemmas.List.Folds.{list_all-map}
-use Rattle.serde_json.specs.Data.{Data}
-use Rattle.serde_json.specs.View.{view, items_view, members_view}
+use Rattle.serde_json.specs.View.{members_view}
 use Rattle.serde_json.specs.declared.value.Value.{Value}
 use Rattle.fabric_config.proofs.Items.{elements_view, length_view}
 use Rattle.service_file.specs.Keys.{keys}

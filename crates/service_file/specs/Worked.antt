@@ -1,6 +1,5 @@
 -- Worked lines of the service object, for a configuration of one node, and worked files `actor`.
 use Rattle.std.specs.Prelude.{ℕ, true, [], ◌∷◌, Option, Some}
-use Rattle.fabric_config.specs.Worked.{one_node_config}
 use Rattle.service_file.specs.declared.actor_file.ActorFile.{ActorFile}
 use Rattle.service_file.specs.declared.settings.Again.{Again}
 use Rattle.service_file.specs.declared.settings.LineChoice.TheVariants.{AllLines}
