@@ -1,0 +1,9 @@
+pub mod AgainLines
+pub mod Passing
+pub mod FileFields
+pub mod FileLaws
+pub mod Given
+pub mod Soundness
+pub mod TextLaws
+pub mod Texts
+pub mod Views
