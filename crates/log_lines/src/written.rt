@@ -4,8 +4,9 @@ ghost use Rattle.log_lines.specs.Reports.{choice_after, is_told, own_or, repeats
 ghost use Rattle.log_lines.specs.Reports;
 
 use crate::asking::Asking;
+use arrayvec::ArrayVec;
 use fabric_terms::Report;
-use ring_points::RangeSet;
+use ring_points::{Interval, MAX_INTERVALS, RangeSet};
 use std::marker::Model;
 
 /// Which reports of an instance are written to the log.
@@ -13,9 +14,9 @@ use std::marker::Model;
 pub struct Written {
     /// Whether the log is to have every report.
     all: bool,
-    /// Whether an `own` was reported; then `own` has its ranges.
+    /// Whether an `own` was reported; then `own` has the intervals of the last one.
     owned: bool,
-    own: RangeSet,
+    own: ArrayVec<Interval, MAX_INTERVALS>,
 }
 
 impl Model for Written {
@@ -24,7 +25,7 @@ impl Model for Written {
 
     ghost Value = { Choice };
 
-    ghost view = { λ w. record { all = w.all; own = if w.owned then Some w.own else None } };
+    ghost view = { λ w. record { all = w.all; own = if w.owned then Some w.own.items else None } };
 }
 
 impl Written {
@@ -35,7 +36,7 @@ impl Written {
         Written {
             all,
             owned: false,
-            own: RangeSet::new(),
+            own: ArrayVec::new(),
         }
     }
 
@@ -74,7 +75,7 @@ impl Written {
     fn repeats(&self, ranges: &RangeSet) -> bool
         ensures { result ≡ repeats ranges.now self.now.own }
     {
-        self.owned && ranges.intervals() == self.own.intervals()
+        self.owned && ranges.intervals() == self.own.as_slice()
     }
 
     /// Keeps the ranges of an `own`.
@@ -82,8 +83,18 @@ impl Written {
         ensures { self.new ≡ record self.old { own = own_or report.now self.old.own } }
     {
         if let Report::Own(ranges, _) = report {
-            self.own = ranges.copy();
+            put_intervals(&mut self.own, ranges);
             self.owned = true;
         }
+    }
+}
+
+/// Puts the intervals of a set in the place of others.
+fn put_intervals(into: &mut ArrayVec<Interval, MAX_INTERVALS>, ranges: &RangeSet)
+    ensures { into.new.items ≡ ranges.now }
+{
+    into.clear();
+    for interval in ranges.intervals() {
+        into.push(*interval);
     }
 }
