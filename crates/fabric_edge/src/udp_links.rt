@@ -204,7 +204,11 @@ impl<R: Net + Clock + Eprint> Links for UdpLinks<'_, R> {
         }
     }
 
-    fn receive(&mut self, actor: u16, into: &mut [u8; DATAGRAM_BYTES]) -> Result<Option<usize>, Failed> {
+    fn receive(
+        &mut self,
+        actor: u16,
+        into: &mut [u8; DATAGRAM_BYTES],
+    ) -> Result<Option<usize>, Failed> {
         let place = listening_at(&self.sockets, actor);
         let socket = &self.sockets[place].socket;
         let found = if place == 0 {
