@@ -1,6 +1,6 @@
-//! Tests of the parts of the service: the test vectors of the keyed hash, what a seal opens and what it does not, that
-//! the lines of a stream do not depend on the pieces in which it comes, the refusals of the service object, the checksum
-//! of a configuration, and the file `actor`.
+//! Tests of the parts of the service: the test vectors of the keyed hash, what a seal opens and what it does not,
+//! that the lines of a stream do not depend on the pieces in which it comes, the refusals of the service object, the
+//! checksum of a configuration, and the file `actor`.
 //!
 //! What each call does is proved where it stands; here is what no clause says. The crate has no code of its own.
 #![tactic(auto)]
