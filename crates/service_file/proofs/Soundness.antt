@@ -252,3 +252,5 @@ read_sound c line s sound e = IfOk-at_ok (IsSoundService c) e (line_sound c line
 pub answer_sound : (c : FabricConfig) (d : Data) (r : Result ServiceSettings ServiceError) → IsSound c → Reads (settings_of c d) r → IfOk r (IsSoundService c)
 answer_sound c d (Ok s) sound e = IfOk-at_ok (IsSoundService c) e (settings_sound c d sound)
 answer_sound c d (Err e) sound why = tt
+
+pub ruleset answers = (answer_sound, defaults_sound)

@@ -1,11 +1,17 @@
 -- Worked lines of the service object, for a configuration of one node, and worked files `actor`.
-use Rattle.std.specs.Prelude.{ℕ, true, [], ◌∷◌, Option, Some}
+use Rattle.std.specs.Prelude.{ℕ, true, List, [], ◌∷◌, ◌++◌, codes, Option, Some}
 use Rattle.service_file.specs.declared.actor_file.ActorFile.{ActorFile}
 use Rattle.service_file.specs.declared.settings.Again.{Again}
 use Rattle.service_file.specs.declared.settings.LineChoice.TheVariants.{AllLines}
 use Rattle.service_file.specs.declared.settings.ServiceSettings.{ServiceSettings}
 
--- what a line that says everything is read as
+-- a line that says everything
+abbrev pub everything_line : List ℕ
+everything_line =
+    codes "{\"join\":[1],\"partitions\":[{\"partition\":7,\"replicas\":3},{\"partition\":0,\"replicas\":1}],"
+    ++ codes "\"heal_after\":900,\"lines\":\"all\",\"again\":{\"node\":1,\"instance\":2}}"
+
+-- what it is read as
 abbrev pub everything : ServiceSettings
 everything = record {
   join = 1 ∷ [];

@@ -2,7 +2,8 @@ ghost use Rattle.std.specs.Prelude.{◌≡◌};
 ghost use Rattle.hex.specs.Hex.{encode_lower};
 ghost use Rattle.text_fields.specs.Fields.{Gives};
 ghost use Rattle.service_file.specs.declared.actor_file.ActorFileError.TheVariants.{Bad, OutOfMemory};
-ghost use Rattle.service_file.specs.ActorFiles.{Takes, actor_file_of, again_at, agains_of, began_at, checksum_at, head_at};
+ghost use Rattle.service_file.specs.ActorFiles.{Takes, actor_file_of, again_at, agains_of};
+ghost use Rattle.service_file.specs.ActorFiles.{began_at, checksum_at, head_at};
 
 use crate::settings::Again;
 use hex::{decode_to_slice, encode_to_slice};

@@ -11,7 +11,8 @@ pub enum Beginning {
     Usual,
     /// The line `again N.K` is appended to the file and synced. Then instance K begins with the whole ring.
     NoteAnew,
-    /// Instance K begins with the whole ring. The file has its line: the process ended before its Boot record was synced.
+    /// Instance K begins with the whole ring. The file has its line: a process ended before its Boot record was
+    /// synced.
     Anew,
     /// The next instance begins as any other, and the log says `again passed`: instance K has begun.
     Passed,

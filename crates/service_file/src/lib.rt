@@ -1,8 +1,8 @@
 //! The service object, the checksum of a configuration, and the file `actor` of a folder.
 //!
-//! Line 2 of FILE says what the service `fabricd` does beside its configuration: `read_service` answers its settings, or
-//! the first check that fails in the order of the fields' table. `checksum_of` hashes everything of a configuration but
-//! its addresses. The file `actor` says which actor a folder has, by which configuration, whether it has begun, and for
+//! Line 2 of FILE says what the service `fabricd` does beside its configuration: `read_service` answers its settings,
+//! or the first check that fails in the order of the fields' table. `checksum_of` hashes everything of a configuration
+//! but its addresses. The file `actor` says which actor a folder has, by which configuration, whether it has begun, and for
 //! which instances the ring was allowed to begin again; `begins_by` decides by it how a start goes on. This crate
 //! promises above that what it reads is sound, that equal texts have equal configurations but for addresses, and
 //! that the file `actor` is read exactly where it is spelled as it would be written.

@@ -2,7 +2,8 @@ ghost use Rattle.std.specs.Prelude.{◌≡◌, is_some, IfOk};
 ghost use Rattle.std.specs.List.{filter_map, list_all};
 ghost use Rattle.serde_json.specs.View.{view};
 ghost use Rattle.service_file.specs.Checks.{Reads};
-ghost use Rattle.service_file.specs.Entries.{are_apart, declared_in, is_object, partition_in, partitions_of, replicas_in};
+ghost use Rattle.service_file.specs.Entries.{declared_in, is_object, partition_in};
+ghost use Rattle.service_file.specs.Entries.{partitions_of, replicas_in};
 
 use crate::entries::read_list;
 use crate::error::ServiceError;

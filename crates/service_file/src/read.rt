@@ -108,7 +108,7 @@ fn defaults(alloc: Global, config: &FabricConfig) -> ServiceSettings
 
 /// What the line says for this configuration, or the first check that it fails. An empty line gives each field its
 /// default, and takes no memory; for another line want of memory may come in place of any answer.
-#[tactic(auto, unfolding(crate::specs::Settings::service_of), using(crate::proofs::Soundness::answer_sound, crate::proofs::Soundness::defaults_sound))]
+#[tactic(auto, unfolding(crate::specs::Settings::service_of), using(crate::proofs::Soundness::answers))]
 pub fn read_service(
     alloc: Global,
     config: &FabricConfig,

@@ -1,9 +1,10 @@
 ghost use Rattle.std.specs.Prelude.{◌≡◌, Ok, Err, Some, None, codes, []};
 ghost use Rattle.fabric_config.specs.Worked.{one_node_config};
-ghost use Rattle.service_file.specs.declared.beginning.Beginning.TheVariants.{Anew, Emptied, NoteAnew, Passed, Usual, WrongInstance};
+ghost use Rattle.service_file.specs.declared.beginning.Beginning.TheVariants.{Anew, Emptied, NoteAnew};
+ghost use Rattle.service_file.specs.declared.beginning.Beginning.TheVariants.{Passed, Usual, WrongInstance};
 ghost use Rattle.service_file.specs.Beginnings.{begins_by};
 ghost use Rattle.service_file.specs.Settings.{defaults, service_of};
-ghost use Rattle.service_file.specs.Worked.{allowed, begun_file, everything};
+ghost use Rattle.service_file.specs.Worked.{allowed, begun_file, everything, everything_line};
 
 use crate::error::ServiceError;
 use crate::field::ServiceField;
@@ -12,9 +13,9 @@ use crate::field::ServiceField;
 pub fn worked_lines()
     ensures empty { service_of one_node_config [] ≡ Ok (defaults one_node_config) }
     ensures no_field { service_of one_node_config (codes "{}") ≡ Ok (defaults one_node_config) }
-    ensures everything { service_of one_node_config (codes "{\"join\":[1],\"partitions\":[{\"partition\":7,\"replicas\":3},{\"partition\":0,\"replicas\":1}],\"heal_after\":900,\"lines\":\"all\",\"again\":{\"node\":1,\"instance\":2}}")
-        ≡ Ok everything }
-    ensures twice { service_of one_node_config (codes "{\"lines\":0,\"lines\":\"some\"}") ≡ Ok (defaults one_node_config) }
+    ensures everything { service_of one_node_config everything_line ≡ Ok everything }
+    ensures twice { service_of one_node_config (codes "{\"lines\":0,\"lines\":\"some\"}")
+        ≡ Ok (defaults one_node_config) }
     ensures unknown { service_of one_node_config (codes "{\"joins\":[1],\"join\":0}")
         ≡ Err (ServiceError.Bad ServiceField.Unknown) }
     ensures once { service_of one_node_config (codes "{\"partitions\":[{\"partition\":7},{\"partition\":7}]}")
