@@ -9,5 +9,5 @@ ghost use Rattle.fire_pace.specs.Pace.{due_after, last_firing, pace};
 pub fn firings_keep_their_bounds()
     ensures { (steps : List Step) (lease left : ℕ) → least_lease ≤ lease → left ≤ lease →
         IfSome (last_firing steps) (λ last. (last + pace lease ≤ due_after steps lease left)
-            × (due_after steps lease left ≤ last + lease / 8)) }
+        × (due_after steps lease left ≤ last + lease / 8)) }
 {}
