@@ -4,7 +4,7 @@ use Rattle.edge_io.specs.Edge.{Grew}
 use Rattle.door_io.specs.declared.door.Said.{Said}
 use Rattle.door_io.specs.declared.door.Said.TheVariants as said
 
--- what comes at a door: a line of a client, without its line feed, or None for one that is too long; the end of a client
+-- what comes at a door: a line of a client without its line feed, None for one that is too long; the end of a client
 pub data Arrived : Type 0 where
   Asked : (client : ℕ) (line : Option (List ℕ)) → Arrived
   Gone : (client : ℕ) → Arrived
@@ -26,10 +26,12 @@ FitsBuffer _ = Unit {0}
 
 -- where the door tells what is to come, this came first, and the rest is still to come
 abbrev pub GivesFirst : Option (List Arrived) → List Arrived → Option (List Arrived) → Type 0
-GivesFirst old these new = (all : List Arrived) → old ≡ Some all → (rest : List Arrived) × (all ≡ these ++ rest) × (new ≡ Some rest)
+GivesFirst old these new =
+    (all : List Arrived) → old ≡ Some all → (rest : List Arrived) × (all ≡ these ++ rest) × (new ≡ Some rest)
 
 -- A text was said to a client as a whole, or the client was dropped. A client that was dropped before hears nothing.
-pub record SaysOrDrops (client : ℕ) (text : List ℕ) (answered answered' : ℕ → Option (List ℕ)) (dropped dropped' : ℕ → Bool) : Type 0 where
+pub record SaysOrDrops (client : ℕ) (text : List ℕ) (answered answered' : ℕ → Option (List ℕ))
+    (dropped dropped' : ℕ → Bool) : Type 0 where
   pub whole : dropped' client ≡ false → Grew (answered client) (answered' client) text
   pub nothing : dropped' client ≡ true → answered' client ≡ answered client
   pub stays : dropped client ≡ true → dropped' client ≡ true

@@ -1,7 +1,7 @@
 //! The devices of a served process beyond those of a plan, as traits with a meaning, and their forms in memory.
 //!
 //! A door brings the lines of clients and takes the answers to them; a report log takes lines; a rest passes the time
-//! until something may have come. No call of them waits for a client or fails: a client that does not read is dropped,
+//! until something may have come. No call of a door or a log waits or fails: a client that does not read is dropped,
 //! and so is a line of the log that finds no room. The crate stands on the devices of a plan. It promises that the forms
 //! in memory do what the traits say, and it owns the limits of a door.
 #![tactic(auto)]

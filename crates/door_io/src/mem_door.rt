@@ -20,7 +20,7 @@ pub enum Scripted {
 }
 
 /// A door in memory: what comes is given beforehand, one entry a call, and what is said is noted by client. Client n is
-/// the n-th of the clients, from 0; any other is dropped. It tells all.
+/// the n-th of the clients, from 0, and any other is dropped. It tells all.
 #[derive(Drop)]
 pub struct MemDoor {
     script: Vec<Scripted>,
@@ -34,7 +34,10 @@ impl Model for MemDoor {
 
     ghost Value = { ToldDoor };
 
-    ghost view = { λ d. record { script = map told_scripted (drop d.given d.script.items); clients = d.clients.items } };
+    ghost view = { λ d. record {
+      script = map told_scripted (drop d.given d.script.items);
+      clients = d.clients.items;
+    } };
 
     ghost invariant = { λ d. d.given ≤ length d.script.items };
 }

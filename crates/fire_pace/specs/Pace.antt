@@ -32,7 +32,10 @@ is_quiet_firing s before = is_firing s.input && not (is_at (last_news before) s.
 -- how many firings came in turns without news since the last news
 abbrev pub quiet_firings : List Step → ℕ
 quiet_firings [] = 0
-quiet_firings (s ∷ before) = if is_news s.input s.told then 0 else if is_quiet_firing s before then quiet_firings before + 1 else quiet_firings before
+quiet_firings (s ∷ before) =
+    if is_news s.input s.told
+    then 0
+    else if is_quiet_firing s before then quiet_firings before + 1 else quiet_firings before
 
 -- the pace after news; each firing in a turn without news doubles it, up to an eighth of what is left
 abbrev pub wait_of : ℕ → ℕ → ℕ → ℕ
@@ -57,4 +60,8 @@ pub record Pace : Type 0 where
   pub doublings : ℕ
 
 abbrev pub pace_after : List Step → Pace
-pace_after steps = record { fired = last_firing steps; news = last_news steps; doublings = min (quiet_firings steps) kept_doublings }
+pace_after steps = record {
+  fired = last_firing steps;
+  news = last_news steps;
+  doublings = min (quiet_firings steps) kept_doublings;
+}

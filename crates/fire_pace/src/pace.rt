@@ -1,4 +1,4 @@
-ghost use Rattle.std.specs.Prelude.{◌≡◌, ◌≤◌, ◌+◌, ◌*◌, ◌/◌, ◌^◌, ◌∷◌, [], List, IfSome, max, min};
+ghost use Rattle.std.specs.Prelude.{◌≡◌, ◌≤◌, ◌/◌, ◌∷◌, [], List};
 ghost use Rattle.fire_pace.specs.News.{Step};
 ghost use Rattle.fire_pace.specs.Pace.{due_after, pace_after};
 ghost use Rattle.fire_pace.specs.Pace;

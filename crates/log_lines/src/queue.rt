@@ -1,6 +1,6 @@
-ghost use Rattle.std.specs.Prelude.{◌≡◌, ◌≤◌, ◌<◌, ◌+◌, ◌-◌, ◌++◌, ◌∷◌, [], codes, decimal, drop, length, take, IfOk};
+ghost use Rattle.std.specs.Prelude.{◌≡◌, ◌≤◌, ◌+◌, ◌-◌, ◌++◌, drop, length, take, IfOk};
 ghost use Rattle.log_lines.specs.Queues.{before_line, fresh_queue, has_room, most_queue, notice, owes_notice};
-ghost use Rattle.log_lines.specs.Queues.{queue_after, with_line, without_line};
+ghost use Rattle.log_lines.specs.Queues.{queue_after};
 ghost use Rattle.log_lines.specs.Queues;
 
 use itoa::Buffer;

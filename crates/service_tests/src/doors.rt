@@ -30,7 +30,8 @@ fn line_of(alloc: Global, byte: u8, count: usize) -> Result<Vec<u8>, AllocError>
     vec![in alloc; byte; count]
 }
 
-/// A line of client 0, a quiet moment, a line of 4,097 bytes of client 1, one that is too long, and the end of client 0.
+/// A line of client 0, a quiet moment, lines of 4,097 and of 4,096 bytes of client 1, one that is too long, and the end
+/// of client 0.
 fn script(alloc: Global) -> Result<Vec<Scripted>, AllocError> {
     let mut script = Vec::new(alloc);
     script.push(Scripted::Line(0, Vec::from_slice(alloc, b"@1 state")?))?;
