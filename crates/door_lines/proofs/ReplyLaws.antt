@@ -52,7 +52,7 @@ done_apart t u h k e =
 abbrev Told : Type 0
 Told = Head × Report
 
-told_apart : (h i : Head) (r s : Report) → FitsHead h → FitsReport r → FitsHead i → FitsReport s → report_words h r ≡ report_words i s → (h, r) ≡ (i, s)
+told_apart : (h i : Head) (r s : Report) → FitsHead h → FitsReport r → FitsHead i → FitsReport s → report_words h r ≡ report_words i s → ◌≡◌ {A = Told} (h, r) (i, s)
 told_apart h i r s fits_h fits_r fits_i fits_s e =
     let told : Told = (h, r) in
     let other : Told = (i, s) in

@@ -152,13 +152,30 @@ no_lead rest = refl
 other_word : (word bytes : List ℕ) (c : Ordered) → IsOrdered bytes c → command_of word ≡ None → bytes ≢ word
 other_word word bytes c is none same = none_found c (sym none ∙ (ap command_of (sym same) ∙ is))
 
+-- what is read from a word of the list on
+
+abbrev from_end : Speaker → List ℕ → Option Request
+from_end speaker = alone (codes "end") End (own_request_of speaker)
+
+abbrev from_leave : Speaker → List ℕ → Option Request
+from_leave speaker = alone (codes "leave") Leave (from_end speaker)
+
+abbrev from_watch_all : Speaker → List ℕ → Option Request
+from_watch_all speaker = alone (codes "watch all") WatchAll (from_leave speaker)
+
+abbrev from_watch : Speaker → List ℕ → Option Request
+from_watch speaker = alone (codes "watch") Watch (from_watch_all speaker)
+
+abbrev from_lead : List ℕ → Option Request
+from_lead = behind (codes "lead ") (made Lead (last partition_at)) (node_request_of Parent)
+
 own_command : (speaker : Speaker) (bytes : List ℕ) (c : Ordered) → IsOrdered bytes c → request_of speaker bytes ≡ own_request_of speaker bytes
 unfolding request_of
 own_command speaker bytes c is =
-    alone_other (codes "state") State _ bytes (other_word (codes "state") bytes c is no_state)
-    ∙ (alone_other (codes "watch") Watch _ bytes (other_word (codes "watch") bytes c is no_watch)
-    ∙ (alone_other (codes "watch all") WatchAll _ bytes (other_word (codes "watch all") bytes c is no_watch_all)
-    ∙ (alone_other (codes "leave") Leave _ bytes (other_word (codes "leave") bytes c is no_leave)
+    alone_other (codes "state") State (from_watch speaker) bytes (other_word (codes "state") bytes c is no_state)
+    ∙ (alone_other (codes "watch") Watch (from_watch_all speaker) bytes (other_word (codes "watch") bytes c is no_watch)
+    ∙ (alone_other (codes "watch all") WatchAll (from_leave speaker) bytes (other_word (codes "watch all") bytes c is no_watch_all)
+    ∙ (alone_other (codes "leave") Leave (from_end speaker) bytes (other_word (codes "leave") bytes c is no_leave)
     ∙ alone_other (codes "end") End (own_request_of speaker) bytes (other_word (codes "end") bytes c is no_end))))
 
 node_command : (speaker : Speaker) (bytes : List ℕ) (c : Ordered) → IsOrdered bytes c → node_request_of speaker bytes ≡ command_request_of speaker bytes
@@ -169,7 +186,7 @@ node_command speaker bytes c is =
 parent_command : (bytes : List ℕ) (c : Ordered) → IsOrdered bytes c → parent_request_of bytes ≡ node_request_of Parent bytes
 unfolding parent_request_of
 parent_command bytes c is =
-    behind_other (codes "hold ") (made hold_made (last point_at)) _ bytes (apart command_of (codes "hold ") bytes c is no_hold)
+    behind_other (codes "hold ") (made hold_made (last point_at)) from_lead bytes (apart command_of (codes "hold ") bytes c is no_hold)
     ∙ behind_other (codes "lead ") (made Lead (last partition_at)) (node_request_of Parent) bytes (apart command_of (codes "lead ") bytes c is no_lead)
 
 -- what a speaker may ask is read

@@ -1,0 +1,181 @@
+ghost use Rattle.std.specs.Prelude.{◌≡◌, ◌≤◌, ◌<◌, ◌++◌, ◌∷◌, [], IfOk, length, filter, not};
+ghost use Rattle.open_answers.specs.Answers.{answer_of, by_end, by_step, by_time, due_of, ended_by, is_full, is_of, open_after, opened, stays};
+ghost use Rattle.open_answers.specs.Endings.{prepared_in, question_of};
+
+use crate::answer::Answer;
+use crate::ended::Ended;
+use crate::ends::{ends, prepared_in, question_of};
+use crate::question::{Ending, Question};
+use fabric_terms::{Command, Report};
+use ring_rules::Input;
+use std::alloc::{AllocError, Global};
+use std::marker::Model;
+
+/// The most answers of a process that are open.
+pub const MAX_OPEN_ANSWERS: usize = 256;
+
+/// How many ticks the answer to a command of a partition has. A search has as many as the configured lease.
+pub const MAX_ANSWER_TICKS: u64 = 60_000;
+
+/// Who asked, and by which tag he knows the answer. Two answers of a client may have one tag.
+#[derive(Clone, Copy, Debug, PartialEq, Eq)]
+pub struct Asker {
+    pub client: u32,
+    pub tag: u32,
+}
+
+/// An answer that is open.
+#[derive(Clone, Copy, Debug, PartialEq, Eq)]
+pub struct OpenAnswer {
+    asker: Asker,
+    question: Question,
+    /// The reading at which its time is over.
+    until: u64,
+}
+
+/// The answers of a process that are open, in the order of asking: at most 256.
+#[derive(Drop)]
+pub struct OpenAnswers {
+    open: Vec<OpenAnswer>,
+    lease: u64,
+}
+
+impl Model for OpenAnswers {
+    ghost use Rattle.std.specs.Prelude.{◌≤◌, length, vec_capacity};
+    ghost use Rattle.open_answers.specs.Answers.{Answers, most_open_answers};
+
+    ghost Value = { Answers };
+
+    ghost view = { λ a. record { open = a.open.items; lease = a.lease } };
+
+    ghost invariant = { λ a. (length a.open.items ≤ most_open_answers) × (most_open_answers ≤ vec_capacity a.open) };
+}
+
+impl OpenAnswers {
+    /// No answer is open. It takes the room for as many as can be. The lease is the configured one, in ticks.
+    pub fn new(alloc: Global, lease: u64) -> Result<OpenAnswers, AllocError>
+        ensures { IfOk result (λ a. a ≡ record { open = []; lease = lease }) }
+    {
+        Ok(OpenAnswers {
+            open: Vec::with_capacity(alloc, MAX_OPEN_ANSWERS)?,
+            lease,
+        })
+    }
+
+    /// How many answers are open.
+    pub fn len(&self) -> usize
+        ensures { result ≡ length self.now.open }
+    {
+        self.open.len()
+    }
+
+    /// Whether no further answer can be open.
+    pub fn is_full(&self) -> bool
+        ensures { result ≡ is_full self.now }
+    {
+        self.open.len() >= MAX_OPEN_ANSWERS
+    }
+
+    /// Takes the answer to a command whose own step made these reports. It stays open where the step does not end it.
+    /// There must be room, whatever the step makes: the caller asks before the step is taken.
+    pub fn ask(&mut self, asker: Asker, command: &Command, told: &[Report], now: u64) -> Answer
+        requires { length self.old.open < MAX_OPEN_ANSWERS }
+        ensures answer { result ≡ answer_of (question_of command.now told.now) told.now }
+        ensures open { self.new ≡ record self.old {
+            open = self.old.open ++ stays self.old.lease asker now (question_of command.now told.now) told.now } }
+    {
+        let Some(question) = question_of(command, told) else {
+            return Answer::Done;
+        };
+        match ends(question, None, told) {
+            Some(Ending::Unknown) => Answer::Unknown,
+            Some(_) => Answer::Done,
+            None => {
+                self.open(asker, question, now);
+                Answer::Open
+            }
+        }
+    }
+
+    /// Ends the answers that the reports of a step end. The step is not that of a client's command, or that command's
+    /// answer is not yet taken.
+    pub fn hear(&mut self, input: &Input, told: &[Report], ended: &mut Ended)
+        ensures ended { ended.new ≡ ended_by (by_step (prepared_in input.now) told.now) self.old.open }
+        ensures open { self.new ≡ record self.old {
+            open = open_after (by_step (prepared_in input.now) told.now) self.old.open } }
+    {
+        let prepared = prepared_in(input);
+        ended.clear();
+        for open in &self.open {
+            if let Some(ending) = ends(open.question, prepared, told) {
+                ended.push(open.asker, ending);
+            }
+        }
+        self.open
+            .retain(|open| ends(open.question, prepared, told).is_none());
+    }
+
+    /// Ends the answers whose time is over at this reading.
+    pub fn pass(&mut self, now: u64, ended: &mut Ended)
+        ensures ended { ended.new ≡ ended_by (by_time now) self.old.open }
+        ensures open { self.new ≡ record self.old { open = open_after (by_time now) self.old.open } }
+    {
+        ended.clear();
+        for open in &self.open {
+            if open.until <= now {
+                ended.push(open.asker, Ending::Late);
+            }
+        }
+        self.open.retain(|open| open.until > now);
+    }
+
+    /// Ends every answer, since the instance has ended: nothing is said of what becomes of the commands.
+    pub fn close(&mut self, ended: &mut Ended)
+        ensures ended { ended.new ≡ ended_by by_end self.old.open }
+        ensures open { self.new ≡ record self.old { open = [] } }
+    {
+        ended.clear();
+        for open in &self.open {
+            ended.push(open.asker, Ending::Unknown);
+        }
+        self.open.clear();
+    }
+
+    /// Drops the answers of a client that has gone: nobody is told of them.
+    pub fn drop_client(&mut self, client: u32)
+        ensures { self.new ≡ record self.old { open = filter (λ o. not (is_of client o)) self.old.open } }
+    {
+        self.open.retain(|open| open.asker.client != client);
+    }
+
+    /// The least reading at which the time of an answer is over; None where none is open.
+    pub fn due(&self) -> Option<u64>
+        ensures { result ≡ due_of self.now.open }
+    {
+        let mut due = None;
+        for open in self.open.iter().rev() {
+            due = Some(match due {
+                None => open.until,
+                Some(least) => open.until.min(least),
+            });
+        }
+        due
+    }
+
+    /// Opens an answer.
+    fn open(&mut self, asker: Asker, question: Question, now: u64)
+        requires { length self.old.open < MAX_OPEN_ANSWERS }
+        ensures { self.new ≡ record self.old {
+            open = self.old.open ++ opened self.old.lease asker now question ∷ [] } }
+    {
+        let ticks = match question {
+            Question::Finds(_) => self.lease,
+            Question::Changes(_, _) | Question::Writes(_, _, _) => MAX_ANSWER_TICKS,
+        };
+        self.open.push_reserved(OpenAnswer {
+            asker,
+            question,
+            until: now.saturating_add(ticks),
+        });
+    }
+}
