@@ -13,7 +13,7 @@ use Rattle.text_fields.proofs.Numbers.{some_same}
 use Rattle.line_format.specs.Readers.{line_of}
 use Rattle.line_format.specs.Reports.{report_words}
 use Rattle.line_format.proofs.ReportLaws.{line_again}
-use Rattle.door_lines.specs.Replies.{Reply, Says, Done, GivesUp, RepliesHaveOneLine, reply_text}
+use Rattle.door_lines.specs.Replies.{Says, Done, GivesUp, RepliesHaveOneLine, reply_text}
 
 -- a text, a blank and what follows, with a line feed at the end
 ended : (a s b e : List ℕ) → (a ++ (s ++ b)) ++ e ≡ a ++ (s ++ (b ++ e))

@@ -4,8 +4,8 @@ use Rattle.std.specs.Prelude.{codes, decimal}
 use Rattle.ring_points.specs.Limits.{most_log_entries}
 use Rattle.ring_points.specs.declared.point.Point.{Point}
 use Rattle.fabric_terms.specs.declared.command.Command.{Command as Ordered}
-use Rattle.fabric_terms.specs.Ranges.{IsPartition, IsPoint, FitsCommand}
-use Rattle.text_fields.specs.Fields.{Field, after_word, last, word_of, made, both, followed, behind, nothing, such_that}
+use Rattle.fabric_terms.specs.Ranges.{IsPartition, FitsCommand}
+use Rattle.text_fields.specs.Fields.{after_word, last, word_of, made, both, followed, behind}
 use Rattle.text_fields.specs.Inverses.{IsRest}
 use Rattle.text_fields.specs.Numbers.{IsIn, number_in}
 use Rattle.text_fields.specs.Points.{point_at, point_text}

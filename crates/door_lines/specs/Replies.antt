@@ -1,5 +1,5 @@
 -- The lines of an answer, and that no two answers have one line.
-use Rattle.std.specs.Prelude.{◌≡◌, ℕ, List, [], ◌∷◌, ◌++◌, Option, Some, None, codes, decimal}
+use Rattle.std.specs.Prelude.{◌≡◌, ℕ, List, [], ◌∷◌, ◌++◌, Option, codes, decimal}
 use Rattle.fabric_terms.specs.declared.report.Head.{Head}
 use Rattle.fabric_terms.specs.declared.report.Report.{Report}
 use Rattle.fabric_terms.specs.Ranges.{IsLong, IsOptional, FitsHead, FitsReport}

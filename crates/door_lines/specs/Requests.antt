@@ -1,9 +1,8 @@
 -- The lines that are asked: how they are read, how they are spelled, and that each undoes the other.
-use Rattle.std.specs.Prelude.{◌≡◌, ℕ, ◌≤◌, List, [], ◌∷◌, ◌++◌, Option, Some, None, Result, Ok, Err, true, codes, decimal, if◌then◌else◌}
+use Rattle.std.specs.Prelude.{◌≡◌, ℕ, List, [], ◌∷◌, ◌++◌, Option, Some, None, Result, Ok, Err, true, codes, decimal, if◌then◌else◌}
 use Rattle.std.specs.Str.{bytes_eq}
 use Rattle.ring_points.specs.Limits.{most_log_entries}
-use Rattle.ring_points.specs.declared.point.Point.{Point}
-use Rattle.fabric_terms.specs.Ranges.{IsPartition, IsPoint, IsWord, IsLong, FitsCommand}
+use Rattle.fabric_terms.specs.Ranges.{IsPartition, IsPoint, IsWord, FitsCommand}
 use Rattle.text_fields.specs.Fields.{◌>>=◌, Field, after_word, last, word_of, made, both, followed, behind, nothing, such_that}
 use Rattle.text_fields.specs.Numbers.{IsIn, number_in, most_long}
 use Rattle.text_fields.specs.Points.{point_at, point_text}

@@ -6,7 +6,5 @@ mod unit;
 
 pub use hold::{push_follows, push_held, push_leads, push_unheld};
 pub use log::push_entry;
-pub use state::{
-    push_arbiter, push_link, push_node, push_open, push_owns, push_up, push_watchers,
-};
+pub use state::{push_arbiter, push_link, push_node, push_open, push_owns, push_up, push_watchers};
 pub use unit::{push_changing, push_replica};

@@ -2,7 +2,6 @@ use Rattle.std.proofs.Common.{◌≡◌, ◌++◌, drop}
 use Rattle.std.specs.Prelude.{codes, decimal}
 use Rattle.std.specs.List.{flat_map}
 use Rattle.text_fields.specs.Texts.{Keeps, listed}
-
 use Rattle.door_lines.proofs.words.state.push_nodes.Given as goal
 
 -- what is written so far, and what is left to write
