@@ -1,1 +1,2 @@
 pub mod FirstGiven
+pub mod EndedAnswers

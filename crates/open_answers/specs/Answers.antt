@@ -1,5 +1,5 @@
 -- The open answers, in the order of asking, and what each call makes of them.
-use Rattle.std.specs.Prelude.{ℕ, ◌+◌, ◌-◌, ◌^◌, Bool, List, [], ◌∷◌, ◌++◌, Option, Some, None, ◌==◌, filter, is_none, length, min, nat_le, if◌then◌else◌}
+use Rattle.std.specs.Prelude.{◌≡◌, ℕ, ◌+◌, ◌-◌, ◌^◌, Bool, List, [], ◌∷◌, ◌++◌, Option, Some, None, ◌==◌, filter, is_none, length, min, nat_le, if◌then◌else◌}
 use Rattle.fabric_terms.specs.declared.command.Command.{Command}
 use Rattle.fabric_terms.specs.declared.report.Report.{Report}
 use Rattle.open_answers.specs.declared.question.Question.{Question}
@@ -9,6 +9,8 @@ use Rattle.open_answers.specs.declared.question.Ending.TheVariants.{Told, Unknow
 use Rattle.open_answers.specs.declared.open.Asker.{Asker}
 use Rattle.open_answers.specs.declared.open.OpenAnswer.{OpenAnswer}
 use Rattle.open_answers.specs.declared.ended.EndedAnswer.{EndedAnswer}
+use Rattle.open_answers.specs.declared.cause.Cause.{Cause}
+use Rattle.open_answers.specs.declared.cause.Cause.TheVariants.{Step, Time, End}
 use Rattle.open_answers.specs.declared.answer.Answer.{Answer}
 use Rattle.open_answers.specs.declared.answer.Answer.TheVariants as answer
 use Rattle.open_answers.specs.Endings.{ends, question_of}
@@ -84,6 +86,11 @@ by_time now o = if nat_le o.until now then Some Late else None
 abbrev pub by_end : Ends
 by_end o = Some Unknown
 
+abbrev pub by_cause : Cause → Ends
+by_cause (Step prepared told) = by_step prepared told.now
+by_cause (Time now) = by_time now
+by_cause End = by_end
+
 -- the least reading at which a time is over
 abbrev pub due_of : List OpenAnswer → Option ℕ
 due_of [] = None
@@ -94,3 +101,7 @@ is_of client o = o.asker.client == client
 
 abbrev pub is_full : Answers → Bool
 is_full a = nat_le most_open_answers (length a.open)
+
+-- each open answer ends by a cause or stays open, and none does both
+abbrev pub EndsOrStays : Type 0
+EndsOrStays = (ends : Ends) (os : List OpenAnswer) → length (ended_by ends os) + length (open_after ends os) ≡ length os

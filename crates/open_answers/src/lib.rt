@@ -8,12 +8,15 @@
 #![tactic(auto)]
 
 mod answer;
+mod cause;
 mod ended;
 mod ends;
+mod laws;
 mod open;
 mod question;
 
 pub use answer::Answer;
 pub use ended::{Ended, EndedAnswer};
+pub use laws::each_answer_ends_or_stays;
 pub use open::{Asker, MAX_ANSWER_TICKS, MAX_OPEN_ANSWERS, OpenAnswers};
 pub use question::{Ending, Question};

@@ -1,8 +1,9 @@
 ghost use Rattle.std.specs.Prelude.{◌≡◌, ◌≤◌, ◌<◌, ◌++◌, ◌∷◌, [], IfOk, length, filter, not};
-ghost use Rattle.open_answers.specs.Answers.{answer_of, by_end, by_step, by_time, due_of, ended_by, is_full, is_of, open_after, opened, stays};
+ghost use Rattle.open_answers.specs.Answers.{answer_of, by_cause, by_end, by_step, by_time, due_of, ended_by, is_full, is_of, open_after, opened, stays};
 ghost use Rattle.open_answers.specs.Endings.{prepared_in, question_of};
 
 use crate::answer::Answer;
+use crate::cause::Cause;
 use crate::ended::Ended;
 use crate::ends::{ends, prepared_in, question_of};
 use crate::question::{Ending, Question};
@@ -97,22 +98,14 @@ impl OpenAnswers {
         }
     }
 
-    /// Ends the answers that the reports of a step end. The step is not that of a client's command, or that command's
-    /// answer is not yet taken.
+    /// Ends the answers that the reports of a step end.
     pub fn hear(&mut self, input: &Input, told: &[Report], ended: &mut Ended)
         ensures ended { ended.new ≡ ended_by (by_step (prepared_in input.now) told.now) self.old.open }
         ensures open { self.new ≡ record self.old {
             open = open_after (by_step (prepared_in input.now) told.now) self.old.open } }
     {
         let prepared = prepared_in(input);
-        ended.clear();
-        for open in &self.open {
-            if let Some(ending) = ends(open.question, prepared, told) {
-                ended.push(open.asker, ending);
-            }
-        }
-        self.open
-            .retain(|open| ends(open.question, prepared, told).is_none());
+        self.end(&Cause::Step { prepared, told }, ended);
     }
 
     /// Ends the answers whose time is over at this reading.
@@ -120,25 +113,16 @@ impl OpenAnswers {
         ensures ended { ended.new ≡ ended_by (by_time now) self.old.open }
         ensures open { self.new ≡ record self.old { open = open_after (by_time now) self.old.open } }
     {
-        ended.clear();
-        for open in &self.open {
-            if open.until <= now {
-                ended.push(open.asker, Ending::Late);
-            }
-        }
-        self.open.retain(|open| open.until > now);
+        self.end(&Cause::Time(now), ended);
     }
 
     /// Ends every answer, since the instance has ended: nothing is said of what becomes of the commands.
+    #[tactic(auto, using(crate::proofs::EndedAnswers::none_stays))]
     pub fn close(&mut self, ended: &mut Ended)
         ensures ended { ended.new ≡ ended_by by_end self.old.open }
         ensures open { self.new ≡ record self.old { open = [] } }
     {
-        ended.clear();
-        for open in &self.open {
-            ended.push(open.asker, Ending::Unknown);
-        }
-        self.open.clear();
+        self.end(&Cause::End, ended);
     }
 
     /// Drops the answers of a client that has gone: nobody is told of them.
@@ -162,6 +146,15 @@ impl OpenAnswers {
         due
     }
 
+    /// Ends the answers that this ends.
+    fn end(&mut self, cause: &Cause, ended: &mut Ended)
+        ensures ended { ended.new ≡ ended_by (by_cause cause.now) self.old.open }
+        ensures open { self.new ≡ record self.old { open = open_after (by_cause cause.now) self.old.open } }
+    {
+        put_ended(self.open.as_slice(), cause, ended);
+        self.open.retain(|open| ending_by(cause, open).is_none());
+    }
+
     /// Opens an answer.
     fn open(&mut self, asker: Asker, question: Question, now: u64)
         requires { length self.old.open < MAX_OPEN_ANSWERS }
@@ -177,5 +170,30 @@ impl OpenAnswers {
             question,
             until: now.saturating_add(ticks),
         });
+    }
+}
+
+/// How this ends an answer, if it does.
+fn ending_by(cause: &Cause, open: &OpenAnswer) -> Option<Ending>
+    ensures { result ≡ by_cause cause.now open.now }
+{
+    match cause {
+        Cause::Step { prepared, told } => ends(open.question, *prepared, told),
+        Cause::Time(now) if open.until <= *now => Some(Ending::Late),
+        Cause::Time(_) => None,
+        Cause::End => Some(Ending::Unknown),
+    }
+}
+
+/// Puts the answers that this ends in the place of what the list had, in the order of asking.
+fn put_ended(open: &[OpenAnswer], cause: &Cause, ended: &mut Ended)
+    requires { length open.now ≤ MAX_OPEN_ANSWERS }
+    ensures { ended.new ≡ ended_by (by_cause cause.now) open.now }
+{
+    ended.clear();
+    for answer in open {
+        if let Some(ending) = ending_by(cause, answer) {
+            ended.push(answer.asker, ending);
+        }
     }
 }

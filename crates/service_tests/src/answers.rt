@@ -28,17 +28,26 @@ const HEAD: Head = Head {
     reading: Some(5000),
 };
 
+const LINES: &[u8] = b"@4294967295 late\n@- fault line\ndone -\n@7 fault nosuch\n@7 fault large\n@7 fault busy\n\
+    @7 unknown\n@7 late\n@0 40 - 1.2 5000 primary 7 0.3\ndone 0\n\
+    #18446744073709551615 40 - 1.2 5000 left fence\n";
+
+const STATE: &[u8] = b"@7 node 1.2 seeking 5000 -\nnode 1.2 left 5000 5900\nlink 2.1 hello 600\n\
+    link 2.1 offered 600\nlink 2.1 bound 600\nlink 2.1 parting 600\nlink 2.1 accused 600\n\
+    link 2.1 discharged 600\nlink 2.1 heir 600\narbiter 9 1000000\n\
+    owns 0000000000000000-7fffffffffffffff\nup 1,20,999\nup -\n";
+
+const PARTITIONS: &[u8] = b"replica 7 0.3 none 0\nreplica 7 0.3 idle 0\nreplica 7 0.3 secondary 0\n\
+    replica 7 0.3 primary 0\nchanging 7 0.3 30\nopen 256\nwatchers 64\n\
+    entry 65535 0.3 12 6120ff\nheld 00000000000000ff 500\nunheld ffffffffffffffff\n\
+    leads 7 0.3\nfollows 7\n";
+
 #[test]
 fn lines_of_answers(rt: HostRuntime) {
     let mut text = Vec::new(rt.alloc());
     let said = say(&mut text);
     assert!(rt; said.is_ok());
-    assert_eq!(rt;
-        text.as_slice(),
-        b"@4294967295 late\n@- fault line\ndone -\n@7 fault nosuch\n@7 fault large\n@7 fault busy\n@7 unknown\n@7 late\n\
-          @0 40 - 1.2 5000 primary 7 0.3\ndone 0\n#18446744073709551615 40 - 1.2 5000 left fence\n"
-            .as_slice()
-    );
+    assert_eq!(rt; text.as_slice(), LINES);
 }
 
 fn say(text: &mut Vec<u8>) -> Result<(), OutOfMemory> {
@@ -61,13 +70,7 @@ fn words_of_a_state(rt: HostRuntime) {
     assert!(rt; say_phases(&mut text).is_ok());
     assert!(rt; say_links(&mut text).is_ok());
     assert!(rt; say_rest(&mut text).is_ok());
-    assert_eq!(rt;
-        text.as_slice(),
-        b"@7 node 1.2 seeking 5000 -\nnode 1.2 left 5000 5900\nlink 2.1 hello 600\nlink 2.1 offered 600\nlink 2.1 bound 600\n\
-          link 2.1 parting 600\nlink 2.1 accused 600\nlink 2.1 discharged 600\nlink 2.1 heir 600\narbiter 9 1000000\n\
-          owns 0000000000000000-7fffffffffffffff\nup 1,20,999\nup -\n"
-            .as_slice()
-    );
+    assert_eq!(rt; text.as_slice(), STATE);
 }
 
 fn say_phases(text: &mut Vec<u8>) -> Result<(), OutOfMemory> {
@@ -127,13 +130,7 @@ fn words_of_partitions(rt: HostRuntime) {
     let mut text = Vec::new(rt.alloc());
     assert!(rt; say_replicas(&mut text).is_ok());
     assert!(rt; say_holds(&mut text).is_ok());
-    assert_eq!(rt;
-        text.as_slice(),
-        b"replica 7 0.3 none 0\nreplica 7 0.3 idle 0\nreplica 7 0.3 secondary 0\nreplica 7 0.3 primary 0\n\
-          changing 7 0.3 30\nopen 256\nwatchers 64\nentry 65535 0.3 12 6120ff\nheld 00000000000000ff 500\n\
-          unheld ffffffffffffffff\nleads 7 0.3\nfollows 7\n"
-            .as_slice()
-    );
+    assert_eq!(rt; text.as_slice(), PARTITIONS);
 }
 
 fn say_replicas(text: &mut Vec<u8>) -> Result<(), OutOfMemory> {
