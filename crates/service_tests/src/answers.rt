@@ -28,7 +28,8 @@ const HEAD: Head = Head {
     reading: Some(5000),
 };
 
-const LINES: &[u8] = b"@4294967295 late\n@- fault line\ndone -\n@7 fault nosuch\n@7 fault large\n@7 fault busy\n\
+const LINES: &[u8] =
+    b"@4294967295 late\n@- fault line\ndone -\n@7 fault nosuch\n@7 fault large\n@7 fault busy\n\
     @7 unknown\n@7 late\n@0 40 - 1.2 5000 primary 7 0.3\ndone 0\n\
     #18446744073709551615 40 - 1.2 5000 left fence\n";
 
@@ -134,7 +135,12 @@ fn words_of_partitions(rt: HostRuntime) {
 }
 
 fn say_replicas(text: &mut Vec<u8>) -> Result<(), OutOfMemory> {
-    for role in [Role::None, Role::IdleSecondary, Role::ActiveSecondary, Role::Primary] {
+    for role in [
+        Role::None,
+        Role::IdleSecondary,
+        Role::ActiveSecondary,
+        Role::Primary,
+    ] {
         push_replica(text, 7, EPOCH, role, 0)?;
         push_end(text)?;
     }

@@ -13,11 +13,25 @@ const SPEAKERS: &[Speaker] = &[
 
 const OF_ALL: &[&str] = &["@1 state", "@1 watch", "@1 watch all", "@1 leave", "@1 end"];
 
-const OF_NODES: &[&str] = &["@1 log 7 1 64", "@1 link 2", "@1 write 7 a", "@1 find 00000000000000ff"];
+const OF_NODES: &[&str] = &[
+    "@1 log 7 1 64",
+    "@1 link 2",
+    "@1 write 7 a",
+    "@1 find 00000000000000ff",
+];
 
 const OF_PARENTS: &[&str] = &["@1 hold 00000000000000ff", "@1 lead 7"];
 
-const OF_NOBODY: &[&str] = &["", "@", "@1", "@1 ", "#", "@1 log 7 0 1", "@1 log 7 100001 1", "@1 log 7 1 65"];
+const OF_NOBODY: &[&str] = &[
+    "",
+    "@",
+    "@1",
+    "@1 ",
+    "#",
+    "@1 log 7 0 1",
+    "@1 log 7 100001 1",
+    "@1 log 7 1 65",
+];
 
 fn nothing() -> Asked {
     Asked {
@@ -97,7 +111,16 @@ fn tag_of(line: &[u8]) -> Option<Option<u32>> {
     }
 }
 
-const WITHOUT_TAG: &[&str] = &["", "state", "@", "@7", "@07 state", "@4294967296 state", "@ 7 state", "@-1 state"];
+const WITHOUT_TAG: &[&str] = &[
+    "",
+    "state",
+    "@",
+    "@7",
+    "@07 state",
+    "@4294967296 state",
+    "@ 7 state",
+    "@-1 state",
+];
 
 fn have_no_tag(rt: &impl Abort, lines: &[&str]) {
     for line in lines {
@@ -121,7 +144,14 @@ fn a_refusal_changes_nothing(rt: HostRuntime) {
     assert_eq!(rt; asked.tag, 9);
 }
 
-const NOT_DONE: &[&str] = &["done 0", "done 18446744073709551616", "done", "done ", "done 01", "@1 done 1"];
+const NOT_DONE: &[&str] = &[
+    "done 0",
+    "done 18446744073709551616",
+    "done",
+    "done ",
+    "done 01",
+    "@1 done 1",
+];
 
 fn are_not_done(rt: &impl Abort, lines: &[&str]) {
     for line in lines {
@@ -132,6 +162,9 @@ fn are_not_done(rt: &impl Abort, lines: &[&str]) {
 #[test]
 fn a_parent_says_what_it_let_go(rt: HostRuntime) {
     assert_eq!(rt; read_done(b"done 1").ok(), Some(1));
-    assert_eq!(rt; read_done(b"done 18446744073709551615").ok(), Some(u64::MAX));
+    assert_eq!(rt;
+        read_done(b"done 18446744073709551615").ok(),
+        Some(u64::MAX)
+    );
     are_not_done(&rt, NOT_DONE);
 }

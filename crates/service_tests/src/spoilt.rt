@@ -50,11 +50,7 @@ fn note_altered(
 }
 
 /// What is read of a line that is spoilt in each way.
-fn spoilt(
-    alloc: Global,
-    speaker: Option<Speaker>,
-    line: &[u8],
-) -> Result<Vec<u8>, AllocError> {
+fn spoilt(alloc: Global, speaker: Option<Speaker>, line: &[u8]) -> Result<Vec<u8>, AllocError> {
     let mut all = Vec::new(alloc);
     for length in 0..line.len() {
         note(speaker, &line[..length], &mut all)?;
@@ -70,13 +66,7 @@ fn spoilt(
     Ok(all)
 }
 
-fn is_right(
-    rt: &impl Abort,
-    alloc: Global,
-    speaker: Option<Speaker>,
-    line: &[u8],
-    wanted: &[u8],
-) {
+fn is_right(rt: &impl Abort, alloc: Global, speaker: Option<Speaker>, line: &[u8], wanted: &[u8]) {
     let read = spoilt(alloc, speaker, line).expect(rt, "memory");
     assert!(rt; is_read(speaker, line));
     assert_eq!(rt; read.as_slice(), wanted);
@@ -90,7 +80,13 @@ const AN_ARBITRATORS_CLIENT_SPOILT: &[u8] = b"@7 watch\n\
 
 #[test]
 fn an_arbitrators_client(rt: HostRuntime) {
-    is_right(&rt, rt.alloc(), Some(Speaker::ArbiterClient), AN_ARBITRATORS_CLIENT, AN_ARBITRATORS_CLIENT_SPOILT);
+    is_right(
+        &rt,
+        rt.alloc(),
+        Some(Speaker::ArbiterClient),
+        AN_ARBITRATORS_CLIENT,
+        AN_ARBITRATORS_CLIENT_SPOILT,
+    );
 }
 
 const THE_GREATEST_TAG: &[u8] = b"@4294967295 end";
@@ -107,7 +103,13 @@ const THE_GREATEST_TAG_SPOILT: &[u8] = b"@4094967295 end\n\
 
 #[test]
 fn the_greatest_tag(rt: HostRuntime) {
-    is_right(&rt, rt.alloc(), Some(Speaker::NodeClient), THE_GREATEST_TAG, THE_GREATEST_TAG_SPOILT);
+    is_right(
+        &rt,
+        rt.alloc(),
+        Some(Speaker::NodeClient),
+        THE_GREATEST_TAG,
+        THE_GREATEST_TAG_SPOILT,
+    );
 }
 
 const A_LOG: &[u8] = b"@1 log 65535 100000 64";
@@ -123,7 +125,13 @@ const A_LOG_SPOILT: &[u8] = b"@1 log 65535 100000 6\n\
 
 #[test]
 fn a_log(rt: HostRuntime) {
-    is_right(&rt, rt.alloc(), Some(Speaker::NodeClient), A_LOG, A_LOG_SPOILT);
+    is_right(
+        &rt,
+        rt.alloc(),
+        Some(Speaker::NodeClient),
+        A_LOG,
+        A_LOG_SPOILT,
+    );
 }
 
 const A_LINK_WITH_A_LENGTH: &[u8] = b"@2 link 9 for 10";
@@ -138,7 +146,13 @@ const A_LINK_WITH_A_LENGTH_SPOILT: &[u8] = b"@2 link 9\n\
 
 #[test]
 fn a_link_with_a_length(rt: HostRuntime) {
-    is_right(&rt, rt.alloc(), Some(Speaker::NodeClient), A_LINK_WITH_A_LENGTH, A_LINK_WITH_A_LENGTH_SPOILT);
+    is_right(
+        &rt,
+        rt.alloc(),
+        Some(Speaker::NodeClient),
+        A_LINK_WITH_A_LENGTH,
+        A_LINK_WITH_A_LENGTH_SPOILT,
+    );
 }
 
 const A_LINK_OF_ONE_LENGTH: &[u8] = b"@2 link 9";
@@ -150,7 +164,13 @@ const A_LINK_OF_ONE_LENGTH_SPOILT: &[u8] = b"@2 link 90\n\
 
 #[test]
 fn a_link_of_one_length(rt: HostRuntime) {
-    is_right(&rt, rt.alloc(), Some(Speaker::ChildClient), A_LINK_OF_ONE_LENGTH, A_LINK_OF_ONE_LENGTH_SPOILT);
+    is_right(
+        &rt,
+        rt.alloc(),
+        Some(Speaker::ChildClient),
+        A_LINK_OF_ONE_LENGTH,
+        A_LINK_OF_ONE_LENGTH_SPOILT,
+    );
 }
 
 const A_WRITE: &[u8] = b"@3 write 7 ab";
@@ -178,7 +198,13 @@ const A_WRITE_SPOILT: &[u8] = b"@3 write 7 a\n\
 
 #[test]
 fn a_write(rt: HostRuntime) {
-    is_right(&rt, rt.alloc(), Some(Speaker::NodeClient), A_WRITE, A_WRITE_SPOILT);
+    is_right(
+        &rt,
+        rt.alloc(),
+        Some(Speaker::NodeClient),
+        A_WRITE,
+        A_WRITE_SPOILT,
+    );
 }
 
 const A_QUESTION_OF_A_PARENT: &[u8] = b"@6 lead 10";
@@ -193,7 +219,13 @@ const A_QUESTION_OF_A_PARENT_SPOILT: &[u8] = b"@6 lead 1\n\
 
 #[test]
 fn a_question_of_a_parent(rt: HostRuntime) {
-    is_right(&rt, rt.alloc(), Some(Speaker::Parent), A_QUESTION_OF_A_PARENT, A_QUESTION_OF_A_PARENT_SPOILT);
+    is_right(
+        &rt,
+        rt.alloc(),
+        Some(Speaker::Parent),
+        A_QUESTION_OF_A_PARENT,
+        A_QUESTION_OF_A_PARENT_SPOILT,
+    );
 }
 
 const A_NUMBER_THAT_IS_LET_GO: &[u8] = b"done 10";
@@ -206,5 +238,11 @@ const A_NUMBER_THAT_IS_LET_GO_SPOILT: &[u8] = b"done 1\n\
 
 #[test]
 fn a_number_that_is_let_go(rt: HostRuntime) {
-    is_right(&rt, rt.alloc(), None, A_NUMBER_THAT_IS_LET_GO, A_NUMBER_THAT_IS_LET_GO_SPOILT);
+    is_right(
+        &rt,
+        rt.alloc(),
+        None,
+        A_NUMBER_THAT_IS_LET_GO,
+        A_NUMBER_THAT_IS_LET_GO_SPOILT,
+    );
 }

@@ -1,2 +1,0 @@
-pub mod FirstGiven
-pub mod EndedAnswers

@@ -1,8 +1,0 @@
-use Rattle.std.proofs.Common.{◌≡◌, ◌≤◌, ◌++◌, length, drop}
-use Rattle.open_answers.specs.Answers.{by_cause, ended_by}
-use Rattle.open_answers.proofs.open.put_ended.Given as goal
-
--- those that have ended, and those that are left to look at
-abbrev pub invariant-loop-answer : goal.invariant-loop-answer
-invariant-loop-answer l =
-    (l.ended ++ ended_by (by_cause l.cause) (drop l.answer-index l.open) ≡ ended_by (by_cause l.cause) l.open) × (length l.ended ≤ l.answer-index)
