@@ -1,0 +1,2 @@
+pub mod FirstGiven
+pub mod EndedAnswers
