@@ -1,10 +1,12 @@
 //! The lines of the door and of a parent: what is asked, and what is answered.
 //!
-//! A line that is asked has a tag and a request. Who says it decides which requests there are: a client of a node or of
-//! an arbitrator, or the parent of a node. Each line that is asked has one spelling, and nothing else is read. Each line
-//! of an answer is written as its definition says, and two answers that differ have two lines. This layer knows no node,
-//! no client and no socket; it decides the grammar alone. It stands on the grammar of commands and reports, and on the
-//! words of links, phases and roles. Reading takes no memory, and writing only that of the text.
+//! A line that is asked has a tag and a request. Who says it decides which requests there are: a client of a node
+//! or of an arbitrator, or the parent of a node. Each line that is asked has one spelling, and nothing else is
+//! read. Each line of an answer is written as its definition says, and two answers that differ have two lines. This
+//! layer knows no node, no client and no socket; it decides the grammar alone. It stands on the grammar of commands
+//! and reports, and on the words of links, phases and roles. Reading takes no memory, and writing only that of the
+//! text. A writer that is short of memory may leave a front of its text behind what stood before, so a caller cuts
+//! it off.
 #![tactic(auto, using(text_fields::proofs::Lists::keeps_on))]
 
 mod asked;

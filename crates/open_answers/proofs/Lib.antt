@@ -1,2 +1,1 @@
-pub mod FirstGiven
 pub mod EndedAnswers

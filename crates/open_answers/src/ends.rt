@@ -1,6 +1,7 @@
 // Which report ends what is asked.
 ghost use Rattle.std.specs.Prelude.{◌≡◌};
-ghost use Rattle.open_answers.specs.Endings.{accepted_in, accepted_of, change_of, end_at, ending_of, ends, is_end, is_prepared, is_refused, prepared_in, question_of, same_verb};
+ghost use Rattle.open_answers.specs.Endings.{accepted_in, accepted_of, change_of, end_at, ending_of, ends};
+ghost use Rattle.open_answers.specs.Endings.{is_end, is_prepared, is_refused, prepared_in, question_of, same_verb};
 
 use crate::question::{Ending, Question};
 use fabric_terms::{Body, Command, Report, Verb};

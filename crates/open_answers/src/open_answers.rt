@@ -1,5 +1,6 @@
 ghost use Rattle.std.specs.Prelude.{◌≡◌, ◌≤◌, ◌<◌, ◌++◌, ◌∷◌, [], IfOk, length, filter, not, vec_capacity, vec_len};
-ghost use Rattle.open_answers.specs.Answers.{answer_of, by_cause, by_end, by_step, by_time, due_of, ended_by, is_full, is_of, open_after, opened, sooner, stays};
+ghost use Rattle.open_answers.specs.Answers.{answer_of, by_cause, by_end, by_step, by_time, due_of};
+ghost use Rattle.open_answers.specs.Answers.{ended_by, is_full, is_of, open_after, opened, sooner, stays};
 ghost use Rattle.open_answers.specs.Endings.{prepared_in, question_of};
 
 use crate::answer::Answer;
@@ -49,7 +50,8 @@ impl Model for OpenAnswers {
 
     ghost view = { λ a. record { waiting = a.waiting.items; lease = a.lease } };
 
-    ghost invariant = { λ a. (length a.waiting.items ≤ most_open_answers) × (most_open_answers ≤ vec_capacity a.waiting) };
+    ghost invariant = { λ a. (length a.waiting.items ≤ most_open_answers) ×
+        (most_open_answers ≤ vec_capacity a.waiting) };
 }
 
 impl OpenAnswers {

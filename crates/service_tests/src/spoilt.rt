@@ -1,5 +1,5 @@
-//! Lines that are asked, spoilt in each way: cut short, longer by a byte, or with one byte altered. What is read of them
-//! is what regular expressions over the documented grammar match.
+//! Lines that are asked, spoilt in each way: cut short, longer by a byte, or with one byte altered. What is read of
+//! them is what regular expressions over the documented grammar match.
 use door_lines::{Asked, Request, Speaker, read_asked, read_done};
 use std::alloc::{AllocError, Global};
 use std::process::Abort;

@@ -1,7 +1,8 @@
 // The state of an actor, of its links, and of its door.
 ghost use Rattle.std.specs.Prelude.{◌≡◌, ◌++◌, decimal, OnOk};
 ghost use Rattle.text_fields.specs.Texts.{Keeps, listed};
-ghost use Rattle.door_lines.specs.Words.{Arbiter, Link, Node, Open, Owns, Up, Watchers, link_text, phase_text, words_text};
+ghost use Rattle.door_lines.specs.Words.{Arbiter, Link, Node, Open, Owns, Up, Watchers};
+ghost use Rattle.door_lines.specs.Words.{link_text, phase_text, words_text};
 
 use crate::pair::{push_number_behind, push_who_behind, push_word};
 use fabric_terms::OutOfMemory;
