@@ -85,7 +85,8 @@ impl OpenAnswers {
         requires { length self.old.waiting < MAX_OPEN_ANSWERS }
         ensures answer { result ≡ answer_of (question_of command.now told.now) told.now }
         ensures waiting { self.new ≡ record self.old {
-            waiting = self.old.waiting ++ stays self.old.lease asker now (question_of command.now told.now) told.now } }
+          waiting = self.old.waiting ++ stays self.old.lease asker now (question_of command.now told.now) told.now;
+        } }
     {
         let Some(question) = question_of(command, told) else {
             return Answer::Done;
@@ -104,7 +105,8 @@ impl OpenAnswers {
     pub fn hear(&mut self, input: &Input, told: &[Report], ended: &mut Ended)
         ensures ended { ended.new ≡ ended_by (by_step (prepared_in input.now) told.now) self.old.waiting }
         ensures waiting { self.new ≡ record self.old {
-            waiting = open_after (by_step (prepared_in input.now) told.now) self.old.waiting } }
+          waiting = open_after (by_step (prepared_in input.now) told.now) self.old.waiting;
+        } }
     {
         let prepared = prepared_in(input);
         self.end(&Cause::Step { prepared, told }, ended);
@@ -154,7 +156,8 @@ impl OpenAnswers {
     fn add(&mut self, asker: Asker, question: Question, now: u64)
         requires { length self.old.waiting < MAX_OPEN_ANSWERS }
         ensures { self.new ≡ record self.old {
-            waiting = self.old.waiting ++ opened self.old.lease asker now question ∷ [] } }
+          waiting = self.old.waiting ++ opened self.old.lease asker now question ∷ [];
+        } }
     {
         let ticks = match question {
             Question::Finds(_) => self.lease,

@@ -1,5 +1,5 @@
-use ring_points::{Epoch, Point};
 use fabric_terms::Verb;
+use ring_points::{Epoch, Point};
 
 /// What an open answer waits for.
 #[derive(Clone, Copy, Debug, PartialEq, Eq)]
