@@ -9,11 +9,17 @@
 #[cfg(test)]
 mod actor_files;
 #[cfg(test)]
+mod answers;
+#[cfg(test)]
 mod doors;
+#[cfg(test)]
+mod ending;
 #[cfg(test)]
 mod logs;
 #[cfg(test)]
 mod paces;
+#[cfg(test)]
+mod requests;
 #[cfg(test)]
 mod seals;
 #[cfg(test)]
@@ -22,5 +28,7 @@ mod service_lines;
 mod small_config;
 #[cfg(test)]
 mod spans;
+#[cfg(test)]
+mod spoilt;
 #[cfg(test)]
 mod streams;

@@ -1,0 +1,4 @@
+pub mod Alone
+pub mod RequestLaws
+pub mod AskedLaws
+pub mod ReplyLaws

@@ -1,0 +1,4 @@
+pub mod Speakers
+pub mod Requests
+pub mod Words
+pub mod Replies
