@@ -64,6 +64,14 @@ impl Arbiter {
         self.table.first_accuser(victim)
     }
 
+    /// How many entries it has: the accused instances, the claimers of later rounds, the prepared epochs, the votes, and
+    /// the done configurations.
+    pub fn entries(&self) -> usize
+        ensures { result ≡ entries self.now }
+    {
+        self.table.entries() + self.registers.entries()
+    }
+
     /// Whether there is no place for an entry.
     fn is_full(&self) -> bool
         ensures full { result ≡ nat_le most_entries (entries self.now) }

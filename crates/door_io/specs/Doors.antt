@@ -25,9 +25,9 @@ FitsBuffer (said.Line client count) = count ≤ most_asked
 FitsBuffer _ = Unit {0}
 
 -- where the door tells what is to come, this came first, and the rest is still to come
-abbrev pub GivesFirst : Option (List Arrived) → List Arrived → Option (List Arrived) → Type 0
-GivesFirst old these new =
-    (all : List Arrived) → old ≡ Some all → (rest : List Arrived) × (all ≡ these ++ rest) × (new ≡ Some rest)
+abbrev pub GivesFirst : {A : Type 0} → Option (List A) → List A → Option (List A) → Type 0
+GivesFirst {A} old these new =
+    (all : List A) → old ≡ Some all → (rest : List A) × (all ≡ these ++ rest) × (new ≡ Some rest)
 
 -- A text was said to a client as a whole, or the client was dropped. A client that was dropped before hears nothing.
 pub record SaysOrDrops (client : ℕ) (text : List ℕ) (answered answered' : ℕ → Option (List ℕ))

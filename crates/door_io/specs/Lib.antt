@@ -1,3 +1,5 @@
 pub mod Doors
+pub mod Clients
 pub mod Logs
 pub mod Memory
+pub mod Pages

@@ -1,4 +1,4 @@
-ghost use Rattle.std.specs.Prelude.{◌≡◌, ℕ, Bool, List, Option};
+ghost use Rattle.std.specs.Prelude.{◌≡◌, ℕ, Bool, true, List, Option};
 ghost use Rattle.door_io.specs.Doors.{Arrived, FitsBuffer, GivesFirst, SaysOrDrops, came};
 
 use crate::limits::MAX_ASKED;
@@ -38,5 +38,12 @@ pub trait Door {
     fn answer(&mut self, client: u32, text: &[u8])
         ensures said { SaysOrDrops client text.now (answered self.old) (answered self.new) (dropped self.old)
             (dropped self.new) }
+        ensures asked { asked self.new ≡ asked self.old };
+
+    /// Drops a client: nothing is said to it any more.
+    fn close(&mut self, client: u32)
+        ensures said { (text : List ℕ) → SaysOrDrops client text (answered self.old) (answered self.new)
+            (dropped self.old) (dropped self.new) }
+        ensures dropped { dropped self.new client ≡ true }
         ensures asked { asked self.new ≡ asked self.old };
 }

@@ -1,4 +1,5 @@
-ghost use Rattle.std.specs.Prelude.{ℕ, List, Option};
+ghost use Rattle.std.specs.Prelude.{◌≡◌, ℕ, List, Option};
+ghost use Rattle.edge_io.specs.Plan.{counted};
 ghost use Rattle.door_io.specs.Logs.{LogsOrDrops};
 
 /// Where the lines of a log go. It does not wait for who reads them.
@@ -12,4 +13,9 @@ pub trait ReportLog {
     /// Puts the line into the log, or drops it.
     fn log(&mut self, line: &[u8])
         ensures { LogsOrDrops line.now (logged self.old) (logged self.new) (dropped self.old) (dropped self.new) };
+
+    /// Counts a line as dropped that could not be made.
+    fn lose(&mut self)
+        ensures logged { logged self.new ≡ logged self.old }
+        ensures counted { dropped self.new ≡ counted (dropped self.old) };
 }

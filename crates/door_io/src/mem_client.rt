@@ -49,6 +49,13 @@ impl MemClient {
         self.dropped
     }
 
+    /// Drops it.
+    pub fn close(&mut self)
+        ensures { self.new ≡ record self.old { dropped = true } }
+    {
+        self.dropped = true;
+    }
+
     /// Says the text to it, or drops it, where the text finds no room or no memory.
     pub fn hear(&mut self, text: &[u8])
         ensures whole { self.new.dropped ≡ false →

@@ -106,4 +106,11 @@ impl Door for MemDoor {
             self.clients[at].hear(text);
         }
     }
+
+    fn close(&mut self, client: u32) {
+        let at = client as usize;
+        if at < self.clients.len() {
+            self.clients[at].close();
+        }
+    }
 }

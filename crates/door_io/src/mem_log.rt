@@ -1,5 +1,6 @@
 ghost use Rattle.std.specs.Prelude.{◌≡◌, ◌≤◌, ◌∷◌, ◌++◌, [], false, length, map, vec_items};
 ghost use Rattle.std.specs.Bool.{OnFalse, OnTrue};
+ghost use Rattle.edge_io.specs.Plan.{counted};
 ghost use Rattle.door_io.specs.Memory.{fresh_log};
 
 use crate::log::ReportLog;
@@ -65,6 +66,13 @@ impl MemReportLog {
             Err(_) => false,
         }
     }
+
+    /// Counts a line as dropped.
+    fn count(&mut self)
+        ensures { self.new ≡ record self.old { dropped = counted self.old.dropped } }
+    {
+        self.dropped = self.dropped.saturating_add(1);
+    }
 }
 
 impl ReportLog for MemReportLog {
@@ -76,7 +84,11 @@ impl ReportLog for MemReportLog {
 
     fn log(&mut self, line: &[u8]) {
         if !self.keep(line) {
-            self.dropped = self.dropped.saturating_add(1);
+            self.count();
         }
+    }
+
+    fn lose(&mut self) {
+        self.count();
     }
 }

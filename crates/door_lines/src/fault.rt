@@ -20,7 +20,8 @@ pub enum Fault {
     Busy,
 }
 
-fn fault_word(fault: Fault) -> &'static [u8]
+/// The word of a refusal.
+pub fn fault_word(fault: Fault) -> &'static [u8]
     ensures { result.now ≡ fault_text fault }
 {
     match fault {

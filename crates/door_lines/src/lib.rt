@@ -18,11 +18,13 @@ mod request;
 mod words;
 
 pub use asked::{Asked, BadRequest, Request, Speaker};
-pub use fault::{Fault, push_fault, push_late, push_unknown};
+pub use fault::{Fault, fault_word, push_fault, push_late, push_unknown};
 pub use laws::{one_asked_spelling, one_done_spelling, replies_have_one_line};
+pub use pair::{push_number_behind, push_who_behind};
 pub use reply::{push_done, push_end, push_given_up, push_reply, push_report, push_tag};
 pub use request::{MAX_LISTED_ENTRIES, read_asked, read_done};
 pub use words::{
-    push_arbiter, push_changing, push_entry, push_follows, push_held, push_leads, push_link,
-    push_node, push_open, push_owns, push_replica, push_unheld, push_up, push_watchers,
+    link_word, phase_word, push_arbiter, push_changing, push_entry, push_follows, push_held,
+    push_hex, push_leads, push_link, push_node, push_open, push_owns, push_replica, push_unheld,
+    push_up, push_watchers, role_word,
 };

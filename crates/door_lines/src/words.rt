@@ -5,6 +5,9 @@ mod state;
 mod unit;
 
 pub use hold::{push_follows, push_held, push_leads, push_unheld};
-pub use log::push_entry;
-pub use state::{push_arbiter, push_link, push_node, push_open, push_owns, push_up, push_watchers};
-pub use unit::{push_changing, push_replica};
+pub use log::{push_entry, push_hex};
+pub use state::{
+    link_word, phase_word, push_arbiter, push_link, push_node, push_open, push_owns, push_up,
+    push_watchers,
+};
+pub use unit::{push_changing, push_replica, role_word};

@@ -11,6 +11,7 @@ use std::io;
 use std::io::ErrorKind;
 use std::marker::Model;
 use std::net::{Net, SocketAddr, UdpSocket};
+use std::os::fd::{AsRawFd, RawFd};
 use std::rt::Clock;
 
 /// An endpoint, and the socket that is bound to it.
@@ -50,13 +51,17 @@ impl OpenSocket {
 /// longer than any frame, so it is not taken for one.
 ///
 /// A call that fails is said on standard error, with the address. While the same goes on to fail, it is not said again.
+///
+/// Links without a pace never wait: whoever has them waits for their descriptor.
 #[derive(Drop)]
 pub struct UdpLinks<'a, R: Net + Clock + Eprint> {
     rt: &'a R,
     alloc: Global,
     sockets: Vec<OpenSocket>,
     peers: Peers,
-    pace: Pace<'a, R>,
+    pace: Option<Pace<'a, R>>,
+    /// Where endpoints are bound in place of their addresses.
+    bound: Option<SocketAddr>,
     failures: Failures,
 }
 
@@ -79,15 +84,37 @@ impl<'a, R: Net + Clock + Eprint> UdpLinks<'a, R> {
             alloc,
             sockets: Vec::new(alloc),
             peers: Peers::none(alloc),
-            pace: Pace::new(rt),
+            pace: Some(Pace::new(rt)),
+            bound: None,
             failures: Failures::none(),
         }
     }
+
+    /// No endpoint is open, and no receive will wait. An endpoint is bound to this address, if it is given, in place of
+    /// the one at which others reach it.
+    pub fn without_pace(rt: &'a R, alloc: Global, bound: Option<SocketAddr>) -> Self
+        ensures { result ≡ record { opened = []; faults = 0 } }
+    {
+        UdpLinks {
+            rt,
+            alloc,
+            sockets: Vec::new(alloc),
+            peers: Peers::none(alloc),
+            pace: None,
+            bound,
+            failures: Failures::none(),
+        }
+    }
+
+    /// The descriptor of the socket that was opened last.
+    pub fn descriptor(&self) -> Option<RawFd> {
+        Some(self.sockets.last()?.socket.as_raw_fd())
+    }
 }
 
-/// A socket that is bound to the address, an IP address and a port. It does not wait.
-fn bind<R: Net>(rt: &R, at: &str) -> io::Result<UdpSocket> {
-    let Ok(address) = at.parse::<SocketAddr>() else {
+/// A socket that is bound to the address, an IP address and a port, or to the one in its place. It does not wait.
+fn bind<R: Net>(rt: &R, at: &str, bound: Option<SocketAddr>) -> io::Result<UdpSocket> {
+    let Some(address) = bound.or(at.parse().ok()) else {
         return Err(io::Error::from(ErrorKind::InvalidInput));
     };
     let socket = UdpSocket::bind(rt, address)?;
@@ -178,7 +205,7 @@ impl<R: Net + Clock + Eprint> Links for UdpLinks<'_, R> {
     ghost plan = { λ l. None };
 
     fn listen(&mut self, actor: u16, at: &str) -> Result<(), EdgeRefusal> {
-        let Ok(socket) = bind(self.rt, at) else {
+        let Ok(socket) = bind(self.rt, at, self.bound) else {
             self.failures.add();
             return Err(EdgeRefusal::Failed);
         };
@@ -211,10 +238,9 @@ impl<R: Net + Clock + Eprint> Links for UdpLinks<'_, R> {
     ) -> Result<Option<usize>, Failed> {
         let place = listening_at(&self.sockets, actor);
         let socket = &self.sockets[place].socket;
-        let found = if place == 0 {
-            awaited(&mut self.pace, socket, into)
-        } else {
-            next_datagram(socket, into)
+        let found = match &mut self.pace {
+            Some(pace) if place == 0 => awaited(pace, socket, into),
+            _ => next_datagram(socket, into),
         };
         self.sockets[place].note(self.rt, &found);
         match found {

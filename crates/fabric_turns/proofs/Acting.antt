@@ -12,7 +12,7 @@ use Rattle.fabric_terms.specs.declared.report.Report.{Report}
 use Rattle.fabric_terms.specs.declared.report.Why.{Why}
 use Rattle.fabric_terms.specs.Sent.{from_all}
 use Rattle.fabric_turns.proofs.Doing.{did_on, did_nothing, handed_along, nothing, risen_from, stays_on}
-use Rattle.fabric_turns.specs.Runs.{Run, At, Came, Meets, Stands, IsStep, IsReady, IsLast}
+use Rattle.fabric_turns.specs.Runs.{Run, AtBy, CameBy, MeetsBy, Stands, IsStep, IsReady, IsLast}
 use Rattle.fabric_turns.specs.Steps.{StepsAt, RefusedAt, left_at, why_of, work_in}
 use Rattle.edge_io.specs.Told.{Told}
 use Rattle.ring_rules.specs.declared.input.Input.{Input}
@@ -22,10 +22,10 @@ use Rattle.turn_members.specs.Members.{IsOf, Makes, seen}
 use Rattle.turn_members.specs.declared.deed.Deed.{Deed}
 use Rattle.turn_members.specs.declared.member.Member.{Member as Running}
 use Rattle.turn_rules.specs.Effects.{Did, IsPart}
-use Rattle.turn_rules.specs.Ends.{Ended, Broken, Stopped}
+use Rattle.turn_rules.specs.Ends.{EndedBy, BrokenBy, StoppedBy}
 use Rattle.turn_rules.specs.Handed.{failures_of}
 use Rattle.turn_rules.specs.Happenings.{Happening, History}
-use Rattle.turn_rules.specs.Order.{TurnPosition}
+use Rattle.turn_rules.specs.Order.{Rows, TurnPosition}
 use Rattle.turn_rules.specs.Plans.{Plan, Setting}
 use Rattle.turn_rules.specs.Process.{Process, End, Left, Full, after, takes, acts, acts_as, acts_at, acts_with, unless_full, unless_ended, left_end}
 use Rattle.turn_rules.specs.Steps.{Member, Step, Stepped, exceeds, left_of, stepped}
@@ -90,7 +90,7 @@ pub record Acted (s : Setting) (h : History) (x : Happening) (place : ℕ) (step
   pub steps : (after s (x ∷ h)).steps ≡ step ∷ (after s h).steps
   pub end : (after s (x ∷ h)).end ≡ left_end (left_at new.members place)
 
-acted : (s : Setting) (b : Told) (old : Run) (h : History) (x : Happening) (turn place : ℕ) (i : Input) (deed : Deed) (new : Run) → Stands s b old h → IsStep s h x turn place i
+pub acted : (s : Setting) (b : Told) (old : Run) (h : History) (x : Happening) (turn place : ℕ) (i : Input) (deed : Deed) (new : Run) → Stands s b old h → IsStep s h x turn place i
     → (t : StepsAt s.plan turn place i old deed new) → Acted s h x place (stepped s.plan.config turn old.last i (seen t.member)).step new
 acted s b old h x turn place i deed new stands is t =
     let d : Stepped = stepped s.plan.config turn old.last i (seen t.member) in
@@ -156,10 +156,10 @@ carried_for c c' d new deed b e r same k w =
 
 -- How a step ends.
 
-pub did_step : (s : Setting) (a b c : Told) (new : Run) (h : History) (x : Happening) (p : TurnPosition) (place : ℕ) (step : Step) → Came s a b h x p → Acted s h x place step new → CarriedMore (work_of s.plan.config step) b c → Did (works_of s.plan.config (after s (x ∷ h)).steps) (failures_of (x ∷ h)) a c
+pub did_step : {may_go : Rows} (s : Setting) (a b c : Told) (new : Run) (h : History) (x : Happening) (p : TurnPosition) (place : ℕ) (step : Step) → CameBy may_go s a b h x p → Acted s h x place step new → CarriedMore (work_of s.plan.config step) b c → Did (works_of s.plan.config (after s (x ∷ h)).steps) (failures_of (x ∷ h)) a c
 did_step s a b c new h x p place step m d k = subst (λ (ss : List Step). Did (works_of s.plan.config ss) (failures_of (x ∷ h)) a c) (sym d.steps) (did_on (works_of s.plan.config (after s h).steps) (work_of s.plan.config step) (failures_of (x ∷ h)) a b c m.did k.did)
 
-pub short_at : (s : Setting) (a b : Told) (h : History) (x : Happening) (p : TurnPosition) → Came s a b h x p → (part : Work) × Broken s a b part
+pub short_at : {may_go : Rows} (s : Setting) (a b : Told) (h : History) (x : Happening) (p : TurnPosition) → CameBy may_go s a b h x p → (part : Work) × BrokenBy may_go s a b part
 short_at s a b h x p m = (
   nothing,
   record {
@@ -175,7 +175,7 @@ short_at s a b h x p m = (
   },
 )
 
-pub done_at : (s : Setting) (a b c : Told) (new : Run) (h : History) (x : Happening) (p : TurnPosition) (place : ℕ) (step : Step) → Came s a b h x p → Acted s h x place step new → CarriedMore (work_of s.plan.config step) b c → IsLast new.last b.last → left_at new.members place ≡ None → At s a c new (x ∷ h) p
+pub done_at : {may_go : Rows} (s : Setting) (a b c : Told) (new : Run) (h : History) (x : Happening) (p : TurnPosition) (place : ℕ) (step : Step) → CameBy may_go s a b h x p → Acted s h x place step new → CarriedMore (work_of s.plan.config step) b c → IsLast new.last b.last → left_at new.members place ≡ None → AtBy may_go s a c new (x ∷ h) p
 done_at s a b c new h x p place step m d k clock stays = record {
   order = m.order;
   stands = record {
@@ -189,7 +189,7 @@ done_at s a b c new h x p place step m d k clock stays = record {
   stays = stays_on a b c m.stays k.stays;
 }
 
-pub left_from : (s : Setting) (a b c : Told) (new : Run) (h : History) (x : Happening) (p : TurnPosition) (place : ℕ) (step : Step) (why : Why) → Came s a b h x p → Acted s h x place step new → CarriedMore (work_of s.plan.config step) b c → left_at new.members place ≡ Some why → Ended s a c (Left why)
+pub left_from : {may_go : Rows} (s : Setting) (a b c : Told) (new : Run) (h : History) (x : Happening) (p : TurnPosition) (place : ℕ) (step : Step) (why : Why) → CameBy may_go s a b h x p → Acted s h x place step new → CarriedMore (work_of s.plan.config step) b c → left_at new.members place ≡ Some why → EndedBy may_go s a c (Left why)
 left_from s a b c new h x p place step why m d k left = record {
   history = x ∷ h;
   place = p;
@@ -200,7 +200,7 @@ left_from s a b c new h x p place step why m d k left = record {
   stays = stays_on a b c m.stays k.stays;
 }
 
-broken_at : (s : Setting) (a b c : Told) (new : Run) (h : History) (x : Happening) (p : TurnPosition) (place : ℕ) (step : Step) (part : Work) → Came s a b h x p → Acted s h x place step new → IsPart part (work_of s.plan.config step) → CarriedMore part b c → Broken s a c part
+pub broken_at : {may_go : Rows} (s : Setting) (a b c : Told) (new : Run) (h : History) (x : Happening) (p : TurnPosition) (place : ℕ) (step : Step) (part : Work) → CameBy may_go s a b h x p → Acted s h x place step new → IsPart part (work_of s.plan.config step) → CarriedMore part b c → BrokenBy may_go s a c part
 broken_at s a b c new h x p place step part m d is k = record {
   before = h;
   last = x;
@@ -213,7 +213,7 @@ broken_at s a b c new h x p place step part m d is k = record {
   stays = stays_on a b c m.stays k.stays;
 }
 
-pub broken_from : (s : Setting) (a b c : Told) (new : Run) (h : History) (x : Happening) (p : TurnPosition) (place : ℕ) (step : Step) (r : StopCause) → Came s a b h x p → Acted s h x place step new → CarriesOut (work_of s.plan.config step) b c (Err r) → Stopped s a c r
+pub broken_from : {may_go : Rows} (s : Setting) (a b c : Told) (new : Run) (h : History) (x : Happening) (p : TurnPosition) (place : ℕ) (step : Step) (r : StopCause) → CameBy may_go s a b h x p → Acted s h x place step new → CarriesOut (work_of s.plan.config step) b c (Err r) → StoppedBy may_go s a c r
 broken_from s a b c new h x p place step stop.OutOfMemory m d k = (k.0, broken_at s a b c new h x p place step k.0 m d k.1.0 k.1.1)
 broken_from s a b c new h x p place step stop.WriteFault m d k =
     (k.0, (broken_at s a b c new h x p place step k.0 m d k.1.0 k.1.1, risen_from a.sink_faults b.sink_faults c.sink_faults m.stays.sink k.1.2))
@@ -226,7 +226,7 @@ broken_from s a b c new h x p place step (stop.BadKeep n) m d k = absurd k
 broken_from s a b c new h x p place step stop.TableFull m d k = absurd k
 
 -- an arbitrator can keep no more
-pub full_ended : (s : Setting) (a b : Told) (h : History) (x : Happening) (p : TurnPosition) → Came s a b h x p → (after s (x ∷ h)).end ≡ Some Full → (after s (x ∷ h)).steps ≡ (after s h).steps → Ended s a b Full
+pub full_ended : {may_go : Rows} (s : Setting) (a b : Told) (h : History) (x : Happening) (p : TurnPosition) → CameBy may_go s a b h x p → (after s (x ∷ h)).end ≡ Some Full → (after s (x ∷ h)).steps ≡ (after s h).steps → EndedBy may_go s a b Full
 full_ended s a b h x p m ended steps = record {
   history = x ∷ h;
   place = p;
@@ -239,27 +239,27 @@ full_ended s a b h x p m ended steps = record {
 
 -- the same of a step of one that runs
 
-pub act_full : (s : Setting) (a b : Told) (run : Run) (h : History) (x : Happening) (p : TurnPosition) (turn place : ℕ) (i : Input) → Meets s a b run h x p → IsStep s h x turn place i → RefusedAt s.plan turn place i run → Ended s a b Full
+pub act_full : {may_go : Rows} (s : Setting) (a b : Told) (run : Run) (h : History) (x : Happening) (p : TurnPosition) (turn place : ℕ) (i : Input) → MeetsBy may_go s a b run h x p → IsStep s h x turn place i → RefusedAt s.plan turn place i run → EndedBy may_go s a b Full
 act_full s a b run h x p turn place i m is r =
     let there : slice_get (after s h).members place ≡ Some (seen r.member) = ap (λ (ms : List Member). slice_get ms place) m.stands.members ∙ seen_at run.members place r.member r.here in
     let e : after s (x ∷ h) ≡ record (after s h) { end = Some Full } = after_next s h x m.stands.on ∙ is ∙ full_at s turn (after s h) place i (seen r.member) run.last there m.stands.last r.full in
     full_ended s a b h x p m.came (ap (λ (q : Process). q.end) e) (ap (λ (q : Process). q.steps) e)
 
-pub act_done : (s : Setting) (a b c : Told) (old new : Run) (h : History) (x : Happening) (p : TurnPosition) (turn place : ℕ) (i : Input) (deed : Deed) (config : FabricConfig) → config ≡ s.plan.config → Meets s a b old h x p → IsStep s h x turn place i
-    → StepsAt s.plan turn place i old deed new → (done : Unit {0}) → CarriesOut (work_in config deed) b c (Ok done) → left_at new.members place ≡ None → At s a c new (x ∷ h) p
+pub act_done : {may_go : Rows} (s : Setting) (a b c : Told) (old new : Run) (h : History) (x : Happening) (p : TurnPosition) (turn place : ℕ) (i : Input) (deed : Deed) (config : FabricConfig) → config ≡ s.plan.config → MeetsBy may_go s a b old h x p → IsStep s h x turn place i
+    → StepsAt s.plan turn place i old deed new → (done : Unit {0}) → CarriesOut (work_in config deed) b c (Ok done) → left_at new.members place ≡ None → AtBy may_go s a c new (x ∷ h) p
 act_done s a b c old new h x p turn place i deed config same m is t done k stays =
     let d : Stepped = stepped s.plan.config turn old.last i (seen t.member) in
     done_at s a b c new h x p place d.step m.came (acted s b old h x turn place i deed new m.stands is t) (carried_for s.plan.config config d (seen t.next) deed b c (Ok done) same t.does.makes k)
     (subst (λ (o : Option ℕ). IsLast o b.last) (sym (ap (λ (r : Run). r.last) t.now)) m.stands.clock) stays
 
-pub act_left : (s : Setting) (a b c : Told) (old new : Run) (h : History) (x : Happening) (p : TurnPosition) (turn place : ℕ) (i : Input) (deed : Deed) (config : FabricConfig) (why : Why) → config ≡ s.plan.config → Meets s a b old h x p → IsStep s h x turn place i
-    → StepsAt s.plan turn place i old deed new → (done : Unit {0}) → CarriesOut (work_in config deed) b c (Ok done) → left_at new.members place ≡ Some why → Ended s a c (Left why)
+pub act_left : {may_go : Rows} (s : Setting) (a b c : Told) (old new : Run) (h : History) (x : Happening) (p : TurnPosition) (turn place : ℕ) (i : Input) (deed : Deed) (config : FabricConfig) (why : Why) → config ≡ s.plan.config → MeetsBy may_go s a b old h x p → IsStep s h x turn place i
+    → StepsAt s.plan turn place i old deed new → (done : Unit {0}) → CarriesOut (work_in config deed) b c (Ok done) → left_at new.members place ≡ Some why → EndedBy may_go s a c (Left why)
 act_left s a b c old new h x p turn place i deed config why same m is t done k left =
     let d : Stepped = stepped s.plan.config turn old.last i (seen t.member) in
     left_from s a b c new h x p place d.step why m.came (acted s b old h x turn place i deed new m.stands is t) (carried_for s.plan.config config d (seen t.next) deed b c (Ok done) same t.does.makes k) left
 
-pub act_broken : (s : Setting) (a b c : Told) (old new : Run) (h : History) (x : Happening) (p : TurnPosition) (turn place : ℕ) (i : Input) (deed : Deed) (config : FabricConfig) (r : StopCause) → config ≡ s.plan.config → Meets s a b old h x p → IsStep s h x turn place i
-    → StepsAt s.plan turn place i old deed new → CarriesOut (work_in config deed) b c (Err r) → Stopped s a c r
+pub act_broken : {may_go : Rows} (s : Setting) (a b c : Told) (old new : Run) (h : History) (x : Happening) (p : TurnPosition) (turn place : ℕ) (i : Input) (deed : Deed) (config : FabricConfig) (r : StopCause) → config ≡ s.plan.config → MeetsBy may_go s a b old h x p → IsStep s h x turn place i
+    → StepsAt s.plan turn place i old deed new → CarriesOut (work_in config deed) b c (Err r) → StoppedBy may_go s a c r
 act_broken s a b c old new h x p turn place i deed config r same m is t k =
     let d : Stepped = stepped s.plan.config turn old.last i (seen t.member) in
     broken_from s a b c new h x p place d.step r m.came (acted s b old h x turn place i deed new m.stands is t) (carried_for s.plan.config config d (seen t.next) deed b c (Err r) same t.does.makes k)

@@ -9,17 +9,17 @@ use Rattle.turn_members.specs.Members.{seen}
 use Rattle.turn_rules.specs.Effects.{Did, Stays, records_of, sends_of, lines_of}
 use Rattle.fabric_terms.specs.declared.command.Command.{Command}
 use Rattle.fabric_turns.specs.Moves.{Reaches, ComesTo, Goes, Leads, at_place}
-use Rattle.turn_rules.specs.Ends.{Ended, Stopped}
+use Rattle.turn_rules.specs.Ends.{EndedBy, Stopped, StoppedBy}
 use Rattle.turn_rules.specs.Steps.{Step, present}
 use Rattle.turn_rules.specs.Works.{Work, works_of}
 use Rattle.turn_rules.specs.Handed.{Handed, Gave, Answered, Arrival, readings_of, answers_at, failures_of}
 use Rattle.turn_rules.specs.Happenings.{Begins, Turns, Bids, Fires, Happening, History}
-use Rattle.turn_rules.specs.Order.{TurnPosition, Starting, Turning, Busy, Firing, IsInOrder, onward}
+use Rattle.turn_rules.specs.Order.{TurnPosition, Starting, Turning, Busy, Extends, Firing, IsInOrderBy, Rows, onward}
 use Rattle.turn_rules.specs.Plans.{Plan, Setting, is_node_at, orders_at}
 use Rattle.turn_rules.specs.Process.{Process, End, Back, after, reads, reads_as, joins, unless_ended, clamped}
 use Rattle.edge_io.specs.declared.endpoint.Endpoint.{Endpoint}
 use Rattle.fabric_terms.specs.Ranges.{most}
-use Rattle.fabric_turns.specs.Runs.{AllListen, AreMembers, IsReady, Run, At, Meets, MeetsStart, Stands, IsLast}
+use Rattle.fabric_turns.specs.Runs.{AllListen, AreMembers, IsReady, Run, At, AtBy, Meets, MeetsBy, MeetsStart, MeetsStartBy, Stands, IsLast}
 use Rattle.fabric_turns.specs.Steps.{ReadOn, ReadBack, ReadsNow}
 use Rattle.turn_rules.specs.declared.stop_cause.StopCause.{StopCause}
 use Rattle.turn_rules.specs.declared.stop_cause.StopCause.TheVariants as stop
@@ -35,10 +35,10 @@ fires_at turn place = record { turn = turn; place = place; comes = Fires }
 abbrev pub bids_at : ℕ → ℕ → Command → Happening
 bids_at turn place command = record { turn = turn; place = place; comes = Bids command }
 
-pub fire_comes : (s : Setting) (a b : Told) (run : Run) (h : History) (turn place : ℕ) → At s a b run h (at_place turn place Firing) → Meets s a b run h (fires_at turn place) (onward s.plan turn place)
-fire_comes s a b run h turn place t = record {
+pub fire_comes_by : {may_go : Rows} → Extends may_go → (s : Setting) (a b : Told) (run : Run) (h : History) (turn place : ℕ) → AtBy may_go s a b run h (at_place turn place Firing) → MeetsBy may_go s a b run h (fires_at turn place) (onward s.plan turn place)
+fire_comes_by more s a b run h turn place t = record {
   came = record {
-    order = (at_place turn place Firing, (t.order, record { turn = refl; place = refl; goes = refl }));
+    order = (at_place turn place Firing, (t.order, record { turn = refl; place = refl; goes = more s.plan turn place Firing Fires (onward s.plan turn place) refl }));
     on = t.stands.on;
     did = t.did;
     handed = record { read = t.handed.read; heard = t.handed.heard };
@@ -46,6 +46,9 @@ fire_comes s a b run h turn place t = record {
   };
   stands = t.stands;
 }
+
+pub fire_comes : (s : Setting) (a b : Told) (run : Run) (h : History) (turn place : ℕ) → At s a b run h (at_place turn place Firing) → Meets s a b run h (fires_at turn place) (onward s.plan turn place)
+fire_comes s a b run h turn place t = fire_comes_by (λ plan turn at doing x p g. g) s a b run h turn place t
 
 pub bid_comes : (s : Setting) (a b : Told) (run : Run) (h : History) (turn place : ℕ) (command : Command) (rest : List Command) (n : ℕ) → At s a b run h (at_place turn place (Busy (command ∷ rest) n)) → Meets s a b run h (bids_at turn place command) (at_place turn place (Busy rest n))
 bid_comes s a b run h turn place command rest n t = record {
@@ -115,13 +118,13 @@ read_clamped s b run h told t on = ap (λ (o : Option ℕ). reads_as (after s h)
 abbrev pub turns_at : ℕ → ℕ → ℕ → Happening
 turns_at turn place told = record { turn = turn; place = place; comes = Turns told }
 
-pub turn_began : (s : Setting) (a b c : Told) (run new : Run) (h : History) (turn place told : ℕ) → At s a b run h (at_place turn place Turning) → ReadOn told run b new c → At s a c new (turns_at turn place told ∷ h) (at_place turn place (Busy (orders_at s.plan turn place) 0))
-turn_began s a b c run new h turn place told t k =
+pub turn_began_by : {may_go : Rows} → Extends may_go → (s : Setting) (a b c : Told) (run new : Run) (h : History) (turn place told : ℕ) → AtBy may_go s a b run h (at_place turn place Turning) → ReadOn told run b new c → AtBy may_go s a c new (turns_at turn place told ∷ h) (at_place turn place (Busy (orders_at s.plan turn place) 0))
+turn_began_by more s a b c run new h turn place told t k =
     let x = turns_at turn place told in
     let e : after s (x ∷ h) ≡ record (after s h) { last = Some (clamped told) } = after_next s h x t.stands.on ∙ read_clamped s b run h told t.stands k.on in
     let r = read_on s.plan a b c h told (failures_of h) (works_of s.plan.config (after s h).steps) t.did t.handed t.stays k.clock in
     record {
-      order = (at_place turn place Turning, (t.order, record { turn = refl; place = refl; goes = refl }));
+      order = (at_place turn place Turning, (t.order, record { turn = refl; place = refl; goes = more s.plan turn place Turning (Turns told) (at_place turn place (Busy (orders_at s.plan turn place) 0)) refl }));
       stands = record {
         on = ap (λ (q : Process). q.end) e ∙ t.stands.on;
         members = ap (λ (q : Process). q.members) e ∙ t.stands.members ∙ sym (ap (λ (q : Run). map seen q.members) k.now);
@@ -132,6 +135,9 @@ turn_began s a b c run new h turn place told t k =
       handed = record { read = r.read; heard = r.heard };
       stays = r.stays;
     }
+
+pub turn_began : (s : Setting) (a b c : Told) (run new : Run) (h : History) (turn place told : ℕ) → At s a b run h (at_place turn place Turning) → ReadOn told run b new c → At s a c new (turns_at turn place told ∷ h) (at_place turn place (Busy (orders_at s.plan turn place) 0))
+turn_began s a b c run new h turn place told t k = turn_began_by (λ plan turn at doing x p g. g) s a b c run new h turn place told t k
 
 -- The clock fell.
 
@@ -160,7 +166,7 @@ fell b c run former latter last k =
     falls_at b c l.0 k.told l.1 less k.clock.falls
 
 -- what ended the run is all that came
-back_at : (s : Setting) (a b c : Told) (run : Run) (h : History) (x : Happening) (p q : TurnPosition) (former latter : ℕ) → At s a b run h p → (k : ReadBack former latter run b c) → IsInOrder s.plan (x ∷ h) q → after s (x ∷ h) ≡ record (after s h) { end = Some (Back former latter) } → failures_of (x ∷ h) ≡ failures_of h → readings_of (x ∷ h) ≡ k.told ∷ readings_of h → ((actor : ℕ) → answers_at s.plan actor (x ∷ h) ≡ answers_at s.plan actor h) → Ended s a c (Back former latter) × (a.falls < c.falls)
+back_at : {may_go : Rows} (s : Setting) (a b c : Told) (run : Run) (h : History) (x : Happening) (p q : TurnPosition) (former latter : ℕ) → AtBy may_go s a b run h p → (k : ReadBack former latter run b c) → IsInOrderBy may_go s.plan (x ∷ h) q → after s (x ∷ h) ≡ record (after s h) { end = Some (Back former latter) } → failures_of (x ∷ h) ≡ failures_of h → readings_of (x ∷ h) ≡ k.told ∷ readings_of h → ((actor : ℕ) → answers_at s.plan actor (x ∷ h) ≡ answers_at s.plan actor h) → EndedBy may_go s a c (Back former latter) × (a.falls < c.falls)
 back_at s a b c run h x p q former latter t k order e failures readings answers =
     let r = read_on s.plan a b c h k.told (failures_of h) (works_of s.plan.config (after s h).steps) t.did t.handed t.stays k.clock in (
       record {
@@ -178,29 +184,32 @@ back_at s a b c run h x p q former latter t k order e failures readings answers 
       omega (arith, t.stays.clock, fell b c run former latter t.stands.clock k),
     )
 
-pub turn_stopped : (s : Setting) (a b c : Told) (run new : Run) (h : History) (turn place : ℕ) (r : StopCause) → At s a b run h (at_place turn place Turning) → ReadsNow run b new c (Err r) → Stopped s a c r
-turn_stopped s a b c run new h turn place (stop.ClockBack former latter) t k =
+pub turn_stopped_by : {may_go : Rows} → Extends may_go → (s : Setting) (a b c : Told) (run new : Run) (h : History) (turn place : ℕ) (r : StopCause) → AtBy may_go s a b run h (at_place turn place Turning) → ReadsNow run b new c (Err r) → StoppedBy may_go s a c r
+turn_stopped_by more s a b c run new h turn place (stop.ClockBack former latter) t k =
     let x = turns_at turn place k.told in
     back_at s a b c run h x (at_place turn place Turning) (at_place turn place (Busy (orders_at s.plan turn place) 0)) former latter t k
-    (at_place turn place Turning, (t.order, record { turn = refl; place = refl; goes = refl }))
+    (at_place turn place Turning, (t.order, record { turn = refl; place = refl; goes = more s.plan turn place Turning (Turns k.told) (at_place turn place (Busy (orders_at s.plan turn place) 0)) refl }))
     (after_next s h x t.stands.on ∙ read_fell s b c run h former latter t.stands k) refl refl (λ actor. refl)
-turn_stopped s a b c run new h turn place stop.OutOfMemory t k = absurd k
-turn_stopped s a b c run new h turn place stop.WriteFault t k = absurd k
-turn_stopped s a b c run new h turn place stop.KeepFault t k = absurd k
-turn_stopped s a b c run new h turn place stop.LinkFault t k = absurd k
-turn_stopped s a b c run new h turn place (stop.Left why) t k = absurd k
-turn_stopped s a b c run new h turn place (stop.BadKeep i) t k = absurd k
-turn_stopped s a b c run new h turn place stop.TableFull t k = absurd k
+turn_stopped_by more s a b c run new h turn place stop.OutOfMemory t k = absurd k
+turn_stopped_by more s a b c run new h turn place stop.WriteFault t k = absurd k
+turn_stopped_by more s a b c run new h turn place stop.KeepFault t k = absurd k
+turn_stopped_by more s a b c run new h turn place stop.LinkFault t k = absurd k
+turn_stopped_by more s a b c run new h turn place (stop.Left why) t k = absurd k
+turn_stopped_by more s a b c run new h turn place (stop.BadKeep i) t k = absurd k
+turn_stopped_by more s a b c run new h turn place stop.TableFull t k = absurd k
+
+pub turn_stopped : (s : Setting) (a b c : Told) (run new : Run) (h : History) (turn place : ℕ) (r : StopCause) → At s a b run h (at_place turn place Turning) → ReadsNow run b new c (Err r) → Stopped s a c r
+turn_stopped s a b c run new h turn place r t k = turn_stopped_by (λ plan turn at doing x p g. g) s a b c run new h turn place r t k
 
 -- Starts.
 
 abbrev pub begins_at : ℕ → Option ℕ → Happening
 begins_at place reading = record { turn = 0; place = place; comes = Begins reading }
 
-pub arbiter_comes : (s : Setting) (a b : Told) (run : Run) (h : History) (place : ℕ) → is_node_at s.plan place ≡ false → length run.members ≡ place → At s a b run h (at_place 0 place Starting) → MeetsStart s a b run h (begins_at place None) (onward s.plan 0 place) place
-arbiter_comes s a b run h place arbiter next t = record {
+pub arbiter_comes_by : {may_go : Rows} → Extends may_go → (s : Setting) (a b : Told) (run : Run) (h : History) (place : ℕ) → is_node_at s.plan place ≡ false → length run.members ≡ place → AtBy may_go s a b run h (at_place 0 place Starting) → MeetsStartBy may_go s a b run h (begins_at place None) (onward s.plan 0 place) place
+arbiter_comes_by more s a b run h place arbiter next t = record {
   came = record {
-    order = (at_place 0 place Starting, (t.order, record { turn = refl; place = refl; goes = (arbiter, refl) }));
+    order = (at_place 0 place Starting, (t.order, record { turn = refl; place = refl; goes = more s.plan 0 place Starting (Begins None) (onward s.plan 0 place) (arbiter, refl) }));
     on = t.stands.on;
     did = t.did;
     handed = record { read = t.handed.read; heard = t.handed.heard };
@@ -216,18 +225,21 @@ arbiter_comes s a b run h place arbiter next t = record {
   next = next;
 }
 
+pub arbiter_comes : (s : Setting) (a b : Told) (run : Run) (h : History) (place : ℕ) → is_node_at s.plan place ≡ false → length run.members ≡ place → At s a b run h (at_place 0 place Starting) → MeetsStart s a b run h (begins_at place None) (onward s.plan 0 place) place
+arbiter_comes s a b run h place arbiter next t = arbiter_comes_by (λ plan turn at doing x p g. g) s a b run h place arbiter next t
+
 unended : (p q r : Process) → p ≡ q → q.end ≡ None → unless_ended p p.end r ≡ r
 unended p q r e on = ap (λ (o : Option End). unless_ended p o r) (ap (λ (x : Process). x.end) e ∙ on)
 
-pub node_comes : (s : Setting) (a b c : Told) (run new : Run) (h : History) (place told : ℕ) → is_node_at s.plan place ≡ true → length run.members ≡ place → At s a b run h (at_place 0 place Starting) → ReadOn told run b new c → MeetsStart s a c new h (begins_at place (Some told)) (onward s.plan 0 place) place
-node_comes s a b c run new h place told node next t k =
+pub node_comes_by : {may_go : Rows} → Extends may_go → (s : Setting) (a b c : Told) (run new : Run) (h : History) (place told : ℕ) → is_node_at s.plan place ≡ true → length run.members ≡ place → AtBy may_go s a b run h (at_place 0 place Starting) → ReadOn told run b new c → MeetsStartBy may_go s a c new h (begins_at place (Some told)) (onward s.plan 0 place) place
+node_comes_by more s a b c run new h place told node next t k =
     let x = begins_at place (Some told) in
     let q : Process = record (after s h) { last = Some (clamped told) } in
     let e : reads (after s h) told ≡ q = read_clamped s b run h told t.stands k.on in
     let r = read_on s.plan a b c h told (failures_of h) (works_of s.plan.config (after s h).steps) t.did t.handed t.stays k.clock in
     record {
       came = record {
-        order = (at_place 0 place Starting, (t.order, record { turn = refl; place = refl; goes = (node, refl) }));
+        order = (at_place 0 place Starting, (t.order, record { turn = refl; place = refl; goes = more s.plan 0 place Starting (Begins (Some told)) (onward s.plan 0 place) (node, refl) }));
         on = t.stands.on;
         did = r.did;
         handed = record { read = r.read; heard = r.heard };
@@ -243,22 +255,28 @@ node_comes s a b c run new h place told node next t k =
       next = ap (λ (y : Run). length y.members) k.now ∙ next;
     }
 
-pub start_stopped : (s : Setting) (a b c : Told) (run new : Run) (h : History) (place : ℕ) (r : StopCause) → is_node_at s.plan place ≡ true → At s a b run h (at_place 0 place Starting) → ReadsNow run b new c (Err r) → Stopped s a c r
-start_stopped s a b c run new h place (stop.ClockBack former latter) node t k =
+pub node_comes : (s : Setting) (a b c : Told) (run new : Run) (h : History) (place told : ℕ) → is_node_at s.plan place ≡ true → length run.members ≡ place → At s a b run h (at_place 0 place Starting) → ReadOn told run b new c → MeetsStart s a c new h (begins_at place (Some told)) (onward s.plan 0 place) place
+node_comes s a b c run new h place told node next t k = node_comes_by (λ plan turn at doing x p g. g) s a b c run new h place told node next t k
+
+pub start_stopped_by : {may_go : Rows} → Extends may_go → (s : Setting) (a b c : Told) (run new : Run) (h : History) (place : ℕ) (r : StopCause) → is_node_at s.plan place ≡ true → AtBy may_go s a b run h (at_place 0 place Starting) → ReadsNow run b new c (Err r) → StoppedBy may_go s a c r
+start_stopped_by more s a b c run new h place (stop.ClockBack former latter) node t k =
     let x = begins_at place (Some k.told) in
     let q : Process = record (after s h) { end = Some (Back former latter) } in
     let e : reads (after s h) k.told ≡ q = read_fell s b c run h former latter t.stands k in
     back_at s a b c run h x (at_place 0 place Starting) (onward s.plan 0 place) former latter t k
-    (at_place 0 place Starting, (t.order, record { turn = refl; place = refl; goes = (node, refl) }))
+    (at_place 0 place Starting, (t.order, record { turn = refl; place = refl; goes = more s.plan 0 place Starting (Begins (Some k.told)) (onward s.plan 0 place) (node, refl) }))
     (after_next s h x t.stands.on
     ∙ ap (λ (p : Process). unless_ended p p.end (joins s 0 place p)) e) refl refl (λ actor. refl)
-start_stopped s a b c run new h place stop.OutOfMemory node t k = absurd k
-start_stopped s a b c run new h place stop.WriteFault node t k = absurd k
-start_stopped s a b c run new h place stop.KeepFault node t k = absurd k
-start_stopped s a b c run new h place stop.LinkFault node t k = absurd k
-start_stopped s a b c run new h place (stop.Left why) node t k = absurd k
-start_stopped s a b c run new h place (stop.BadKeep i) node t k = absurd k
-start_stopped s a b c run new h place stop.TableFull node t k = absurd k
+start_stopped_by more s a b c run new h place stop.OutOfMemory node t k = absurd k
+start_stopped_by more s a b c run new h place stop.WriteFault node t k = absurd k
+start_stopped_by more s a b c run new h place stop.KeepFault node t k = absurd k
+start_stopped_by more s a b c run new h place stop.LinkFault node t k = absurd k
+start_stopped_by more s a b c run new h place (stop.Left why) node t k = absurd k
+start_stopped_by more s a b c run new h place (stop.BadKeep i) node t k = absurd k
+start_stopped_by more s a b c run new h place stop.TableFull node t k = absurd k
+
+pub start_stopped : (s : Setting) (a b c : Told) (run new : Run) (h : History) (place : ℕ) (r : StopCause) → is_node_at s.plan place ≡ true → At s a b run h (at_place 0 place Starting) → ReadsNow run b new c (Err r) → Stopped s a c r
+start_stopped s a b c run new h place r node t k = start_stopped_by (λ plan turn at doing x p g. g) s a b c run new h place r node t k
 
 -- One thing after another.
 

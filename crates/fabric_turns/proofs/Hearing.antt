@@ -12,7 +12,7 @@ use Rattle.fabric_turns.proofs.Acting.{after_next}
 use Rattle.fabric_turns.proofs.Doing.{stays_on}
 use Rattle.fabric_turns.proofs.Places.{hears_on}
 use Rattle.fabric_turns.specs.Moves.{Reaches, at_place}
-use Rattle.fabric_turns.specs.Runs.{Run, At, Meets, Stands, IsLast}
+use Rattle.fabric_turns.specs.Runs.{Run, At, AtBy, Meets, MeetsBy, Stands, IsLast}
 use Rattle.edge_io.specs.Told.{Told, Receives}
 use Rattle.frame_format.proofs.FrameLaws.{message_again, message_found}
 use Rattle.frame_format.specs.Frames.{spelling}
@@ -22,7 +22,7 @@ use Rattle.turn_rules.specs.Effects.{Did, Stays, FailedSince, lost, records_of, 
 use Rattle.turn_rules.specs.Ends.{Stopped}
 use Rattle.turn_rules.specs.Handed.{Handed, Gave, Answered, Arrival, readings_of, answers_at, answer_in, is_at, is_endpoint_of, failures_of}
 use Rattle.turn_rules.specs.Happenings.{LinkAnswer, Datagram, Absent, Failed, Hears, Happening, History}
-use Rattle.turn_rules.specs.Order.{TurnPosition, Busy, IsInOrder, heard_all, hearing}
+use Rattle.turn_rules.specs.Order.{TurnPosition, Busy, Extends, IsInOrderBy, Rows, heard_all, hearing}
 use Rattle.turn_rules.specs.Plans.{Plan, Setting}
 use Rattle.turn_rules.specs.Process.{Process, after, hears_frame}
 use Rattle.turn_rules.specs.Steps.{Step}
@@ -112,7 +112,7 @@ record Asked (a b c : Told) (run : Run) (s : Setting) (h : History) (m : ℕ) : 
   pub stays : Stays a c
   pub clock : IsLast run.last c.last
 
-asked : (s : Setting) (a b c : Told) (run : Run) (h : History) (p : TurnPosition) (actor m : ℕ) (into : List ℕ) (r : Result (Option ℕ) HasFailed) → At s a b run h p → Receives actor into b r c → (b.link_faults + m ≤ c.link_faults) ⊎ (2 ^ 64 ≤ c.link_faults + 1) → Asked a b c run s h m
+asked : {may_go : Rows} (s : Setting) (a b c : Told) (run : Run) (h : History) (p : TurnPosition) (actor m : ℕ) (into : List ℕ) (r : Result (Option ℕ) HasFailed) → AtBy may_go s a b run h p → Receives actor into b r c → (b.link_faults + m ≤ c.link_faults) ⊎ (2 ^ 64 ≤ c.link_faults + 1) → Asked a b c run s h m
 asked s a b c run h p actor m into r t k more =
     let readings : c.readings ≡ b.readings = ap (λ (x : Told). x.readings) k.rest in
     record {
@@ -131,12 +131,12 @@ asked s a b c run h p actor m into r t k more =
 zero_more : (s : Setting) (a c : Told) (h : History) → Did (works_of s.plan.config (after s h).steps) (0 + failures_of h) a c → Did (works_of s.plan.config (after s h).steps) (failures_of h) a c
 zero_more s a c h d = let e : 0 + failures_of h ≡ failures_of h = omega arith in subst (λ (k : ℕ). Did (works_of s.plan.config (after s h).steps) k a c) e d
 
-pub datagram_comes : (s : Setting) (a b c : Told) (run : Run) (h : History) (turn place n count : ℕ) (e : Endpoint) (into : List ℕ) → n < 64 → slice_get s.plan.actors place ≡ Some e → At s a b run h (hearing s.plan turn place n) → Receives e.actor into b (Ok (Some count)) c → Meets s a c run h (hears_at turn place (Datagram (take count into))) (hearing s.plan turn place (n + 1))
-datagram_comes s a b c run h turn place n count e into small here t k =
+pub datagram_comes_by : {may_go : Rows} → Extends may_go → (s : Setting) (a b c : Told) (run : Run) (h : History) (turn place n count : ℕ) (e : Endpoint) (into : List ℕ) → n < 64 → slice_get s.plan.actors place ≡ Some e → AtBy may_go s a b run h (hearing s.plan turn place n) → Receives e.actor into b (Ok (Some count)) c → MeetsBy may_go s a c run h (hears_at turn place (Datagram (take count into))) (hearing s.plan turn place (n + 1))
+datagram_comes_by {may_go = may_go} more s a b c run h turn place n count e into small here t k =
     let q = asked s a b c run h (hearing s.plan turn place n) e.actor 0 into (Ok (Some count)) t k (inl (omega (arith, k.cause.later))) in
     record {
       came = record {
-        order = (at_place turn place (Busy [] n), (subst (λ (p : TurnPosition). IsInOrder s.plan h p) (hears_on s.plan turn place n small) t.order, record { turn = refl; place = refl; goes = refl }));
+        order = (at_place turn place (Busy [] n), (subst (λ (p : TurnPosition). IsInOrderBy may_go s.plan h p) (hears_on s.plan turn place n small) t.order, record { turn = refl; place = refl; goes = more s.plan turn place (Busy [] n) (Hears (Datagram (take count into))) (hearing s.plan turn place (n + 1)) refl }));
         on = t.stands.on;
         did = zero_more s a c h q.did;
         handed = record { read = q.read; heard = more_answered s.plan h turn place e (Datagram (take count into)) a b c here (λ all g. datagram_answered all (answers_at s.plan e.actor h) count into (b.arrivals e.actor) (c.arrivals e.actor) k.ok g) k.others t.handed };
@@ -144,6 +144,9 @@ datagram_comes s a b c run h turn place n count e into small here t k =
       };
       stands = record { on = t.stands.on; members = t.stands.members; last = t.stands.last; clock = q.clock };
     }
+
+pub datagram_comes : (s : Setting) (a b c : Told) (run : Run) (h : History) (turn place n count : ℕ) (e : Endpoint) (into : List ℕ) → n < 64 → slice_get s.plan.actors place ≡ Some e → At s a b run h (hearing s.plan turn place n) → Receives e.actor into b (Ok (Some count)) c → Meets s a c run h (hears_at turn place (Datagram (take count into))) (hearing s.plan turn place (n + 1))
+datagram_comes s a b c run h turn place n count e into small here t k = datagram_comes_by (λ plan turn at doing x p g. g) s a b c run h turn place n count e into small here t k
 
 -- where nothing comes, nothing is done
 stands_on : (s : Setting) (b c : Told) (run : Run) (h : History) (x : Happening) → after s (x ∷ h) ≡ after s h → Stands s b run h → IsLast run.last c.last → Stands s c run (x ∷ h)
@@ -154,15 +157,15 @@ stands_on s b c run h x e t clock = record {
   clock = clock;
 }
 
-pub nothing_comes : (s : Setting) (a b c : Told) (run : Run) (h : History) (turn place n : ℕ) (e : Endpoint) (into : List ℕ) (answer : Option ℕ) → answer ≡ None → n < 64 → slice_get s.plan.actors place ≡ Some e → At s a b run h (hearing s.plan turn place n) → Receives e.actor into b (Ok answer) c → (now : History) × At s a c run now (heard_all s.plan turn place)
-nothing_comes s a b c run h turn place n e into answer none small here t k =
+pub nothing_comes_by : {may_go : Rows} → Extends may_go → (s : Setting) (a b c : Told) (run : Run) (h : History) (turn place n : ℕ) (e : Endpoint) (into : List ℕ) (answer : Option ℕ) → answer ≡ None → n < 64 → slice_get s.plan.actors place ≡ Some e → AtBy may_go s a b run h (hearing s.plan turn place n) → Receives e.actor into b (Ok answer) c → (now : History) × AtBy may_go s a c run now (heard_all s.plan turn place)
+nothing_comes_by {may_go = may_go} more s a b c run h turn place n e into answer none small here t k =
     let x = hears_at turn place Absent in
     let same : after s (x ∷ h) ≡ after s h = after_next s h x t.stands.on in
     let q = asked s a b c run h (hearing s.plan turn place n) e.actor 0 into (Ok answer) t k (inl (omega (arith, k.cause.later))) in
     let took : Takes (b.arrivals e.actor) None into (c.arrivals e.actor) = subst (λ (o : Option ℕ). Takes (b.arrivals e.actor) o into (c.arrivals e.actor)) none k.ok in (
       x ∷ h,
       record {
-        order = (at_place turn place (Busy [] n), (subst (λ (p : TurnPosition). IsInOrder s.plan h p) (hears_on s.plan turn place n small) t.order, record { turn = refl; place = refl; goes = refl }));
+        order = (at_place turn place (Busy [] n), (subst (λ (p : TurnPosition). IsInOrderBy may_go s.plan h p) (hears_on s.plan turn place n small) t.order, record { turn = refl; place = refl; goes = more s.plan turn place (Busy [] n) (Hears Absent) (heard_all s.plan turn place) refl }));
         stands = stands_on s b c run h x same t.stands q.clock;
         did = subst (λ (ss : List Step). Did (works_of s.plan.config ss) (failures_of h) a c) (sym (ap (λ (y : Process). y.steps) same)) (zero_more s a c h q.did);
         handed = record { read = q.read; heard = more_answered s.plan h turn place e Absent a b c here (λ all g. absent_answered all (answers_at s.plan e.actor h) into (b.arrivals e.actor) (c.arrivals e.actor) took g) k.others t.handed };
@@ -170,8 +173,11 @@ nothing_comes s a b c run h turn place n e into answer none small here t k =
       },
     )
 
-pub failure_comes : (s : Setting) (a b c : Told) (run : Run) (h : History) (turn place n : ℕ) (e : Endpoint) (into : List ℕ) (failed : HasFailed) → n < 64 → slice_get s.plan.actors place ≡ Some e → At s a b run h (hearing s.plan turn place n) → Receives e.actor into b (Err failed) c → (now : History) × At s a c run now (heard_all s.plan turn place)
-failure_comes s a b c run h turn place n e into failed small here t k =
+pub nothing_comes : (s : Setting) (a b c : Told) (run : Run) (h : History) (turn place n : ℕ) (e : Endpoint) (into : List ℕ) (answer : Option ℕ) → answer ≡ None → n < 64 → slice_get s.plan.actors place ≡ Some e → At s a b run h (hearing s.plan turn place n) → Receives e.actor into b (Ok answer) c → (now : History) × At s a c run now (heard_all s.plan turn place)
+nothing_comes s a b c run h turn place n e into answer none small here t k = nothing_comes_by (λ plan turn at doing x p g. g) s a b c run h turn place n e into answer none small here t k
+
+pub failure_comes_by : {may_go : Rows} → Extends may_go → (s : Setting) (a b c : Told) (run : Run) (h : History) (turn place n : ℕ) (e : Endpoint) (into : List ℕ) (failed : HasFailed) → n < 64 → slice_get s.plan.actors place ≡ Some e → AtBy may_go s a b run h (hearing s.plan turn place n) → Receives e.actor into b (Err failed) c → (now : History) × AtBy may_go s a c run now (heard_all s.plan turn place)
+failure_comes_by {may_go = may_go} extends s a b c run h turn place n e into failed small here t k =
     let x = hears_at turn place Failed in
     let same : after s (x ∷ h) ≡ after s h = after_next s h x t.stands.on in
     let risen : HasRisen b.link_faults c.link_faults = k.cause.failed refl in
@@ -179,13 +185,16 @@ failure_comes s a b c run h turn place n e into failed small here t k =
     let q = asked s a b c run h (hearing s.plan turn place n) e.actor 1 into (Err failed) t k more in (
       x ∷ h,
       record {
-        order = (at_place turn place (Busy [] n), (subst (λ (p : TurnPosition). IsInOrder s.plan h p) (hears_on s.plan turn place n small) t.order, record { turn = refl; place = refl; goes = refl }));
+        order = (at_place turn place (Busy [] n), (subst (λ (p : TurnPosition). IsInOrderBy may_go s.plan h p) (hears_on s.plan turn place n small) t.order, record { turn = refl; place = refl; goes = extends s.plan turn place (Busy [] n) (Hears Failed) (heard_all s.plan turn place) refl }));
         stands = stands_on s b c run h x same t.stands q.clock;
         did = subst (λ (ss : List Step). Did (works_of s.plan.config ss) (1 + failures_of h) a c) (sym (ap (λ (y : Process). y.steps) same)) q.did;
         handed = record { read = q.read; heard = more_answered s.plan h turn place e Failed a b c here (λ all g. subst (λ (o : Option (List Arrival)). Answered all (answers_at s.plan e.actor h) o) (sym k.err) g) k.others t.handed };
         stays = q.stays;
       },
     )
+
+pub failure_comes : (s : Setting) (a b c : Told) (run : Run) (h : History) (turn place n : ℕ) (e : Endpoint) (into : List ℕ) (failed : HasFailed) → n < 64 → slice_get s.plan.actors place ≡ Some e → At s a b run h (hearing s.plan turn place n) → Receives e.actor into b (Err failed) c → (now : History) × At s a c run now (heard_all s.plan turn place)
+failure_comes s a b c run h turn place n e into failed small here t k = failure_comes_by (λ plan turn at doing x p g. g) s a b c run h turn place n e into failed small here t k
 
 -- by the actor's number
 pub received_as : (actor actor' : ℕ) (into : List ℕ) (b : Told) (r : Result (Option ℕ) HasFailed) (c : Told) → actor ≡ actor' → Receives actor into b r c → Receives actor' into b r c
@@ -198,7 +207,7 @@ pub reached : (s : Setting) (a c : Told) (run : Run) (h : History) (p : TurnPosi
 reached s a c run h p r k = k
 
 -- a datagram that is no frame changes nothing
-pub no_frame : (s : Setting) (a c : Told) (run : Run) (h : History) (turn place : ℕ) (bytes : List ℕ) (p : TurnPosition) → message_of bytes ≡ None → Meets s a c run h (hears_at turn place (Datagram bytes)) p → At s a c run (hears_at turn place (Datagram bytes) ∷ h) p
+pub no_frame : {may_go : Rows} (s : Setting) (a c : Told) (run : Run) (h : History) (turn place : ℕ) (bytes : List ℕ) (p : TurnPosition) → message_of bytes ≡ None → MeetsBy may_go s a c run h (hears_at turn place (Datagram bytes)) p → AtBy may_go s a c run (hears_at turn place (Datagram bytes) ∷ h) p
 no_frame s a c run h turn place bytes p none m =
     let x = hears_at turn place (Datagram bytes) in
     let same : after s (x ∷ h) ≡ after s h = after_next s h x m.stands.on ∙ ap (hears_frame s turn (after s h) place) none in

@@ -1,14 +1,14 @@
-mod Doing
-mod Acting
-mod Starting
-mod Through
+pub mod Doing
+pub mod Acting
+pub mod Starting
+pub mod Through
 mod Stepping
-mod Coming
-mod Places
+pub mod Coming
+pub mod Places
 mod Windows
-mod Hearing
-mod RecordKinds
-mod Recalling
+pub mod Hearing
+pub mod RecordKinds
+pub mod Recalling
 mod Opened
 mod Unopened
 mod Causes

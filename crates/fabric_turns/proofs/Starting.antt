@@ -9,16 +9,16 @@ use Rattle.fabric_terms.specs.declared.record.Record.{Record}
 use Rattle.fabric_terms.specs.declared.config.FabricConfig.{FabricConfig}
 use Rattle.fabric_terms.specs.declared.report.Why.{Why}
 use Rattle.fabric_turns.proofs.Acting.{Acted, broken_from, carried_for, done_at, full_ended, left_from}
-use Rattle.fabric_turns.specs.Runs.{At, Run, MeetsStart, IsReady, IsLast}
+use Rattle.fabric_turns.specs.Runs.{AtBy, Run, MeetsStartBy, IsReady, IsLast}
 use Rattle.fabric_turns.specs.Steps.{JoinsAt, NotJoinsAt, why_of, left_at, work_in}
 use Rattle.edge_io.specs.Told.{Told}
 use Rattle.turn_members.specs.Members.{IsOf, seen}
 use Rattle.turn_members.specs.declared.deed.Deed.{Deed}
 use Rattle.turn_members.specs.declared.member.Member.{Member as Running}
 use Rattle.turn_effects.specs.Carried.{CarriesOut}
-use Rattle.turn_rules.specs.Ends.{Ended, Stopped}
+use Rattle.turn_rules.specs.Ends.{EndedBy, StoppedBy}
 use Rattle.turn_rules.specs.Happenings.{Happening, History}
-use Rattle.turn_rules.specs.Order.{TurnPosition}
+use Rattle.turn_rules.specs.Order.{Rows, TurnPosition}
 use Rattle.turn_rules.specs.Plans.{Plan, Setting}
 use Rattle.turn_rules.specs.Process.{Process, Full, Left, after, joins, joins_as, joins_at, joins_with, unless_full, left_end}
 use Rattle.turn_rules.specs.Steps.{Member, Step, Stepped, begun, exceeds, left_of}
@@ -46,7 +46,7 @@ joined_at : (s : Setting) (place : ℕ) (p : Process) (e : Endpoint) (records : 
 joined_at s place p e records last here list same room =
     found_at s place p e records last here list same ∙ ap (λ (b : Bool). unless_full p b (joins_with p (begun s.plan.config 0 last e.actor records))) room
 
-pub joined : (s : Setting) (a b : Told) (old : Run) (h : History) (x : Happening) (p : TurnPosition) (place : ℕ) (records : List Record) (deed : Deed) (new : Run) → slice_get s.kept place ≡ Some records → MeetsStart s a b old h x p place
+pub joined : {may_go : Rows} (s : Setting) (a b : Told) (old : Run) (h : History) (x : Happening) (p : TurnPosition) (place : ℕ) (records : List Record) (deed : Deed) (new : Run) → slice_get s.kept place ≡ Some records → MeetsStartBy may_go s a b old h x p place
     → (t : JoinsAt s.plan records place old deed new) → Acted s h x place (begun s.plan.config 0 old.last t.endpoint.actor records).step new
 joined s a b old h x p place records deed new list m t =
     let d : Stepped = begun s.plan.config 0 old.last t.endpoint.actor records in
@@ -90,7 +90,7 @@ pub length_join : (plan : Plan) (records : List Record) (old : Run) (place : ℕ
 length_join plan records old place deed new t e = ap (λ (r : Run). length r.members) t.now ∙ length-append old.members (t.next ∷ []) ∙ ap (λ (n : ℕ). n + 1) e
 
 -- its table is full from the beginning
-pub join_full : (s : Setting) (a b : Told) (old : Run) (h : History) (x : Happening) (p : TurnPosition) (place : ℕ) (records : List Record) → slice_get s.kept place ≡ Some records → MeetsStart s a b old h x p place → NotJoinsAt s.plan records place old → Ended s a b Full
+pub join_full : {may_go : Rows} (s : Setting) (a b : Told) (old : Run) (h : History) (x : Happening) (p : TurnPosition) (place : ℕ) (records : List Record) → slice_get s.kept place ≡ Some records → MeetsStartBy may_go s a b old h x p place → NotJoinsAt s.plan records place old → EndedBy may_go s a b Full
 join_full s a b old h x p place records list m t =
     let d : Stepped = begun s.plan.config 0 old.last t.endpoint.actor records in
     let e : after s (x ∷ h) ≡ record m.before { end = Some Full } =
@@ -99,21 +99,21 @@ join_full s a b old h x p place records list m t =
 
 -- How a start ends.
 
-pub join_done : (s : Setting) (a b c : Told) (old new : Run) (h : History) (x : Happening) (p : TurnPosition) (place : ℕ) (records : List Record) (deed : Deed) (config : FabricConfig) → config ≡ s.plan.config → slice_get s.kept place ≡ Some records
-    → MeetsStart s a b old h x p place → JoinsAt s.plan records place old deed new → (done : Unit {0}) → CarriesOut (work_in config deed) b c (Ok done) → left_at new.members place ≡ None → At s a c new (x ∷ h) p
+pub join_done : {may_go : Rows} (s : Setting) (a b c : Told) (old new : Run) (h : History) (x : Happening) (p : TurnPosition) (place : ℕ) (records : List Record) (deed : Deed) (config : FabricConfig) → config ≡ s.plan.config → slice_get s.kept place ≡ Some records
+    → MeetsStartBy may_go s a b old h x p place → JoinsAt s.plan records place old deed new → (done : Unit {0}) → CarriesOut (work_in config deed) b c (Ok done) → left_at new.members place ≡ None → AtBy may_go s a c new (x ∷ h) p
 join_done s a b c old new h x p place records deed config same list m t done k stays =
     let d : Stepped = begun s.plan.config 0 old.last t.endpoint.actor records in
     done_at s a b c new h x p place d.step m.came (joined s a b old h x p place records deed new list m t) (carried_for s.plan.config config d (seen t.next) deed b c (Ok done) same t.does.makes k)
     (clock_join s.plan records old place deed new b.last t m.clock) stays
 
-pub join_left : (s : Setting) (a b c : Told) (old new : Run) (h : History) (x : Happening) (p : TurnPosition) (place : ℕ) (records : List Record) (deed : Deed) (config : FabricConfig) (why : Why) → config ≡ s.plan.config → slice_get s.kept place ≡ Some records
-    → MeetsStart s a b old h x p place → JoinsAt s.plan records place old deed new → (done : Unit {0}) → CarriesOut (work_in config deed) b c (Ok done) → left_at new.members place ≡ Some why → Ended s a c (Left why)
+pub join_left : {may_go : Rows} (s : Setting) (a b c : Told) (old new : Run) (h : History) (x : Happening) (p : TurnPosition) (place : ℕ) (records : List Record) (deed : Deed) (config : FabricConfig) (why : Why) → config ≡ s.plan.config → slice_get s.kept place ≡ Some records
+    → MeetsStartBy may_go s a b old h x p place → JoinsAt s.plan records place old deed new → (done : Unit {0}) → CarriesOut (work_in config deed) b c (Ok done) → left_at new.members place ≡ Some why → EndedBy may_go s a c (Left why)
 join_left s a b c old new h x p place records deed config why same list m t done k left =
     let d : Stepped = begun s.plan.config 0 old.last t.endpoint.actor records in
     left_from s a b c new h x p place d.step why m.came (joined s a b old h x p place records deed new list m t) (carried_for s.plan.config config d (seen t.next) deed b c (Ok done) same t.does.makes k) left
 
-pub join_broken : (s : Setting) (a b c : Told) (old new : Run) (h : History) (x : Happening) (p : TurnPosition) (place : ℕ) (records : List Record) (deed : Deed) (config : FabricConfig) (r : StopCause) → config ≡ s.plan.config → slice_get s.kept place ≡ Some records
-    → MeetsStart s a b old h x p place → JoinsAt s.plan records place old deed new → CarriesOut (work_in config deed) b c (Err r) → Stopped s a c r
+pub join_broken : {may_go : Rows} (s : Setting) (a b c : Told) (old new : Run) (h : History) (x : Happening) (p : TurnPosition) (place : ℕ) (records : List Record) (deed : Deed) (config : FabricConfig) (r : StopCause) → config ≡ s.plan.config → slice_get s.kept place ≡ Some records
+    → MeetsStartBy may_go s a b old h x p place → JoinsAt s.plan records place old deed new → CarriesOut (work_in config deed) b c (Err r) → StoppedBy may_go s a c r
 join_broken s a b c old new h x p place records deed config r same list m t k =
     let d : Stepped = begun s.plan.config 0 old.last t.endpoint.actor records in
     broken_from s a b c new h x p place d.step r m.came (joined s a b old h x p place records deed new list m t) (carried_for s.plan.config config d (seen t.next) deed b c (Err r) same t.does.makes k)

@@ -6,15 +6,15 @@ use Rattle.fabric_terms.specs.declared.record.Record.{Record}
 use Rattle.fabric_terms.specs.declared.report.Why.{Why}
 use Rattle.fabric_turns.proofs.Acting.{act_broken, act_done, act_left, carried_opened}
 use Rattle.fabric_turns.proofs.Starting.{join_broken, join_done, join_left}
-use Rattle.fabric_turns.specs.Moves.{Reaches}
-use Rattle.fabric_turns.specs.Runs.{IsStep, Meets, MeetsStart, Run}
+use Rattle.fabric_turns.specs.Moves.{ReachesBy}
+use Rattle.fabric_turns.specs.Runs.{IsStep, MeetsBy, MeetsStartBy, Run}
 use Rattle.fabric_turns.specs.Steps.{CarriesThrough, JoinsAt, StepsAt, left_at, work_in}
 use Rattle.edge_io.specs.Told.{Told}
 use Rattle.ring_rules.specs.declared.input.Input.{Input}
 use Rattle.turn_effects.specs.Carried.{CarriesOut}
 use Rattle.turn_members.specs.declared.deed.Deed.{Deed}
 use Rattle.turn_rules.specs.Happenings.{Happening, History}
-use Rattle.turn_rules.specs.Order.{TurnPosition}
+use Rattle.turn_rules.specs.Order.{Rows, TurnPosition}
 use Rattle.turn_rules.specs.Plans.{Setting}
 use Rattle.turn_rules.specs.Works.{Work}
 use Rattle.turn_rules.specs.declared.stop_cause.StopCause.{StopCause}
@@ -53,8 +53,8 @@ on_ok (Ok done) k = k
 on_ok (Err stopped) k = tt
 
 -- the deed of a step
-pub act_through : (s : Setting) (a b c : Told) (old new : Run) (h : History) (x : Happening) (p : TurnPosition) (turn place : ℕ) (i : Input) (deed : Deed) → Meets s a b old h x p → IsStep s h x turn place i
-    → StepsAt s.plan turn place i old deed new → (r : Result (Unit {0}) StopCause) → CarriesThrough (work_in s.plan.config deed) (left_at new.members place) b c r → Reaches s a c new (x ∷ h) p r
+pub act_through : {may_go : Rows} (s : Setting) (a b c : Told) (old new : Run) (h : History) (x : Happening) (p : TurnPosition) (turn place : ℕ) (i : Input) (deed : Deed) → MeetsBy may_go s a b old h x p → IsStep s h x turn place i
+    → StepsAt s.plan turn place i old deed new → (r : Result (Unit {0}) StopCause) → CarriesThrough (work_in s.plan.config deed) (left_at new.members place) b c r → ReachesBy may_go s a c new (x ∷ h) p r
 act_through s a b c old new h x p turn place i deed m is t (Ok done) k = act_done s a b c old new h x p turn place i deed s.plan.config refl m is t done k.0 k.1
 act_through s a b c old new h x p turn place i deed m is t (Err (stop.Left why)) k = act_left s a b c old new h x p turn place i deed s.plan.config why refl m is t tt k.0 k.1
 act_through s a b c old new h x p turn place i deed m is t (Err stop.OutOfMemory) k = act_broken s a b c old new h x p turn place i deed s.plan.config stop.OutOfMemory refl m is t k
@@ -66,8 +66,8 @@ act_through s a b c old new h x p turn place i deed m is t (Err (stop.BadKeep n)
 act_through s a b c old new h x p turn place i deed m is t (Err stop.TableFull) k = absurd k
 
 -- the deed of a start
-pub join_through : (s : Setting) (a b c : Told) (old new : Run) (h : History) (x : Happening) (p : TurnPosition) (place : ℕ) (records : List Record) (deed : Deed) → slice_get s.kept place ≡ Some records
-    → MeetsStart s a b old h x p place → JoinsAt s.plan records place old deed new → (r : Result (Unit {0}) StopCause) → CarriesThrough (work_in s.plan.config deed) (left_at new.members place) b c r → Reaches s a c new (x ∷ h) p r
+pub join_through : {may_go : Rows} (s : Setting) (a b c : Told) (old new : Run) (h : History) (x : Happening) (p : TurnPosition) (place : ℕ) (records : List Record) (deed : Deed) → slice_get s.kept place ≡ Some records
+    → MeetsStartBy may_go s a b old h x p place → JoinsAt s.plan records place old deed new → (r : Result (Unit {0}) StopCause) → CarriesThrough (work_in s.plan.config deed) (left_at new.members place) b c r → ReachesBy may_go s a c new (x ∷ h) p r
 join_through s a b c old new h x p place records deed list m t (Ok done) k = join_done s a b c old new h x p place records deed s.plan.config refl list m t done k.0 k.1
 join_through s a b c old new h x p place records deed list m t (Err (stop.Left why)) k = join_left s a b c old new h x p place records deed s.plan.config why refl list m t tt k.0 k.1
 join_through s a b c old new h x p place records deed list m t (Err stop.OutOfMemory) k = join_broken s a b c old new h x p place records deed s.plan.config stop.OutOfMemory refl list m t k

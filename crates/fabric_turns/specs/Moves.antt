@@ -1,17 +1,22 @@
 -- From one place of a run to another.
 use Rattle.std.specs.Prelude.{ℕ, Bool, true, false, Result, Ok, Err}
 use Rattle.edge_io.specs.Told.{Told}
-use Rattle.fabric_turns.specs.Runs.{Run, At}
-use Rattle.turn_rules.specs.Ends.{Stopped}
+use Rattle.fabric_turns.specs.Runs.{Run, At, AtBy}
+use Rattle.turn_rules.specs.Ends.{Stopped, StoppedBy}
 use Rattle.turn_rules.specs.Happenings.{History}
-use Rattle.turn_rules.specs.Order.{TurnPosition, Doing}
+use Rattle.turn_rules.specs.Order.{Doing, Rows, TurnPosition}
+use Rattle.turn_rules.specs.Order as order
 use Rattle.turn_rules.specs.Plans.{Setting}
 use Rattle.turn_rules.specs.declared.stop_cause.StopCause.{StopCause}
 
 -- all went well and the run is at this place, or it stopped
+abbrev pub ReachesBy : Rows → Setting → Told → Told → Run → History → TurnPosition → Result (Unit {0}) StopCause → Type 0
+ReachesBy may_go s a b run h p (Ok done) = AtBy may_go s a b run h p
+ReachesBy may_go s a b run h p (Err stopped) = StoppedBy may_go s a b stopped
+
+-- in a run of its plan
 abbrev pub Reaches : Setting → Told → Told → Run → History → TurnPosition → Result (Unit {0}) StopCause → Type 0
-Reaches s a b run h p (Ok done) = At s a b run h p
-Reaches s a b run h p (Err stopped) = Stopped s a b stopped
+Reaches = ReachesBy order.Goes
 
 -- the same, after what came meanwhile
 abbrev pub ComesTo : Setting → Told → Told → Run → TurnPosition → Result (Unit {0}) StopCause → Type 0

@@ -12,7 +12,7 @@ use Rattle.turn_members.specs.declared.member.Member.{Member}
 use Rattle.turn_rules.specs.Effects.{Did, Stays}
 use Rattle.turn_rules.specs.Handed.{Handed, failures_of}
 use Rattle.turn_rules.specs.Happenings.{Happening, History}
-use Rattle.turn_rules.specs.Order.{TurnPosition, IsInOrder}
+use Rattle.turn_rules.specs.Order.{Goes, IsInOrderBy, Rows, TurnPosition}
 use Rattle.turn_rules.specs.Plans.{IsPlan, Plan, Setting}
 use Rattle.turn_rules.specs.Process.{Process, after, takes, acts, joins, clamped}
 use Rattle.turn_rules.specs.Works.{works_of}
@@ -61,29 +61,30 @@ pub record Stands (s : Setting) (b : Told) (run : Run) (h : History) : Type 0 wh
   pub last : (after s h).last ≡ run.last
   pub clock : IsLast run.last b.last
 
--- Since the run began with a: this has come, all of its steps are done, the run has not ended, and this is the place.
-pub record At (s : Setting) (a b : Told) (run : Run) (h : History) (p : TurnPosition) : Type 0 where
-  pub order : IsInOrder s.plan h p
+-- Since the run began with a: this has come in an order by these rows, all of its steps are done, the run has not ended, and
+-- this is the place.
+pub record AtBy (may_go : Rows) (s : Setting) (a b : Told) (run : Run) (h : History) (p : TurnPosition) : Type 0 where
+  pub order : IsInOrderBy may_go s.plan h p
   pub stands : Stands s b run h
   pub did : Did (works_of s.plan.config (after s h).steps) (failures_of h) a b
   pub handed : Handed s.plan h a b
   pub stays : Stays a b
 
 -- x has come, all steps before it are done, and nothing of what it makes.
-pub record Came (s : Setting) (a b : Told) (h : History) (x : Happening) (p : TurnPosition) : Type 0 where
-  pub order : IsInOrder s.plan (x ∷ h) p
+pub record CameBy (may_go : Rows) (s : Setting) (a b : Told) (h : History) (x : Happening) (p : TurnPosition) : Type 0 where
+  pub order : IsInOrderBy may_go s.plan (x ∷ h) p
   pub on : (after s h).end ≡ None
   pub did : Did (works_of s.plan.config (after s h).steps) (failures_of (x ∷ h)) a b
   pub handed : Handed s.plan (x ∷ h) a b
   pub stays : Stays a b
 
-pub record Meets (s : Setting) (a b : Told) (run : Run) (h : History) (x : Happening) (p : TurnPosition) : Type 0 where
-  pub came : Came s a b h x p
+pub record MeetsBy (may_go : Rows) (s : Setting) (a b : Told) (run : Run) (h : History) (x : Happening) (p : TurnPosition) : Type 0 where
+  pub came : CameBy may_go s a b h x p
   pub stands : Stands s b run h
 
 -- x is the start of the actor at the place, the clock having been read where it is a node
-pub record MeetsStart (s : Setting) (a b : Told) (run : Run) (h : History) (x : Happening) (p : TurnPosition) (place : ℕ) : Type 0 where
-  pub came : Came s a b h x p
+pub record MeetsStartBy (may_go : Rows) (s : Setting) (a b : Told) (run : Run) (h : History) (x : Happening) (p : TurnPosition) (place : ℕ) : Type 0 where
+  pub came : CameBy may_go s a b h x p
   pub before : Process
   pub joins : after s (x ∷ h) ≡ joins s 0 place before
   pub on : before.end ≡ None
@@ -92,6 +93,20 @@ pub record MeetsStart (s : Setting) (a b : Told) (run : Run) (h : History) (x : 
   pub steps : before.steps ≡ (after s h).steps
   pub clock : IsLast run.last b.last
   pub next : length run.members ≡ place
+
+-- the same of a run of its plan
+
+abbrev pub At : Setting → Told → Told → Run → History → TurnPosition → Type 0
+At = AtBy Goes
+
+abbrev pub Came : Setting → Told → Told → History → Happening → TurnPosition → Type 0
+Came = CameBy Goes
+
+abbrev pub Meets : Setting → Told → Told → Run → History → Happening → TurnPosition → Type 0
+Meets = MeetsBy Goes
+
+abbrev pub MeetsStart : Setting → Told → Told → Run → History → Happening → TurnPosition → ℕ → Type 0
+MeetsStart = MeetsStartBy Goes
 
 -- x is this step of the actor at the place, in this turn
 abbrev pub IsStep : Setting → History → Happening → ℕ → ℕ → Input → Type 0

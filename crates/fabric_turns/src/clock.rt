@@ -6,8 +6,9 @@ use edge_io::Outside;
 use ring_points::MAX_READING;
 use turn_rules::StopCause;
 
-/// Reads the clock.
-pub(crate) fn read_clock<O: Outside>(outside: &mut O, run: &mut Run) -> Result<u64, StopCause>
+/// Reads the clock. The reading is the last one from now on, at most `MAX_READING` ticks. `ClockBack` comes exactly where
+/// it is below the former one.
+pub fn read_clock<O: Outside>(outside: &mut O, run: &mut Run) -> Result<u64, StopCause>
     ensures reads { ReadsNow run.old (O.told outside.old) run.new (O.told outside.new) result }
     ensures same { OnOk result (length run.new.members ≡ length run.old.members) }
 {

@@ -19,4 +19,7 @@ mod turn;
 mod turns;
 mod whole_run;
 
+pub use clock::read_clock;
+pub use recovery::recall;
+pub use run::Run;
 pub use whole_run::run_on;

@@ -40,8 +40,9 @@ fn read_for(alloc: Global, actor: u16, records: &[Vec<u8>]) -> Result<Kept, Stop
     }
 }
 
-/// What is kept of an actor.
-fn recall<O: Outside>(outside: &mut O, alloc: Global, actor: u16) -> Result<Kept, StopCause>
+/// What is kept of an actor. `KeepFault` comes where the keeper fails, and `BadKeep` names the first bad record, counted
+/// from 1.
+pub fn recall<O: Outside>(outside: &mut O, alloc: Global, actor: u16) -> Result<Kept, StopCause>
     ensures { RecallsOne actor (O.told outside.old) result (O.told outside.new) }
 {
     match outside.records(actor) {

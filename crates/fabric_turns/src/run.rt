@@ -1,5 +1,5 @@
 ghost use Rattle.std.specs.Prelude.{◌≡◌, ◌<◌, ◌≤◌, ◌++◌, ◌∷◌, [], List, length, IfOk, IfSome, OnErr, OnOk, IsErrOf};
-ghost use Rattle.std.specs.Prelude.{Some, None};
+ghost use Rattle.std.specs.Prelude.{Some, None, slice_get};
 ghost use Rattle.fabric_terms.specs.Ranges.{most};
 ghost use Rattle.fabric_terms.specs.declared.record.Record.{Record};
 ghost use Rattle.fabric_turns.specs.Runs.{AreMembers, IsKeptAt};
@@ -18,7 +18,7 @@ use turn_rules::Plan;
 
 /// The running actors by their places, and the last reading of the clock, in ticks.
 #[derive(Drop)]
-pub(crate) struct Run {
+pub struct Run {
     members: Vec<Member>,
     last: Option<u64>,
 }
@@ -33,7 +33,7 @@ impl Model for Run {
 
 impl Run {
     /// Nobody runs yet.
-    pub(crate) fn new(alloc: Global) -> Self
+    pub fn new(alloc: Global) -> Self
         ensures { result ≡ record { members = []; last = None } }
     {
         Run {
@@ -42,7 +42,8 @@ impl Run {
         }
     }
 
-    pub(crate) fn last(&self) -> Option<u64>
+    /// The last reading of the clock.
+    pub fn last(&self) -> Option<u64>
         ensures { result ≡ self.now.last }
     {
         self.last
@@ -55,14 +56,15 @@ impl Run {
         self.last.unwrap_or(0)
     }
 
-    pub(crate) fn note(&mut self, reading: u64)
+    /// This is the last reading of the clock.
+    pub fn note(&mut self, reading: u64)
         ensures { self.new ≡ record { members = self.old.members; last = Some reading } }
     {
         self.last = Some(reading);
     }
 
     /// The step of the actor at a place in a turn.
-    pub(crate) fn step(
+    pub fn step(
         &mut self,
         alloc: Global,
         turn: u64,
@@ -93,7 +95,7 @@ impl Run {
     }
 
     /// Starts the actor of the plan at a place, behind those that run.
-    pub(crate) fn join(
+    pub fn join(
         &mut self,
         alloc: Global,
         plan: &Plan,
@@ -115,8 +117,16 @@ impl Run {
         Ok(deed)
     }
 
+    /// The actor at a place.
+    pub fn member_at(&self, place: usize) -> &Member
+        requires { place < length self.now.members }
+        ensures { slice_get self.now.members place ≡ Some result.now }
+    {
+        &self.members[place]
+    }
+
     /// Why the actor at a place has left the ring, if it has.
-    pub(crate) fn left_at(&self, place: usize) -> Option<Why>
+    pub fn left_at(&self, place: usize) -> Option<Why>
         requires { place < length self.now.members }
         ensures { result ≡ left_at self.now.members place }
     {

@@ -1,3 +1,4 @@
 pub mod Blocks
 pub mod Sealed
 pub mod Opening
+pub mod LinksOver

@@ -12,9 +12,11 @@ mod laws;
 mod limits;
 mod number;
 mod same;
+mod sealed_links;
 
 pub use key::SealKey;
 pub use keyed_hash::hmac;
 pub use laws::{seals_fit, what_is_opened_was_sealed, what_is_sealed_opens};
-pub use limits::{MAX_KEY, MIN_KEY, SEAL_BYTES};
+pub use limits::{MAX_KEY, MIN_ADDRESSED, MIN_KEY, SEAL_BYTES};
 pub use number::{receiver_of, sender_of};
+pub use sealed_links::SealedLinks;

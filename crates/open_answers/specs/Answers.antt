@@ -1,5 +1,6 @@
 -- The open answers, in the order of asking, and what each call makes of them.
-use Rattle.std.specs.Prelude.{◌≡◌, ℕ, ◌+◌, ◌-◌, ◌^◌, Bool, List, [], ◌∷◌, ◌++◌, Option, Some, None, ◌==◌, filter, is_none, length, min, nat_le, if◌then◌else◌}
+use Rattle.std.specs.Prelude.{◌≡◌, ℕ, ◌+◌, ◌-◌, ◌^◌, Bool, false, List, [], ◌∷◌, ◌++◌, Option, Some, None, ◌==◌, filter, is_none, length, min, nat_le, if◌then◌else◌}
+use Rattle.std.specs.List.{list_any}
 use Rattle.fabric_terms.specs.declared.command.Command.{Command}
 use Rattle.fabric_terms.specs.declared.report.Report.{Report}
 use Rattle.open_answers.specs.declared.question.Question.{Question}
@@ -105,6 +106,15 @@ is_of client o = o.asker.client == client
 
 abbrev pub is_full : Answers → Bool
 is_full a = nat_le most_open_answers (length a.waiting)
+
+-- a question asks which node holds a point
+abbrev pub finds : ℕ → Question → Bool
+finds point (Finds key) = key.0 == point
+finds point _ = false
+
+-- an open answer asks so
+abbrev pub seeks : ℕ → List OpenAnswer → Bool
+seeks point os = list_any (λ o. finds point o.question) os
 
 -- each open answer ends by a cause or stays open, and none does both
 abbrev pub EndsOrStays : Type 0

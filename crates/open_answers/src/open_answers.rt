@@ -1,6 +1,6 @@
 ghost use Rattle.std.specs.Prelude.{◌≡◌, ◌≤◌, ◌<◌, ◌++◌, ◌∷◌, [], IfOk, length, filter, not, vec_capacity, vec_len};
 ghost use Rattle.open_answers.specs.Answers.{answer_of, by_cause, by_end, by_step, by_time, due_of};
-ghost use Rattle.open_answers.specs.Answers.{ended_by, is_full, is_of, open_after, opened, sooner, stays};
+ghost use Rattle.open_answers.specs.Answers.{ended_by, is_full, is_of, open_after, opened, seeks, sooner, stays};
 ghost use Rattle.open_answers.specs.Endings.{prepared_in, question_of};
 
 use crate::answer::Answer;
@@ -9,6 +9,7 @@ use crate::ended::Ended;
 use crate::ends::{ends, prepared_in, question_of};
 use crate::question::{Ending, Question};
 use fabric_terms::{Command, Report};
+use ring_points::Point;
 use ring_rules::Input;
 use std::alloc::{AllocError, Global};
 use std::marker::Model;
@@ -134,6 +135,15 @@ impl OpenAnswers {
         ensures { self.new ≡ record self.old { waiting = filter (λ o. not (is_of client o)) self.old.waiting } }
     {
         keep_others(&mut self.waiting, client);
+    }
+
+    /// Whether an open answer waits to hear which node holds the point.
+    pub fn seeks(&self, point: Point) -> bool
+        ensures { result ≡ seeks point.0 self.now.waiting }
+    {
+        self.waiting.iter().any(
+            |answer| matches!(answer.question, Question::Finds(key) if key.0 == point.0),
+        )
     }
 
     /// The least reading at which the time of an answer is over; None where none is open.

@@ -65,6 +65,13 @@ impl StreamCut {
         &self.room[self.from..self.to]
     }
 
+    /// For how many more bytes there is room, once the last line is no more needed.
+    pub fn room(&self) -> usize
+        ensures { result ≡ self.now.most + 1 - length self.now.waiting }
+    {
+        self.room.len() - (self.end - self.next)
+    }
+
     /// Takes bytes of the stream, as many as there is room for, and says how many. After `More` there is room for one
     /// byte at least.
     #[tactic(auto, using(crate::proofs::Coming::came_more))]

@@ -1,5 +1,5 @@
 pub mod Growing
-mod Keeping
+pub mod Keeping
 pub mod Sending
 mod Reporting
-mod Carrying
+pub mod Carrying

@@ -53,8 +53,8 @@ fn send_one<O: Outside>(
     }
 }
 
-/// Sends frames of an actor, one after another. What the links fail to send is left out.
-pub(crate) fn send_all<O: Outside>(
+/// Sends frames of an actor, one after another. What the links fail to send is left out. `OutOfMemory` is the only refusal.
+pub fn send_all<O: Outside>(
     outside: &mut O,
     config: &FabricConfig,
     actor: u16,

@@ -15,5 +15,7 @@ mod reports;
 mod step_effects;
 
 pub use execution::carry_out;
+pub use frames::send_all;
+pub use records::keep_all;
 pub use reports::write_lines;
 pub use step_effects::StepEffects;

@@ -26,8 +26,8 @@ fn keep_one<O: Outside>(
     }
 }
 
-/// Keeps records of an actor, each for good before the next.
-pub(crate) fn keep_all<O: Outside>(
+/// Keeps records of an actor, each for good before the next. After a refusal a front of them is kept.
+pub fn keep_all<O: Outside>(
     outside: &mut O,
     actor: u16,
     records: &[Record],

@@ -3,12 +3,12 @@ use Rattle.std.proofs.Common.{◌≡◌, ℕ, [], ◌∷◌, Option, Some, refl,
 use Rattle.std.specs.Prelude.{slice_get}
 use Rattle.turn_rules.specs.Happenings.{Comes, Begins, Turns, Bids, Hears, Fires, Rests}
 use Rattle.turn_rules.specs.Laws.{IsIdleTurn, PlansAreServed, RestsAreIdle}
-use Rattle.turn_rules.specs.Order.{Doing, Starting, Turning, Busy, Firing, Goes, GoesServed, TurnPosition}
+use Rattle.turn_rules.specs.Order.{Doing, Starting, Turning, Busy, Extends, Firing, Goes, GoesServed, TurnPosition}
 use Rattle.turn_rules.specs.Plans.{Plan, Setting}
 use Rattle.turn_rules.specs.Process.{Process, rests_at}
 use Rattle.turn_rules.specs.Steps.{Arbiter, Member, Node, rested}
 
-goes_served : (plan : Plan) (turn at : ℕ) (doing : Doing) (x : Comes) (p : TurnPosition) → Goes plan turn at doing x p → GoesServed plan turn at doing x p
+pub goes_served : Extends GoesServed
 goes_served plan turn at Starting x p g = g
 goes_served plan turn at Turning x p g = g
 goes_served plan turn at (Busy (c ∷ cs) n) x p g = g

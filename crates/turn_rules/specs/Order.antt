@@ -90,3 +90,7 @@ IsInOrder = IsInOrderBy Goes
 
 abbrev pub IsServedOrder : Plan → History → TurnPosition → Type 0
 IsServedOrder = IsInOrderBy GoesServed
+
+-- what may come in a run of a plan may come by these rows too
+abbrev pub Extends : Rows → Type 0
+Extends may_go = (plan : Plan) (turn at : ℕ) (doing : Doing) (x : Comes) (p : TurnPosition) → Goes plan turn at doing x p → may_go plan turn at doing x p

@@ -9,7 +9,8 @@ use hex::encode_to_slice;
 use ring_points::{Epoch, MAX_WRITE};
 use text_fields::push_bytes;
 
-fn push_hex(into: &mut Vec<u8>, bytes: &[u8]) -> Result<(), OutOfMemory>
+/// Appends bytes in digits, two a byte.
+pub fn push_hex(into: &mut Vec<u8>, bytes: &[u8]) -> Result<(), OutOfMemory>
     requires { length bytes.now ≤ MAX_WRITE }
     ensures ok { OnOk result (into.new.items ≡ into.old.items ++ encode_lower bytes.now) }
     ensures kept { Keeps into.old.items into.new.items }

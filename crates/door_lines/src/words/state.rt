@@ -11,7 +11,8 @@ use ring_points::{RangeSet, Who};
 use ring_rules::LinkState;
 use text_fields::{push_bytes, push_number, push_optional, push_ranges};
 
-fn phase_word(phase: &Phase) -> &'static [u8]
+/// The word of a phase.
+pub fn phase_word(phase: &Phase) -> &'static [u8]
     ensures { result.now ≡ phase_text phase.now }
 {
     match phase {
@@ -22,7 +23,8 @@ fn phase_word(phase: &Phase) -> &'static [u8]
     }
 }
 
-fn link_word(state: LinkState) -> &'static [u8]
+/// The word of how far a link has come.
+pub fn link_word(state: LinkState) -> &'static [u8]
     ensures { result.now ≡ link_text state }
 {
     match state {

@@ -8,7 +8,8 @@ use fabric_terms::OutOfMemory;
 use replica_core::Role;
 use ring_points::Epoch;
 
-fn role_word(role: Role) -> &'static [u8]
+/// The word of a role.
+pub fn role_word(role: Role) -> &'static [u8]
     ensures { result.now ≡ role_text role }
 {
     match role {

@@ -1,0 +1,3 @@
+pub mod Bests
+pub mod Declareds
+pub mod Floats

@@ -1,0 +1,18 @@
+use Rattle.std.proofs.Common.{◌||◌, ap, ◌∙◌}
+use Rattle.log_lines.specs.Reports.{Choice, is_told, own_or}
+use Rattle.client_sessions.specs.Sessions.{is_asked}
+use Rattle.client_sessions.proofs.Choices.{before_of, choice_is, last_own_of}
+use Rattle.client_sessions.proofs.telling.choose.Goals as goal
+
+pub returns-clause-logged : goal.returns-clause-logged
+returns-clause-logged c =
+    let written = c.args.written.now in
+    let asked = is_asked c.args.asked.now.answers.now.waiting c.args.asked.now.sought in
+    c.is_written.ensures.written (before_of written.own) (choice_is written)
+    ∙ ap (λ own. written.all || is_told c.args.report.now own asked) (last_own_of written.own)
+
+pub returns-clause-next : goal.returns-clause-next
+returns-clause-next c =
+    let written = c.args.written.now in
+    c.is_written.ensures.reported (before_of written.own) (choice_is written)
+    ∙ ap (λ own. let after : Choice = record { all = written.all; own = own_or c.args.report.now own } in after) (last_own_of written.own)

@@ -1,0 +1,4 @@
+pub mod Utterances
+pub mod Watching
+pub mod Sessions
+pub mod Answers

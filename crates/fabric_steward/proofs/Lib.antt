@@ -1,0 +1,6 @@
+pub mod Mapping
+pub mod Advising
+pub mod Pausing
+pub mod Naming
+pub mod LeavingWords
+pub mod Fitting

@@ -1,0 +1,14 @@
+pub mod Facts
+pub mod Times
+pub mod Policies
+pub mod Domains
+pub mod Watching
+pub mod Rules
+pub mod Afterwards
+pub mod Noted
+pub mod Dues
+pub mod Calls
+pub mod Laws
+pub mod Links
+pub mod Departures
+pub mod Worked

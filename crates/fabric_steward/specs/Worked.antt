@@ -1,0 +1,88 @@
+-- A worked cluster of three nodes in three domains, and one declared partition. The policy is that of node 3.
+use Rattle.std.specs.Prelude.{ℕ, ◌==◌, true, false, if◌then◌else◌, [], ◌∷◌, Some, None}
+use Rattle.ring_points.specs.declared.unit.Config.{Config}
+use Rattle.fabric_terms.specs.declared.command.Command.TheVariants as command
+use Rattle.fabric_terms.specs.declared.report.Reason.TheVariants.{NoUnit}
+use Rattle.fabric_terms.specs.declared.report.Report.TheVariants.{Configured, Refused}
+use Rattle.fabric_terms.specs.declared.report.Verb.TheVariants as verb
+use Rattle.ring_rules.specs.declared.input.Input.TheVariants.{Fire, Do}
+use Rattle.fabric_steward.specs.declared.node_watch.NodeWatch.{NodeWatch}
+use Rattle.fabric_steward.specs.Afterwards.{advised}
+use Rattle.fabric_steward.specs.Facts.{Facts}
+use Rattle.fabric_steward.specs.Noted.{noted}
+use Rattle.fabric_steward.specs.Policies.{Policy, unit_watched}
+
+abbrev pub worked_node : ℕ → NodeWatch
+worked_node n = record { node = n; point = record { 0 = n }; domain = n; asked = None }
+
+-- a lease of 1,000 ticks, so a pause has 250 at first
+abbrev pub worked_policy : Policy
+worked_policy = record {
+  me = 3;
+  lease = 1000;
+  heal_after = 1000;
+  joins = 1 ∷ 2 ∷ [];
+  turn = 0;
+  join_due = 0;
+  join_pause = 250;
+  nodes = worked_node 1 ∷ worked_node 2 ∷ worked_node 3 ∷ [];
+  manager_asked = None;
+  manages_since = None;
+  units = unit_watched 1000 (record { partition = 7; replicas = 3 }) ∷ [];
+}
+
+-- the node routes nothing yet
+abbrev pub seeking : Facts
+seeking = record {
+  routes = false;
+  manages = λ now. false;
+  is_up = λ node now. node == 3;
+  heard = λ node since. None;
+  config_of = λ partition. None;
+  is_changing = λ partition. false;
+}
+
+-- all nodes are up, and this one manages
+abbrev pub managing : Facts
+managing = record {
+  routes = true;
+  manages = λ now. true;
+  is_up = λ node now. true;
+  heard = λ node since. Some (record { actor = node; instance = 1 });
+  config_of = λ partition. None;
+  is_changing = λ partition. false;
+}
+
+-- partition 7 has all three members, and node 1 is its primary
+abbrev pub whole : Config
+whole = record { partition = 7; epoch = record { data_loss = 0; configuration = 1 }; primary = 1; members = 1 ∷ 2 ∷ 3 ∷ [] }
+
+abbrev pub known_whole : Facts
+known_whole = record managing { config_of = λ partition. Some whole }
+
+-- the primary is down
+abbrev pub without_primary : Facts
+without_primary = record known_whole { is_up = λ node now. if node == 1 then false else true }
+
+-- the node of the primary began again
+abbrev pub primary_anew : Facts
+primary_anew = record known_whole { heard = λ node since. Some (record { actor = node; instance = 2 }) }
+
+-- the policy that joined node 1, and then node 2
+abbrev pub joined_once : Policy
+joined_once = advised seeking 0 worked_policy
+
+abbrev pub joined_twice : Policy
+joined_twice = advised seeking 250 joined_once
+
+-- the manager that has asked for partition 7 and was told that there is none
+abbrev pub told_missing : Policy
+told_missing = noted (Do (command.Heal 7 3)) (Refused verb.Heal NoUnit ∷ []) (advised managing 0 worked_policy)
+
+-- the manager that has created it, at the reading 250
+abbrev pub created : Policy
+created = noted Fire (Configured 7 (record { data_loss = 0; configuration = 1 }) ∷ []) (advised managing 250 told_missing)
+
+-- it has seen the primary up at 300, and down at 400
+abbrev pub seen_down : Policy
+seen_down = advised without_primary 400 (advised known_whole 300 created)

@@ -1,0 +1,72 @@
+// When a pause or a time of the policy is over next.
+ghost use Rattle.std.specs.Prelude.{◌≡◌};
+ghost use Rattle.fabric_steward.specs.Dues.{due, nodes_due, own_due, sooner, sooner_after, unit_due, units_due};
+
+use crate::node_watch::NodeWatch;
+use crate::steward::Steward;
+use crate::times::later;
+use crate::unit_watch::UnitWatch;
+
+/// The sooner of two readings, if the first is still to come.
+fn sooner(now: u64, reading: u64, due: u64) -> u64
+    ensures { result ≡ sooner now reading due }
+{
+    if now < reading { reading.min(due) } else { due }
+}
+
+fn sooner_after(now: u64, ticks: u64, then: Option<u64>, due: u64) -> u64
+    ensures { result ≡ sooner_after now ticks then due }
+{
+    match then {
+        None => due,
+        Some(then) => sooner(now, later(then, ticks), due),
+    }
+}
+
+fn nodes_due(now: u64, lease: u64, nodes: &[NodeWatch], due: u64) -> u64
+    ensures { result ≡ nodes_due now lease nodes.now due }
+{
+    let mut soonest = due;
+    for node in nodes {
+        soonest = sooner_after(now, lease, node.asked, soonest);
+    }
+    soonest
+}
+
+fn unit_due(now: u64, heal_after: u64, unit: &UnitWatch, due: u64) -> u64
+    ensures { result ≡ unit_due now heal_after unit.now due }
+{
+    let few = sooner_after(now, heal_after, unit.few, due);
+    let down = sooner_after(now, heal_after, unit.down, few);
+    sooner_after(now, unit.pause, unit.commanded, down)
+}
+
+fn units_due(now: u64, heal_after: u64, units: &[UnitWatch], due: u64) -> u64
+    ensures { result ≡ units_due now heal_after units.now due }
+{
+    let mut soonest = due;
+    for unit in units {
+        soonest = unit_due(now, heal_after, unit, soonest);
+    }
+    soonest
+}
+
+impl Steward {
+    /// Those of the policy itself.
+    fn own_due(&self, now: u64) -> u64
+        ensures { result ≡ own_due now self.now }
+    {
+        let managed = sooner_after(now, self.heal_after, self.manages_since, u64::MAX);
+        let asked = sooner_after(now, self.lease * 2, self.manager_asked, managed);
+        sooner(now, self.join_due, asked)
+    }
+
+    /// The first reading after this one at which something is over that the policy waits for; the greatest one if it
+    /// waits for nothing.
+    pub fn due(&self, now: u64) -> u64
+        ensures { result ≡ due now self.now }
+    {
+        let asked = nodes_due(now, self.lease, self.nodes.as_slice(), self.own_due(now));
+        units_due(now, self.heal_after, self.units.as_slice(), asked)
+    }
+}

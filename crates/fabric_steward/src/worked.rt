@@ -1,0 +1,25 @@
+ghost use Rattle.std.specs.Prelude.{◌≡◌, Some, None};
+ghost use Rattle.fabric_terms.specs.declared.command.Command.TheVariants.{Create, Heal, Join};
+ghost use Rattle.fabric_steward.specs.Afterwards.{advised, command_given};
+ghost use Rattle.fabric_steward.specs.Worked.{created, joined_once, joined_twice, known_whole, managing, primary_anew};
+ghost use Rattle.fabric_steward.specs.Worked.{seeking, seen_down, told_missing, without_primary, worked_policy};
+
+/// Whom a node joins that does not route, computed: a law of the definition.
+pub fn worked_joins()
+    ensures first { command_given seeking 0 worked_policy ≡ Some (Join 1) }
+    ensures pause { command_given seeking 249 joined_once ≡ None }
+    ensures second { command_given seeking 250 joined_once ≡ Some (Join 2) }
+    ensures longer { command_given seeking 749 joined_twice ≡ None }
+    ensures again { command_given seeking 750 joined_twice ≡ Some (Join 1) }
+{}
+
+/// What a manager does with a declared partition, computed: a law of the definition.
+pub fn worked_management()
+    ensures learns { command_given managing 0 worked_policy ≡ Some (Heal 7 3) }
+    ensures pause { command_given managing 249 told_missing ≡ None }
+    ensures creates { command_given managing 250 told_missing ≡ Some (Create 7 3) }
+    ensures whole { command_given known_whole 10000 created ≡ None }
+    ensures down { command_given without_primary 1399 seen_down ≡ None }
+    ensures heals { command_given without_primary 1400 seen_down ≡ Some (Heal 7 2) }
+    ensures anew { command_given primary_anew 500 (advised known_whole 300 created) ≡ Some (Heal 7 3) }
+{}

@@ -1,0 +1,66 @@
+use crate::events::Events;
+use edge_io::EdgeRefusal;
+use fabric_status::Status;
+use ring_points::Who;
+use serve_edge::{HeldActor, StartFault, hold_actor};
+use serve_top::{End, FolderFault, Synced, judge_actor};
+use service_file::{ActorFile, began_line, head_line};
+
+/// The file `actor`, which notes once that a record of the actor was synced.
+#[derive(Drop)]
+pub struct NotedActor<'a> {
+    events: &'a Events<'a>,
+    actor: u16,
+    held: HeldActor<HostRuntime>,
+    has_begun: bool,
+}
+
+/// The file `actor` of the current folder, and what it says. A file without a line gets its first line.
+pub fn take_actor<'a>(
+    rt: &HostRuntime,
+    events: &'a Events<'a>,
+    actor: u16,
+    checksum: &[u8; 32],
+) -> Result<(NotedActor<'a>, ActorFile), End> {
+    let mut held = hold_actor(rt).map_err(|fault| End::Start(fault))?;
+    let mut bytes = held.read(rt.alloc()).map_err(|fault| End::Start(fault))?;
+    if bytes.is_empty() {
+        let line = head_line(rt.alloc(), actor, checksum).map_err(|_| End::As(
+            Status::OutOfMemory,
+        ))?;
+        held.append(&line).map_err(|fault| End::Start(fault))?;
+        bytes = line;
+    }
+    let file = judge_actor(rt.alloc(), &bytes, actor, checksum)?;
+    let has_begun = file.has_begun;
+    let noted = NotedActor {
+        events,
+        actor,
+        held,
+        has_begun,
+    };
+    Ok((noted, file))
+}
+
+impl Synced for NotedActor<'_> {
+    fn note_begun(&mut self) -> Result<(), EdgeRefusal> {
+        if self.has_begun {
+            return Ok(());
+        }
+        match self.held.append(began_line()) {
+            Ok(()) => {
+                self.has_begun = true;
+                Ok(())
+            }
+            Err(StartFault::OutOfMemory) => Err(EdgeRefusal::OutOfMemory),
+            Err(_) => Err(EdgeRefusal::Failed),
+        }
+    }
+
+    fn tell_begin(&self, instance: u32) {
+        self.events.begin(Who {
+            actor: self.actor,
+            instance,
+        });
+    }
+}

@@ -1,0 +1,226 @@
+// A served process, from its words to its end.
+ghost use Rattle.fabric_turns.specs.Runs.{AllListen};
+ghost use Rattle.serve_rules.specs.Services.{IsService};
+ghost use Rattle.service_file.specs.Sound.{IsSoundService};
+
+use crate::actor_start::{NotedActor, take_actor};
+use crate::events::Events;
+use crate::opening::{open_door, open_endpoint, open_page};
+use crate::serving::Serving;
+use crate::start::read_given;
+use crate::started::{Keeps, Started, read_records, short};
+use client_sessions::Sessions;
+use door_io::Clients;
+use edge_io::{Devices, Links};
+use fabric_edge::{FolderKeeper, MonoClock};
+use fabric_status::Status;
+use frame_seal::{SealKey, SealedLinks};
+use ring_points::Who;
+use serve_edge::{
+    LogOutput, PageSockets, PollBoard, PollRest, STANDARD_OUTPUT, ServedLinks, StartFault,
+    StdoutLog, enter_folder,
+};
+use serve_lives::{NoPolicy, NoSink, NodePolicy, Returning, serve as serve_actor};
+use serve_top::{
+    BoardDevices, BoardFacts, End, NotedKeeper, StatusBoard, TalliedLinks, TalliedPolicy, Tally,
+    plan_of, status_by,
+};
+use serve_turns::{Audience, Board, Policy, Service};
+use service_file::{ActorFile, LineChoice, ServiceSettings};
+use std::alloc::{AllocError, Global};
+use std::net::SocketAddr;
+
+/// Runs the actor, which listens, to its end, by this policy.
+fn run_by<N: Links, C: Clients + Drop, P: Policy + Returning + Drop, B: Board>(
+    started: Started<'_>,
+    policy: P,
+    clients: C,
+    board: &mut B,
+    links: &mut N,
+    keeps: &mut Keeps<'_>,
+) -> Result<End, End>
+    requires service { IsService started.service.now.plan }
+    requires listens { AllListen started.service.now.plan (N.opened links.old) }
+{
+    let service = started.service;
+    let policy = TalliedPolicy::new(policy, started.tally);
+    let mut audience = Audience { clients, policy };
+    let all = started.settings.lines == LineChoice::AllLines;
+    let sessions = Sessions::new(service.alloc, service.config().lease, all).map_err(|error| short(
+        error,
+    ))?;
+    let mut sink = NoSink {};
+    let mut clock = MonoClock::new(started.rt);
+    let mut devices = Devices {
+        sink: &mut sink,
+        links,
+        keeps,
+        clock: &mut clock,
+    };
+    let end = serve_actor(&mut devices, &mut audience, service, board, sessions);
+    let status = status_by(end);
+    if status == Status::Ok {
+        started.events.say(b"end\n");
+    }
+    started.events.finish();
+    Ok(End::As(status))
+}
+
+/// The board of the process.
+fn board_of<'a>(
+    started: Started<'a>,
+    page: Option<PageSockets<'a>>,
+) -> StatusBoard<
+    'a,
+    PageSockets<'a>,
+    PollRest<'a, HostRuntime>,
+    MonoClock<'a, HostRuntime>,
+    StdoutLog<'a, HostRuntime>,
+> {
+    let devices = BoardDevices {
+        page,
+        rest: PollRest::new(started.rt, started.board, started.output),
+        clock: MonoClock::new(started.rt),
+        log: StdoutLog::new(started.rt, started.output),
+    };
+    StatusBoard::new(started.rt.alloc(), started.facts, started.tally, devices)
+}
+
+/// Opens the endpoint, the door and the page, and runs the actor to its end.
+fn open_and_run<N: Links + Drop>(
+    started: Started<'_>,
+    page: Option<SocketAddr>,
+    links: N,
+    keeps: &mut Keeps<'_>,
+    passed: bool,
+) -> Result<End, End>
+    requires service { IsService started.service.now.plan }
+    requires settings { IsSoundService started.service.now.plan.config started.settings.now }
+{
+    let service = started.service;
+    let mut links = TalliedLinks::new(links, started.tally, started.facts.sealed);
+    open_endpoint(service, &mut links)?;
+    let clients = open_door(started)?;
+    let mut board = board_of(started, open_page(started, page)?);
+    let at = started.listen.unwrap_or(service.plan.address_at(0));
+    started.events.opened(at, started.facts.sealed, passed);
+    if !service.is_node() {
+        started.events.begin(Who {
+            actor: service.actor(),
+            instance: 0,
+        });
+        return run_by(started, NoPolicy {}, clients, &mut board, &mut links, keeps);
+    }
+    let config = service.config();
+    let policy = NodePolicy::new(service.alloc, config, started.settings, service.actor()).map_err(
+        |error| short(error),
+    )?;
+    run_by(started, policy, clients, &mut board, &mut links, keeps)
+}
+
+/// Runs the actor over links that are sealed by the key, if there is one.
+fn run_sealed(
+    started: Started<'_>,
+    page: Option<SocketAddr>,
+    listen: Option<SocketAddr>,
+    key: Option<SealKey>,
+    keeps: &mut Keeps<'_>,
+    passed: bool,
+) -> Result<End, End>
+    requires service { IsService started.service.now.plan }
+    requires settings { IsSoundService started.service.now.plan.config started.settings.now }
+{
+    let alloc = started.rt.alloc();
+    let mut links = ServedLinks::new(started.rt, alloc, started.board, listen);
+    match key {
+        None => open_and_run(started, page, links, keeps, passed),
+        Some(key) => {
+            let sealed = SealedLinks::new(alloc, key, &mut links);
+            open_and_run(started, page, sealed, keeps, passed)
+        }
+    }
+}
+
+/// The numbers of the declared partitions.
+fn declared_in(alloc: Global, settings: &ServiceSettings) -> Result<Vec<u16>, AllocError> {
+    let mut declared = Vec::new(alloc);
+    for entry in settings.partitions.as_slice() {
+        declared.push(entry.partition)?;
+    }
+    Ok(declared)
+}
+
+/// The addresses of the options, and the key or why it is refused.
+#[derive(Drop)]
+struct Opened {
+    page: Option<SocketAddr>,
+    listen: Option<SocketAddr>,
+    key: Result<Option<SealKey>, StartFault>,
+}
+
+/// Reads the records, and then runs the actor over them.
+fn keep_and_run<'a>(
+    started: Started<'a>,
+    actor: NotedActor<'a>,
+    file: &ActorFile,
+    opened: Opened,
+) -> Result<End, End>
+    requires service { IsService started.service.now.plan }
+    requires settings { IsSoundService started.service.now.plan.config started.settings.now }
+{
+    let files = FolderKeeper::new(started.rt, started.rt.alloc());
+    let mut keeps = NotedKeeper::new(files, actor, started.tally);
+    let passed = read_records(started, &mut keeps, file)?;
+    let key = opened.key.map_err(|fault| End::Start(fault))?;
+    run_sealed(started, opened.page, opened.listen, key, &mut keeps, passed)
+}
+
+/// The steps of a start, and then the run.
+fn run<'a>(rt: &'a HostRuntime, serving: Serving<'a>) -> Result<End, End> {
+    let alloc = rt.alloc();
+    let given = read_given(rt, serving)?;
+    let (checksum, settings) = (given.setup.checksum, given.setup.settings);
+    let config = given.setup.config;
+    let facts = BoardFacts {
+        arbiter: serving.arbiter,
+        checksum,
+        sealed: serving.options.key.is_some(),
+        declared: declared_in(alloc, &settings).map_err(|error| short(error))?,
+        lease: config.lease,
+        grain: config.bound.grain,
+    };
+    let plan = plan_of(alloc, config, serving.actor)?;
+    let service = Service { alloc, plan };
+    let folder = serving.options.folder.unwrap_or(".");
+    enter_folder(rt, folder).map_err(|fault| End::Start(fault))?;
+    let tally = Tally::new(alloc);
+    let board = PollBoard::new(alloc).map_err(|error| short(error))?;
+    let output = LogOutput::new(alloc, &board, STANDARD_OUTPUT).map_err(|error| short(error))?;
+    let events = Events::new(rt, &output);
+    let (actor, file) = take_actor(rt, &events, serving.actor, &checksum)?;
+    let started = Started {
+        rt,
+        service: &service,
+        settings: &settings,
+        facts: &facts,
+        tally: &tally,
+        board: &board,
+        output: &output,
+        events: &events,
+        listen: serving.options.listen,
+    };
+    let opened = Opened {
+        page: given.page,
+        listen: given.listen,
+        key: given.key,
+    };
+    keep_and_run(started, actor, &file, opened)
+}
+
+/// Runs an actor until it is told to end, or something stops it.
+pub fn run_actor<'a>(rt: &'a HostRuntime, serving: Serving<'a>) -> End {
+    match run(rt, serving) {
+        Ok(end) => end,
+        Err(end) => end,
+    }
+}

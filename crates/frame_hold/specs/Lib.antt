@@ -1,0 +1,5 @@
+pub mod Losses
+pub mod Waits
+pub mod Kept
+pub mod Promises
+pub mod OneLength

@@ -1,0 +1,9 @@
+pub mod ActorLines
+pub mod Addresses
+pub mod Comes
+pub mod Faults
+pub mod Places
+pub mod Stamps
+pub mod Unreads
+pub mod Waits
+pub mod Wires

@@ -1,0 +1,8 @@
+use Rattle.serve_lives.proofs.Going.{reads_more, reads_once}
+use Rattle.serve_lives.proofs.pausing.pass_time.Goals as goal
+
+pub loop-look-init : goal.loop-look-init
+loop-look-init g c = reads_once _ _ _ c.now-begun.ensures
+
+pub loop-look-preserved : goal.loop-look-preserved
+loop-look-preserved g c = reads_more _ _ _ _ c.loop-look.invariant c.now-reading.ensures

@@ -1,0 +1,5 @@
+pub mod Lives
+pub mod Stepping
+pub mod Serving
+pub mod Refusals
+pub mod Reading

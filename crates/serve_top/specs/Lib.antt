@@ -1,0 +1,12 @@
+pub mod Actors
+pub mod Addresses
+pub mod Beginnings
+pub mod Counts
+pub mod Ends
+pub mod Files
+pub mod NodeFacts
+pub mod Pages
+pub mod Plans
+pub mod Replies
+pub mod Setups
+pub mod Stops

@@ -1,0 +1,105 @@
+use crate::tally::Tally;
+use edge_io::{EdgeRefusal, Keeper};
+
+/// What hears of each record of the actor that was synced.
+pub trait Synced {
+    /// Notes for good that the actor has begun, where that is not noted yet.
+    fn note_begun(&mut self) -> Result<(), EdgeRefusal>;
+
+    /// An instance of the actor begins: this is the record that says so.
+    fn tell_begin(&self, instance: u32);
+}
+
+/// How many bytes the length of a record has in its file.
+const LENGTH_BYTES: u64 = 2;
+
+/// Records that are counted. Behind the first one it is noted that the actor has begun, before anything rests on it.
+#[derive(Drop)]
+pub struct NotedKeeper<'a, K: Keeper, S: Synced> {
+    inner: K,
+    synced: S,
+    tally: &'a Tally,
+    failed: u64,
+}
+
+impl<'a, K: Keeper, S: Synced> NotedKeeper<'a, K, S> {
+    /// The records of this keeper.
+    pub fn new(inner: K, synced: S, tally: &'a Tally) -> Self {
+        NotedKeeper {
+            inner,
+            synced,
+            tally,
+            failed: 0,
+        }
+    }
+}
+
+impl<K: Keeper, S: Synced> NotedKeeper<'_, K, S> {
+    /// Notes that the actor has begun: its records are there already.
+    pub fn note_begun(&mut self) -> Result<(), EdgeRefusal> {
+        self.synced.note_begun()
+    }
+}
+
+/// The kind of the record by which an instance begins.
+const BOOT: u8 = 1;
+
+/// The kind of the record of a claim in a later round.
+const SPLIT: u8 = 10;
+
+/// The instance that begins by a record of these bytes, if it is one that begins.
+fn instance_in(bytes: &[u8]) -> Option<u32> {
+    match bytes {
+        [BOOT, a, b, c, d] => Some(u32::from_be_bytes([*a, *b, *c, *d])),
+        _ => None,
+    }
+}
+
+/// The bytes that so many records take in their file.
+fn bytes_of(records: &[Vec<u8>]) -> u64 {
+    let mut sum = 0u64;
+    for record in records {
+        sum = sum
+            .saturating_add(record.len() as u64)
+            .saturating_add(LENGTH_BYTES);
+    }
+    sum
+}
+
+impl<K: Keeper, S: Synced> Keeper for NotedKeeper<'_, K, S> {
+    ghost use Rattle.std.specs.Prelude.{◌+◌, None};
+
+    ghost kept = { λ k. K.kept k.inner };
+
+    ghost faults = { λ k. K.faults k.inner + k.failed };
+
+    ghost plan = { λ k. None };
+
+    fn records(&mut self, actor: u16) -> Result<Vec<Vec<u8>>, EdgeRefusal> {
+        let records = self.inner.records(actor)?;
+        self.tally.set_record_bytes(bytes_of(&records));
+        Ok(records)
+    }
+
+    fn append_synced(&mut self, actor: u16, bytes: &[u8]) -> Result<(), EdgeRefusal> {
+        self.inner.append_synced(actor, bytes)?;
+        self.tally
+            .count_record((bytes.len() as u64).saturating_add(LENGTH_BYTES));
+        if bytes.first() == Some(&SPLIT) {
+            self.tally.count(|counters| counters.count_split_grant());
+        }
+        match self.synced.note_begun() {
+            Ok(()) => {
+                if let Some(instance) = instance_in(bytes) {
+                    self.synced.tell_begin(instance);
+                }
+                Ok(())
+            }
+            Err(EdgeRefusal::OutOfMemory) => Err(EdgeRefusal::OutOfMemory),
+            Err(EdgeRefusal::Failed) => {
+                self.failed = self.failed.saturating_add(1);
+                Err(EdgeRefusal::Failed)
+            }
+        }
+    }
+}

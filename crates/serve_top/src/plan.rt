@@ -1,0 +1,50 @@
+ghost use Rattle.std.specs.Prelude.{◌≡◌, ◌∷◌, [], IfOk, option_map};
+ghost use Rattle.fabric_terms.specs.Sound.{IsSound};
+ghost use Rattle.serve_rules.specs.Services.{IsService, actor_of};
+ghost use Rattle.serve_top.specs.Plans.{PlansFor, address_of};
+
+use crate::addresses::short;
+use crate::end::End;
+use edge_io::{Endpoint, SocketAddress};
+use fabric_status::Status;
+use fabric_terms::FabricConfig;
+use ring_points::ARBITRATORS;
+use std::alloc::{AllocError, Global};
+use turn_rules::{Orders, Plan, arbiter_address, node_address};
+
+/// Where the actor of a number is reached, if it is configured.
+fn address_of(config: &FabricConfig, actor: u16) -> Option<&str>
+    ensures { option_map (λ at. at.now) result ≡ address_of config.now actor }
+{
+    if actor > ARBITRATORS {
+        arbiter_address(config, actor - ARBITRATORS)
+    } else {
+        node_address(config, actor)
+    }
+}
+
+/// An actor with where it is reached.
+fn endpoints(alloc: Global, actor: u16, at: &str) -> Result<Vec<Endpoint>, AllocError>
+    ensures { IfOk result (λ v. v.items ≡ record { actor = actor; at = at.now } ∷ []) }
+{
+    let at = SocketAddress::new(String::from_str(alloc, at)?);
+    let mut actors = Vec::new(alloc);
+    actors.push(Endpoint { actor, at })?;
+    Ok(actors)
+}
+
+/// The plan of a service: this actor alone, without commands. An actor that is not configured is none of line 1.
+pub fn plan_of(alloc: Global, config: FabricConfig, actor: u16) -> Result<Plan, End>
+    requires { IsSound config }
+    ensures plan { PlansFor config actor result }
+    ensures service { IfOk result IsService }
+    ensures actor { IfOk result (λ p. actor_of p ≡ actor) }
+{
+    let Some(at) = address_of(&config, actor) else {
+        return Err(End::As(Status::NoSuch(1)));
+    };
+    match endpoints(alloc, actor, at) {
+        Ok(actors) => Ok(Plan::new(config, actors, Orders::new(alloc), 0)),
+        Err(_) => Err(short()),
+    }
+}

@@ -1,0 +1,15 @@
+mod Carrying
+mod Acting
+mod Steps
+mod Quiet
+mod Commands
+mod Handing
+mod Turning
+mod Resting
+mod Reading
+mod Placing
+mod Living
+mod Begun
+mod Hearing
+mod Fired
+mod Ordered

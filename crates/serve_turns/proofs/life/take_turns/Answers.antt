@@ -1,0 +1,36 @@
+use Rattle.std.proofs.Common.{◌≡◌, ◌+◌, ℕ, ap, arith, rules}
+use Rattle.std.proofs.lemmas.Result.{err_from_is_err_and}
+use Rattle.serve_turns.proofs.Ordered.{can_when, goes_when, told_when}
+use Rattle.serve_turns.proofs.Placing.{at_as}
+use Rattle.serve_turns.proofs.life.take_turns.Goals as goal
+use Rattle.serve_turns.specs.Lives.{most_turns}
+use Rattle.turn_rules.specs.Order.{arrive}
+
+pub loop-number-init : goal.loop-number-init
+loop-number-init g c = record { done = λ o es t. (es, t); can = c.requires.can }
+
+pub loop-number-preserved : goal.loop-number-preserved
+loop-number-preserved g c = record {
+  done = λ o es t.
+      let k = c.loop-number.invariant.done o es t in
+      goes_when c.args.service.now.plan o _ _ _ c.in_ok-take_turn.field-0 (search rules) (c.in_ok-take_turn.ensures.done o k.0 k.1);
+  can = can_when c.args.service.now.plan _ _ c.in_ok-take_turn.field-0 (search rules) c.in_ok-take_turn.ensures.can;
+}
+
+pub returns-in_err-take_turn : goal.returns-in_err-take_turn
+returns-in_err-take_turn g c =
+    let p = err_from_is_err_and c.from_residual.result c.from_residual.ensures.1 in
+    λ o es t.
+    let k = c.loop-number.invariant.done o es t in
+    rw (p.1, p.2) (c.in_err-take_turn.ensures.done o k.0 k.1)
+
+pub returns-then-branch : goal.returns-then-branch
+returns-then-branch g c = λ o es t.
+    let k = c.loop-number.invariant.done o es t in
+    told_when c.args.service.now.plan o _ _ _ c.in_ok-take_turn.field-0 (search rules) (c.in_ok-take_turn.ensures.done o k.0 k.1)
+
+pub returns : goal.returns
+returns g c = λ o es t.
+    let e : c.loop-number.number ≡ most_turns = omega arith in
+    let k = c.loop-number.invariant.done o es t in
+    (k.0, at_as c.args.service.now.plan o _ _ k.0 _ _ (ap (λ (n : ℕ). arrive c.args.service.now.plan (n + 1) 0) e) k.1)

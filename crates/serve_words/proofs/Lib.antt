@@ -1,0 +1,4 @@
+pub mod Splits
+pub mod Places
+pub mod Forms
+pub mod Options

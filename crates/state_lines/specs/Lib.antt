@@ -1,0 +1,5 @@
+pub mod Changes
+pub mod Answers
+pub mod States
+pub mod Logs
+pub mod Laws
