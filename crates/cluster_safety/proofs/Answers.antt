@@ -2,6 +2,8 @@
 use Rattle.std.proofs.Common.{arith, ◌≡◌, ℕ, suc, Bool, true, false, List, [], ◌∷◌, length, Option, Some, None, refl, ap, sym, subst, ◌∙◌}
 use Rattle.std.specs.Prelude.{Contains, slice_get}
 use Rattle.std.proofs.lemmas.List.Elements.{All-contains, All-nil}
+use Rattle.cold_start.proofs.Steps.{begun_first}
+use Rattle.cold_start.specs.Starts.{first_whole, node_begun_in}
 use Rattle.edge_io.specs.Readings.{is_fall}
 use Rattle.edge_io.specs.declared.endpoint.Endpoint.{Endpoint}
 use Rattle.epoch_safety.proofs.StepCommits.{asks_in}
@@ -12,6 +14,7 @@ use Rattle.fabric_terms.specs.declared.record.Record.{Record}
 use Rattle.fabric_terms.specs.declared.report.Report.{Report}
 use Rattle.fabric_terms.specs.Sound.{IsSound}
 use Rattle.frame_format.specs.Kinds.{message_of}
+use Rattle.ring_points.specs.declared.who.Who.{Who}
 use Rattle.ring_rules.specs.declared.input.Input.{Input}
 use Rattle.ring_rules.specs.declared.input.Input.TheVariants as input
 use Rattle.run_facts.proofs.ArbiterSteps as arbiters
@@ -23,6 +26,7 @@ use Rattle.turn_rules.specs.Process.{End, Process, acts, acts_at, acts_with, aft
 use Rattle.turn_rules.specs.Steps.{Arbiter, Member, Node, Step, Stepped, begun, begun_as, exceeds, present, rested, stepped}
 use Rattle.world_rules.specs.Events.{is_arbiter_actor}
 use Rattle.world_rules.specs.Nodes.{NodeState, node_begun, node_step}
+use Rattle.world_rules.specs.Uppers.{Did}
 use Rattle.world_rules.specs.Worlds.{empty_world}
 use Rattle.cluster_safety.specs.Plans.{IsClusterPlan, KeepsNothing, OwnFrames}
 use Rattle.cluster_safety.specs.Promises.{MemberAnswers, StepsAnswerOfCommitted}
@@ -89,22 +93,25 @@ module _ (s : Setting) (r : Report) where
 
   -- A start tells no answer.
 
-  module _ (names : tells_names r ≡ true) where
-    begun_silent : (turn : ℕ) (last : Option ℕ) (actor : ℕ) (kept : List Record) → Contains (begun s.plan.config turn last actor kept).step.told r → ⊥
+  module _ (names : tells_names r ≡ true) (first : s.plan.whole ≡ first_whole s.plan.config) where
+    begun_silent : (turn : ℕ) (last : Option ℕ) (actor : ℕ) (kept : List Record) → Contains (begun s.plan.config s.plan.whole turn last actor kept).step.told r → ⊥
     unfolding begun
     begun_silent turn last actor kept told = by_kind (is_arbiter_actor actor) told
       where
-        by_kind : (b : Bool) → Contains (begun_as s.plan.config turn last actor kept b).step.told r → ⊥
+        by_kind : (b : Bool) → Contains (begun_as s.plan.config s.plan.whole turn last actor kept b).step.told r → ⊥
         by_kind true told = nothing_in r [] refl told
         by_kind false told =
-            at_start s.plan.config (empty_world fabric) (node_begun fabric s.plan.config actor kept).state.ring.me r names actor (Some (present last)) kept (refl, told)
+            let same : node_begun_in fabric s.plan.whole s.plan.config actor kept ≡ node_begun fabric s.plan.config actor kept =
+            ap (λ (w : Who). node_begun_in fabric w s.plan.config actor kept) first ∙ begun_first fabric s.plan.config actor kept in
+            at_start s.plan.config (empty_world fabric) (node_begun fabric s.plan.config actor kept).state.ring.me r names actor (Some (present last)) kept
+            (refl, subst (λ (d : Did (NodeState fabric)). Contains d.told r) same told)
 
     joins_silent : (p : Process) (turn place : ℕ) → TellsMore (joins s turn place p).steps p.steps → ⊥
     joins_silent p turn place t = by_actor (slice_get s.plan.actors place) (slice_get s.kept place) t
       where
         by_actor : (o : Option Endpoint) (k : Option (List Record)) → TellsMore (joins_at s turn p o k).steps p.steps → ⊥
         by_actor (Some e) (Some kept) t =
-            let d : Stepped = begun s.plan.config turn p.last e.actor kept in
+            let d : Stepped = begun s.plan.config s.plan.whole turn p.last e.actor kept in
             begun_silent turn p.last e.actor kept (taken_tells p (joins_with p d) (exceeds d.member) d.step refl t)
         by_actor (Some e) None t = none_more p.steps t
         by_actor None (Some kept) t = none_more p.steps t
@@ -159,5 +166,5 @@ answers_of_committed s (now ∷ earlier) p sound cp kn order own = λ step r mor
   where
     by_end : (q : Process) → JoinedBy s q → (r : Report) → tells_names r ≡ true → (o : Option End) →
         TellsMore s r (unless_ended q o (takes s now.turn q now.place now.comes)).steps q.steps → MemberAnswers q (slice_get q.members now.place) r now.comes
-    by_end q j r names None t = answers_comes s r names q j sound cp now.turn now.place now.comes t
+    by_end q j r names None t = answers_comes s r names cp.whole q j sound cp now.turn now.place now.comes t
     by_end q j r names (Some end) t = absurd (none_more s r q.steps t)

@@ -3,10 +3,13 @@ use Rattle.std.proofs.Common.{arith, ◌≡◌, ◌≤◌, ◌<◌, ◌+◌, ℕ
 use Rattle.std.specs.Prelude.{nat_lt, slice_get, if◌then◌else◌}
 use Rattle.std.proofs.lemmas.Bool.Decides.{nat_tests}
 use Rattle.std.proofs.lemmas.Option.{slice_get_within}
+use Rattle.cold_start.proofs.Steps.{begun_first}
+use Rattle.cold_start.specs.Starts.{node_begun_in}
 use Rattle.edge_io.specs.Readings.{is_fall}
 use Rattle.edge_io.specs.declared.endpoint.Endpoint.{Endpoint}
 use Rattle.fabric_terms.specs.declared.message.Message.{Message}
 use Rattle.fabric_terms.specs.declared.record.Record.{Record}
+use Rattle.ring_points.specs.declared.who.Who.{Who}
 use Rattle.ring_rules.specs.declared.input.Input.{Input}
 use Rattle.ring_rules.specs.declared.input.Input.TheVariants as input
 use Rattle.frame_format.specs.Kinds.{message_of}
@@ -18,9 +21,9 @@ use Rattle.unit_rules.specs.Fabric.{fabric}
 use Rattle.turn_rules.specs.Steps.{Stepped, arbiter_stepped, begun, begun_as, exceeds, node_stepped, present}
 use Rattle.world_rules.specs.Arbiters.{arbiter_begun}
 use Rattle.world_rules.specs.Events.{arbiter_number, is_arbiter_actor}
-use Rattle.world_rules.specs.Nodes.{node_begun}
+use Rattle.world_rules.specs.Nodes.{NodeState, node_begun}
 use Rattle.world_rules.specs.Schedules.{command_names}
-use Rattle.world_rules.specs.Uppers.{idle}
+use Rattle.world_rules.specs.Uppers.{Did, idle}
 use Rattle.cluster_safety.specs.Moments.{frames_of, last_reading}
 use Rattle.cluster_safety.specs.Plans.{IsClusterPlan, IsOneOf, IsOwn, KeepsNothing, OwnFrames}
 use Rattle.cluster_safety.proofs.Acts.{FitsInput, JoinedBy, acts_joined, none_past, rests_joined}
@@ -118,13 +121,13 @@ module _ (s : Setting) (cp : IsClusterPlan s.plan) (kn : KeepsNothing s) (turn a
   one_more q more last = live_started s.plan turn at q zero (λ h. omega (arith, first, more)) (λ h. omega (arith, first, more)) last
 
   joins_arbiter : (e : Endpoint) → slice_get s.plan.actors at ≡ Some e → is_arbiter_actor e.actor ≡ true →
-      GoesOn s (onward s.plan turn at) (joins_as p (begun s.plan.config turn p.last e.actor []))
+      GoesOn s (onward s.plan turn at) (joins_as p (begun s.plan.config s.plan.whole turn p.last e.actor []))
   unfolding begun
   joins_arbiter e here kind =
       let c = s.plan.config in
       let n : ℕ = arbiter_number e.actor in
       let d : Stepped = arbiter_stepped 0 n (idle (arbiter_begun fabric c n [])) in
-      let same : begun_as c turn p.last e.actor [] (is_arbiter_actor e.actor) ≡ d = λ i. begun_as c (zero i) p.last e.actor [] (kind i) in
+      let same : begun_as c s.plan.whole turn p.last e.actor [] (is_arbiter_actor e.actor) ≡ d = λ i. begun_as c s.plan.whole (zero i) p.last e.actor [] (kind i) in
       subst (λ (x : Stepped). GoesOn s (onward s.plan turn at) (joins_as p x)) (sym same) (by_test (exceeds d.member))
     where
       by_test : (b : Bool) →
@@ -137,12 +140,15 @@ module _ (s : Setting) (cp : IsClusterPlan s.plan) (kn : KeepsNothing s) (turn a
       }
 
   joins_node : (e : Endpoint) (r : ℕ) → present p.last ≤ r → slice_get s.plan.actors at ≡ Some e → is_arbiter_actor e.actor ≡ false →
-      GoesOn s (onward s.plan turn at) (joins_as (record p { last = Some r }) (begun s.plan.config turn (Some r) e.actor []))
+      GoesOn s (onward s.plan turn at) (joins_as (record p { last = Some r }) (begun s.plan.config s.plan.whole turn (Some r) e.actor []))
   unfolding begun exceeds
   joins_node e r le here kind =
       let c = s.plan.config in
       let d : Stepped = node_stepped 0 r (node_begun fabric c e.actor []) in
-      let same : begun_as c turn (Some r) e.actor [] (is_arbiter_actor e.actor) ≡ d = λ i. begun_as c (zero i) (Some r) e.actor [] (kind i) in
+      let first : node_begun_in fabric s.plan.whole c e.actor [] ≡ node_begun fabric c e.actor [] =
+      ap (λ (w : Who). node_begun_in fabric w c e.actor []) cp.whole ∙ begun_first fabric c e.actor [] in
+      let same : begun_as c s.plan.whole turn (Some r) e.actor [] (is_arbiter_actor e.actor) ≡ d =
+      (λ i. begun_as c s.plan.whole (zero i) (Some r) e.actor [] (kind i)) ∙ ap (λ (x : Did (NodeState fabric)). node_stepped 0 r x) first in
       subst (λ (x : Stepped). GoesOn s (onward s.plan turn at) (joins_as (record p { last = Some r }) x)) (sym same) (record {
         joined = node_starts s p.members p.last p.steps e cp.rise j (here_next e here) (cp.configured at e here) r le kind;
         live = λ h. one_more _ (length_more p.members _) refl;

@@ -1,5 +1,6 @@
 -- Which runs are a cluster's: the plan, what is kept, and what is heard.
 use Rattle.std.specs.Prelude.{◌≡◌, ◌≤◌, ◌+◌, ℕ, Bool, true, false, List, [], ◌∷◌, Option, Some, None, Contains, length, slice_get}
+use Rattle.cold_start.specs.Starts.{first_whole}
 use Rattle.edge_io.specs.declared.endpoint.Endpoint.{Endpoint}
 use Rattle.fabric_terms.specs.declared.config.FabricConfig.{FabricConfig}
 use Rattle.fabric_terms.specs.declared.message.Message.{Message}
@@ -28,8 +29,9 @@ abbrev pub is_configured : FabricConfig → ℕ → Bool
 is_configured c actor = is_configured_as c actor (is_arbiter_actor actor)
 
 -- The actors are configured ones, nodes rising and then arbitrators, and each command names what its actor may be told of.
--- They need not be all that are configured.
+-- They need not be all that are configured. It is the first life of the cluster.
 pub record IsClusterPlan (plan : Plan) : Type 0 where
+  pub whole : plan.whole ≡ first_whole plan.config
   pub rise : Rise 0 plan.actors
   pub configured : (place : ℕ) (e : Endpoint) → slice_get plan.actors place ≡ Some e → is_configured plan.config e.actor ≡ true
   pub named : (k : ℕ) (o : Order) (e : Endpoint) → slice_get plan.orders k ≡ Some o → slice_get plan.actors o.place ≡ Some e → command_names plan.config e.actor o.command ≡ true

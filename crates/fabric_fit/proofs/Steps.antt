@@ -3,6 +3,7 @@ use Rattle.std.proofs.Common.{◌≡◌, ℕ, ◌||◌, List, [], ◌∷◌, ref
 use Rattle.std.specs.Prelude.{◌==◌, All}
 use Rattle.std.specs.List.{list_any}
 use Rattle.std.proofs.lemmas.List.Elements.{All-cons, All-head, All-nil, All-tail}
+use Rattle.cold_start.specs.Starts.{node_begun_in}
 use Rattle.fabric_terms.specs.declared.config.FabricConfig.{FabricConfig}
 use Rattle.fabric_terms.specs.declared.config.NodeEntry.{NodeEntry}
 use Rattle.fabric_terms.specs.declared.message.Body.{Body}
@@ -16,7 +17,7 @@ use Rattle.ring_points.specs.declared.who.Who.{Who}
 use Rattle.ring_rules.specs.Rings.{points_of}
 use Rattle.unit_rules.specs.Units.{units}
 use Rattle.world_rules.specs.Arbiters.{arbiter_step}
-use Rattle.world_rules.specs.Nodes.{NodeState, node_begun, node_step}
+use Rattle.world_rules.specs.Nodes.{NodeState, node_step}
 use Rattle.world_rules.specs.Uppers.{Did}
 use Rattle.world_rules.specs.Worlds.{arbiter_who, posted}
 use Rattle.fabric_fit.specs.Steps.{ArbitersBeginInFormat, ArbitersStayInFormat, NodeDoes, NodesBeginInFormat, NodesStayInFormat}
@@ -49,9 +50,9 @@ node_did c d acts = record {
 
 pub nodes_begin : NodesBeginInFormat
 unfolding units_send
-nodes_begin c node records sound listed kept =
+nodes_begin whole c node records sound listed kept =
     let named = node_in_range c sound node (listed_points c.nodes node ∙ listed) in
-    node_did c (node_begun units c node records) (any_node.node_begins units units_send c sound node records named listed kept)
+    node_did c (node_begun_in units whole c node records) (any_node.node_begins_in units units_send c sound node records named listed kept whole)
 
 pub nodes_stay : NodesStayInFormat
 unfolding units_send

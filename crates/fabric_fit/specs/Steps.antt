@@ -1,5 +1,6 @@
 -- One step of a node and of an arbitrator of units, in range: whatever came before, in whatever order, no schedule is asked for.
 use Rattle.std.specs.Prelude.{◌≡◌, ℕ, true, false, List, All, IsTrue}
+use Rattle.cold_start.specs.Starts.{node_begun_in}
 use Rattle.fabric_terms.specs.declared.config.FabricConfig.{FabricConfig}
 use Rattle.fabric_terms.specs.declared.message.Message.{Message}
 use Rattle.fabric_terms.specs.declared.record.Record.{Record}
@@ -15,7 +16,7 @@ use Rattle.ring_points.specs.declared.who.Who.{Who}
 use Rattle.ring_rules.specs.declared.input.Input.{Input}
 use Rattle.unit_rules.specs.Units.{units}
 use Rattle.world_rules.specs.Arbiters.{ArbiterState, arbiter_begun, arbiter_step}
-use Rattle.world_rules.specs.Nodes.{NodeState, node_begun, node_step}
+use Rattle.world_rules.specs.Nodes.{NodeState, node_step}
 use Rattle.world_rules.specs.Schedules.{is_configured_node}
 use Rattle.world_rules.specs.Uppers.{Did}
 use Rattle.world_rules.specs.Worlds.{arbiter_who}
@@ -43,11 +44,11 @@ LiveInRange c s = is_left s.ring.phase ≡ false → NodeInRange c s
 abbrev pub NodeDoes : FabricConfig → Did (NodeState units) → Type 0
 NodeDoes c d = StepInFormat (LiveInRange c) d.state.ring.me d
 
--- from records that are in range
+-- from records that are in range, whoever begins with the whole ring
 abbrev pub NodesBeginInFormat : Type 0
 NodesBeginInFormat =
-    (c : FabricConfig) (node : ℕ) (records : List Record) → IsSound c → is_configured_node c node ≡ true → All KeptRecord records →
-    NodeDoes c (node_begun units c node records)
+    (whole : Who) (c : FabricConfig) (node : ℕ) (records : List Record) → IsSound c → is_configured_node c node ≡ true → All KeptRecord records →
+    NodeDoes c (node_begun_in units whole c node records)
 
 -- by any frame, a forged one too, and by any command that fits
 abbrev pub NodesStayInFormat : Type 0

@@ -3,6 +3,7 @@ use Rattle.std.proofs.Common.{◌≡◌, ℕ, suc, Bool, true, false, cond, List
 use Rattle.std.specs.Prelude.{All, nat_lt, slice_get}
 use Rattle.std.proofs.lemmas.List.Elements.{All-get_or, All-nil}
 use Rattle.std.proofs.lemmas.Option.{get_or_from_slice_get, slice_get_within}
+use Rattle.cold_start.specs.Starts.{first_whole}
 use Rattle.cluster_safety.specs.Plans.{IsClusterPlan}
 use Rattle.fabric_config.specs.Config.{config_of_line, lacks_address}
 use Rattle.fabric_config.specs.declared.error.ConfigError.{ConfigError}
@@ -57,13 +58,14 @@ abbrev IsRead : Plan → Type 0
 IsRead plan = IsSound plan.config × IsClusterPlan plan
 
 with_orders : (c : FabricConfig) (turns : ℕ) (orders : List Order) → IsSound c → All (Names c (endpoints_of c Cluster)) orders →
-    IsRead (record { config = c; actors = endpoints_of c Cluster; orders = orders; turns = turns })
+    IsRead (record { config = c; whole = first_whole c; actors = endpoints_of c Cluster; orders = orders; turns = turns })
 with_orders c turns orders sound named =
     let stretch : Stretch c 0 (arbiter_actor (suc most_arbiters)) (nodes_to c most_node_number ++ arbiters_to c most_arbiters) = cluster_rises c sound in (
       sound,
       record {
         rise = stretch.rise;
         configured = all_at (IsOf c) (nodes_to c most_node_number ++ arbiters_to c most_arbiters) stretch.known;
+        whole = refl;
         named = λ k o e here at. all_at (Names c (endpoints_of c Cluster)) orders named k o here e at;
       },
     )
@@ -74,7 +76,7 @@ plan_read c turns ls plan sound is = by_orders (judge_from Cluster c (endpoints_
     by_orders : (r : Result (List Order) Refusal) → judge_from Cluster c (endpoints_of c Cluster) turns [] 1 2 ls ≡ r → plan_with c (endpoints_of c Cluster) turns r ≡ Ok plan → IsRead plan
     by_orders (Err refusal) judged same = cc
     by_orders (Ok orders) judged same =
-        let is_plan : record { config = c; actors = endpoints_of c Cluster; orders = orders; turns = turns } ≡ plan = cc in
+        let is_plan : record { config = c; whole = first_whole c; actors = endpoints_of c Cluster; orders = orders; turns = turns } ≡ plan = cc in
         subst IsRead is_plan
         (with_orders c turns orders sound
         (all_name c (endpoints_of c Cluster) (λ node there. among c node sound there) Cluster turns [] 1 2 ls orders (All-nil (Names c (endpoints_of c Cluster))) judged))

@@ -35,21 +35,21 @@ end_cases (x ∷ xs) y z zero e = inl e
 end_cases (x ∷ xs) y z (suc j) e = ⊎_elim (λ same. inl same) (λ (here : (j ≡ length xs) × (z ≡ y)). inr (ap suc here.0, here.1)) (end_cases xs y z j e)
 
 found_at : (s : Setting) (place : ℕ) (p : Process) (e : Endpoint) (records : List Record) (last : Option ℕ) → slice_get s.plan.actors place ≡ Some e → slice_get s.kept place ≡ Some records → p.last ≡ last
-    → joins s 0 place p ≡ joins_as p (begun s.plan.config 0 last e.actor records)
+    → joins s 0 place p ≡ joins_as p (begun s.plan.config s.plan.whole 0 last e.actor records)
 found_at s place p e records last here list same =
     ap (λ (o : Option Endpoint). joins_at s 0 p o (slice_get s.kept place)) here
     ∙ ap (joins_at s 0 p (Some e)) list
-    ∙ ap (λ (l : Option ℕ). joins_as p (begun s.plan.config 0 l e.actor records)) same
+    ∙ ap (λ (l : Option ℕ). joins_as p (begun s.plan.config s.plan.whole 0 l e.actor records)) same
 
 joined_at : (s : Setting) (place : ℕ) (p : Process) (e : Endpoint) (records : List Record) (last : Option ℕ) → slice_get s.plan.actors place ≡ Some e → slice_get s.kept place ≡ Some records → p.last ≡ last
-    → exceeds (begun s.plan.config 0 last e.actor records).member ≡ false → joins s 0 place p ≡ joins_with p (begun s.plan.config 0 last e.actor records)
+    → exceeds (begun s.plan.config s.plan.whole 0 last e.actor records).member ≡ false → joins s 0 place p ≡ joins_with p (begun s.plan.config s.plan.whole 0 last e.actor records)
 joined_at s place p e records last here list same room =
-    found_at s place p e records last here list same ∙ ap (λ (b : Bool). unless_full p b (joins_with p (begun s.plan.config 0 last e.actor records))) room
+    found_at s place p e records last here list same ∙ ap (λ (b : Bool). unless_full p b (joins_with p (begun s.plan.config s.plan.whole 0 last e.actor records))) room
 
 pub joined : {may_go : Rows} (s : Setting) (a b : Told) (old : Run) (h : History) (x : Happening) (p : TurnPosition) (place : ℕ) (records : List Record) (deed : Deed) (new : Run) → slice_get s.kept place ≡ Some records → MeetsStartBy may_go s a b old h x p place
-    → (t : JoinsAt s.plan records place old deed new) → Acted s h x place (begun s.plan.config 0 old.last t.endpoint.actor records).step new
+    → (t : JoinsAt s.plan records place old deed new) → Acted s h x place (begun s.plan.config s.plan.whole 0 old.last t.endpoint.actor records).step new
 joined s a b old h x p place records deed new list m t =
-    let d : Stepped = begun s.plan.config 0 old.last t.endpoint.actor records in
+    let d : Stepped = begun s.plan.config s.plan.whole 0 old.last t.endpoint.actor records in
     let e : after s (x ∷ h) ≡ joins_with m.before d = m.joins ∙ joined_at s place m.before t.endpoint records old.last t.named list m.last t.does.room in
     let w : seen t.next ≡ d.member = t.does.makes.member in
     let now : new.members ≡ old.members ++ t.next ∷ [] = ap (λ (r : Run). r.members) t.now in
@@ -92,7 +92,7 @@ length_join plan records old place deed new t e = ap (λ (r : Run). length r.mem
 -- its table is full from the beginning
 pub join_full : {may_go : Rows} (s : Setting) (a b : Told) (old : Run) (h : History) (x : Happening) (p : TurnPosition) (place : ℕ) (records : List Record) → slice_get s.kept place ≡ Some records → MeetsStartBy may_go s a b old h x p place → NotJoinsAt s.plan records place old → EndedBy may_go s a b Full
 join_full s a b old h x p place records list m t =
-    let d : Stepped = begun s.plan.config 0 old.last t.endpoint.actor records in
+    let d : Stepped = begun s.plan.config s.plan.whole 0 old.last t.endpoint.actor records in
     let e : after s (x ∷ h) ≡ record m.before { end = Some Full } =
     m.joins ∙ found_at s place m.before t.endpoint records old.last t.named list m.last ∙ ap (λ (b : Bool). unless_full m.before b (joins_with m.before d)) t.full in
     full_ended s a b h x p m.came (ap (λ (q : Process). q.end) e) (ap (λ (q : Process). q.steps) e ∙ m.steps)
@@ -102,18 +102,18 @@ join_full s a b old h x p place records list m t =
 pub join_done : {may_go : Rows} (s : Setting) (a b c : Told) (old new : Run) (h : History) (x : Happening) (p : TurnPosition) (place : ℕ) (records : List Record) (deed : Deed) (config : FabricConfig) → config ≡ s.plan.config → slice_get s.kept place ≡ Some records
     → MeetsStartBy may_go s a b old h x p place → JoinsAt s.plan records place old deed new → (done : Unit {0}) → CarriesOut (work_in config deed) b c (Ok done) → left_at new.members place ≡ None → AtBy may_go s a c new (x ∷ h) p
 join_done s a b c old new h x p place records deed config same list m t done k stays =
-    let d : Stepped = begun s.plan.config 0 old.last t.endpoint.actor records in
+    let d : Stepped = begun s.plan.config s.plan.whole 0 old.last t.endpoint.actor records in
     done_at s a b c new h x p place d.step m.came (joined s a b old h x p place records deed new list m t) (carried_for s.plan.config config d (seen t.next) deed b c (Ok done) same t.does.makes k)
     (clock_join s.plan records old place deed new b.last t m.clock) stays
 
 pub join_left : {may_go : Rows} (s : Setting) (a b c : Told) (old new : Run) (h : History) (x : Happening) (p : TurnPosition) (place : ℕ) (records : List Record) (deed : Deed) (config : FabricConfig) (why : Why) → config ≡ s.plan.config → slice_get s.kept place ≡ Some records
     → MeetsStartBy may_go s a b old h x p place → JoinsAt s.plan records place old deed new → (done : Unit {0}) → CarriesOut (work_in config deed) b c (Ok done) → left_at new.members place ≡ Some why → EndedBy may_go s a c (Left why)
 join_left s a b c old new h x p place records deed config why same list m t done k left =
-    let d : Stepped = begun s.plan.config 0 old.last t.endpoint.actor records in
+    let d : Stepped = begun s.plan.config s.plan.whole 0 old.last t.endpoint.actor records in
     left_from s a b c new h x p place d.step why m.came (joined s a b old h x p place records deed new list m t) (carried_for s.plan.config config d (seen t.next) deed b c (Ok done) same t.does.makes k) left
 
 pub join_broken : {may_go : Rows} (s : Setting) (a b c : Told) (old new : Run) (h : History) (x : Happening) (p : TurnPosition) (place : ℕ) (records : List Record) (deed : Deed) (config : FabricConfig) (r : StopCause) → config ≡ s.plan.config → slice_get s.kept place ≡ Some records
     → MeetsStartBy may_go s a b old h x p place → JoinsAt s.plan records place old deed new → CarriesOut (work_in config deed) b c (Err r) → StoppedBy may_go s a c r
 join_broken s a b c old new h x p place records deed config r same list m t k =
-    let d : Stepped = begun s.plan.config 0 old.last t.endpoint.actor records in
+    let d : Stepped = begun s.plan.config s.plan.whole 0 old.last t.endpoint.actor records in
     broken_from s a b c new h x p place d.step r m.came (joined s a b old h x p place records deed new list m t) (carried_for s.plan.config config d (seen t.next) deed b c (Err r) same t.does.makes k)

@@ -41,7 +41,7 @@ pub record JoinsAt (plan : Plan) (kept : List Record) (place : ℕ) (old : Run) 
   pub endpoint : Endpoint
   pub named : slice_get plan.actors place ≡ Some endpoint
   pub now : new ≡ record { members = old.members ++ next ∷ []; last = old.last }
-  pub does : Does (begun plan.config 0 old.last endpoint.actor kept) (seen next) deed
+  pub does : Does (begun plan.config plan.whole 0 old.last endpoint.actor kept) (seen next) deed
   pub runs : IsOf plan.config endpoint.actor next
   pub own : IsDeedOf endpoint.actor deed
 
@@ -54,7 +54,7 @@ pub record RefusedAt (plan : Plan) (turn place : ℕ) (i : Input) (old : Run) : 
 pub record NotJoinsAt (plan : Plan) (kept : List Record) (place : ℕ) (old : Run) : Type 0 where
   pub endpoint : Endpoint
   pub named : slice_get plan.actors place ≡ Some endpoint
-  pub full : exceeds (begun plan.config 0 old.last endpoint.actor kept).member ≡ true
+  pub full : exceeds (begun plan.config plan.whole 0 old.last endpoint.actor kept).member ≡ true
 
 abbrev pub why_of : Option Member → Option Why
 why_of None = None

@@ -112,7 +112,8 @@ impl Run {
             IsKeptAt plan.now place records kept → NotJoinsAt plan.now records place self.old }
     {
         let now = self.present();
-        let (member, deed) = Member::begin(alloc, plan.config(), plan.actor_at(place), kept, now)?;
+        let actor = plan.actor_at(place);
+        let (member, deed) = Member::begin(alloc, plan.config(), plan.whole(), actor, kept, now)?;
         self.add(member)?;
         Ok(deed)
     }

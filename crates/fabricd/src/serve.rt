@@ -10,6 +10,7 @@ use crate::serving::Serving;
 use crate::start::read_given;
 use crate::started::{Keeps, Started, read_records, short};
 use client_sessions::Sessions;
+use cold_start::first_whole;
 use door_io::Clients;
 use edge_io::{Devices, Links};
 use fabric_edge::{FolderKeeper, MonoClock};
@@ -189,7 +190,8 @@ fn run<'a>(rt: &'a HostRuntime, serving: Serving<'a>) -> Result<End, End> {
         lease: config.lease,
         grain: config.bound.grain,
     };
-    let plan = plan_of(alloc, config, serving.actor)?;
+    let whole = first_whole(&config);
+    let plan = plan_of(alloc, config, whole, serving.actor)?;
     let service = Service { alloc, plan };
     let folder = serving.options.folder.unwrap_or(".");
     enter_folder(rt, folder).map_err(|fault| End::Start(fault))?;

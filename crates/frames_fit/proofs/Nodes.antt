@@ -3,6 +3,8 @@ use Rattle.std.proofs.Common.{◌≡◌, ℕ, ◌+◌, Bool, true, false, cond, 
 use Rattle.std.specs.Prelude.{All}
 use Rattle.std.proofs.lemmas.Bool.{and_from, leb-false}
 use Rattle.std.proofs.lemmas.List.Elements.{All-append, All-cons, All-nil}
+use Rattle.cold_start.proofs.Steps.{begun_first}
+use Rattle.cold_start.specs.Starts.{first_whole, node_begun_in, start_in, started_in}
 use Rattle.fabric_terms.specs.declared.config.FabricConfig.{FabricConfig}
 use Rattle.fabric_terms.specs.declared.record.Record.{Record}
 use Rattle.fabric_terms.specs.declared.record.Record.TheVariants.{Boot}
@@ -143,27 +145,32 @@ module _ (a : Upper) (p : SendsInFormat a) (c : FabricConfig) (sound : IsSound c
         by_spent true e = All-nil (KeptInRange p)
         by_spent false e = All-cons (KeptInRange p) (Boot (instance_begun records)) [] (counted e) (All-nil (KeptInRange p))
 
-    not_spent : is_left (node_started c (node_instance node (instance_begun records)) (is_spent records)).ring.phase ≡ false → is_spent records ≡ false
-    not_spent = by_spent (is_spent records)
+    not_spent : (whole : Who) → is_left (start_in whole c (node_instance node (instance_begun records)) (is_spent records)).ring.phase ≡ false → is_spent records ≡ false
+    not_spent whole = by_spent (is_spent records)
       where
-        by_spent : (b : Bool) → is_left (node_started c (node_instance node (instance_begun records)) b).ring.phase ≡ false → b ≡ false
+        by_spent : (b : Bool) → is_left (start_in whole c (node_instance node (instance_begun records)) b).ring.phase ≡ false → b ≡ false
         by_spent true f = let left = spent_left c (node_instance node (instance_begun records)) in absurd (cc (left, f))
         by_spent false f = refl
 
-    pub node_begins : NodeActs a p c (node_begun a c node records)
-    unfolding node_begun
-    node_begins = record {
+    -- whoever begins with the whole ring
+    pub node_begins_in : (whole : Who) → NodeActs a p c (node_begun_in a whole c node records)
+    unfolding node_begun_in started_in
+    node_begins_in whole = record {
       state = λ f.
           let x : Who = node_instance node (instance_begun records) in
-          let unspent = not_spent f in
+          let unspent = not_spent whole f in
           let who : IsTrue (is_who x) = and_from (is_node node) (is_counted (instance_begun records)) named (counted unspent) in
           record {
-            ring = subst (λ (b : Bool). IsInRange c (node_started c x b).ring) (sym unspent) (started_in_range c x who listed);
+            ring = subst (λ (b : Bool). IsInRange c (start_in whole c x b).ring) (sym unspent) (started_in_range whole c x who listed);
             above = p.above_begun c x records sound who kept;
           };
       acts = record {
         records = boot_recorded;
         posts = λ frames h. h;
-        told = started_told c sound (node_instance node (instance_begun records)) (is_spent records) (λ e. and_from (is_node node) (is_counted (instance_begun records)) named (counted e)) listed;
+        told = started_told whole c sound (node_instance node (instance_begun records)) (is_spent records) (λ e. and_from (is_node node) (is_counted (instance_begun records)) named (counted e)) listed;
       };
     }
+
+    -- in the first life
+    pub node_begins : NodeActs a p c (node_begun a c node records)
+    node_begins = subst (λ (d : Did (NodeState a)). NodeActs a p c d) (begun_first a c node records) (node_begins_in (first_whole c))

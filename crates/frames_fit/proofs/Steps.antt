@@ -1,8 +1,9 @@
 -- Each step of a ring, and its start, keeps it in range and sends frames in their format.
-use Rattle.std.proofs.Common.{◌≡◌, ℕ, Bool, true, false, ◌&&◌, ◌==◌, List, [], ◌∷◌, ◌++◌, None, IsTrue, refl, arith}
+use Rattle.std.proofs.Common.{◌≡◌, ℕ, Bool, true, false, List, [], ◌∷◌, ◌++◌, None, IsTrue, refl, arith}
 use Rattle.std.specs.Prelude.{All}
 use Rattle.std.proofs.lemmas.Bool.{le-leb}
 use Rattle.std.proofs.lemmas.List.Elements.{All-cons, All-nil}
+use Rattle.cold_start.specs.Starts.{start_in}
 use Rattle.fabric_terms.specs.declared.command.Command.{Command}
 use Rattle.fabric_terms.specs.declared.config.FabricConfig.{FabricConfig}
 use Rattle.fabric_terms.specs.declared.report.Report.TheVariants.{LeftRing, Own}
@@ -13,6 +14,7 @@ use Rattle.join_phases.specs.Phases.{is_left, routing, seeking}
 use Rattle.ring_points.specs.declared.interval.Interval.{Interval}
 use Rattle.ring_points.specs.declared.who.Who.{Who}
 use Rattle.ring_points.specs.Ranges.{fits, is_proper, whole_ring}
+use Rattle.ring_points.specs.Whos.{same_who}
 use Rattle.ring_rules.specs.declared.input.Input.{Input}
 use Rattle.ring_rules.specs.declared.input.Input.TheVariants as input
 use Rattle.ring_rules.specs.Frames.{passes}
@@ -92,10 +94,10 @@ new_in_range c me p ranges h k proper fit = record {
   target = tt;
 }
 
--- where an instance begins
-pub started_in_range : (c : FabricConfig) (me : Who) → IsTrue (is_who me) → is_configured_node c me.actor ≡ true → IsInRange c (node_started c me false).ring
-unfolding node_started
-started_in_range c me h k = by_first (me.actor == c.first && me.instance == 1)
+-- where an instance begins, whoever begins with the whole ring
+pub started_in_range : (whole : Who) (c : FabricConfig) (me : Who) → IsTrue (is_who me) → is_configured_node c me.actor ≡ true →
+    IsInRange c (start_in whole c me false).ring
+started_in_range whole c me h k = by_first (same_who me whole)
   where
     by_first : (b : Bool) → IsInRange c (start_first c me b).ring
     by_first true = new_in_range c me routing whole_ring h k refl refl
@@ -107,13 +109,13 @@ unfolding node_started
 spent_left c me = refl
 
 -- what is told at a start
-pub started_told : (c : FabricConfig) → IsSound c → (me : Who) (spent : Bool) → (spent ≡ false → IsTrue (is_who me)) →
+pub started_told : (whole : Who) (c : FabricConfig) → IsSound c → (me : Who) (spent : Bool) → (spent ≡ false → IsTrue (is_who me)) →
     is_configured_node c me.actor ≡ true →
-    All ReportInRange ((node_started c me spent).told ++ own_of_ring (settings_of c me.actor) (node_started c me spent).ring ∷ [])
+    All ReportInRange ((start_in whole c me spent).told ++ own_of_ring (settings_of c me.actor) (start_in whole c me spent).ring ∷ [])
 unfolding node_started
-started_told c sound me true h k =
+started_told whole c sound me true h k =
     All-cons ReportInRange (LeftRing Counters) (Own [] None ∷ []) tt (All-cons ReportInRange (Own [] None) [] (refl, tt) (All-nil ReportInRange))
-started_told c sound me false h k = by_first (me.actor == c.first && me.instance == 1)
+started_told whole c sound me false h k = by_first (same_who me whole)
   where
     one : (r : Ring) → IsInRange c r → All ReportInRange (own_of_ring (settings_of c me.actor) r ∷ [])
     one r m =

@@ -1,39 +1,31 @@
-ghost use Rattle.std.specs.Prelude.{◌≡◌, ◌≤◌, ◌+◌, ◌||◌, List, [], IfOk, IsTrue, OnOk, OnErr, false, not, true};
-ghost use Rattle.fabric_lemmas.specs.Maps.{rises};
-ghost use Rattle.fabric_terms.specs.Sound.{IsSound};
+ghost use Rattle.std.specs.Prelude.{◌≡◌, ◌≤◌, ◌+◌, ◌||◌, [], IfOk, OnOk, OnErr, false, not, true};
 ghost use Rattle.fabric_terms.specs.declared.config.FabricConfig.{FabricConfig as Configuration};
-ghost use Rattle.fabric_terms.specs.declared.record.Record.{Record};
-ghost use Rattle.keep_log.specs.Amounts.{Holds};
 ghost use Rattle.ring_points.specs.Limits.{most_arbiters, most_messages};
-ghost use Rattle.world_rules.specs.Nodes.{node_begun, node_step};
+ghost use Rattle.world_rules.specs.Nodes.{node_step};
 ghost use Rattle.unit_rules.specs.Fabric.{fabric};
-ghost use Rattle.world_rules.specs.Schedules.{is_configured_node};
 ghost use Rattle.ring_node.specs.Owned.{owned_of};
-ghost use Rattle.unit_replica.specs.Starts.{states_of};
 ghost use Rattle.node_core.specs.Memory.{may_store};
 ghost use Rattle.node_core.specs.NodeEffects.{HasRoom, IsAsLarge, IsClear, left_in};
-ghost use Rattle.node_core.specs.Nodes.{Amounts, Does, FitsInput, GoesBy, IsNothing, IsSmall, KeepsRoom, frames_limit};
-ghost use Rattle.node_core.specs.Nodes.{kept_in, most_frames, nothing_kept, with_states};
+ghost use Rattle.node_core.specs.Nodes.{Does, FitsInput, GoesBy, IsNothing, IsSmall, KeepsRoom, frames_limit};
+ghost use Rattle.node_core.specs.Nodes.{kept_in, most_frames, with_states};
 ghost use Rattle.node_core.specs.UnitParts.{most_fired};
 
+mod start;
 mod state;
 
-use crate::batch::Batch;
-use crate::boots::{boot, instance_after, is_spent};
 use crate::kept::NodeKept;
 use crate::node_effects::{NodeEffects, drop_boxed};
 use crate::node_parts::NodeParts;
 use crate::outcome::Outcome;
 use crate::unit_part::UnitNode;
 use crate::whole_step::step_at;
-use fabric_terms::{FabricConfig, OutOfMemory};
-use keep_log::Kept;
-use ring_node::{Input, RingNode};
-use ring_points::{MAX_ARBITRATORS, MAX_READING, OUTBOX_LIMIT, Who};
+use fabric_terms::OutOfMemory;
+use ring_node::Input;
+use ring_points::{MAX_ARBITRATORS, MAX_READING, OUTBOX_LIMIT};
 use std::alloc::Global;
 use std::marker::Model;
 use std::mem;
-use unit_replica::{MAX_PEERS, ReplicaStates};
+use unit_replica::MAX_PEERS;
 
 /// A whole node. Contracts see it as the record `Core`: what it goes by, its ring and what runs above it.
 #[derive(Drop)]
@@ -73,94 +65,6 @@ fn most_frames_of(units: &UnitNode) -> usize
 }
 
 impl NodeCore {
-    /// Starts a node from what is kept of it: its next instance, or the last again where all numbers are used up, and
-    /// then it has left. What was kept is the node's from here on. It is an error where memory is short, and then
-    /// `kept` is as it was.
-    #[inline(never)]
-    #[tactic(auto, unfolding(crate::specs::Nodes::most_frames))]
-    pub fn begin(
-        alloc: Global,
-        config: &FabricConfig,
-        node: u16,
-        kept: &mut NodeKept,
-        now: u64,
-    ) -> Result<(Box<NodeCore>, Outcome), OutOfMemory>
-        requires sound { IsSound config.now }
-        requires node { is_configured_node config.now node ≡ true }
-        requires now { now ≤ MAX_READING }
-        ensures begins { IfOk result (λ r. (records : List Record) → Amounts records kept.old →
-            Does (node_begun fabric config.now node records) r.0.value r.1) }
-        ensures goes_by { IfOk result (λ r. GoesBy config.now r.0.value) }
-        ensures small { IfOk result (λ r. IsSmall r.0.value.state r.1) }
-        ensures taken { OnOk result (kept.new ≡ nothing_kept) }
-        ensures refused { OnErr result (kept.new ≡ kept.old) }
-    {
-        let spent = is_spent(kept.boots);
-        let instance = instance_after(kept.boots);
-        let me = Who {
-            actor: node,
-            instance,
-        };
-        let records = boot(alloc, instance, spent)?;
-        let (ring, mut told) = RingNode::new(alloc, config, me, now, spent)?;
-        let mut reports = Vec::with_capacity(alloc, told.as_slice().len())?;
-        told.hand_over(&mut reports);
-        let owned = ring.owned();
-        let parts = NodeParts {
-            ring,
-            owned,
-            units: UnitNode::new(alloc, config),
-        };
-        let core = NodeCore {
-            alloc,
-            parts,
-            effects: None,
-        };
-        let mut core = Box::new(alloc, core)?;
-        core.put_states(mem::replace(kept, NodeKept::new(alloc)).states);
-        let outcome = Outcome {
-            records: Batch::new(records),
-            frames: Batch::new(Vec::new(alloc)),
-            reports: Batch::new(reports),
-        };
-        Ok((core, outcome))
-    }
-
-    /// The node begins with these replicas. It has no room for a step yet.
-    fn put_states(&mut self, states: ReplicaStates)
-        requires { self.old.has_room ≡ false }
-        ensures { self.new ≡ with_states states self.old }
-    {
-        self.parts.units.put_states(states);
-    }
-
-    /// Starts a node as `begin` does, from what its records amount to. It is an error where memory is short, and then
-    /// `kept` is dropped.
-    pub fn start(
-        alloc: Global,
-        config: &FabricConfig,
-        node: u16,
-        kept: Kept,
-        now: u64,
-    ) -> Result<(NodeCore, Outcome), OutOfMemory>
-        requires sound { IsSound config.now }
-        requires node { is_configured_node config.now node ≡ true }
-        requires replicas { IsTrue (rises (states_of kept.replicas)) }
-        requires now { now ≤ MAX_READING }
-        ensures begins { IfOk result (λ r. (records : List Record) → Holds records kept →
-            Does (node_begun fabric config.now node records) r.0 r.1) }
-        ensures goes_by { IfOk result (λ r. GoesBy config.now r.0) }
-        ensures small { IfOk result (λ r. IsSmall r.0.state r.1) }
-    {
-        let mut replicas = kept.replicas.into_vec();
-        let mut kept = NodeKept {
-            boots: kept.boots,
-            states: ReplicaStates::begun(alloc, &mut replicas)?,
-        };
-        let (core, outcome) = NodeCore::begin(alloc, config, node, &mut kept, now)?;
-        Ok((Box::into_inner(core), outcome))
-    }
-
     /// Gives back what is kept of the node, for its next start: nothing else of a node is needed once it has stopped.
     /// The node has no replica then, and no room for a step.
     pub fn take_kept(&mut self) -> NodeKept

@@ -1,7 +1,7 @@
 ghost use Rattle.std.specs.Prelude.{◌≡◌, ◌≤◌, [], IfOk, is_ok, length, map, true};
 ghost use Rattle.fabric_terms.specs.Sound.{IsSound};
 ghost use Rattle.ring_node.specs.Nodes.{step};
-ghost use Rattle.ring_node.specs.Steps.{first_phase, first_ranges, started};
+ghost use Rattle.ring_node.specs.Steps.{begun, first_phase, first_ranges, started};
 ghost use Rattle.ring_rules.specs.Rings.{longest_of, points_of, settings_of};
 ghost use Rattle.ring_rules.specs.Starts.{new_ring};
 
@@ -40,12 +40,12 @@ fn points_of(nodes: &[NodeEntry]) -> ArrayVec<(u16, Point), MAX_NODES>
     points
 }
 
-/// How a node begins: the first instance of the first node with all ranges, every other one with none.
-fn first_phase(config: &FabricConfig, me: Who) -> (Phase, RangeSet)
-    ensures phase { result.0 ≡ first_phase config.now me }
-    ensures ranges { result.1 ≡ first_ranges config.now me }
+/// How an instance begins: with the whole ring, as instance 1 of the first node does, or with nothing.
+fn first_phase(whole: bool) -> (Phase, RangeSet)
+    ensures phase { result.0 ≡ first_phase whole }
+    ensures ranges { result.1 ≡ first_ranges whole }
 {
-    match Booting::new(me.actor == config.first, me.instance).found() {
+    match Booting::new(whole, 1).found() {
         Ok(routing) => (Phase::Routing(routing), RangeSet::whole()),
         Err(booting) => (Phase::Seeking(booting.seek()), RangeSet::new()),
     }
@@ -53,7 +53,7 @@ fn first_phase(config: &FabricConfig, me: Who) -> (Phase, RangeSet)
 
 impl RingNode {
     /// A node in this phase with these ranges, before its first step.
-    fn begin(config: &FabricConfig, me: Who, phase: Phase, ranges: RangeSet) -> RingNode
+    fn in_phase(config: &FabricConfig, me: Who, phase: Phase, ranges: RangeSet) -> RingNode
         requires { IsSound config.now }
         ensures settings { result.settings ≡ settings_of config.now me.actor }
         ensures ring { result.ring ≡ new_ring config.now me phase ranges }
@@ -81,7 +81,25 @@ impl RingNode {
     }
 
     /// The instance of a node that starts, and what it tells: that it left, where all numbers of instances are spent,
-    /// and what it owns. No memory is needed, and no call fails.
+    /// and what it owns. It begins with the whole ring or with nothing, as `whole` says. No call fails.
+    #[tactic(auto, unfolding(ring_rules::specs::Starts::node_started))]
+    pub fn begin(config: &FabricConfig, me: Who, whole: bool, spent: bool) -> (RingNode, Reports)
+        requires { IsSound config.now }
+        ensures { step result.0 [] result.1 ≡ begun config.now me whole spent }
+    {
+        let (phase, ranges) = first_phase(whole);
+        let mut node = RingNode::in_phase(config, me, phase, ranges);
+        let mut told = Reports::new();
+        if spent {
+            node.leave_at(Why::Counters, Mark::first());
+            told.push(Report::LeftRing(Why::Counters));
+        }
+        told.push(Report::Own(node.token.ranges().copy(), node.links.fence()));
+        (node, told)
+    }
+
+    /// Starts an instance by the configuration: instance 1 of the first node begins with the whole ring. No memory is
+    /// needed, and no call fails.
     #[tactic(auto, unfolding(ring_rules::specs::Starts::node_started))]
     pub fn new(
         _alloc: Global,
@@ -94,14 +112,7 @@ impl RingNode {
         ensures ok { is_ok result ≡ true }
         ensures started { IfOk result (λ begun. step begun.0 [] begun.1 ≡ started config.now me spent) }
     {
-        let (phase, ranges) = first_phase(config, me);
-        let mut node = RingNode::begin(config, me, phase, ranges);
-        let mut told = Reports::new();
-        if spent {
-            node.leave_at(Why::Counters, Mark::first());
-            told.push(Report::LeftRing(Why::Counters));
-        }
-        told.push(Report::Own(node.token.ranges().copy(), node.links.fence()));
-        Ok((node, told))
+        let whole = me.actor == config.first && me.instance == 1;
+        Ok(RingNode::begin(config, me, whole, spent))
     }
 }

@@ -9,6 +9,7 @@ use Rattle.fabric_terms.specs.Ranges.{FitsCommand}
 use Rattle.fabric_terms.specs.Sound.{IsSound}
 use Rattle.fabric_terms.specs.declared.config.FabricConfig.{FabricConfig}
 use Rattle.fabric_terms.specs.declared.config.NodeEntry.{NodeEntry}
+use Rattle.ring_points.specs.declared.who.Who.{Who}
 use Rattle.serve_rules.specs.Services.{IsService}
 use Rattle.turn_rules.specs.Plans.{IsConfigured, Plan}
 use Rattle.turn_rules.specs.declared.order.Order.{Order}
@@ -43,8 +44,8 @@ known_at : (c : FabricConfig) (es : List Endpoint) → All (IsKnown c) es → (p
 known_at c es all place e here =
     subst (IsKnown c) (get_or_from_slice_get es place e e here) (All-get_or (IsKnown c) es place e (slice_get_within es place e here) all)
 
-alone_serves : (c : FabricConfig) (actor : ℕ) (at : List ℕ) → IsSound c → address_of c actor ≡ Some at → IsService (plan_for c actor at)
-alone_serves c actor at sound found = record {
+alone_serves : (c : FabricConfig) (whole : Who) (actor : ℕ) (at : List ℕ) → IsSound c → address_of c actor ≡ Some at → IsService (plan_for c whole actor at)
+alone_serves c whole actor at sound found = record {
   good = record {
     sound = sound;
     some = omega arith;
@@ -56,11 +57,11 @@ alone_serves c actor at sound found = record {
   free = refl;
 }
 
-abbrev pub plan_by : FabricConfig → List Endpoint → List Order → Plan
-plan_by c actors orders = record { config = c; actors = actors; orders = orders; turns = 0 }
+abbrev pub plan_by : FabricConfig → (whole : Who) → List Endpoint → List Order → Plan
+plan_by c whole actors orders = record { config = c; whole = whole; actors = actors; orders = orders; turns = 0 }
 
 -- an actor with an address can be served
-pub served_by : (plan : Plan) (c : FabricConfig) (actor : ℕ) (at : List ℕ) (actors : List Endpoint) (orders : List Order) → plan ≡ plan_by c actors orders → actors ≡ record { actor = actor; at = at } ∷ [] → orders ≡ [] → IsSound c → address_of c actor ≡ Some at → IsService plan
-served_by plan c actor at actors orders is alone free sound found =
-    subst IsService (sym (is ∙ (ap (λ (es : List Endpoint). plan_by c es orders) alone ∙ ap (λ (os : List Order). plan_by c (record { actor = actor; at = at } ∷ []) os) free)))
-    (alone_serves c actor at sound found)
+pub served_by : (plan : Plan) (c : FabricConfig) (whole : Who) (actor : ℕ) (at : List ℕ) (actors : List Endpoint) (orders : List Order) → plan ≡ plan_by c whole actors orders → actors ≡ record { actor = actor; at = at } ∷ [] → orders ≡ [] → IsSound c → address_of c actor ≡ Some at → IsService plan
+served_by plan c whole actor at actors orders is alone free sound found =
+    subst IsService (sym (is ∙ (ap (λ (es : List Endpoint). plan_by c whole es orders) alone ∙ ap (λ (os : List Order). plan_by c whole (record { actor = actor; at = at } ∷ []) os) free)))
+    (alone_serves c whole actor at sound found)

@@ -2,6 +2,7 @@
 use Rattle.std.specs.Prelude.{◌≡◌, ℕ, ◌==◌, List, [], ◌∷◌, Option, Some, None, Result, Ok, Err, find, option_map, if◌then◌else◌}
 use Rattle.fabric_status.specs.declared.status.Status.TheVariants.{NoSuch}
 use Rattle.fabric_terms.specs.declared.config.FabricConfig.{FabricConfig}
+use Rattle.ring_points.specs.declared.who.Who.{Who}
 use Rattle.turn_rules.specs.Plans.{Plan}
 use Rattle.world_rules.specs.Events.{arbiter_number, is_arbiter_actor}
 use Rattle.serve_top.specs.Addresses.{short}
@@ -15,11 +16,11 @@ address_of c actor =
     else option_map (λ e. e.at) (find (λ e. e.node == actor) c.nodes)
 
 -- the actor alone, without commands
-abbrev pub plan_for : FabricConfig → ℕ → List ℕ → Plan
-plan_for c actor at = record { config = c; actors = record { actor = actor; at = at } ∷ []; orders = []; turns = 0 }
+abbrev pub plan_for : FabricConfig → (whole : Who) → ℕ → List ℕ → Plan
+plan_for c whole actor at = record { config = c; whole = whole; actors = record { actor = actor; at = at } ∷ []; orders = []; turns = 0 }
 
 -- the plan of the actor; or it is none of line 1; or memory was short
-abbrev pub PlansFor : FabricConfig → ℕ → Result Plan End → Type 0
-PlansFor c actor (Ok p) = (at : List ℕ) × (address_of c actor ≡ Some at) × (p ≡ plan_for c actor at)
-PlansFor c actor (Err (end.As (NoSuch line))) = (line ≡ 1) × (address_of c actor ≡ None)
-PlansFor c actor (Err e) = e ≡ short
+abbrev pub PlansFor : FabricConfig → (whole : Who) → ℕ → Result Plan End → Type 0
+PlansFor c whole actor (Ok p) = (at : List ℕ) × (address_of c actor ≡ Some at) × (p ≡ plan_for c whole actor at)
+PlansFor c whole actor (Err (end.As (NoSuch line))) = (line ≡ 1) × (address_of c actor ≡ None)
+PlansFor c whole actor (Err e) = e ≡ short

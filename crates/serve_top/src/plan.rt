@@ -8,7 +8,7 @@ use crate::end::End;
 use edge_io::{Endpoint, SocketAddress};
 use fabric_status::Status;
 use fabric_terms::FabricConfig;
-use ring_points::ARBITRATORS;
+use ring_points::{ARBITRATORS, Who};
 use std::alloc::{AllocError, Global};
 use turn_rules::{Orders, Plan, arbiter_address, node_address};
 
@@ -33,10 +33,11 @@ fn endpoints(alloc: Global, actor: u16, at: &str) -> Result<Vec<Endpoint>, Alloc
     Ok(actors)
 }
 
-/// The plan of a service: this actor alone, without commands. An actor that is not configured is none of line 1.
-pub fn plan_of(alloc: Global, config: FabricConfig, actor: u16) -> Result<Plan, End>
+/// The plan of a service: this actor alone, without commands, where `whole` is the instance that begins with the whole
+/// ring. An actor that is not configured is none of line 1.
+pub fn plan_of(alloc: Global, config: FabricConfig, whole: Who, actor: u16) -> Result<Plan, End>
     requires { IsSound config }
-    ensures plan { PlansFor config actor result }
+    ensures plan { PlansFor config whole actor result }
     ensures service { IfOk result IsService }
     ensures actor { IfOk result (λ p. actor_of p ≡ actor) }
 {
@@ -44,7 +45,7 @@ pub fn plan_of(alloc: Global, config: FabricConfig, actor: u16) -> Result<Plan, 
         return Err(End::As(Status::NoSuch(1)));
     };
     match endpoints(alloc, actor, at) {
-        Ok(actors) => Ok(Plan::new(config, actors, Orders::new(alloc), 0)),
+        Ok(actors) => Ok(Plan::new(config, whole, actors, Orders::new(alloc), 0)),
         Err(_) => Err(short()),
     }
 }

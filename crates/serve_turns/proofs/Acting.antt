@@ -155,16 +155,16 @@ act_is_full s a b run h x p turn i m is r =
 
 module _ (s : Setting) (a b : Told) (old new : Run) (h : History) (x : Happening) (p : TurnPosition) (records : List Record) (deed : Deed) (list : slice_get s.kept 0 ≡ Some records) (m : MeetsStartBy GoesServed s a b old h x p 0)
     (t : JoinsAt s.plan records 0 old deed new) where
-  begun_by : StepsOn s h x (begun s.plan.config 0 old.last t.endpoint.actor records).step new
-  begun_by = on_from s h x (begun s.plan.config 0 old.last t.endpoint.actor records).step new (joined s a b old h x p 0 records deed new list m t)
+  begun_by : StepsOn s h x (begun s.plan.config s.plan.whole 0 old.last t.endpoint.actor records).step new
+  begun_by = on_from s h x (begun s.plan.config s.plan.whole 0 old.last t.endpoint.actor records).step new (joined s a b old h x p 0 records deed new list m t)
 
   pub join_carried : (c : Told) → CarriesAll (work_in s.plan.config deed) b c (Ok tt) → Carried s a c new h x p deed
   join_carried c k = record {
-    step = (begun s.plan.config 0 old.last t.endpoint.actor records).step;
+    step = (begun s.plan.config s.plan.whole 0 old.last t.endpoint.actor records).step;
     before = b;
     came = m.came;
     steps_on = begun_by;
-    carried = all_for s.plan.config (begun s.plan.config 0 old.last t.endpoint.actor records) (seen t.next) deed b c (Ok tt) t.does.makes k;
+    carried = all_for s.plan.config (begun s.plan.config s.plan.whole 0 old.last t.endpoint.actor records) (seen t.next) deed b c (Ok tt) t.does.makes k;
     clock = clock_join s.plan records old 0 deed new b.last t m.clock;
     head = t.does.makes.head;
     reports = t.does.makes.reports;
@@ -172,16 +172,16 @@ module _ (s : Setting) (a b : Told) (old new : Run) (h : History) (x : Happening
 
   pub join_stops : (c : Told) (r : StopCause) → CarriesAll (work_in s.plan.config deed) b c (Err r) → StopsIn s a c h x r
   join_stops c r k =
-      stops_in s a b c new h x p (begun s.plan.config 0 old.last t.endpoint.actor records).step r m.came begun_by
-      (all_for s.plan.config (begun s.plan.config 0 old.last t.endpoint.actor records) (seen t.next) deed b c (Err r) t.does.makes k)
+      stops_in s a b c new h x p (begun s.plan.config s.plan.whole 0 old.last t.endpoint.actor records).step r m.came begun_by
+      (all_for s.plan.config (begun s.plan.config s.plan.whole 0 old.last t.endpoint.actor records) (seen t.next) deed b c (Err r) t.does.makes k)
 
 full_from : (s : Setting) (p : Process) (e : Endpoint) (records : List Record) (last : Option ℕ) → slice_get s.plan.actors 0 ≡ Some e → slice_get s.kept 0 ≡ Some records → p.last ≡ last
-    → exceeds (begun s.plan.config 0 last e.actor records).member ≡ true → joins s 0 0 p ≡ record p { end = Some Full }
+    → exceeds (begun s.plan.config s.plan.whole 0 last e.actor records).member ≡ true → joins s 0 0 p ≡ record p { end = Some Full }
 full_from s p e records last here list same full =
     ap (λ (o : Option Endpoint). joins_at s 0 p o (slice_get s.kept 0)) here
     ∙ ap (joins_at s 0 p (Some e)) list
-    ∙ ap (λ (l : Option ℕ). joins_as p (begun s.plan.config 0 l e.actor records)) same
-    ∙ ap (λ (b : Bool). unless_full p b (joins_with p (begun s.plan.config 0 last e.actor records))) full
+    ∙ ap (λ (l : Option ℕ). joins_as p (begun s.plan.config s.plan.whole 0 l e.actor records)) same
+    ∙ ap (λ (b : Bool). unless_full p b (joins_with p (begun s.plan.config s.plan.whole 0 last e.actor records))) full
 
 pub join_is_full : (s : Setting) (a b : Told) (old : Run) (h : History) (x : Happening) (p : TurnPosition) (records : List Record) → slice_get s.kept 0 ≡ Some records → MeetsStartBy GoesServed s a b old h x p 0 → NotJoinsAt s.plan records 0 old → StopsIn s a b h x stop.TableFull
 join_is_full s a b old h x p records list m t =

@@ -8,6 +8,7 @@ use Rattle.unit_rules.specs.Fabric.{fabric}
 use Rattle.fabric_terms.specs.declared.config.FabricConfig.{FabricConfig}
 use Rattle.fabric_terms.specs.declared.record.Record.{Record}
 use Rattle.fabric_terms.specs.declared.command.Command.{Command}
+use Rattle.ring_points.specs.declared.who.Who.{Who}
 use Rattle.ring_rules.specs.declared.input.Input.{Input}
 use Rattle.ring_rules.specs.declared.input.Input.TheVariants as input
 use Rattle.turn_members.specs.Members.{Does, state_of}
@@ -20,13 +21,13 @@ use Rattle.world_rules.specs.Uppers.{idle}
 use Rattle.world_rules.specs.Worlds.{arbiter_who}
 
 -- by the kind of actor
-pub begun_does : (c : FabricConfig) (turn : ℕ) (last : Option ℕ) (actor : ℕ) (records : List Record) (b : Bool) (new : Member) (deed : Deed) → is_arbiter_actor actor ≡ b → Does (begun_as c turn last actor records b) new deed → Does (begun c turn last actor records) new deed
+pub begun_does : (c : FabricConfig) (whole : Who) (turn : ℕ) (last : Option ℕ) (actor : ℕ) (records : List Record) (b : Bool) (new : Member) (deed : Deed) → is_arbiter_actor actor ≡ b → Does (begun_as c whole turn last actor records b) new deed → Does (begun c whole turn last actor records) new deed
 unfolding begun
-begun_does c turn last actor records b new deed e k = subst (λ (t : Bool). Does (begun_as c turn last actor records t) new deed) (sym e) k
+begun_does c whole turn last actor records b new deed e k = subst (λ (t : Bool). Does (begun_as c whole turn last actor records t) new deed) (sym e) k
 
-pub begun_full : (c : FabricConfig) (turn : ℕ) (last : Option ℕ) (actor : ℕ) (records : List Record) (b : Bool) → is_arbiter_actor actor ≡ b → exceeds (begun_as c turn last actor records b).member ≡ true → exceeds (begun c turn last actor records).member ≡ true
+pub begun_full : (c : FabricConfig) (whole : Who) (turn : ℕ) (last : Option ℕ) (actor : ℕ) (records : List Record) (b : Bool) → is_arbiter_actor actor ≡ b → exceeds (begun_as c whole turn last actor records b).member ≡ true → exceeds (begun c whole turn last actor records).member ≡ true
 unfolding begun
-begun_full c turn last actor records b e k = subst (λ (t : Bool). exceeds (begun_as c turn last actor records t).member ≡ true) (sym e) k
+begun_full c whole turn last actor records b e k = subst (λ (t : Bool). exceeds (begun_as c whole turn last actor records t).member ≡ true) (sym e) k
 
 -- the arbitrator that its records make
 state_begun : (c : FabricConfig) (number : ℕ) (records : List Record) → state_of (restored number records) ≡ arbiter_begun fabric c number records

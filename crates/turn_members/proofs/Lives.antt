@@ -5,6 +5,8 @@ use Rattle.std.specs.Prelude.{All, Err, IfOk, Ok, OnErr, Result, nat_lt}
 use Rattle.std.proofs.lemmas.Bool.Decides.{nat_tests}
 use Rattle.std.proofs.lemmas.List.Elements.{All-cons, All-head, All-nil, All-tail}
 use Rattle.unit_rules.specs.Fabric.{fabric}
+use Rattle.cold_start.proofs.Steps.{begun_in_told}
+use Rattle.cold_start.specs.Starts.{node_begun_in}
 use Rattle.fabric_terms.specs.Messages.{is_sound as is_sound_frame}
 use Rattle.fabric_terms.specs.Ranges.{IsNumber}
 use Rattle.fabric_terms.specs.Sent.{from_all}
@@ -24,7 +26,7 @@ use Rattle.ring_points.specs.declared.who.Who.{Who}
 use Rattle.ring_rules.specs.Rings.{settings_of}
 use Rattle.ring_rules.specs.declared.input.Input.{Input}
 use Rattle.ring_rules.specs.declared.input.Input.TheVariants as input
-use Rattle.run_facts.proofs.Steps.{node_begun-told, ring_stepped}
+use Rattle.run_facts.proofs.Steps.{ring_stepped}
 use Rattle.turn_members.proofs.Records.{Spelled, arbiter_spelled, boot_spelled, kept_in_range, node_spelled}
 use Rattle.turn_members.specs.Lives.{Came, FitsCame, Lives, member_after}
 use Rattle.turn_members.specs.Members.{Does, GoesOn, IsDeedOf, IsOf, Makes, seen}
@@ -35,7 +37,7 @@ use Rattle.turn_rules.specs.Recalled.{IsGoodFor}
 use Rattle.turn_rules.specs.Steps.{Member, Node, Arbiter, Step, Stepped, begun, begun_as, exceeds, node_stepped, arbiter_stepped, present, stepped}
 use Rattle.world_rules.specs.Arbiters.{ArbiterState, arbiter_step}
 use Rattle.world_rules.specs.Events.{arbiter_number, is_arbiter_actor}
-use Rattle.world_rules.specs.Nodes.{NodeState, instance_begun, node_begun, node_step}
+use Rattle.world_rules.specs.Nodes.{NodeState, instance_begun, node_step}
 use Rattle.world_rules.specs.Schedules.{is_configured_node}
 use Rattle.world_rules.specs.Uppers.{Did}
 use Rattle.world_rules.specs.Worlds.{arbiter_who}
@@ -72,14 +74,14 @@ step_named : (c : FabricConfig) (now : ℕ) (i : Input) (s : NodeState fabric) �
 unfolding node_step
 step_named c now i s = (ring_stepped (settings_of c s.ring.me.actor) now i s.ring).name
 
-start_named : (c : FabricConfig) (node : ℕ) (records : List Record) → (node_begun fabric c node records).state.ring.me ≡ node_instance node (instance_begun records)
-start_named c node records = (node_begun-told fabric c node records).name
+start_named : (whole : Who) (c : FabricConfig) (node : ℕ) (records : List Record) → (node_begun_in fabric whole c node records).state.ring.me ≡ node_instance node (instance_begun records)
+start_named whole c node records = (begun_in_told fabric whole c node records).name
 
 -- what a node's start records
 
-start_spelled : (c : FabricConfig) (node : ℕ) (records : List Record) → All KeptRecord (node_begun fabric c node records).records → All Spelled (node_begun fabric c node records).records
-unfolding node_begun
-start_spelled c node records k = boot_spelled records k
+start_spelled : (whole : Who) (c : FabricConfig) (node : ℕ) (records : List Record) → All KeptRecord (node_begun_in fabric whole c node records).records → All Spelled (node_begun_in fabric whole c node records).records
+unfolding node_begun_in
+start_spelled whole c node records k = boot_spelled records k
 
 -- an arbitrator's actor and its number
 high_is : (actor : ℕ) → is_arbiter_actor actor ≡ true → arbiter_actor (arbiter_number actor) ≡ actor
@@ -88,28 +90,28 @@ high_is actor e = let h : nat_lt 32768 actor ≡ true = e in grind (arith, nat_t
 module _ (c : FabricConfig) (sound : IsSound c) (actor : ℕ) where
   -- Starts.
 
-  module _ (configured : IsConfigured c actor) (turn : ℕ) (last : Option ℕ) (records : List Record) (good : IsGoodFor actor records) where
-    node_goes : is_arbiter_actor actor ≡ false → Goes c actor (node_stepped turn (present last) (node_begun fabric c actor records))
+  module _ (configured : IsConfigured c actor) (whole : Who) (turn : ℕ) (last : Option ℕ) (records : List Record) (good : IsGoodFor actor records) where
+    node_goes : is_arbiter_actor actor ≡ false → Goes c actor (node_stepped turn (present last) (node_begun_in fabric whole c actor records))
     node_goes e =
         let listed : is_configured_node c actor ≡ true = configured e in
-        let does : NodeDoes c (node_begun fabric c actor records) = nodes_begin c actor records sound listed (kept_in_range nothing records good.in_place) in
-        let name : (node_begun fabric c actor records).state.ring.me.actor ≡ actor = ap (λ (w : Who). w.actor) (start_named c actor records) in
+        let does : NodeDoes c (node_begun_in fabric whole c actor records) = nodes_begin whole c actor records sound listed (kept_in_range nothing records good.in_place) in
+        let name : (node_begun_in fabric whole c actor records).state.ring.me.actor ≡ actor = ap (λ (w : Who). w.actor) (start_named whole c actor records) in
         record {
           fine = record { range = does.state; name = name };
-          step = record { whose = name; records = start_spelled c actor records does.records; frames = does.frames };
+          step = record { whose = name; records = start_spelled whole c actor records does.records; frames = does.frames };
         }
 
-    arbiter_goes : is_arbiter_actor actor ≡ true → Goes c actor (begun_as c turn last actor records true)
+    arbiter_goes : is_arbiter_actor actor ≡ true → Goes c actor (begun_as c whole turn last actor records true)
     arbiter_goes e = record {
       fine = record { range = arbiters_begin c (arbiter_number actor) records sound (kept_in_range nothing records good.in_place); name = high_is actor e };
       step = record { whose = high_is actor e; records = All-nil Spelled; frames = All-nil Sendable };
     }
 
-    begun_goes : Goes c actor (begun c turn last actor records)
+    begun_goes : Goes c actor (begun c whole turn last actor records)
     unfolding begun
     begun_goes = by (is_arbiter_actor actor) refl
       where
-        by : (b : Bool) → is_arbiter_actor actor ≡ b → Goes c actor (begun_as c turn last actor records b)
+        by : (b : Bool) → is_arbiter_actor actor ≡ b → Goes c actor (begun_as c whole turn last actor records b)
         by true e = arbiter_goes e
         by false e = node_goes e
 
@@ -152,7 +154,7 @@ module _ (c : FabricConfig) (sound : IsSound c) (actor : ℕ) where
   lives_fine : IsConfigured c actor → (m : Member) → Lives c actor m → Fine c actor m
   lives_fine configured m l =
       subst (λ (n : Member). Fine c actor n) (sym l.is)
-      (after_fine (begun c l.turn l.last actor l.records).member l.came (begun_goes configured l.turn l.last l.records l.good).fine l.fits)
+      (after_fine (begun c l.whole l.turn l.last actor l.records).member l.came (begun_goes configured l.whole l.turn l.last l.records l.good).fine l.fits)
 
 -- What the code's calls leave.
 
@@ -184,6 +186,7 @@ lives_on c actor turn last i old new deed of reads fits k on =
       configured = of.configured;
       goes_on = on;
       lives = record {
+        whole = l.whole;
         turn = l.turn;
         last = l.last;
         records = l.records;
@@ -195,18 +198,18 @@ lives_on c actor turn last i old new deed of reads fits k on =
       room = ap exceeds k.makes.member ∙ k.room;
     }
 
-pub start_deed : (c : FabricConfig) (actor : ℕ) (last : Option ℕ) (records : List Record) (new : Member) (deed : Deed) → IsSound c → IsConfigured c actor → IsGoodFor actor records
-    → Makes (begun c 0 last actor records) new deed → IsDeedOf actor deed
-start_deed c actor last records new deed sound configured good k =
-    deed_from actor (begun c 0 last actor records) new deed (begun_goes c sound actor configured 0 last records good).step k
+pub start_deed : (c : FabricConfig) (whole : Who) (actor : ℕ) (last : Option ℕ) (records : List Record) (new : Member) (deed : Deed) → IsSound c → IsConfigured c actor → IsGoodFor actor records
+    → Makes (begun c whole 0 last actor records) new deed → IsDeedOf actor deed
+start_deed c whole actor last records new deed sound configured good k =
+    deed_from actor (begun c whole 0 last actor records) new deed (begun_goes c sound actor configured whole 0 last records good).step k
 
-pub lives_first : (c : FabricConfig) (actor : ℕ) (last : Option ℕ) (records : List Record) (new : Running) (deed : Deed) → IsSound c → IsConfigured c actor → IsGoodFor actor records
-    → Does (begun c 0 last actor records) (seen new) deed → GoesOn c new → IsOf c actor new
-lives_first c actor last records new deed sound configured good k on = record {
+pub lives_first : (c : FabricConfig) (whole : Who) (actor : ℕ) (last : Option ℕ) (records : List Record) (new : Running) (deed : Deed) → IsSound c → IsConfigured c actor → IsGoodFor actor records
+    → Does (begun c whole 0 last actor records) (seen new) deed → GoesOn c new → IsOf c actor new
+lives_first c whole actor last records new deed sound configured good k on = record {
   sound = sound;
   configured = configured;
   goes_on = on;
-  lives = record { turn = 0; last = last; records = records; good = good; came = []; fits = All-nil FitsCame; is = k.makes.member };
+  lives = record { whole = whole; turn = 0; last = last; records = records; good = good; came = []; fits = All-nil FitsCame; is = k.makes.member };
   room = ap exceeds k.makes.member ∙ k.room;
 }
 
@@ -226,8 +229,8 @@ pub both_map : {T E : Type 0} {P R Q : T → Type 0} (r : Result T E) → ((x : 
 both_map (Ok x) f h k = f x h k
 both_map (Err e) f h k = h
 
-pub begun_writes : (c : FabricConfig) (actor now : ℕ) (records : List Record) (new : Running) (deed : Deed) → IsSound c → IsConfigured c actor → IsGoodFor actor records → Does (begun c 0 (Some now) actor records) (seen new) deed → IsDeedOf actor deed
-begun_writes c actor now records new deed sound configured good k = start_deed c actor (Some now) records (seen new) deed sound configured good k.makes
+pub begun_writes : (c : FabricConfig) (whole : Who) (actor now : ℕ) (records : List Record) (new : Running) (deed : Deed) → IsSound c → IsConfigured c actor → IsGoodFor actor records → Does (begun c whole 0 (Some now) actor records) (seen new) deed → IsDeedOf actor deed
+begun_writes c whole actor now records new deed sound configured good k = start_deed c whole actor (Some now) records (seen new) deed sound configured good k.makes
 
-pub begun_runs : (c : FabricConfig) (actor now : ℕ) (records : List Record) (new : Running) (deed : Deed) → IsSound c → IsConfigured c actor → IsGoodFor actor records → Does (begun c 0 (Some now) actor records) (seen new) deed → GoesOn c new → IsOf c actor new
-begun_runs c actor now records new deed sound configured good k on = lives_first c actor (Some now) records new deed sound configured good k on
+pub begun_runs : (c : FabricConfig) (whole : Who) (actor now : ℕ) (records : List Record) (new : Running) (deed : Deed) → IsSound c → IsConfigured c actor → IsGoodFor actor records → Does (begun c whole 0 (Some now) actor records) (seen new) deed → GoesOn c new → IsOf c actor new
+begun_runs c whole actor now records new deed sound configured good k on = lives_first c whole actor (Some now) records new deed sound configured good k on

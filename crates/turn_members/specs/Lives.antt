@@ -4,6 +4,7 @@ use Rattle.fabric_terms.specs.declared.config.FabricConfig.{FabricConfig}
 use Rattle.fabric_terms.specs.declared.record.Record.{Record}
 use Rattle.fabric_terms.specs.Ranges.{IsNumber}
 use Rattle.frames_fit.specs.Formats.{InputInFormat}
+use Rattle.ring_points.specs.declared.who.Who.{Who}
 use Rattle.ring_rules.specs.declared.input.Input.{Input}
 use Rattle.turn_rules.specs.Recalled.{IsGoodFor}
 use Rattle.turn_rules.specs.Steps.{Member, begun, present, stepped}
@@ -26,10 +27,11 @@ member_after c m (x ∷ xs) = (stepped c x.turn x.last x.input (member_after c m
 
 -- the actor runs as this
 pub record Lives (c : FabricConfig) (actor : ℕ) (m : Member) : Type 0 where
+  pub whole : Who
   pub turn : ℕ
   pub last : Option ℕ
   pub records : List Record
   pub good : IsGoodFor actor records
   pub came : List Came
   pub fits : All FitsCame came
-  pub is : m ≡ member_after c (begun c turn last actor records).member came
+  pub is : m ≡ member_after c (begun c whole turn last actor records).member came

@@ -1,4 +1,4 @@
-ghost use Rattle.std.specs.Prelude.{◌≡◌, ◌≤◌, ◌<◌, ℕ, List, Option, IfOk, IsErrOf, IsTrue, [], true, false};
+ghost use Rattle.std.specs.Prelude.{◌≡◌, ◌<◌, ℕ, List, Option, IfOk, IsErrOf, IsTrue, [], true, false};
 ghost use Rattle.arbiter_tables.specs.Registers.{are_placed};
 ghost use Rattle.fabric_lemmas.specs.Maps.{rises};
 ghost use Rattle.fabric_terms.specs.Sound.{IsSound};
@@ -7,6 +7,7 @@ ghost use Rattle.fabric_terms.specs.declared.record.Record.{Record};
 ghost use Rattle.keep_log.specs.Amounts.{Holds};
 ghost use Rattle.keep_log.specs.Places.{is_once};
 ghost use Rattle.ring_points.specs.Whos.{arbiter_actor};
+ghost use Rattle.ring_points.specs.declared.who.Who.{Who as Whole};
 ghost use Rattle.ring_rules.specs.Arbiters.{no_table};
 ghost use Rattle.turn_members.specs.Members.{Does, GoesOn, IsDeedOf, IsKept, IsOf, seen};
 ghost use Rattle.turn_rules.specs.Plans.{IsConfigured};
@@ -21,7 +22,7 @@ use arbiter_core::{Arbiter, ArbiterError};
 use fabric_terms::{FabricConfig, OutOfMemory};
 use keep_log::Kept;
 use node_core::NodeCore;
-use ring_points::{ARBITRATORS, MAX_READING};
+use ring_points::{ARBITRATORS, Who};
 use std::alloc::Global;
 
 /// Starts a node.
@@ -29,19 +30,19 @@ use std::alloc::Global;
 fn begin_node(
     alloc: Global,
     config: &FabricConfig,
+    whole: Who,
     actor: u16,
     kept: Kept,
     now: u64,
 ) -> Result<(Member, Deed), OutOfMemory>
     requires sound { IsSound config.now }
     requires node { is_configured_node config.now actor ≡ true }
-    requires now { now ≤ MAX_READING }
     requires replicas { IsTrue (rises (states_of kept.replicas)) }
     ensures does { IfOk result (λ r. (records : List Record) (last : Option ℕ) → Holds records kept →
-        present last ≡ now → Does (begun_as config.now 0 last actor records false) (seen r.0) r.1) }
+        present last ≡ now → Does (begun_as config.now whole 0 last actor records false) (seen r.0) r.1) }
     ensures goes_on { IfOk result (λ r. GoesOn config.now r.0) }
 {
-    let (core, outcome) = NodeCore::start(alloc, config, actor, kept, now)?;
+    let (core, outcome) = NodeCore::start_in(alloc, config, whole, actor, kept)?;
     let head = node_head(0, core.me(), now);
     let core = Box::new(alloc, core)?;
     Ok((Member::Node(core), Deed { head, outcome }))
@@ -52,12 +53,12 @@ fn begin_arbiter(alloc: Global, actor: u16, kept: Kept) -> Result<(Member, Deed)
     requires arbiter { arbiter_actor 0 < actor }
     requires once { is_once no_table kept.arbiter ≡ true }
     requires placed { are_placed [] kept.arbiter ≡ true }
-    ensures does { IfOk result (λ r. (c : Configuration) (records : List Record) (last : Option ℕ) →
-        AreOf true records → Holds records kept → Does (begun_as c 0 last actor records true) (seen r.0) r.1) }
+    ensures does { IfOk result (λ r. (c : Configuration) (whole : Whole) (records : List Record) (last : Option ℕ) →
+        AreOf true records → Holds records kept → Does (begun_as c whole 0 last actor records true) (seen r.0) r.1) }
     ensures goes_on { IfOk result (λ r. (c : Configuration) → GoesOn c r.0) }
     ensures full { IsErrOf result ArbiterError.TableFull →
-        (c : Configuration) (records : List Record) (last : Option ℕ) → AreOf true records → Holds records kept →
-        exceeds (begun_as c 0 last actor records true).member ≡ true }
+        (c : Configuration) (whole : Whole) (records : List Record) (last : Option ℕ) → AreOf true records →
+        Holds records kept → exceeds (begun_as c whole 0 last actor records true).member ≡ true }
 {
     let arbiter = Arbiter::restore(alloc, actor - ARBITRATORS, kept.arbiter.as_slice())?;
     let deed = Deed {
@@ -71,26 +72,26 @@ fn begin_arbiter(alloc: Global, actor: u16, kept: Kept) -> Result<(Member, Deed)
 fn begin_any(
     alloc: Global,
     config: &FabricConfig,
+    whole: Who,
     actor: u16,
     kept: Kept,
     now: u64,
 ) -> Result<(Member, Deed), ArbiterError>
     requires sound { IsSound config.now }
     requires configured { IsConfigured config.now actor }
-    requires now { now ≤ MAX_READING }
     requires once { is_once no_table kept.arbiter ≡ true }
     requires placed { are_placed [] kept.arbiter ≡ true }
     requires replicas { IsTrue (rises (states_of kept.replicas)) }
     ensures does { IfOk result (λ r. (records : List Record) (last : Option ℕ) → IsKept actor records kept →
-        present last ≡ now → Does (begun config.now 0 last actor records) (seen r.0) r.1) }
+        present last ≡ now → Does (begun config.now whole 0 last actor records) (seen r.0) r.1) }
     ensures goes_on { IfOk result (λ r. GoesOn config.now r.0) }
     ensures full { IsErrOf result ArbiterError.TableFull → (records : List Record) (last : Option ℕ) →
-        IsKept actor records kept → exceeds (begun config.now 0 last actor records).member ≡ true }
+        IsKept actor records kept → exceeds (begun config.now whole 0 last actor records).member ≡ true }
 {
     if actor > ARBITRATORS {
         begin_arbiter(alloc, actor, kept)
     } else {
-        match begin_node(alloc, config, actor, kept, now) {
+        match begin_node(alloc, config, whole, actor, kept, now) {
             Ok(begun) => Ok(begun),
             Err(_) => Err(ArbiterError::OutOfMemory),
         }
@@ -99,25 +100,25 @@ fn begin_any(
 
 impl Member {
     /// Starts an actor from what is kept of it, at this reading of the clock, in ticks; for an arbitrator the reading
-    /// does not matter. `TableFull` comes exactly where an arbitrator's records make more than 1,000,000 entries.
+    /// does not matter. A node begins with the whole ring if its instance is `whole`, and else with nothing. `TableFull` comes exactly where an arbitrator's records make more than 1,000,000 entries.
     pub fn begin(
         alloc: Global,
         config: &FabricConfig,
+        whole: Who,
         actor: u16,
         kept: Kept,
         now: u64,
     ) -> Result<(Member, Deed), ArbiterError>
         requires sound { IsSound config.now }
         requires configured { IsConfigured config.now actor }
-        requires now { now ≤ MAX_READING }
         requires kept { (records : List Record) × IsKept actor records kept }
         ensures does { IfOk result (λ r. (records : List Record) (last : Option ℕ) → IsKept actor records kept →
-            present last ≡ now → Does (begun config.now 0 last actor records) (seen r.0) r.1) }
+            present last ≡ now → Does (begun config.now whole 0 last actor records) (seen r.0) r.1) }
         ensures deed { IfOk result (λ r. IsDeedOf actor r.1) }
         ensures runs { IfOk result (λ r. IsOf config.now actor r.0) }
         ensures full { IsErrOf result ArbiterError.TableFull → (records : List Record) (last : Option ℕ) →
-            IsKept actor records kept → exceeds (begun config.now 0 last actor records).member ≡ true }
+            IsKept actor records kept → exceeds (begun config.now whole 0 last actor records).member ≡ true }
     {
-        begin_any(alloc, config, actor, kept, now)
+        begin_any(alloc, config, whole, actor, kept, now)
     }
 }

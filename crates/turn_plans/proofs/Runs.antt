@@ -5,6 +5,7 @@ use Rattle.std.specs.List.{list_any}
 use Rattle.std.proofs.lemmas.Bool.{eq-eqb, eqb-true, ltb-false}
 use Rattle.std.proofs.lemmas.List.Elements.{All-append, All-cons, All-get_or, All-nil}
 use Rattle.std.proofs.lemmas.Option.{get_or_from_slice_get, slice_get_within}
+use Rattle.cold_start.specs.Starts.{first_whole}
 use Rattle.edge_io.specs.declared.endpoint.Endpoint.{Endpoint}
 use Rattle.fabric_terms.specs.Ranges.{FitsCommand}
 use Rattle.fabric_terms.specs.Sound.{IsSound}
@@ -115,7 +116,7 @@ known_at c es all place e here =
     subst (IsKnown c) (get_or_from_slice_get es place e e here) (All-get_or (IsKnown c) es place e (slice_get_within es place e here) all)
 
 -- what is read can be run
-pub is_plan : (crew : Crew) (c : FabricConfig) (actors : List Endpoint) (turns : ℕ) (orders : List Order) → actors ≡ endpoints_of c crew → IsSound c → is_crew c crew ≡ true → All (λ o. FitsCommand o.command) orders → Rises 1 orders → IsPlan (record { config = c; actors = actors; orders = orders; turns = turns })
+pub is_plan : (crew : Crew) (c : FabricConfig) (actors : List Endpoint) (turns : ℕ) (orders : List Order) → actors ≡ endpoints_of c crew → IsSound c → is_crew c crew ≡ true → All (λ o. FitsCommand o.command) orders → Rises 1 orders → IsPlan (record { config = c; whole = first_whole c; actors = actors; orders = orders; turns = turns })
 is_plan crew c actors turns orders same sound there fit rising = record {
   sound = sound;
   some = subst (λ (es : List Endpoint). 0 < length es) (sym same) (some_run c crew sound there);

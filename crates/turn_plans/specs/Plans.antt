@@ -1,5 +1,6 @@
 -- The plan that the bytes of a source define.
 use Rattle.std.specs.Prelude.{◌≡◌, ℕ, ◌+◌, Bool, true, false, List, [], ◌∷◌, ◌++◌, length, Result, Ok, Err, nat_lt, if◌then◌else◌}
+use Rattle.cold_start.specs.Starts.{first_whole}
 use Rattle.edge_io.specs.declared.endpoint.Endpoint.{Endpoint}
 use Rattle.fabric_config.specs.Config.{config_of_line, lacks_address}
 use Rattle.fabric_config.specs.declared.error.ConfigError.{ConfigError}
@@ -29,7 +30,7 @@ judge_from crew c actors turns orders least n (l ∷ ls) =
     ]
 
 abbrev pub plan_with : FabricConfig → List Endpoint → ℕ → Result (List Order) Refusal → Result Plan Refusal
-plan_with c actors turns (Ok orders) = Ok (record { config = c; actors = actors; orders = orders; turns = turns })
+plan_with c actors turns (Ok orders) = Ok (record { config = c; whole = first_whole c; actors = actors; orders = orders; turns = turns })
 plan_with c actors turns (Err refusal) = Err refusal
 
 -- the plan of a configuration and the lines behind it; the first turn that may come is turn 1

@@ -11,6 +11,7 @@ use crate::crew::{Crew, is_crew};
 use crate::error::PlanError;
 use crate::given::Given;
 use crate::orders::take_lines;
+use cold_start::first_whole;
 use edge_io::Source;
 use fabric_config::{ConfigError, need_endpoints, read_config};
 use fabric_status::Refusal;
@@ -64,7 +65,10 @@ fn plan_of<S: Source>(
         turns,
     };
     match take_lines(alloc, &given, reader, source) {
-        Ok(orders) => Ok(Plan::new(config, actors, orders, turns)),
+        Ok(orders) => {
+            let whole = first_whole(&config);
+            Ok(Plan::new(config, whole, actors, orders, turns))
+        }
         Err(error) => Err(error),
     }
 }

@@ -1,6 +1,7 @@
 -- What holds of every run, and examples that are computed.
 use Rattle.std.specs.Prelude.{◌≡◌, ℕ, List, [], ◌∷◌, Some, None, codes, slice_get}
 use Rattle.fabric_status.specs.declared.status.Status.{Status}
+use Rattle.cold_start.specs.Starts.{first_whole}
 use Rattle.fabric_terms.specs.declared.command.Command.TheVariants.{Create, Join}
 use Rattle.fabric_terms.specs.declared.config.FabricConfig.{FabricConfig}
 use Rattle.fabric_terms.specs.declared.message.Message.{Message}
@@ -70,7 +71,7 @@ ExampleIsInOrder = (c : FabricConfig) (bytes : List ℕ) → IsInOrder (example_
 -- An example of a served run: node 1 takes two turns, in both of which nothing is planned.
 
 abbrev pub served_plan : FabricConfig → Plan
-served_plan c = record { config = c; actors = record { actor = 1; at = codes "127.0.0.1:4001" } ∷ []; orders = []; turns = 2 }
+served_plan c = record { config = c; whole = first_whole c; actors = record { actor = 1; at = codes "127.0.0.1:4001" } ∷ []; orders = []; turns = 2 }
 
 -- the first turn ends without a firing; in the second a datagram comes, the node is told to create a partition, and it fires
 abbrev pub served_example : List ℕ → History

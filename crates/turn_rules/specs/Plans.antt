@@ -6,14 +6,16 @@ use Rattle.fabric_terms.specs.Sound.{IsSound}
 use Rattle.fabric_terms.specs.declared.command.Command.{Command}
 use Rattle.fabric_terms.specs.declared.config.FabricConfig.{FabricConfig}
 use Rattle.fabric_terms.specs.declared.record.Record.{Record}
+use Rattle.ring_points.specs.declared.who.Who.{Who}
 use Rattle.world_rules.specs.Events.{is_arbiter_actor}
 use Rattle.world_rules.specs.Schedules.{is_configured_node}
 use Rattle.turn_rules.specs.declared.order.Order.{Order}
 
--- the configuration; the actors that run, in the order of their turns, each with its endpoint; the commands; and how many
--- turns there are
+-- the configuration; the instance that begins with the whole ring; the actors that run, in the order of their turns, each
+-- with its endpoint; the commands; and how many turns there are
 pub record Plan : Type 0 where
   pub config : FabricConfig
+  pub whole : Who
   pub actors : List Endpoint
   pub orders : List Order
   pub turns : ℕ

@@ -59,7 +59,7 @@ abbrev pub joins_as : Process → Stepped → Process
 joins_as p d = unless_full p (exceeds d.member) (joins_with p d)
 
 abbrev pub joins_at : Setting → ℕ → Process → Option Endpoint → Option (List Record) → Process
-joins_at s turn p (Some e) (Some kept) = joins_as p (begun s.plan.config turn p.last e.actor kept)
+joins_at s turn p (Some e) (Some kept) = joins_as p (begun s.plan.config s.plan.whole turn p.last e.actor kept)
 joins_at s turn p _ _ = p
 
 abbrev pub joins : Setting → ℕ → ℕ → Process → Process

@@ -3,6 +3,7 @@ use Rattle.std.specs.Prelude.{ℕ, ◌+◌, Bool, true, false, List, Option, Som
 use Rattle.arbiter_tables.specs.Registers.{registered}
 use Rattle.arbiter_tables.specs.Tables.{entries_of}
 use Rattle.unit_rules.specs.Fabric.{fabric}
+use Rattle.cold_start.specs.Starts.{node_begun_in}
 use Rattle.fabric_terms.specs.declared.config.FabricConfig.{FabricConfig}
 use Rattle.fabric_terms.specs.declared.message.Body.{Body}
 use Rattle.fabric_terms.specs.declared.record.Record.{Record}
@@ -15,7 +16,7 @@ use Rattle.ring_rules.specs.declared.input.Input.{Input}
 use Rattle.ring_rules.specs.declared.input.Input.TheVariants as input
 use Rattle.world_rules.specs.Arbiters.{ArbiterState, arbiter_begun, arbiter_step}
 use Rattle.world_rules.specs.Events.{arbiter_number, is_arbiter_actor}
-use Rattle.world_rules.specs.Nodes.{NodeState, node_begun, node_step}
+use Rattle.world_rules.specs.Nodes.{NodeState, node_step}
 use Rattle.world_rules.specs.Uppers.{Did, idle}
 use Rattle.world_rules.specs.Worlds.{arbiter_who}
 
@@ -55,13 +56,13 @@ arbiter_stepped turn number d = record {
 abbrev pub present : Option ℕ → ℕ
 present last = unwrap_or last 0
 
-abbrev pub begun_as : FabricConfig → ℕ → Option ℕ → ℕ → List Record → Bool → Stepped
-begun_as c turn last actor records true = arbiter_stepped turn (arbiter_number actor) (idle (arbiter_begun fabric c (arbiter_number actor) records))
-begun_as c turn last actor records false = node_stepped turn (present last) (node_begun fabric c actor records)
+abbrev pub begun_as : FabricConfig → (whole : Who) → ℕ → Option ℕ → ℕ → List Record → Bool → Stepped
+begun_as c whole turn last actor records true = arbiter_stepped turn (arbiter_number actor) (idle (arbiter_begun fabric c (arbiter_number actor) records))
+begun_as c whole turn last actor records false = node_stepped turn (present last) (node_begun_in fabric whole c actor records)
 
--- the start of an actor from its records, at this last reading of the clock
-unfoldable pub begun : FabricConfig → ℕ → Option ℕ → ℕ → List Record → Stepped
-begun c turn last actor records = begun_as c turn last actor records (is_arbiter_actor actor)
+-- the start of an actor from its records, at this last reading of the clock, where this instance begins with the whole ring
+unfoldable pub begun : FabricConfig → (whole : Who) → ℕ → Option ℕ → ℕ → List Record → Stepped
+begun c whole turn last actor records = begun_as c whole turn last actor records (is_arbiter_actor actor)
 
 -- its step, at this last reading of the clock; an arbitrator hears frames alone
 unfoldable pub stepped : FabricConfig → ℕ → Option ℕ → Input → Member → Stepped

@@ -3,14 +3,15 @@ ghost use Rattle.std.specs.Prelude.{◌≡◌};
 use crate::orders::Orders;
 use edge_io::Endpoint;
 use fabric_terms::FabricConfig;
-use ring_points::ARBITRATORS;
+use ring_points::{ARBITRATORS, Who};
 use std::marker::Model;
 
-/// What a run goes by: the configuration, the actors that run, in the order of their turns, each with its endpoint, the
-/// commands, and how many turns there are.
+/// What a run goes by: the configuration, the instance that begins with the whole ring, the actors that run, in the order
+/// of their turns, each with its endpoint, the commands, and how many turns there are.
 #[derive(Drop)]
 pub struct Plan {
     config: FabricConfig,
+    whole: Who,
     actors: Vec<Endpoint>,
     orders: Orders,
     turns: u64,
@@ -23,6 +24,7 @@ impl Model for Plan {
 
     ghost view = { λ p. record {
       config = p.config;
+      whole = p.whole;
       actors = p.actors.items;
       orders = p.orders;
       turns = p.turns;
@@ -35,11 +37,18 @@ impl Plan {
     ghost use Rattle.edge_io.specs.declared.endpoint.Endpoint.{Endpoint as EndpointOf};
 
     /// A plan of these.
-    pub fn new(config: FabricConfig, actors: Vec<Endpoint>, orders: Orders, turns: u64) -> Self
-        ensures { result ≡ record { config = config; actors = actors.items; orders = orders; turns = turns } }
+    pub fn new(
+        config: FabricConfig,
+        whole: Who,
+        actors: Vec<Endpoint>,
+        orders: Orders,
+        turns: u64,
+    ) -> Self
+        ensures { result ≡ record { config = config; whole = whole; actors = actors.items; orders = orders; turns = turns } }
     {
         Plan {
             config,
+            whole,
             actors,
             orders,
             turns,
@@ -51,6 +60,13 @@ impl Plan {
         ensures { result.now ≡ self.now.config }
     {
         &self.config
+    }
+
+    /// The instance that begins with the whole ring. Every other one begins with nothing.
+    pub fn whole(&self) -> Who
+        ensures { result ≡ self.now.whole }
+    {
+        self.whole
     }
 
     /// Whether the actor at a place is a node.

@@ -1,15 +1,19 @@
-use Rattle.std.proofs.Common.{◌∙◌, ap, sym, subst}
+use Rattle.std.proofs.Common.{◌∙◌, ap, subst}
 use Rattle.unit_rules.specs.Fabric.{fabric}
-use Rattle.unit_replica.specs.Starts.{states_from}
-use Rattle.unit_replica.proofs.Kept.{starts_lem}
-use Rattle.world_rules.specs.Nodes.{node_begun}
-use Rattle.node_core.specs.Nodes.{Core, Does}
+use Rattle.cold_start.proofs.Steps.{begun_first}
+use Rattle.cold_start.specs.Starts.{node_begun_in}
+use Rattle.ring_points.specs.declared.who.Who.{Who}
+use Rattle.world_rules.specs.Nodes.{NodeState}
+use Rattle.world_rules.specs.Uppers.{Did}
+use Rattle.node_core.specs.Nodes.{Does}
+use Rattle.node_core.proofs.Starting.{ok_map}
 use Rattle.node_core.proofs.node.NodeCore.start.Goals as goal
 
 pub returns-clause-begins : goal.returns-clause-begins
-returns-clause-begins c = λ records kept.
-    subst (λ (n : Core). Does (node_begun fabric c.args.config.now c.args.node records) n c.in_ok-core.outcome) (sym c.into_inner.ensures)
-    (c.in_ok-core.ensures.begins records (record {
-      boots = sym kept.boots;
-      states = sym (c.in_ok-begun.ensures.begun ∙ ap states_from (c.into_vec-replicas.ensures ∙ kept.replicas) ∙ (starts_lem records).begun);
-    }))
+returns-clause-begins c =
+    ok_map c.start_in.result
+    (λ r does. λ records kept.
+    subst (λ (d : Did (NodeState fabric)). Does d r.0 r.1)
+    (ap (λ (w : Who). node_begun_in fabric w c.args.config.now c.args.node records) c.first_whole.ensures ∙ begun_first fabric c.args.config.now c.args.node records)
+    (does records kept))
+    c.start_in.ensures.begins
