@@ -4,7 +4,7 @@ use Rattle.std.specs.Option.{option_map_or}
 use Rattle.fabric_terms.specs.declared.config.NodeEntry.{NodeEntry}
 use Rattle.fabric_terms.specs.Sound.{IsSoundNode}
 use Rattle.ring_rules.specs.Rings.{longest_of}
-use Rattle.ring_node.proofs.node.RingNode.begin.Goals as goal
+use Rattle.ring_node.proofs.node.RingNode.in_phase.Goals as goal
 use Rattle.ring_points.specs.Limits.{most_lease}
 
 few_by : (e : NodeEntry) (rest : Option NodeEntry) (b : Bool) → e.longest ≤ most_lease → option_map_or (λ x. x.longest) rest 0 ≤ most_lease → option_map_or (λ x. x.longest) (cond b (Some e) rest) 0 ≤ most_lease
