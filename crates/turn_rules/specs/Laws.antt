@@ -49,6 +49,7 @@ BadRecordsBar = (plan : Plan) (a : Told) (ended : Status) (c : Told) → Runs pl
 abbrev pub example_plan : FabricConfig → Plan
 example_plan c = record {
   config = c;
+  whole = first_whole c;
   actors = record { actor = 1; at = codes "127.0.0.1:4001" } ∷ record { actor = 32769; at = codes "127.0.0.1:4011" } ∷ [];
   orders = record { turn = 1; place = 0; command = Join 2 } ∷ [];
   turns = 1;
