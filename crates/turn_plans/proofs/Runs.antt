@@ -1,5 +1,5 @@
 -- What is read can be run: each actor is configured, and there is one at least.
-use Rattle.std.proofs.Common.{◌≡◌, ◌<◌, ◌≤◌, ◌+◌, ℕ, zero, suc, Bool, true, false, cond, List, [], ◌∷◌, length, Option, Some, None, arith, refl, ap, sym, subst, length-append}
+use Rattle.std.proofs.Common.{◌≡◌, ◌<◌, ◌≤◌, ◌+◌, ℕ, zero, suc, Bool, true, false, cond, List, [], ◌∷◌, length, Option, Some, None, arith, refl, ap, sym, subst, ◌∙◌, length-append}
 use Rattle.std.specs.Prelude.{All, ◌==◌, ◌||◌, find, option_map, slice_get}
 use Rattle.std.specs.List.{list_any}
 use Rattle.std.proofs.lemmas.Bool.{eq-eqb, eqb-true, ltb-false}
@@ -12,7 +12,8 @@ use Rattle.fabric_terms.specs.Sound.{IsSound}
 use Rattle.fabric_terms.specs.declared.config.FabricConfig.{FabricConfig}
 use Rattle.fabric_terms.specs.declared.config.NodeEntry.{NodeEntry}
 use Rattle.ring_points.specs.Whos.{arbiter_actor}
-use Rattle.turn_rules.specs.Plans.{IsPlan, IsConfigured, Rises}
+use Rattle.ring_points.specs.declared.who.Who.{Who}
+use Rattle.turn_rules.specs.Plans.{IsPlan, IsConfigured, Plan, Rises}
 use Rattle.turn_rules.specs.declared.order.Order.{Order}
 use Rattle.turn_plans.specs.Crews.{arbiter_at, arbiters_to, endpoints_of, is_crew, listener, node_at, nodes_to}
 use Rattle.turn_plans.specs.declared.crew.Crew.{Crew}
@@ -124,3 +125,8 @@ is_plan crew c actors turns orders same sound there fit rising = record {
   orders = fit;
   rising = rising;
 }
+
+-- a plan of the first life
+pub is_read : (c : FabricConfig) (actors : List Endpoint) (orders : List Order) (turns : ℕ) (plan : Plan) (whole : Who) → plan ≡ record { config = c; whole = whole; actors = actors; orders = orders; turns = turns } → whole ≡ first_whole c
+    → plan ≡ record { config = c; whole = first_whole c; actors = actors; orders = orders; turns = turns }
+is_read c actors orders turns plan whole is first = is ∙ ap (λ (w : Who). record { config = c; whole = w; actors = actors; orders = orders; turns = turns }) first
