@@ -29,4 +29,4 @@ returns-clause-begins c = λ records kept.
 pub returns-clause-goes_by : goal.returns-clause-goes_by
 returns-clause-goes_by c =
     subst (λ (n : Core). GoesBy c.args.config.now n) (sym (core_is c))
-    (starts_by c.args.config.now (node_instance c.args.node c.instance_after-instance.result) c.is_spent-spent.result c.begin-ring.result.0 c.begin-ring.result.1 c.args.kept.now.states c.begin-ring.ensures)
+    (starts_by c.args.config.now (node_instance c.args.node c.instance_after-instance.result) c.eq-first.result c.is_spent-spent.result c.begin-ring.result.0 c.begin-ring.result.1 c.args.kept.now.states c.begin-ring.ensures)
