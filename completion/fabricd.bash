@@ -46,7 +46,7 @@ _fabricd() {
   case ${COMP_WORDS[1]}:$COMP_CWORD in
     node:2) _fabricd_show "NODE" "$word" ;;
     arbiter:2) _fabricd_show "ARBITRATOR" "$word" ;;
-    node:3 | arbiter:3 | check:2) mapfile -t COMPREPLY < <(compgen -f -- "$word") ;;
+    node:3 | arbiter:3 | check:2 | again:2) mapfile -t COMPREPLY < <(compgen -f -- "$word") ;;
     node:* | arbiter:*) _fabricd_behind_file "$word" ;;
     ask:2 | again:*) mapfile -t COMPREPLY < <(compgen -d -- "$word") ;;
     ask:*) mapfile -t COMPREPLY < <(compgen -W "$_fabricd_lines" -- "$word") ;;

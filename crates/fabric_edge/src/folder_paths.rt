@@ -12,6 +12,11 @@ pub fn path_of(alloc: Global, actor: u16) -> io::Result<String> {
     Ok(format!(in alloc; "{FOLDER}/{actor}")?)
 }
 
+/// The path of an actor's file under any folder.
+pub fn path_in(alloc: Global, folder: &str, actor: u16) -> io::Result<String> {
+    Ok(format!(in alloc; "{folder}/{FOLDER}/{actor}")?)
+}
+
 /// Makes the folder where it is missing.
 pub fn make_folder<R: Files>(rt: &R) -> io::Result<()> {
     match fs::create_dir(rt, FOLDER) {

@@ -4,11 +4,13 @@ use fabric_status::Status;
 use ring_points::Who;
 use serve_edge::{HeldActor, StartFault, hold_actor};
 use serve_top::{End, FolderFault, Synced, judge_actor};
-use service_file::{ActorFile, began_line, head_line};
+use service_file::{ActorFile, Again, again_line, began_line, head_line};
+use std::alloc::Global;
 
-/// The file `actor`, which notes once that a record of the actor was synced.
+/// The file `actor`, which notes once that a record of the actor was synced, and which instance begins the ring anew.
 #[derive(Drop)]
 pub struct NotedActor<'a> {
+    alloc: Global,
     events: &'a Events<'a>,
     actor: u16,
     held: HeldActor<HostRuntime>,
@@ -34,6 +36,7 @@ pub fn take_actor<'a>(
     let file = judge_actor(rt.alloc(), &bytes, actor, checksum)?;
     let has_begun = file.has_begun;
     let noted = NotedActor {
+        alloc: rt.alloc(),
         events,
         actor,
         held,
@@ -42,18 +45,31 @@ pub fn take_actor<'a>(
     Ok((noted, file))
 }
 
+impl NotedActor<'_> {
+    /// Appends a line, and waits until it is kept for good.
+    fn note(&mut self, line: &[u8]) -> Result<(), EdgeRefusal> {
+        match self.held.append(line) {
+            Ok(()) => Ok(()),
+            Err(StartFault::OutOfMemory) => Err(EdgeRefusal::OutOfMemory),
+            Err(_) => Err(EdgeRefusal::Failed),
+        }
+    }
+}
+
 impl Synced for NotedActor<'_> {
     fn note_begun(&mut self) -> Result<(), EdgeRefusal> {
         if self.has_begun {
             return Ok(());
         }
-        match self.held.append(began_line()) {
-            Ok(()) => {
-                self.has_begun = true;
-                Ok(())
-            }
-            Err(StartFault::OutOfMemory) => Err(EdgeRefusal::OutOfMemory),
-            Err(_) => Err(EdgeRefusal::Failed),
+        self.note(began_line())?;
+        self.has_begun = true;
+        Ok(())
+    }
+
+    fn note_again(&mut self, again: Again) -> Result<(), EdgeRefusal> {
+        match again_line(self.alloc, again) {
+            Ok(line) => self.note(&line),
+            Err(_) => Err(EdgeRefusal::OutOfMemory),
         }
     }
 

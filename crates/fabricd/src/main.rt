@@ -2,6 +2,7 @@
 #![tactic(auto)]
 
 mod actor_start;
+mod again;
 mod ask;
 mod check;
 mod counted_door;
@@ -9,11 +10,13 @@ mod counted_log;
 mod events;
 mod finish;
 mod opening;
+mod recalling;
 mod serve;
 mod serving;
 mod start;
 mod started;
 
+use crate::again::tell_again;
 use crate::ask::ask_process;
 use crate::check::check_file;
 use crate::finish::tell_end;
@@ -51,8 +54,7 @@ fn tell(rt: &HostRuntime, text: &str) -> End {
     }
 }
 
-/// Does what the words ask. This program has no parent, and does not say how a ring begins again: both are as words
-/// that are none of its forms.
+/// Does what the words ask. This program has no parent: a word that speaks of one is in none of its forms.
 fn run_form<'a>(rt: &'a HostRuntime, form: ServeForm<'a>) -> End {
     match form {
         ServeForm::Node {
@@ -87,9 +89,10 @@ fn run_form<'a>(rt: &'a HostRuntime, form: ServeForm<'a>) -> End {
         }
         ServeForm::Check { file } => check_file(rt, file),
         ServeForm::Ask { folder, lines } => ask_process(rt, folder, lines),
+        ServeForm::Again { file, folders } => tell_again(rt, file, folders),
         ServeForm::Help => tell(rt, HELP),
         ServeForm::Version => tell(rt, VERSION_LINE),
-        ServeForm::Node { .. } | ServeForm::Again { .. } => End::As(Status::Usage),
+        ServeForm::Node { .. } => End::As(Status::Usage),
     }
 }
 

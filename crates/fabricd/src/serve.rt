@@ -10,7 +10,6 @@ use crate::serving::Serving;
 use crate::start::read_given;
 use crate::started::{Keeps, Started, read_records, short};
 use client_sessions::Sessions;
-use cold_start::first_whole;
 use door_io::Clients;
 use edge_io::{Devices, Links};
 use fabric_edge::{FolderKeeper, MonoClock};
@@ -23,8 +22,8 @@ use serve_edge::{
 };
 use serve_lives::{NoPolicy, NoSink, NodePolicy, Returning, serve as serve_actor};
 use serve_top::{
-    BoardDevices, BoardFacts, End, NotedKeeper, StatusBoard, TalliedLinks, TalliedPolicy, Tally,
-    plan_of, status_by,
+    Begins, BoardDevices, BoardFacts, End, NotedKeeper, StatusBoard, TalliedLinks, TalliedPolicy,
+    Tally, plan_of, status_by, whole_of,
 };
 use serve_turns::{Audience, Board, Policy, Service};
 use service_file::{ActorFile, LineChoice, ServiceSettings};
@@ -171,7 +170,8 @@ fn keep_and_run<'a>(
 {
     let files = FolderKeeper::new(started.rt, started.rt.alloc());
     let mut keeps = NotedKeeper::new(files, actor, started.tally);
-    let passed = read_records(started, &mut keeps, file)?;
+    let begins = read_records(started, &mut keeps, file)?;
+    let passed = begins == Begins::Passed;
     let key = opened.key.map_err(|fault| End::Start(fault))?;
     run_sealed(started, opened.page, opened.listen, key, &mut keeps, passed)
 }
@@ -190,7 +190,7 @@ fn run<'a>(rt: &'a HostRuntime, serving: Serving<'a>) -> Result<End, End> {
         lease: config.lease,
         grain: config.bound.grain,
     };
-    let whole = first_whole(&config);
+    let whole = whole_of(&config, settings.again);
     let plan = plan_of(alloc, config, whole, serving.actor)?;
     let service = Service { alloc, plan };
     let folder = serving.options.folder.unwrap_or(".");

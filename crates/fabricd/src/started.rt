@@ -3,14 +3,15 @@ ghost use Rattle.serve_rules.specs.Services.{IsService};
 
 use crate::actor_start::NotedActor;
 use crate::events::Events;
-use edge_io::{Devices, EdgeRefusal};
-use fabric_edge::{FolderKeeper, MonoClock};
+use crate::recalling::recall_by;
+use edge_io::EdgeRefusal;
+use fabric_edge::FolderKeeper;
 use fabric_status::Status;
-use fabric_turns::recall;
 use keep_log::Kept;
-use serve_edge::{LogOutput, PollBoard, ServedLinks, StartFault};
-use serve_lives::NoSink;
-use serve_top::{BoardFacts, End, NotedKeeper, Tally, is_nothing, judge_beginning, status_of};
+use serve_edge::{LogOutput, PollBoard, StartFault};
+use serve_top::{
+    Begins, BoardFacts, End, NotedKeeper, Tally, is_nothing, judge_beginning, status_of,
+};
 use serve_turns::Service;
 use service_file::{ActorFile, ServiceSettings};
 
@@ -41,39 +42,38 @@ pub fn short<T: Drop>(_error: T) -> End {
 fn recall_kept(started: Started<'_>, keeps: &mut Keeps<'_>) -> Result<Kept, End>
     requires { IsService started.service.now.plan }
 {
-    let alloc = started.rt.alloc();
-    let mut sink = NoSink {};
-    let mut clock = MonoClock::new(started.rt);
-    let mut links = ServedLinks::new(started.rt, alloc, started.board, None);
-    let mut devices = Devices {
-        sink: &mut sink,
-        links: &mut links,
-        keeps,
-        clock: &mut clock,
-    };
-    match recall(&mut devices, alloc, started.service.actor()) {
+    match recall_by(started.rt, started.board, keeps, started.service.actor()) {
         Ok(kept) => Ok(kept),
         Err(cause) => Err(End::As(status_of(cause))),
     }
 }
 
-/// Reads the records, and judges by them how the start goes on. Where there are some, it is noted for good that the
-/// actor has begun: a process may have ended between a record and that note.
+/// A line of the file `actor` is kept for good, or the start ends.
+fn need_noted(noted: Result<(), EdgeRefusal>) -> Result<(), End> {
+    match noted {
+        Ok(()) => Ok(()),
+        Err(EdgeRefusal::OutOfMemory) => Err(End::As(Status::OutOfMemory)),
+        Err(EdgeRefusal::Failed) => Err(End::Start(StartFault::FolderKeep)),
+    }
+}
+
+/// Reads the records, and judges by them how the next instance begins. Where there are some, it is noted for good that
+/// the actor has begun: a process may have ended between a record and that note. Behind that it is noted which instance
+/// begins the ring anew, before anything is recorded of it.
 pub fn read_records(
     started: Started<'_>,
     keeps: &mut Keeps<'_>,
     file: &ActorFile,
-) -> Result<bool, End>
+) -> Result<Begins, End>
     requires { IsService started.service.now.plan }
 {
     let kept = recall_kept(started, keeps)?;
-    let passed = judge_beginning(file, &kept, started.settings.again)?;
-    if is_nothing(&kept) {
-        return Ok(passed);
+    let begins = judge_beginning(file, &kept, started.settings.again)?;
+    if !is_nothing(&kept) {
+        need_noted(keeps.note_begun())?;
     }
-    match keeps.note_begun() {
-        Ok(()) => Ok(passed),
-        Err(EdgeRefusal::OutOfMemory) => Err(End::As(Status::OutOfMemory)),
-        Err(EdgeRefusal::Failed) => Err(End::Start(StartFault::FolderKeep)),
+    if let Begins::NoteAnew(again) = begins {
+        need_noted(keeps.note_again(again))?;
     }
+    Ok(begins)
 }

@@ -40,6 +40,8 @@ mod points;
 #[cfg(test)]
 mod quorums;
 #[cfg(test)]
+mod reading;
+#[cfg(test)]
 mod records;
 #[cfg(test)]
 mod replicas;

@@ -2,6 +2,7 @@ pub mod ActorLines
 pub mod Addresses
 pub mod Comes
 pub mod Faults
+pub mod Looks
 pub mod Places
 pub mod Stamps
 pub mod Unreads

@@ -29,7 +29,7 @@ pub fn read_most<F: Read>(alloc: Global, file: &mut F, most: usize) -> io::Resul
 }
 
 /// Opens a regular file. Anything else is not opened: to open a pipe could wait without end.
-fn open_regular<R: Files>(rt: &R, path: &str) -> io::Result<R::File> {
+pub(crate) fn open_regular<R: Files>(rt: &R, path: &str) -> io::Result<R::File> {
     if !fs::metadata(rt, path)?.is_file() {
         return Err(io::Error::from(ErrorKind::InvalidInput));
     }

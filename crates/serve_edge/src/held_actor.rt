@@ -11,7 +11,7 @@ use std::os::unix::fs::OpenOptionsExt;
 use std::rt::Files;
 
 /// The name of the file in the current folder.
-const ACTOR: &str = "actor";
+pub(crate) const ACTOR: &str = "actor";
 
 /// The mode of the file where it is made.
 const ACTOR_MODE: u32 = 0o600;

@@ -1,3 +1,4 @@
+pub mod AgainRefusing
 pub mod Finding
 pub mod Planning
 pub mod Refusing

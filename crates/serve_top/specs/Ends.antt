@@ -18,6 +18,7 @@ code_of (end.Address text) = 18
 code_of end.Silent = 19
 code_of end.Undone = 20
 code_of end.NoDoor = 21
+code_of (end.Again words) = 22
 
 abbrev pub folder_word : FolderFault → List ℕ
 folder_word folder.Actor = codes "actor"
@@ -39,3 +40,4 @@ last_line (end.Address text) = named (codes "fault address ") text.items
 last_line end.Silent = codes "fault silent\n"
 last_line end.Undone = []
 last_line end.NoDoor = codes "fault door\n"
+last_line (end.Again words) = named (codes "fault again ") words.items

@@ -1,9 +1,11 @@
 pub mod Actors
 pub mod Addresses
+pub mod Agains
 pub mod Beginnings
 pub mod Counts
 pub mod Ends
 pub mod Files
+pub mod Founds
 pub mod NodeFacts
 pub mod Pages
 pub mod Plans

@@ -39,6 +39,8 @@ pub enum End {
     Silent,
     /// An answer that was asked for has a word that says that a line was not done.
     Undone,
+    /// The folders of a ring do not lead to a line 2: why, and which folder.
+    Again(Vec<u8>),
     /// There is no process behind the door, or it does not answer.
     NoDoor,
 }
@@ -57,6 +59,7 @@ impl End {
             End::Silent => 19,
             End::Undone => 20,
             End::NoDoor => 21,
+            End::Again(_) => 22,
         }
     }
 }
@@ -96,5 +99,6 @@ pub fn push_last_line(alloc: Global, into: &mut Vec<u8>, end: &End) -> Result<()
         End::Silent => push_bytes(into, b"fault silent\n"),
         End::Undone => Ok(()),
         End::NoDoor => push_bytes(into, b"fault door\n"),
+        End::Again(words) => push_words(into, b"fault again ", words),
     }
 }

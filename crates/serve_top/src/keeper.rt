@@ -1,10 +1,14 @@
 use crate::tally::Tally;
 use edge_io::{EdgeRefusal, Keeper};
+use service_file::Again;
 
 /// What hears of each record of the actor that was synced.
 pub trait Synced {
     /// Notes for good that the actor has begun, where that is not noted yet.
     fn note_begun(&mut self) -> Result<(), EdgeRefusal>;
+
+    /// Notes for good that this instance may begin with the whole ring again.
+    fn note_again(&mut self, again: Again) -> Result<(), EdgeRefusal>;
 
     /// An instance of the actor begins: this is the record that says so.
     fn tell_begin(&self, instance: u32);
@@ -38,6 +42,11 @@ impl<K: Keeper, S: Synced> NotedKeeper<'_, K, S> {
     /// Notes that the actor has begun: its records are there already.
     pub fn note_begun(&mut self) -> Result<(), EdgeRefusal> {
         self.synced.note_begun()
+    }
+
+    /// Notes that an instance may begin with the whole ring again, before anything is recorded of it.
+    pub fn note_again(&mut self, again: Again) -> Result<(), EdgeRefusal> {
+        self.synced.note_again(again)
     }
 }
 

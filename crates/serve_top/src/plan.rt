@@ -1,16 +1,31 @@
 ghost use Rattle.std.specs.Prelude.{◌≡◌, ◌∷◌, [], IfOk, option_map};
 ghost use Rattle.fabric_terms.specs.Sound.{IsSound};
 ghost use Rattle.serve_rules.specs.Services.{IsService, actor_of};
-ghost use Rattle.serve_top.specs.Plans.{PlansFor, address_of};
+ghost use Rattle.serve_top.specs.Plans.{PlansFor, address_of, whole_of};
 
 use crate::addresses::short;
 use crate::end::End;
+use cold_start::first_whole;
 use edge_io::{Endpoint, SocketAddress};
 use fabric_status::Status;
 use fabric_terms::FabricConfig;
 use ring_points::{ARBITRATORS, Who};
+use service_file::Again;
 use std::alloc::{AllocError, Global};
 use turn_rules::{Orders, Plan, arbiter_address, node_address};
+
+/// Who begins with the whole ring: the instance that line 2 names, or else instance 1 of the first node.
+pub fn whole_of(config: &FabricConfig, again: Option<Again>) -> Who
+    ensures { result ≡ whole_of config.now again }
+{
+    match again {
+        Some(again) => Who {
+            actor: again.node,
+            instance: again.instance,
+        },
+        None => first_whole(config),
+    }
+}
 
 /// Where the actor of a number is reached, if it is configured.
 fn address_of(config: &FabricConfig, actor: u16) -> Option<&str>

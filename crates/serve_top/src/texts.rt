@@ -11,7 +11,7 @@ fabricd node N FILE [OPTION]..       runs node N of the cluster of FILE until it
 fabricd arbiter A FILE [OPTION]..    runs arbitrator A of the cluster of FILE
 fabricd check FILE                   reads FILE as a start does
 fabricd ask FOLDER LINE..            asks the process that runs in FOLDER
-fabricd again FOLDER..               says how a ring whose nodes have all stopped begins again
+fabricd again FILE FOLDER..          says how a ring whose nodes have all stopped begins again
 fabricd --help | --version
   --folder D         the folder of the actor; by default the current one
   --listen ADDRESS   where the UDP socket is bound; by default where FILE says that the actor is

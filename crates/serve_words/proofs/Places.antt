@@ -54,17 +54,23 @@ ask_places : (f : Text) (ws : List Text) → is_some (ask_form f ws) ≡ true �
 ask_places f [] some = cc
 ask_places f (g ∷ ws) some = let p = passed (begins_with_hyphen f) _ some in rw p.0 refl
 
-first_two : (f g : Text) (ws : List Text) → list_all is_place (f ∷ g ∷ ws) ≡ true → (begins_with_hyphen f ≡ false) × (begins_with_hyphen g ≡ false)
-first_two f g ws h = go (begins_with_hyphen f) refl (begins_with_hyphen g) refl
-  where
-    go : (s : Bool) → begins_with_hyphen f ≡ s → (t : Bool) → begins_with_hyphen g ≡ t → (begins_with_hyphen f ≡ false) × (begins_with_hyphen g ≡ false)
-    go true e t d = let bad : list_all is_place (f ∷ g ∷ ws) ≡ false = rw e refl in cc
-    go false e true d = let bad : list_all is_place (f ∷ g ∷ ws) ≡ false = rw (e, d) refl in cc
-    go false e false d = (e, d)
+holds : {A : Type 0} (t : Bool) (x : Option A) → is_some (if t then x else None) ≡ true → t ≡ true
+holds true x h = refl
+holds false x h = cc
 
-again_places : (f : Text) (ws : List Text) → list_all is_place (f ∷ ws) ≡ true → list_all is_place (front (codes "again" ∷ f ∷ ws)) ≡ true
-again_places f [] h = h
-again_places f (g ∷ ws) h = let p = first_two f g ws h in rw (p.0, p.1) refl
+first_place : (g : Text) (ws : List Text) → list_all is_place (g ∷ ws) ≡ true → begins_with_hyphen g ≡ false
+first_place g ws h = go (begins_with_hyphen g) refl
+  where
+    go : (t : Bool) → begins_with_hyphen g ≡ t → begins_with_hyphen g ≡ false
+    go true e = let bad : list_all is_place (g ∷ ws) ≡ false = rw e refl in cc
+    go false e = e
+
+again_places : (f : Text) (ws : List Text) → is_some (again_form f ws) ≡ true → list_all is_place (front (codes "again" ∷ f ∷ ws)) ≡ true
+again_places f [] some = cc
+again_places f (g ∷ ws) some =
+    let p = passed (begins_with_hyphen f) _ some in
+    let folder = first_place g ws (holds (list_all is_place (g ∷ ws)) _ p.1) in
+    rw (p.0, folder) refl
 
 abbrev Fine : Text → Text → List Text → Type 0
 Fine c f ws = list_all is_place (front (c ∷ f ∷ ws)) ≡ true
@@ -76,16 +82,12 @@ chosen : {A : Type 0} (t : Bool) (x y : Option A) → is_some (if t then x else 
 chosen true x y h = inl (refl, h)
 chosen false x y h = inr h
 
-holds : {A : Type 0} (t : Bool) (x : Option A) → is_some (if t then x else None) ≡ true → t ≡ true
-holds true x h = refl
-holds false x h = cc
-
-by_again : (c f : Text) (ws : List Text) (t : Bool) → bytes_eq c (codes "again") ≡ t → is_some (if t then again_form (f ∷ ws) else None) ≡ true → Fine c f ws
-by_again c f ws true e some = at c (codes "again") f ws e (again_places f ws (holds (list_all is_place (f ∷ ws)) _ some))
+by_again : (c f : Text) (ws : List Text) (t : Bool) → bytes_eq c (codes "again") ≡ t → is_some (if t then again_form f ws else None) ≡ true → Fine c f ws
+by_again c f ws true e some = at c (codes "again") f ws e (again_places f ws some)
 by_again c f ws false e some = cc
 
 abbrev from_ask : Text → Text → List Text → Option Form
-from_ask c f ws = if bytes_eq c (codes "ask") then ask_form f ws else (if bytes_eq c (codes "again") then again_form (f ∷ ws) else None)
+from_ask c f ws = if bytes_eq c (codes "ask") then ask_form f ws else (if bytes_eq c (codes "again") then again_form f ws else None)
 
 by_ask : (c f : Text) (ws : List Text) → is_some (from_ask c f ws) ≡ true → Fine c f ws
 by_ask c f ws some = elim (chosen (bytes_eq c (codes "ask")) (ask_form f ws) _ some) [

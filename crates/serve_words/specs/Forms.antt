@@ -35,7 +35,7 @@ pub data Form : Type 0 where
   arbiter : ℕ → Text → Settings → Form
   check : Text → Form
   ask : Text → List Text → Form
-  again : List Text → Form
+  again : Text → List Text → Form
   help : Form
   version : Form
 
@@ -84,8 +84,12 @@ ask_form folder (line ∷ lines) =
     if begins_with_hyphen folder then None
     else (if list_all is_line (line ∷ lines) then Some (ask folder (line ∷ lines)) else None)
 
-abbrev pub again_form : List Text → Option Form
-again_form folders = if list_all is_place folders then Some (again folders) else None
+-- a folder at least
+abbrev pub again_form : Text → List Text → Option Form
+again_form file [] = None
+again_form file (folder ∷ folders) =
+    if begins_with_hyphen file then None
+    else (if list_all is_place (folder ∷ folders) then Some (again file (folder ∷ folders)) else None)
 
 -- ---- the forms of one word, and of more
 
@@ -100,7 +104,7 @@ with_values command first more =
     else (if bytes_eq command (codes "arbiter") then with_file arbiter_form first more
     else (if bytes_eq command (codes "check") then check_form first more
     else (if bytes_eq command (codes "ask") then ask_form first more
-    else (if bytes_eq command (codes "again") then again_form (first ∷ more) else None))))
+    else (if bytes_eq command (codes "again") then again_form first more else None))))
 
 -- the form that the words are, without the program's name
 unfoldable pub form_of : List Text → Option Form
@@ -123,6 +127,6 @@ plain (served.Node n file options parent) = node n file.now (settings_in options
 plain (served.Arbiter a file options) = arbiter a file.now (settings_in options)
 plain (served.Check file) = check file.now
 plain (served.Ask folder lines) = ask folder.now (map string_bytes lines.now)
-plain (served.Again folders) = again (map string_bytes folders.now)
+plain (served.Again file folders) = again file.now (map string_bytes folders.now)
 plain served.Help = help
 plain served.Version = version

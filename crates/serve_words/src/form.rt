@@ -23,8 +23,9 @@ pub enum ServeForm<'a> {
         folder: &'a str,
         lines: &'a [String],
     },
-    /// `again FOLDER..`: says by which line 2 a ring begins again.
+    /// `again FILE FOLDER..`: says by which line 2 of FILE the ring of these folders begins again.
     Again {
+        file: &'a str,
         folders: &'a [String],
     },
     /// `--help`: says which words there are.

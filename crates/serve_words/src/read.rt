@@ -118,11 +118,11 @@ fn ask_form<'a>(folder: &'a str, lines: &'a [String]) -> Option<ServeForm<'a>>
     }
 }
 
-fn again_form<'a>(folders: &'a [String]) -> Option<ServeForm<'a>>
-    ensures { option_map plain result ≡ again_form (map string_bytes folders.now) }
+fn again_form<'a>(file: &'a str, folders: &'a [String]) -> Option<ServeForm<'a>>
+    ensures { option_map plain result ≡ again_form file.now (map string_bytes folders.now) }
 {
-    if are_places(folders) {
-        Some(ServeForm::Again { folders })
+    if !folders.is_empty() && !begins_with_hyphen(file) && are_places(folders) {
+        Some(ServeForm::Again { file, folders })
     } else {
         None
     }
@@ -164,7 +164,7 @@ fn with_values<'a>(
     } else if command == "ask" {
         ask_form(first, more)
     } else if command == "again" {
-        again_form(values)
+        again_form(first, more)
     } else {
         None
     }

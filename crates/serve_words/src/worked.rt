@@ -11,13 +11,16 @@ pub fn worked_words()
         ≡ Some (arbiter 9 (codes "f") (record { folder = None; listen = Some (codes ""); page = Some (codes "-"); key = None })) }
     ensures check { form_of (codes "check" ∷ codes "f" ∷ []) ≡ Some (check (codes "f")) }
     ensures ask { form_of (codes "ask" ∷ codes "d" ∷ codes "state" ∷ codes "-" ∷ []) ≡ Some (ask (codes "d") (codes "state" ∷ codes "-" ∷ [])) }
-    ensures again { form_of (codes "again" ∷ codes "d" ∷ codes "e" ∷ []) ≡ Some (again (codes "d" ∷ codes "e" ∷ [])) }
+    ensures again { form_of (codes "again" ∷ codes "f" ∷ codes "d" ∷ codes "e" ∷ []) ≡ Some (again (codes "f") (codes "d" ∷ codes "e" ∷ [])) }
     ensures help { form_of (codes "--help" ∷ []) ≡ Some help }
     ensures version { form_of (codes "--version" ∷ []) ≡ Some version }
     ensures no_words { form_of [] ≡ None }
     ensures help_of_more { form_of (codes "--help" ∷ codes "node" ∷ []) ≡ None }
     ensures no_file { form_of (codes "node" ∷ codes "1" ∷ []) ≡ None }
     ensures no_line { form_of (codes "ask" ∷ codes "d" ∷ []) ≡ None }
+    ensures no_folder { form_of (codes "again" ∷ codes "f" ∷ []) ≡ None }
+    ensures a_folder_is_an_option { form_of (codes "again" ∷ codes "f" ∷ codes "d" ∷ codes "--folder=e" ∷ []) ≡ None }
+    ensures a_file_is_an_option { form_of (codes "again" ∷ codes "-f" ∷ codes "d" ∷ []) ≡ None }
     ensures two_lines { form_of (codes "ask" ∷ codes "d" ∷ (101 ∷ 10 ∷ 101 ∷ []) ∷ []) ≡ None }
     ensures node_1000 { form_of (codes "node" ∷ codes "1000" ∷ codes "f" ∷ []) ≡ None }
     ensures leading_zero { form_of (codes "node" ∷ codes "01" ∷ codes "f" ∷ []) ≡ None }

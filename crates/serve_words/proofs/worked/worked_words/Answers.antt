@@ -52,6 +52,18 @@ pub returns-clause-no_line : goal.returns-clause-no_line
 unfolding number_in form_of options_in
 returns-clause-no_line c = refl
 
+pub returns-clause-no_folder : goal.returns-clause-no_folder
+unfolding number_in form_of options_in
+returns-clause-no_folder c = refl
+
+pub returns-clause-a_folder_is_an_option : goal.returns-clause-a_folder_is_an_option
+unfolding number_in form_of options_in
+returns-clause-a_folder_is_an_option c = refl
+
+pub returns-clause-a_file_is_an_option : goal.returns-clause-a_file_is_an_option
+unfolding number_in form_of options_in
+returns-clause-a_file_is_an_option c = refl
+
 pub returns-clause-two_lines : goal.returns-clause-two_lines
 unfolding number_in form_of options_in
 returns-clause-two_lines c = refl
