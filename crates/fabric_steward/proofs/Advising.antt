@@ -22,6 +22,15 @@ pub found : {X : Type 0} (P Q : X → Type 0) (test : X → Bool) → ((x : X) �
 found P Q test step [] all = tt
 found P Q test step (x ∷ xs) all = found_in Q x (find test xs) (test x) (step x all.0) (found P Q test step xs all.1)
 
+-- one of two, by a test
+pub either : {X : Type 0} (P : X → Type 0) (b : Bool) (x y : X) → P x → P y → P (cond b x y)
+either P true x y one other = one
+either P false x y one other = other
+
+pub either_some : {X : Type 0} (P : X → Type 0) (b : Bool) (x : X) (rest : Option X) → P x → IfSome rest P → IfSome (cond b (Some x) rest) P
+either_some P true x rest one other = one
+either_some P false x rest one other = other
+
 -- a rule whose condition fails gives nothing
 pub if_given : {A : Type 0} (Q : A → Type 0) (b : Bool) (o : Option A) → IfSome o Q → IfSome (cond b o None) Q
 if_given Q true o given = given

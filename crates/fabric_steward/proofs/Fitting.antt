@@ -6,7 +6,7 @@ use Rattle.std.proofs.lemmas.Bool.{and_parts, eqb-true, false≢true, or_cases}
 use Rattle.std.proofs.lemmas.List.Elements.{All-filter, All-head, All-map, All-tail, All-weaker}
 use Rattle.std.proofs.lemmas.Option.{IfSome_then}
 use Rattle.fabric_terms.specs.declared.command.Command.{Command}
-use Rattle.fabric_terms.specs.declared.command.Command.TheVariants.{Join, Find, Create, Heal}
+use Rattle.fabric_terms.specs.declared.command.Command.TheVariants.{Join, Find, Link, Create, Heal}
 use Rattle.fabric_terms.specs.declared.config.FabricConfig.{FabricConfig}
 use Rattle.fabric_terms.specs.declared.config.NodeEntry.{NodeEntry}
 use Rattle.fabric_terms.specs.Ranges.{FitsCommand, IsMembers, IsNode, IsPartition}
@@ -24,6 +24,7 @@ use Rattle.fabric_steward.proofs.Naming.{gives_its_names, keeps_its_names}
 -- the names are in their ranges
 record AreFit (names : Names) : Type 0 where
   pub joins : All IsNode names.joins
+  pub nodes : All IsNode names.nodes
   pub points : All (λ p. p < 2 ^ 64) names.points
   pub units : All IsSoundDeclared names.units
 
@@ -56,6 +57,8 @@ may_fit d names fit (Find point) may = elim (or_cases (nat_eq point.0 0) (list_a
   | inl zero ↦ let e : point.0 ≡ 0 = eqb-true point.0 0 zero in omega arith
   | inr any ↦ any_gives (λ p. p < 2 ^ 64) (point.0 < 2 ^ 64) (λ p. nat_eq p point.0) (λ p is same. let e : p ≡ point.0 = eqb-true p point.0 same in omega arith) names.points fit.points any
 ]
+may_fit d names fit (Link node) may =
+    any_gives IsNode (IsNode node) (λ n. nat_eq n node) (λ n is same. subst IsNode (eqb-true n node same) is) names.nodes fit.nodes may
 may_fit d names fit (Create partition count) may =
     any_gives IsSoundDeclared (IsPartition partition × IsMembers count) (is_wanted d partition count) (wanted_fits d partition count) names.units fit.units may
 may_fit d names fit (Heal partition count) may =
@@ -70,6 +73,8 @@ configured_node c sound n is =
 fresh_fit : (c : FabricConfig) (settings : ServiceSettings) (me : ℕ) → IsSound c → IsSoundService c settings → AreFit (names_of (fresh_policy c settings me))
 fresh_fit c settings me sound service = record {
   joins = All-filter (λ n. not (nat_eq n me)) IsNode settings.join (All-weaker (IsConfigured c) IsNode (configured_node c sound) settings.join service.joined);
+  nodes = All-map IsNode (λ n. n.node) (map node_watched c.nodes) (
+      All-map (λ n. IsNode n.node) node_watched c.nodes (All-weaker IsSoundNode (λ (n : NodeEntry). IsNode n.node) (λ n is. (is.node.from_low, is.node.to_high)) c.nodes sound.nodes));
   points = All-map (λ p. p < 2 ^ 64) (λ n. n.point.0) (map node_watched c.nodes) (
       All-map (λ n. n.point.0 < 2 ^ 64) node_watched c.nodes (All-weaker IsSoundNode (λ (n : NodeEntry). n.point.0 < 2 ^ 64) (λ n is. is.point) c.nodes sound.nodes));
   units = All-map IsSoundDeclared declared_of (map (unit_watched c.lease) settings.partitions) (

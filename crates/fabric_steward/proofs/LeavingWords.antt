@@ -1,6 +1,6 @@
 -- Whatever is next for a node that leaves, its command is one that it may give.
-use Rattle.std.proofs.Common.{arith, ◌≡◌, ℕ, ◌≤◌, Bool, true, false, cond, List, [], ◌∷◌, Option, Some, None, refl, subst, sym, inl, inr}
-use Rattle.std.specs.Prelude.{IfSome, IsTrue, find, option_map, option_and_then, nat_eq, nat_le, not, ◌&&◌}
+use Rattle.std.proofs.Common.{arith, ◌≡◌, ℕ, ◌≤◌, Bool, true, List, [], ◌∷◌, Option, Some, None, refl, subst, sym, inl, inr}
+use Rattle.std.specs.Prelude.{IfSome, IsTrue, find, option_map, option_and_then, nat_eq, nat_le, not, ◌&&◌, ◌||◌}
 use Rattle.std.specs.List.{list_any}
 use Rattle.std.proofs.Math.Nat.{min-eq_left, min-eq_right}
 use Rattle.std.proofs.lemmas.Bool.{and_from, cases_lt, eq-eqb, or_left, or_right}
@@ -8,16 +8,18 @@ use Rattle.std.proofs.lemmas.Option.{IfSome_then}
 use Rattle.ring_points.specs.Distances.{ahead_of}
 use Rattle.ring_points.specs.declared.unit.Config.{Config}
 use Rattle.fabric_steward.specs.declared.leaving.Leaving.{Leaving}
-use Rattle.fabric_steward.specs.declared.leaving.Leaving.TheVariants.{Swap, Give, Part, Rest, Done}
+use Rattle.fabric_steward.specs.declared.leaving.Leaving.TheVariants.{Place, Swap, Give, Part, Rest, Done}
 use Rattle.fabric_steward.specs.declared.node_watch.NodeWatch.{NodeWatch}
 use Rattle.fabric_steward.specs.declared.unit_watch.UnitWatch.{UnitWatch}
-use Rattle.fabric_steward.specs.Departures.{Plan, end_step, give_step, give_to, heir_by, heir_of, is_linked, is_to_move, is_to_part, is_to_swap, least_up, least_with, nearer_of, nearest_bound, or_done, part_step, parting_by, rests, swap_now, swap_step}
+use Rattle.fabric_steward.specs.Departures.{Plan, end_step, give_step, give_to, heir_by, heir_of, is_linked, is_ready_to_place, is_to_move, is_to_part, is_to_place, is_to_swap, least_up, least_with, nearer_of, nearest_bound, or_done, part_step, parting_by, place_now, rests, swap_now, unit_step, units_rest}
+use Rattle.fabric_steward.specs.Domains.{domains_up}
 use Rattle.fabric_steward.specs.Facts.{Facts}
 use Rattle.fabric_steward.specs.Links.{Links}
-use Rattle.fabric_steward.specs.Laws.{LeavesByItsWords, is_member, may_part}
-use Rattle.fabric_steward.specs.Rules.{first_some}
+use Rattle.fabric_steward.specs.Laws.{LeavesByItsWords, declared_of, is_member, is_wanted, may_part}
+use Rattle.fabric_steward.specs.Rules.{count_for, first_some}
 use Rattle.fabric_steward.specs.Times.{first_pause, is_over}
-use Rattle.fabric_steward.proofs.Advising.{first_given, if_given, map_given}
+use Rattle.fabric_steward.proofs.Naming.{found_any, wanted}
+use Rattle.fabric_steward.proofs.Advising.{either, either_some, first_given, if_given, map_given}
 
 -- What is chosen from a list is in it
 
@@ -33,15 +35,6 @@ later key y xs x has = or_right (nat_eq (key y) (key x)) (list_any (λ z. nat_eq
 
 all_later : {X : Type 0} (key : X → ℕ) (y : X) (xs : List X) (o : Option X) → IfSome o (Has key xs) → IfSome o (Has key (y ∷ xs))
 all_later key y xs o has = IfSome_then o has (later key y xs)
-
--- one of two, by a test
-either : {X : Type 0} (P : X → Type 0) (b : Bool) (x y : X) → P x → P y → P (cond b x y)
-either P true x y one other = one
-either P false x y one other = other
-
-either_some : {X : Type 0} (P : X → Type 0) (b : Bool) (x : X) (rest : Option X) → P x → IfSome rest P → IfSome (cond b (Some x) rest) P
-either_some P true x rest one other = one
-either_some P false x rest one other = other
 
 found_has : {X : Type 0} (key : X → ℕ) (test : X → Bool) (xs : List X) → IfSome (find test xs) (Has key xs)
 found_has key test [] = tt
@@ -80,57 +73,66 @@ heir_is_member f now me (Some c) = if_given (λ m. is_member m (Some c) ≡ true
 -- The steps
 
 -- this may be next
-abbrev May : Facts → (now : ℕ) → Plan → Leaving → Type 0
-May f now s next = IsTrue (may_part f s (parting_by now s next))
+abbrev May : Facts → (d now : ℕ) → Plan → Leaving → Type 0
+May f d now s next = IsTrue (may_part f d s (parting_by now s next))
 
 and_then_given : {X A : Type 0} (Q : A → Type 0) (g : X → Option A) (o : Option X) → IfSome o (λ x. IfSome (g x) Q) → IfSome (option_and_then g o) Q
 and_then_given Q g None given = tt
 and_then_given Q g (Some x) given = given
 
-rests_may : (f : Facts) (now : ℕ) (s : Plan) (b : Bool) → IfSome (rests b) (May f now s)
-rests_may f now s b = if_given (May f now s) b (Some Rest) refl
+rests_may : (f : Facts) (d now : ℕ) (s : Plan) (b : Bool) → IfSome (rests b) (May f d now s)
+rests_may f d now s b = if_given (May f d now s) b (Some Rest) refl
 
-one_swap : (f : Facts) (now : ℕ) (s : Plan) (w : UnitWatch) → Has (λ v. v.partition) s.units w → IfSome (option_map (Swap w.partition) (heir_of f now s w)) (May f now s)
-one_swap f now s w has =
-    map_given (May f now s) (Swap w.partition) (heir_of f now s w) (
+one_swap : (f : Facts) (d now : ℕ) (s : Plan) (w : UnitWatch) → Has (λ v. v.partition) s.units w → IfSome (option_map (Swap w.partition) (heir_of f now s w)) (May f d now s)
+one_swap f d now s w has =
+    map_given (May f d now s) (Swap w.partition) (heir_of f now s w) (
     IfSome_then (heir_of f now s w) (heir_is_member f now s.me (f.config_of w.partition)) (λ m member. and_from (list_any (λ v. nat_eq v.partition w.partition) s.units) (is_member m (f.config_of w.partition)) has member))
 
-swap_now_may : (f : Facts) (now : ℕ) (s : Plan) → IfSome (swap_now f now s) (May f now s)
-swap_now_may f now s =
-    and_then_given (May f now s) (λ w. option_map (Swap w.partition) (heir_of f now s w)) (find (is_to_swap f now s) s.units) (
-    IfSome_then (find (is_to_swap f now s) s.units) (found_has (λ w. w.partition) (is_to_swap f now s) s.units) (one_swap f now s))
+swap_now_may : (f : Facts) (d now : ℕ) (s : Plan) → IfSome (swap_now f now s) (May f d now s)
+swap_now_may f d now s =
+    and_then_given (May f d now s) (λ w. option_map (Swap w.partition) (heir_of f now s w)) (find (is_to_swap f now s) s.units) (
+    IfSome_then (find (is_to_swap f now s) s.units) (found_has (λ w. w.partition) (is_to_swap f now s) s.units) (one_swap f d now s))
 
-swap_may : (f : Facts) (now : ℕ) (s : Plan) → IfSome (swap_step f now s) (May f now s)
-swap_may f now s =
-    if_given (May f now s) _ (first_some (swap_now f now s ∷ rests (list_any (is_to_move f now s) s.units) ∷ [])) (
-    first_given (May f now s) (swap_now f now s ∷ rests (list_any (is_to_move f now s) s.units) ∷ []) (
-      swap_now_may f now s,
-      (rests_may f now s (list_any (is_to_move f now s) s.units), tt),
+place_may : (f : Facts) (d now : ℕ) (s : Plan) → IfSome (place_now f now d s) (May f d now s)
+place_may f d now s =
+    map_given (May f d now s) (λ w. Place w.partition (count_for d w)) (find (is_ready_to_place f now d s) s.units)
+    (found_any declared_of (is_ready_to_place f now d s) (λ w. is_wanted d w.partition (count_for d w)) (wanted d) s.units)
+
+unit_may : (f : Facts) (d now : ℕ) (s : Plan) → IfSome (unit_step f now d s) (May f d now s)
+unit_may f d now s =
+    if_given (May f d now s) _ (first_some (place_now f now d s ∷ swap_now f now s ∷ units_rest f now d s ∷ [])) (
+    first_given (May f d now s) (place_now f now d s ∷ swap_now f now s ∷ units_rest f now d s ∷ []) (
+      place_may f d now s,
+      (
+        swap_now_may f d now s,
+        (rests_may f d now s (list_any (is_to_place f now d s) s.units || list_any (is_to_move f now s) s.units), tt),
+      ),
     ))
 
-give_may : (f : Facts) (l : Links) (now : ℕ) (s : Plan) → IfSome (give_step l now s) (May f now s)
-give_may f l now s =
-    if_given (May f now s) _ (option_map (give_to l now s) (nearest_bound l s.me s.point s.nodes)) (
-    map_given (May f now s) (give_to l now s) (nearest_bound l s.me s.point s.nodes) (
+give_may : (f : Facts) (l : Links) (d now : ℕ) (s : Plan) → IfSome (give_step l now s) (May f d now s)
+give_may f l d now s =
+    if_given (May f d now s) _ (option_map (give_to l now s) (nearest_bound l s.me s.point s.nodes)) (
+    map_given (May f d now s) (give_to l now s) (nearest_bound l s.me s.point s.nodes) (
     IfSome_then (nearest_bound l s.me s.point s.nodes) (nearest_has l s.me s.point s.nodes) (λ n has.
-    either (May f now s) (l.owns && is_over now (first_pause s.lease) s.gave) (Give n.node) Rest has refl)))
+    either (May f d now s) (l.owns && is_over now (first_pause s.lease) s.gave) (Give n.node) Rest has refl)))
 
-part_may : (f : Facts) (l : Links) (now : ℕ) (s : Plan) → IfSome (part_step l now s) (May f now s)
-part_may f l now s =
-    first_given (May f now s) (option_map (λ n. Part n.node) (find (is_to_part l now s) s.nodes) ∷ rests (list_any (is_linked l s) s.nodes) ∷ []) (
-      map_given (May f now s) (λ n. Part n.node) (find (is_to_part l now s) s.nodes) (found_has (λ n. n.node) (is_to_part l now s) s.nodes),
-      (rests_may f now s (list_any (is_linked l s) s.nodes), tt),
+part_may : (f : Facts) (l : Links) (d now : ℕ) (s : Plan) → IfSome (part_step l now s) (May f d now s)
+part_may f l d now s =
+    first_given (May f d now s) (option_map (λ n. Part n.node) (find (is_to_part l now s) s.nodes) ∷ rests (list_any (is_linked l s) s.nodes) ∷ []) (
+      map_given (May f d now s) (λ n. Part n.node) (find (is_to_part l now s) s.nodes) (found_has (λ n. n.node) (is_to_part l now s) s.nodes),
+      (rests_may f d now s (list_any (is_linked l s) s.nodes), tt),
     )
 
-done_may : (f : Facts) (now : ℕ) (s : Plan) (o : Option Leaving) → IfSome o (May f now s) → May f now s (or_done o)
-done_may f now s None may = refl
-done_may f now s (Some next) may = may
+done_may : (f : Facts) (d now : ℕ) (s : Plan) (o : Option Leaving) → IfSome o (May f d now s) → May f d now s (or_done o)
+done_may f d now s None may = refl
+done_may f d now s (Some next) may = may
 
 pub leaves_by_its_words : LeavesByItsWords
 leaves_by_its_words f l now s =
-    let steps : List (Option Leaving) = end_step now s ∷ swap_step f now s ∷ give_step l now s ∷ part_step l now s ∷ [] in
-    done_may f now s (first_some steps) (
-    first_given (May f now s) steps (
-      if_given (May f now s) _ (Some Done) refl,
-      (swap_may f now s, (give_may f l now s, (part_may f l now s, tt))),
+    let d : ℕ = domains_up f now s.nodes in
+    let steps : List (Option Leaving) = end_step now s ∷ unit_step f now d s ∷ give_step l now s ∷ part_step l now s ∷ [] in
+    done_may f d now s (first_some steps) (
+    first_given (May f d now s) steps (
+      if_given (May f d now s) _ (Some Done) refl,
+      (unit_may f d now s, (give_may f l d now s, (part_may f l d now s, tt))),
     ))

@@ -9,7 +9,7 @@ use Rattle.fabric_terms.specs.declared.report.Report.{Report}
 use Rattle.fabric_terms.specs.declared.report.Report.TheVariants.{Configured, Superseded, Refused}
 use Rattle.service_file.specs.declared.settings.Declared.{Declared}
 use Rattle.fabric_steward.specs.declared.advice.Advice.{Advice}
-use Rattle.fabric_steward.specs.declared.advice.Advice.TheVariants.{Join, Look, LookForManager, Create, Learn, Heal}
+use Rattle.fabric_steward.specs.declared.advice.Advice.TheVariants.{Join, Look, Greet, LookForManager, Create, Learn, Heal}
 use Rattle.fabric_steward.specs.declared.advice.Deed.{Deed}
 use Rattle.fabric_steward.specs.declared.advice.Deed.TheVariants as deed
 use Rattle.fabric_steward.specs.declared.unit_watch.UnitWatch.{UnitWatch}
@@ -17,6 +17,7 @@ use Rattle.fabric_steward.specs.Afterwards.{advised, after, command_given, unit_
 use Rattle.fabric_steward.specs.Calls.{ArePaused, Call, Advised, Noted, commands_for, is_for, is_of, newest, policy_after}
 use Rattle.fabric_steward.specs.Domains.{domains_up}
 use Rattle.fabric_steward.specs.Facts.{Facts}
+use Rattle.fabric_steward.specs.Greetings.{greet_rule, longest_ago}
 use Rattle.fabric_steward.specs.Laws.{PausesBetween}
 use Rattle.fabric_steward.specs.Noted.{partition_of, partition_told, told_at, unit_configured, unit_refused, unit_told, unit_told_of, units_noted}
 use Rattle.fabric_steward.specs.Policies.{Policy, fresh_policy, unit_watched}
@@ -123,6 +124,7 @@ after_know : (p now pause : ℕ) (last : Option ℕ) (a : Option Advice) (s : Po
 after_know p now pause last None s all = all
 after_know p now pause last (Some (Join node)) s all = all
 after_know p now pause last (Some (Look point)) s all = all
+after_know p now pause last (Some (Greet node)) s all = all
 after_know p now pause last (Some LookForManager) s all = all
 after_know p now pause last (Some (Create q count)) s all = all_commanded p q now pause last deed.Create s.units all
 after_know p now pause last (Some (Learn q count)) s all = all_commanded p q now pause last deed.Learn s.units all
@@ -167,19 +169,22 @@ advice_later p pause now last f s some all =
     let Q : Advice → Type 0 = Later p pause now last in
     let d : ℕ = domains_up f now s.nodes in
     first_given Q (
-    join_rule f now s ∷ look_rule f now s ∷ manager_rule f now s ∷ create_rule f now d s ∷ learn_rule f now d s ∷ heal_rule f now d s ∷ []) (
+    join_rule f now s ∷ look_rule f now s ∷ greet_rule f now d s ∷ manager_rule f now s ∷ create_rule f now d s ∷ learn_rule f now d s ∷ heal_rule f now d s ∷ []) (
       if_given Q _ _ (map_given Q Join (slice_get s.joins s.turn) (any_given (λ m. Q (Join m)) (slice_get s.joins s.turn) (λ m mine. absurd (false≢true mine)))),
       (
         if_given Q _ _ (map_given Q (λ n. Look n.point) (find (is_lost f now s) s.nodes) (any_given (λ n. Q (Look n.point)) (find (is_lost f now s) s.nodes) (λ n mine. absurd (false≢true mine)))),
         (
-          if_given Q _ (Some LookForManager) (λ mine. absurd (false≢true mine)),
+          if_given Q _ _ (map_given Q (λ n. Greet n.node) (longest_ago f now s s.nodes) (any_given (λ n. Q (Greet n.node)) (longest_ago f now s s.nodes) (λ n mine. absurd (false≢true mine)))),
           (
-            unit_later p pause now last f _ (is_to_create f now d s) (λ w. Create w.partition (count_for d w)) s.units some (λ w. middle w.missing (is_free f now w) (is_long now d s w)) (λ w mine. mine) all,
+            if_given Q _ (Some LookForManager) (λ mine. absurd (false≢true mine)),
             (
-              unit_later p pause now last f _ (is_to_learn f now d s) (λ w. Learn w.partition (count_for d w)) s.units some (λ w. middle (not w.learnt) (is_free f now w) (is_long now d s w)) (λ w mine. mine) all,
+              unit_later p pause now last f _ (is_to_create f now d s) (λ w. Create w.partition (count_for d w)) s.units some (λ w. middle w.missing (is_free f now w) (is_long now d s w)) (λ w mine. mine) all,
               (
-                unit_later p pause now last f _ (is_to_heal f now s) (λ w. Heal w.partition (count_for d w)) s.units some (λ w. middle w.learnt (is_free f now w) (has_cause f now s.heal_after w)) (λ w mine. mine) all,
-                tt,
+                unit_later p pause now last f _ (is_to_learn f now d s) (λ w. Learn w.partition (count_for d w)) s.units some (λ w. middle (not w.learnt) (is_free f now w) (is_long now d s w)) (λ w mine. mine) all,
+                (
+                  unit_later p pause now last f _ (is_to_heal f now s) (λ w. Heal w.partition (count_for d w)) s.units some (λ w. middle w.learnt (is_free f now w) (has_cause f now s.heal_after w)) (λ w mine. mine) all,
+                  tt,
+                ),
               ),
             ),
           ),
@@ -197,6 +202,7 @@ after_lease : (a : Option Advice) (now : ℕ) (s : Policy) → (after a now s).l
 after_lease None now s = refl
 after_lease (Some (Join node)) now s = refl
 after_lease (Some (Look point)) now s = refl
+after_lease (Some (Greet node)) now s = refl
 after_lease (Some LookForManager) now s = refl
 after_lease (Some (Create q count)) now s = refl
 after_lease (Some (Learn q count)) now s = refl

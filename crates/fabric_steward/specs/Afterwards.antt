@@ -3,7 +3,7 @@ use Rattle.std.specs.Prelude.{ℕ, ◌+◌, ◌==◌, nat_lt, length, map, Optio
 use Rattle.ring_points.specs.declared.point.Point.{Point}
 use Rattle.fabric_terms.specs.declared.command.Command.{Command}
 use Rattle.fabric_steward.specs.declared.advice.Advice.{Advice}
-use Rattle.fabric_steward.specs.declared.advice.Advice.TheVariants.{Join, Look, LookForManager, Create, Learn, Heal}
+use Rattle.fabric_steward.specs.declared.advice.Advice.TheVariants.{Join, Look, Greet, LookForManager, Create, Learn, Heal}
 use Rattle.fabric_steward.specs.declared.advice.Deed.{Deed}
 use Rattle.fabric_steward.specs.declared.advice.Deed.TheVariants as deed
 use Rattle.fabric_steward.specs.declared.node_watch.NodeWatch.{NodeWatch}
@@ -29,6 +29,9 @@ joined now s = record s {
 abbrev pub node_asked : Point → (now : ℕ) → NodeWatch → NodeWatch
 node_asked point now n = if n.point.0 == point.0 then record n { asked = Some now } else n
 
+abbrev pub node_greeted : (node now : ℕ) → NodeWatch → NodeWatch
+node_greeted node now n = if n.node == node then record n { greeted = Some now } else n
+
 abbrev pub unit_commanded : (partition : ℕ) → Deed → (now : ℕ) → UnitWatch → UnitWatch
 unit_commanded partition deed now w =
     if w.partition == partition then record w { commanded = Some now; deed = Some deed } else w
@@ -39,6 +42,7 @@ commanded partition deed now s = record s { units = map (unit_commanded partitio
 abbrev pub followed : Advice → (now : ℕ) → Policy → Policy
 followed (Join node) now s = joined now s
 followed (Look point) now s = record s { nodes = map (node_asked point now) s.nodes }
+followed (Greet node) now s = record s { nodes = map (node_greeted node now) s.nodes }
 followed LookForManager now s = record s { manager_asked = Some now }
 followed (Create partition count) now s = commanded partition deed.Create now s
 followed (Learn partition count) now s = commanded partition deed.Learn now s

@@ -13,9 +13,12 @@ abbrev pub sooner_after : (now ticks : ℕ) → Option ℕ → (due : ℕ) → �
 sooner_after now ticks None due = due
 sooner_after now ticks (Some reading) due = sooner now (later reading ticks) due
 
+abbrev pub node_due : (now lease : ℕ) → NodeWatch → (due : ℕ) → ℕ
+node_due now lease n due = sooner_after now (lease * 2) n.greeted (sooner_after now lease n.asked due)
+
 abbrev pub nodes_due : (now lease : ℕ) → List NodeWatch → (due : ℕ) → ℕ
 nodes_due now lease [] due = due
-nodes_due now lease (n ∷ ns) due = nodes_due now lease ns (sooner_after now lease n.asked due)
+nodes_due now lease (n ∷ ns) due = nodes_due now lease ns (node_due now lease n due)
 
 abbrev pub unit_due : (now heal_after : ℕ) → UnitWatch → (due : ℕ) → ℕ
 unit_due now heal_after w due =

@@ -3,7 +3,7 @@ use Rattle.std.specs.Prelude.{◌≡◌, ℕ, ◌≤◌, ◌==◌, min, max, Boo
 use Rattle.std.specs.List.{list_any}
 use Rattle.ring_points.specs.declared.unit.Config.{Config}
 use Rattle.fabric_terms.specs.declared.command.Command.{Command}
-use Rattle.fabric_terms.specs.declared.command.Command.TheVariants.{Join, Find, Create, Heal, Swap, GiveAll, Part}
+use Rattle.fabric_terms.specs.declared.command.Command.TheVariants.{Join, Find, Link, Create, Heal, Swap, GiveAll, Part}
 use Rattle.fabric_terms.specs.declared.config.FabricConfig.{FabricConfig}
 use Rattle.fabric_terms.specs.declared.report.Report.{Report}
 use Rattle.fabric_terms.specs.Ranges.{FitsCommand}
@@ -25,9 +25,10 @@ use Rattle.fabric_steward.specs.Noted.{noted}
 use Rattle.fabric_steward.specs.Policies.{Policy, fresh_policy}
 use Rattle.fabric_steward.specs.Times.{first_pause}
 
--- what a policy may name: nodes to join, points to find, partitions with their replicas
+-- what a policy may name: nodes to join, nodes to greet, points to find, partitions with their replicas
 pub record Names : Type 0 where
   pub joins : List ℕ
+  pub nodes : List ℕ
   pub points : List ℕ
   pub units : List Declared
 
@@ -35,7 +36,12 @@ abbrev pub declared_of : UnitWatch → Declared
 declared_of w = record { partition = w.partition; replicas = w.replicas }
 
 abbrev pub names_of : Policy → Names
-names_of s = record { joins = s.joins; points = map (λ n. n.point.0) s.nodes; units = map declared_of s.units }
+names_of s = record {
+  joins = s.joins;
+  nodes = map (λ n. n.node) s.nodes;
+  points = map (λ n. n.point.0) s.nodes;
+  units = map declared_of s.units;
+}
 
 -- so many replicas are wanted of this partition, where a node is up in so many domains
 abbrev pub is_wanted : (domains partition count : ℕ) → Declared → Bool
@@ -45,11 +51,13 @@ is_wanted domains partition count d = d.partition == partition && count == max 1
 abbrev pub may_give : (domains : ℕ) → Names → Command → Bool
 may_give domains names (Join node) = list_any (λ n. n == node) names.joins
 may_give domains names (Find point) = point.0 == 0 || list_any (λ p. p == point.0) names.points
+may_give domains names (Link node) = list_any (λ n. n == node) names.nodes
 may_give domains names (Create partition count) = list_any (is_wanted domains partition count) names.units
 may_give domains names (Heal partition count) = list_any (is_wanted domains partition count) names.units
 may_give domains names _ = false
 
--- It gives joins, finds, creates and heals alone: of nodes to join, of point 0 and points of nodes, of its partitions.
+-- It gives joins, finds, links, creates and heals alone: of nodes to join, of point 0 and points of nodes, of configured
+-- nodes, of its partitions.
 abbrev pub GivesItsNames : Type 0
 GivesItsNames = (f : Facts) (now : ℕ) (s : Policy) →
     IfSome (command_given f now s) (λ command. IsTrue (may_give (domains_up f now s.nodes) (names_of s) command))
@@ -73,20 +81,22 @@ abbrev pub is_member : ℕ → Option Config → Bool
 is_member node None = false
 is_member node (Some c) = list_any (λ m. m == node) c.members
 
--- A node that leaves may give this command: a swap of a declared partition to a member of its known configuration, and
--- what gives points to a configured node or parts the link with one.
-abbrev pub may_leave_by : Facts → Plan → Command → Bool
-may_leave_by f s (Swap partition node) =
+-- A node that leaves may give this command: a heal of a declared partition with its replicas, a swap of one to a member of
+-- its known configuration, and what gives points to a configured node or parts the link with one.
+abbrev pub may_leave_by : Facts → (domains : ℕ) → Plan → Command → Bool
+may_leave_by f domains s (Heal partition count) = list_any (is_wanted domains partition count) (map declared_of s.units)
+may_leave_by f domains s (Swap partition node) =
     list_any (λ w. w.partition == partition) s.units && is_member node (f.config_of partition)
-may_leave_by f s (GiveAll node) = list_any (λ n. n.node == node) s.nodes
-may_leave_by f s (Part node) = list_any (λ n. n.node == node) s.nodes
-may_leave_by f s _ = false
+may_leave_by f domains s (GiveAll node) = list_any (λ n. n.node == node) s.nodes
+may_leave_by f domains s (Part node) = list_any (λ n. n.node == node) s.nodes
+may_leave_by f domains s _ = false
 
-abbrev pub may_part : Facts → Plan → Parting → Bool
-may_part f s (Say command) = may_leave_by f s command
-may_part f s (Wait reading) = true
-may_part f s Gone = true
+abbrev pub may_part : Facts → (domains : ℕ) → Plan → Parting → Bool
+may_part f domains s (Say command) = may_leave_by f domains s command
+may_part f domains s (Wait reading) = true
+may_part f domains s Gone = true
 
 -- It commands nothing else.
 abbrev pub LeavesByItsWords : Type 0
-LeavesByItsWords = (f : Facts) (l : Links) (now : ℕ) (s : Plan) → IsTrue (may_part f s (parting f l now s))
+LeavesByItsWords = (f : Facts) (l : Links) (now : ℕ) (s : Plan) →
+    IsTrue (may_part f (domains_up f now s.nodes) s (parting f l now s))

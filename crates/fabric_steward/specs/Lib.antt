@@ -3,6 +3,7 @@ pub mod Times
 pub mod Policies
 pub mod Domains
 pub mod Watching
+pub mod Greetings
 pub mod Rules
 pub mod Afterwards
 pub mod Noted

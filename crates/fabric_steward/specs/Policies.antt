@@ -28,7 +28,7 @@ pub record Policy : Type 0 where
   pub units : List UnitWatch
 
 abbrev pub node_watched : NodeEntry → NodeWatch
-node_watched n = record { node = n.node; point = n.point; domain = n.domain; asked = None }
+node_watched n = record { node = n.node; point = n.point; domain = n.domain; asked = None; greeted = None }
 
 abbrev pub unit_watched : (lease : ℕ) → Declared → UnitWatch
 unit_watched lease d = record {

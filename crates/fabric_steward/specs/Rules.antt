@@ -5,13 +5,14 @@ use Rattle.ring_points.specs.declared.who.Who.{Who}
 use Rattle.fabric_terms.specs.declared.command.Command.{Command}
 use Rattle.fabric_terms.specs.declared.command.Command.TheVariants as command
 use Rattle.fabric_steward.specs.declared.advice.Advice.{Advice}
-use Rattle.fabric_steward.specs.declared.advice.Advice.TheVariants.{Join, Look, LookForManager, Create, Learn, Heal}
+use Rattle.fabric_steward.specs.declared.advice.Advice.TheVariants.{Join, Look, Greet, LookForManager, Create, Learn, Heal}
 use Rattle.fabric_steward.specs.declared.advice.Deed.{Deed}
 use Rattle.fabric_steward.specs.declared.advice.Deed.TheVariants as deed
 use Rattle.fabric_steward.specs.declared.node_watch.NodeWatch.{NodeWatch}
 use Rattle.fabric_steward.specs.declared.unit_watch.UnitWatch.{UnitWatch}
 use Rattle.fabric_steward.specs.Domains.{domains_up}
 use Rattle.fabric_steward.specs.Facts.{Facts}
+use Rattle.fabric_steward.specs.Greetings.{greet_rule}
 use Rattle.fabric_steward.specs.Policies.{Policy}
 use Rattle.fabric_steward.specs.Times.{is_over, lasts}
 
@@ -112,6 +113,7 @@ abbrev pub advice_in : Facts → (now domains : ℕ) → Policy → Option Advic
 advice_in f now domains s = first_some (
     join_rule f now s ∷
     look_rule f now s ∷
+    greet_rule f now domains s ∷
     manager_rule f now s ∷
     create_rule f now domains s ∷
     learn_rule f now domains s ∷
@@ -124,6 +126,7 @@ advice f now s = advice_in f now (domains_up f now s.nodes) s
 abbrev pub command_of : Advice → Command
 command_of (Join node) = command.Join node
 command_of (Look point) = command.Find point
+command_of (Greet node) = command.Link node
 command_of LookForManager = command.Find (record { 0 = 0 })
 command_of (Create partition count) = command.Create partition count
 command_of (Learn partition count) = command.Heal partition count

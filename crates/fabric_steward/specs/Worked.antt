@@ -13,7 +13,7 @@ use Rattle.fabric_steward.specs.Noted.{noted}
 use Rattle.fabric_steward.specs.Policies.{Policy, unit_watched}
 
 abbrev pub worked_node : ℕ → NodeWatch
-worked_node n = record { node = n; point = record { 0 = n }; domain = n; asked = None }
+worked_node n = record { node = n; point = record { 0 = n }; domain = n; asked = None; greeted = None }
 
 -- a lease of 1,000 ticks, so a pause has 250 at first
 abbrev pub worked_policy : Policy

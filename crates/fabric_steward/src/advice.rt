@@ -11,6 +11,8 @@ pub enum Advice {
     Join(u16),
     /// Look for the node that has this point: it was not heard for long.
     Look(Point),
+    /// Ask this node for a link: nobody in its fault domain was heard, and more domains are needed.
+    Greet(u16),
     /// Look for the node that manages.
     LookForManager,
     /// Create a partition with so many replicas.
@@ -37,6 +39,7 @@ impl Advice {
         match self {
             Advice::Join(node) => Command::Join(node),
             Advice::Look(point) => Command::Find(point),
+            Advice::Greet(node) => Command::Link(node),
             Advice::LookForManager => Command::Find(Point(0)),
             Advice::Create(partition, count) => Command::Create(partition, count),
             Advice::Learn(partition, count) | Advice::Heal(partition, count) => {

@@ -1,6 +1,6 @@
 ghost use Rattle.std.specs.Prelude.{◌≡◌, map};
 ghost use Rattle.fabric_steward.specs.Departures.{departure_of, left, left_by, node_parted, node_unasked, parting};
-ghost use Rattle.fabric_steward.specs.Departures.{parting_by, point_of, unit_swapped};
+ghost use Rattle.fabric_steward.specs.Departures.{parting_by, point_of, unit_moved};
 ghost use Rattle.fabric_steward.specs.Departures;
 
 use crate::known::Known;
@@ -60,11 +60,11 @@ fn forget_asked(nodes: &mut Vec<NodeWatch>)
     }
 }
 
-fn swap_units(partition: u16, now: u64, units: &mut Vec<UnitWatch>)
-    ensures { units.new.items ≡ map (unit_swapped partition now) units.old.items }
+fn move_units(partition: u16, now: u64, units: &mut Vec<UnitWatch>)
+    ensures { units.new.items ≡ map (unit_moved partition now) units.old.items }
 {
     for unit in units.iter_mut() {
-        *unit = unit.swapped(partition, now);
+        *unit = unit.moved(partition, now);
     }
 }
 
@@ -116,6 +116,7 @@ impl Departure {
         ensures { result ≡ parting_by now self.now next }
     {
         match next {
+            Leaving::Place(partition, count) => Parting::Say(Command::Heal(partition, count)),
             Leaving::Swap(partition, node) => Parting::Say(Command::Swap(partition, node)),
             Leaving::Give(node) => Parting::Say(Command::GiveAll(node)),
             Leaving::Part(node) => Parting::Say(Command::Part(node)),
@@ -135,7 +136,9 @@ impl Departure {
         ensures { self.new ≡ left_by now next self.old }
     {
         match next {
-            Leaving::Swap(partition, _) => swap_units(partition, now, &mut self.units),
+            Leaving::Place(partition, _) | Leaving::Swap(partition, _) => {
+                move_units(partition, now, &mut self.units)
+            }
             Leaving::Give(_) => self.gave = Some(now),
             Leaving::Part(node) => part_nodes(node, now, &mut self.nodes),
             Leaving::Rest | Leaving::Done => {}

@@ -5,7 +5,7 @@ use crate::known::Known;
 use crate::node_watch::NodeWatch;
 
 /// Whether one of the nodes is of this domain and up.
-fn is_domain_up<K: Known>(known: &K, now: u64, domain: u16, nodes: &[NodeWatch]) -> bool
+pub fn is_domain_up<K: Known>(known: &K, now: u64, domain: u16, nodes: &[NodeWatch]) -> bool
     ensures { result ≡ is_domain_up (K.facts known.now) now domain nodes.now }
 {
     nodes.iter().any(|other| other.domain == domain && known.is_up(other.node, now))

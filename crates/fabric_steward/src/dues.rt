@@ -1,11 +1,12 @@
 // When a pause or a time of the policy is over next.
-ghost use Rattle.std.specs.Prelude.{◌≡◌};
-ghost use Rattle.fabric_steward.specs.Dues.{due, nodes_due, own_due, sooner, sooner_after, unit_due, units_due};
+ghost use Rattle.std.specs.Prelude.{◌≡◌, ◌≤◌};
+ghost use Rattle.fabric_steward.specs.Dues.{due, node_due, nodes_due, own_due, sooner, sooner_after, unit_due, units_due};
 
 use crate::node_watch::NodeWatch;
 use crate::steward::Steward;
 use crate::times::later;
 use crate::unit_watch::UnitWatch;
+use ring_points::MAX_LEASE;
 
 /// The sooner of two readings, if the first is still to come.
 fn sooner(now: u64, reading: u64, due: u64) -> u64
@@ -23,12 +24,21 @@ fn sooner_after(now: u64, ticks: u64, then: Option<u64>, due: u64) -> u64
     }
 }
 
+fn node_due(now: u64, lease: u64, node: &NodeWatch, due: u64) -> u64
+    requires { lease ≤ MAX_LEASE }
+    ensures { result ≡ node_due now lease node.now due }
+{
+    let asked = sooner_after(now, lease, node.asked, due);
+    sooner_after(now, lease * 2, node.greeted, asked)
+}
+
 fn nodes_due(now: u64, lease: u64, nodes: &[NodeWatch], due: u64) -> u64
+    requires { lease ≤ MAX_LEASE }
     ensures { result ≡ nodes_due now lease nodes.now due }
 {
     let mut soonest = due;
     for node in nodes {
-        soonest = sooner_after(now, lease, node.asked, soonest);
+        soonest = node_due(now, lease, node, soonest);
     }
     soonest
 }

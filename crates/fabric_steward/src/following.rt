@@ -1,5 +1,6 @@
 ghost use Rattle.std.specs.Prelude.{◌≡◌, length, map};
-ghost use Rattle.fabric_steward.specs.Afterwards.{commanded, followed, joined, node_asked, next_turn, unit_commanded};
+ghost use Rattle.fabric_steward.specs.Afterwards.{commanded, followed, joined, next_turn, node_asked};
+ghost use Rattle.fabric_steward.specs.Afterwards.{node_greeted, unit_commanded};
 
 use crate::advice::{Advice, Deed};
 use crate::node_watch::NodeWatch;
@@ -13,6 +14,14 @@ fn ask_nodes(point: Point, now: u64, nodes: &mut Vec<NodeWatch>)
 {
     for node in nodes.iter_mut() {
         *node = node.asked(point, now);
+    }
+}
+
+fn greet_nodes(greeted: u16, now: u64, nodes: &mut Vec<NodeWatch>)
+    ensures { nodes.new.items ≡ map (node_greeted greeted now) nodes.old.items }
+{
+    for node in nodes.iter_mut() {
+        *node = node.greeted(greeted, now);
     }
 }
 
@@ -32,6 +41,7 @@ impl Steward {
         match advice {
             Advice::Join(_) => self.join(now),
             Advice::Look(point) => ask_nodes(point, now, &mut self.nodes),
+            Advice::Greet(node) => greet_nodes(node, now, &mut self.nodes),
             Advice::LookForManager => self.manager_asked = Some(now),
             Advice::Create(partition, _) => self.command(partition, Deed::Create, now),
             Advice::Learn(partition, _) => self.command(partition, Deed::Learn, now),

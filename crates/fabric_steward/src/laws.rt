@@ -1,7 +1,7 @@
 ghost use Rattle.fabric_steward.specs.Laws.{GivesItsNames, GivesWhatFits, KeepsItsNames, LeavesByItsWords};
 ghost use Rattle.fabric_steward.specs.Laws.{PausesBetween};
 
-/// Whatever the node knows, the policy gives joins, finds, creates and heals alone, and names only what it may name.
+/// Whatever the node knows, the policy gives joins, finds, links, creates and heals alone, and names only what it may name.
 #[tactic(auto, using(crate::proofs::Naming::gives_its_names))]
 pub fn the_policy_gives_its_names()
     ensures { GivesItsNames }
@@ -25,8 +25,8 @@ pub fn the_policy_pauses_between_commands()
     ensures { PausesBetween }
 {}
 
-/// A node that leaves moves primaries of declared partitions to members, gives points to configured nodes and parts
-/// links with them, and commands nothing else.
+/// A node that leaves heals declared partitions with their replicas, moves primaries of them to members, gives points to
+/// configured nodes and parts links with them, and commands nothing else.
 #[tactic(auto, using(crate::proofs::LeavingWords::leaves_by_its_words))]
 pub fn a_departure_has_its_words()
     ensures { LeavesByItsWords }

@@ -3,6 +3,8 @@ use fabric_terms::Command;
 /// What the plan of a node that leaves wants next.
 #[derive(Clone, Copy)]
 pub enum Leaving {
+    /// Place a partition anew with so many replicas, so that it has a majority without this node.
+    Place(u16, u8),
     /// Move a partition's primary to a node.
     Swap(u16, u16),
     /// Give a node all points.

@@ -3,55 +3,17 @@ ghost use Rattle.std.specs.Prelude.{◌≡◌, find};
 ghost use Rattle.ring_points.specs.Distances;
 ghost use Rattle.std.specs.List.{list_any};
 ghost use Rattle.std.specs.Option.{option_copied};
-ghost use Rattle.fabric_steward.specs.Departures.{give_step, heir_by, heir_of, is_linked, is_to_move, is_to_part};
-ghost use Rattle.fabric_steward.specs.Departures.{is_to_swap, least_up, least_with, leaving, nearer_of, nearest_bound};
-ghost use Rattle.fabric_steward.specs.Departures.{part_step, swap_now, swap_step};
+ghost use Rattle.fabric_steward.specs.Departures.{give_step, is_linked, is_to_part, leaving, nearer_of, nearest_bound};
+ghost use Rattle.fabric_steward.specs.Departures.{part_step};
 
 use crate::departure::Departure;
+use crate::domains::domains_up;
 use crate::known::Known;
 use crate::leaving::Leaving;
 use crate::linked::Linked;
 use crate::node_watch::NodeWatch;
 use crate::times::{first_pause, is_over};
-use crate::unit_watch::UnitWatch;
-use ring_points::{Config, Point};
-
-fn least_with(node: u16, other: Option<u16>) -> u16
-    ensures { result ≡ least_with node other }
-{
-    match other {
-        None => node,
-        Some(other) => node.min(other),
-    }
-}
-
-/// The least other node of these that is up.
-fn least_up<K: Known>(known: &K, now: u64, me: u16, nodes: &[u16]) -> Option<u16>
-    ensures { result ≡ least_up (K.facts known.now) now me nodes.now }
-{
-    let mut least = None;
-    let mut place = nodes.len();
-    while place > 0 {
-        place -= 1;
-        let node = nodes[place];
-        if node != me && known.is_up(node, now) {
-            least = Some(least_with(node, least));
-        }
-    }
-    least
-}
-
-/// To whom a partition with this configuration is to move, if this node is its primary.
-fn heir_by<K: Known>(known: &K, now: u64, me: u16, config: Option<&Config>) -> Option<u16>
-    ensures { result ≡ heir_by (K.facts known.now) now me (option_copied config.entry) }
-{
-    match config {
-        Some(config) if config.primary == me => {
-            least_up(known, now, me, config.members.as_slice())
-        }
-        _ => None,
-    }
-}
+use ring_points::Point;
 
 /// How far a point stands ahead of another one, going upwards on the ring.
 fn ahead_of(point: Point, of: u64) -> u64
@@ -105,7 +67,8 @@ impl Departure {
         if is_over(now, self.lease, Some(self.begun)) {
             return Leaving::Done;
         }
-        if let Some(next) = self.swap_step(known, now) {
+        let domains = domains_up(known, now, self.nodes.as_slice());
+        if let Some(next) = self.unit_step(known, now, domains) {
             return next;
         }
         if let Some(next) = self.give_step(known, now) {
@@ -115,71 +78,6 @@ impl Departure {
             None => Leaving::Done,
             Some(next) => next,
         }
-    }
-
-    /// The primaries move, while the node manages and for half a lease at most.
-    fn swap_step<K: Known>(&self, known: &K, now: u64) -> Option<Leaving>
-        ensures { result ≡ swap_step (K.facts known.now) now self.now }
-    {
-        if !known.manages(now) || is_over(now, self.lease / 2, Some(self.begun)) {
-            return None;
-        }
-        if let Some(next) = self.swap_now(known, now) {
-            return Some(next);
-        }
-        if self.has_to_move(known, now) {
-            Some(Leaving::Rest)
-        } else {
-            None
-        }
-    }
-
-    fn swap_now<K: Known>(&self, known: &K, now: u64) -> Option<Leaving>
-        ensures { result ≡ swap_now (K.facts known.now) now self.now }
-    {
-        let Some(unit) = self.unit_to_swap(known, now) else {
-            return None;
-        };
-        match self.heir_of(known, now, unit) {
-            None => None,
-            Some(node) => Some(Leaving::Swap(unit.partition, node)),
-        }
-    }
-
-    fn unit_to_swap<K: Known>(&self, known: &K, now: u64) -> Option<&UnitWatch>
-        ensures { option_copied result ≡ find (is_to_swap (K.facts known.now) now self.now) self.now.units }
-    {
-        self.units
-            .iter()
-            .find(|unit| self.is_to_swap(known, now, unit))
-    }
-
-    fn has_to_move<K: Known>(&self, known: &K, now: u64) -> bool
-        ensures { result ≡ list_any (is_to_move (K.facts known.now) now self.now) self.now.units }
-    {
-        self.units
-            .iter()
-            .any(|unit| self.is_to_move(known, now, unit))
-    }
-
-    fn is_to_swap<K: Known>(&self, known: &K, now: u64, unit: &UnitWatch) -> bool
-        ensures { result ≡ is_to_swap (K.facts known.now) now self.now unit.now }
-    {
-        self.is_to_move(known, now, unit)
-            && !known.is_changing(unit.partition)
-            && is_over(now, first_pause(self.lease), unit.commanded)
-    }
-
-    fn is_to_move<K: Known>(&self, known: &K, now: u64, unit: &UnitWatch) -> bool
-        ensures { result ≡ is_to_move (K.facts known.now) now self.now unit.now }
-    {
-        self.heir_of(known, now, unit).is_some()
-    }
-
-    fn heir_of<K: Known>(&self, known: &K, now: u64, unit: &UnitWatch) -> Option<u16>
-        ensures { result ≡ heir_of (K.facts known.now) now self.now unit.now }
-    {
-        heir_by(known, now, self.me, known.config_of(unit.partition))
     }
 
     /// The points go to the nearest node upwards on the ring.

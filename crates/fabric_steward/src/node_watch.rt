@@ -1,6 +1,6 @@
 ghost use Rattle.std.specs.Prelude.{◌≡◌};
 ghost use Rattle.fabric_steward.specs.Policies.{node_watched};
-ghost use Rattle.fabric_steward.specs.Afterwards.{node_asked};
+ghost use Rattle.fabric_steward.specs.Afterwards.{node_asked, node_greeted};
 ghost use Rattle.fabric_steward.specs.Departures.{node_parted, node_unasked};
 
 use fabric_terms::NodeEntry;
@@ -14,6 +14,8 @@ pub struct NodeWatch {
     pub domain: u16,
     /// When a search for its point, or an end of the link with it, was commanded last.
     pub asked: Option<u64>,
+    /// When a link with it was asked for last.
+    pub greeted: Option<u64>,
 }
 
 impl NodeWatch {
@@ -26,6 +28,7 @@ impl NodeWatch {
             point: entry.point,
             domain: entry.domain,
             asked: None,
+            greeted: None,
         }
     }
 
@@ -36,6 +39,20 @@ impl NodeWatch {
         if self.point.0 == point.0 {
             NodeWatch {
                 asked: Some(now),
+                ..self
+            }
+        } else {
+            self
+        }
+    }
+
+    /// A link with this node is asked for.
+    pub fn greeted(self, node: u16, now: u64) -> NodeWatch
+        ensures { result ≡ node_greeted node now self }
+    {
+        if self.node == node {
+            NodeWatch {
+                greeted: Some(now),
                 ..self
             }
         } else {

@@ -24,7 +24,7 @@ fn is_free<K: Known>(known: &K, now: u64, unit: &UnitWatch) -> bool
 }
 
 /// How many replicas there can be.
-fn count_for(domains: usize, unit: &UnitWatch) -> u8
+pub(crate) fn count_for(domains: usize, unit: &UnitWatch) -> u8
     ensures { result ≡ count_for domains unit.now }
 {
     1.max(domains.min(unit.replicas as usize) as u8)
@@ -61,6 +61,9 @@ impl Steward {
             return Some(advice);
         }
         if let Some(advice) = self.look_rule(known, now) {
+            return Some(advice);
+        }
+        if let Some(advice) = self.greet_rule(known, now, domains) {
             return Some(advice);
         }
         if let Some(advice) = self.manager_rule(known, now) {

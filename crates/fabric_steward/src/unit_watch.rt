@@ -1,6 +1,6 @@
 ghost use Rattle.std.specs.Prelude.{◌≡◌, ◌≤◌};
 ghost use Rattle.fabric_steward.specs.Afterwards.{unit_commanded};
-ghost use Rattle.fabric_steward.specs.Departures.{unit_swapped};
+ghost use Rattle.fabric_steward.specs.Departures.{unit_moved};
 ghost use Rattle.fabric_steward.specs.Noted.{unit_configured, unit_refused, unit_slowed};
 ghost use Rattle.fabric_steward.specs.Policies.{unit_watched};
 ghost use Rattle.fabric_steward.specs.Watching.{unit_forgotten};
@@ -84,9 +84,9 @@ impl UnitWatch {
         }
     }
 
-    /// A move of this partition's primary is commanded.
-    pub fn swapped(self, partition: u16, now: u64) -> UnitWatch
-        ensures { result ≡ unit_swapped partition now self }
+    /// A node that leaves commands that this partition is placed anew, or that its primary moves.
+    pub fn moved(self, partition: u16, now: u64) -> UnitWatch
+        ensures { result ≡ unit_moved partition now self }
     {
         if self.partition == partition {
             UnitWatch {

@@ -10,11 +10,11 @@ use Rattle.fabric_steward.specs.Policies.{Policy, fresh_policy}
 use Rattle.fabric_steward.specs.declared.leaving.Parting.{Parting}
 use Rattle.fabric_steward.specs.declared.leaving.Parting.TheVariants as parted
 use Rattle.fabric_terms.specs.declared.command.Command.{Command}
-use Rattle.fabric_terms.specs.declared.command.Command.TheVariants.{GiveAll, Part, Swap}
+use Rattle.fabric_terms.specs.declared.command.Command.TheVariants.{GiveAll, Heal, Part, Swap}
 use Rattle.fabric_terms.specs.declared.config.FabricConfig.{FabricConfig}
 use Rattle.fabric_terms.specs.declared.report.Report.{Report}
 use Rattle.node_core.specs.Nodes.{Core}
-use Rattle.ring_points.specs.Limits.{most_node_number}
+use Rattle.ring_points.specs.Limits.{most_members, most_node_number}
 use Rattle.ring_rules.specs.declared.input.Input.{Input}
 use Rattle.serve_lives.specs.Known.{facts_of, links_of}
 use Rattle.serve_turns.specs.declared.policy.Advice.{Advice}
@@ -37,19 +37,23 @@ fresh_course c s me = record { steward = Some (fresh_policy c s me); plan = None
 abbrev pub is_number : ℕ → Bool
 is_number node = nat_le 1 node && nat_le node most_node_number
 
--- it is a command of a node that leaves, and names another one by a number that nodes have
-abbrev pub names_a_node : Command → Bool
-names_a_node (Swap partition node) = is_number node
-names_a_node (GiveAll node) = is_number node
-names_a_node (Part node) = is_number node
-names_a_node _ = false
+abbrev pub is_count : ℕ → Bool
+is_count count = nat_le 1 count && nat_le count most_members
+
+-- it is a command of a node that leaves, with numbers that nodes and partitions have
+abbrev pub is_leaving_word : Command → Bool
+is_leaving_word (Heal partition count) = is_count count
+is_leaving_word (Swap partition node) = is_number node
+is_leaving_word (GiveAll node) = is_number node
+is_leaving_word (Part node) = is_number node
+is_leaving_word _ = false
 
 abbrev pub steward_advice : Option Command → Advice
 steward_advice None = advice.Nothing
 steward_advice (Some command) = advice.Say command
 
 abbrev pub parting_advice : Parting → Advice
-parting_advice (parted.Say command) = if names_a_node command then advice.Say command else advice.Nothing
+parting_advice (parted.Say command) = if is_leaving_word command then advice.Say command else advice.Nothing
 parting_advice (parted.Wait reading) = advice.Nothing
 parting_advice parted.Gone = advice.Gone
 

@@ -1,5 +1,5 @@
 //! How a node leaves: its primaries move, its points go, its links end.
-use crate::known_world::{Said, World, led_by, managing, policy, word_of};
+use crate::known_world::{Said, World, led_by, led_by_two, managing, policy, word_of};
 use fabric_steward::{Departure, Parting};
 use std::process::Abort;
 use std::test::Fail;
@@ -36,6 +36,21 @@ fn a_manager_moves_gives_and_parts(rt: HostRuntime) -> Result<(), Fail> {
     commands(&rt, &mut plan, &world, 5302, Said::Nothing);
     world.is_linked = false;
     commands(&rt, &mut plan, &world, 5303, Said::Other);
+    Ok(())
+}
+
+#[test]
+fn a_manager_leaves_a_majority_behind(rt: HostRuntime) -> Result<(), Fail> {
+    let mut plan = Departure::new(policy(rt.alloc())?, 5000);
+    let mut world = managing();
+    world.config = led_by_two();
+    commands(&rt, &mut plan, &world, 5000, Said::Heal(7, 3));
+    world.is_changing = true;
+    commands(&rt, &mut plan, &world, 5010, Said::Nothing);
+    world.config = led_by(3);
+    world.is_changing = false;
+    commands(&rt, &mut plan, &world, 5020, Said::Nothing);
+    commands(&rt, &mut plan, &world, 5250, Said::Swap(7, 1));
     Ok(())
 }
 

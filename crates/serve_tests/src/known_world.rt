@@ -105,18 +105,30 @@ pub fn managing() -> World {
     }
 }
 
-/// The partition with all three nodes, and this one as its primary.
-pub fn led_by(primary: u16) -> Option<Config> {
-    let mut members = Members::new();
-    members.push(1);
-    members.push(2);
-    members.push(3);
+fn config_of(primary: u16, members: Members) -> Option<Config> {
     Some(Config {
         partition: 7,
         epoch: EPOCH,
         primary,
         members,
     })
+}
+
+/// The partition with all three nodes, and this one as its primary.
+pub fn led_by(primary: u16) -> Option<Config> {
+    let mut members = Members::new();
+    members.push(1);
+    members.push(2);
+    members.push(3);
+    config_of(primary, members)
+}
+
+/// The partition with nodes 1 and 3, and node 3 as its primary.
+pub fn led_by_two() -> Option<Config> {
+    let mut members = Members::new();
+    members.push(1);
+    members.push(3);
+    config_of(3, members)
 }
 
 fn entry(alloc: Global, node: u16) -> NodeEntry
@@ -182,6 +194,7 @@ pub enum Said {
     Nothing,
     Join(u16),
     Find(u64),
+    Link(u16),
     Create(u16, u8),
     Heal(u16, u8),
     Swap(u16, u16),
@@ -194,6 +207,7 @@ pub fn word_of(command: &Command) -> Said {
     match command {
         Command::Join(node) => Said::Join(*node),
         Command::Find(point) => Said::Find(point.0),
+        Command::Link(node) => Said::Link(*node),
         Command::Create(partition, count) => Said::Create(*partition, *count),
         Command::Heal(partition, count) => Said::Heal(*partition, *count),
         Command::Swap(partition, node) => Said::Swap(*partition, *node),

@@ -17,6 +17,8 @@ mod real_folders;
 #[cfg(test)]
 mod real_logs;
 #[cfg(test)]
+mod real_looks;
+#[cfg(test)]
 mod real_pages;
 #[cfg(test)]
 mod real_rests;

@@ -61,6 +61,7 @@ fn a_manager_learns_creates_and_heals(rt: HostRuntime) -> Result<(), Fail> {
     commands(&rt, &mut policy, &world, 1000, Said::Nothing);
     world.down = 1;
     commands(&rt, &mut policy, &world, 1500, Said::Find(1 << 60));
+    commands(&rt, &mut policy, &world, 1501, Said::Link(1));
     commands(&rt, &mut policy, &world, 2499, Said::Nothing);
     commands(&rt, &mut policy, &world, 2500, Said::Find(1 << 60));
     commands(&rt, &mut policy, &world, 3499, Said::Nothing);
@@ -76,11 +77,13 @@ fn a_primary_that_is_down_is_healed(rt: HostRuntime) -> Result<(), Fail> {
     commands(&rt, &mut policy, &world, 1000, Said::Nothing);
     world.down = 1;
     commands(&rt, &mut policy, &world, 1500, Said::Find(1 << 60));
+    commands(&rt, &mut policy, &world, 1501, Said::Link(1));
     commands(&rt, &mut policy, &world, 2500, Said::Find(1 << 60));
     assert_eq!(rt; policy.due(2500), 3000);
     commands(&rt, &mut policy, &world, 3499, Said::Nothing);
     commands(&rt, &mut policy, &world, 3500, Said::Find(1 << 60));
-    commands(&rt, &mut policy, &world, 3501, Said::Heal(7, 2));
+    commands(&rt, &mut policy, &world, 3501, Said::Link(1));
+    commands(&rt, &mut policy, &world, 3502, Said::Heal(7, 2));
     Ok(())
 }
 
@@ -118,10 +121,24 @@ fn a_lone_manager_waits_before_it_places(rt: HostRuntime) -> Result<(), Fail> {
     let mut world = managing();
     world.down = 2;
     commands(&rt, &mut policy, &world, 0, Said::Find(2 << 60));
+    commands(&rt, &mut policy, &world, 1, Said::Link(2));
     commands(&rt, &mut policy, &world, 999, Said::Nothing);
     commands(&rt, &mut policy, &world, 1000, Said::Find(2 << 60));
     commands(&rt, &mut policy, &world, 1999, Said::Nothing);
     commands(&rt, &mut policy, &world, 2000, Said::Find(2 << 60));
-    commands(&rt, &mut policy, &world, 2001, Said::Heal(7, 2));
+    commands(&rt, &mut policy, &world, 2001, Said::Link(2));
+    commands(&rt, &mut policy, &world, 2002, Said::Heal(7, 2));
+    Ok(())
+}
+
+#[test]
+fn a_node_that_answers_a_greeting_counts_at_once(rt: HostRuntime) -> Result<(), Fail> {
+    let mut policy = policy(rt.alloc())?;
+    let mut world = managing();
+    world.down = 2;
+    commands(&rt, &mut policy, &world, 0, Said::Find(2 << 60));
+    commands(&rt, &mut policy, &world, 1, Said::Link(2));
+    world.down = 0;
+    commands(&rt, &mut policy, &world, 2, Said::Heal(7, 3));
     Ok(())
 }

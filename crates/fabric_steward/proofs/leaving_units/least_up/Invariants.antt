@@ -1,6 +1,6 @@
 use Rattle.std.proofs.Common.{◌≡◌, ◌≤◌, length, drop}
 use Rattle.fabric_steward.specs.Departures.{least_up}
-use Rattle.fabric_steward.proofs.leaving_steps.least_up.Given as goal
+use Rattle.fabric_steward.proofs.leaving_units.least_up.Given as goal
 
 -- the least of those from this place on
 abbrev pub invariant-loop-place : goal.invariant-loop-place

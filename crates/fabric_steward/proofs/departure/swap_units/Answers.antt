@@ -1,7 +1,0 @@
-use Rattle.std.proofs.Common.{arith}
-use Rattle.fabric_steward.specs.Departures.{unit_swapped}
-use Rattle.fabric_steward.proofs.Mapping.{mapped_next}
-use Rattle.fabric_steward.proofs.departure.swap_units.Goals as goal
-
-pub loop-unit-preserved : goal.loop-unit-preserved
-loop-unit-preserved c = mapped_next (unit_swapped c.args.partition c.args.now) _ _ _ _ _ (omega arith) (omega arith) c.loop-unit.invariant c.swapped.ensures

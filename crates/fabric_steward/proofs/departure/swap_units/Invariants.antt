@@ -1,7 +1,0 @@
-use Rattle.std.proofs.Common.{◌≡◌, ◌++◌, map, take, drop}
-use Rattle.fabric_steward.specs.Departures.{unit_swapped}
-use Rattle.fabric_steward.proofs.departure.swap_units.Given as goal
-
--- the first ones are done
-abbrev pub invariant-loop-unit : goal.invariant-loop-unit
-invariant-loop-unit l = l.unit-items ≡ map (unit_swapped l.partition l.now) (take l.unit-index l.initial.unit-items) ++ drop l.unit-index l.initial.unit-items
