@@ -1,4 +1,14 @@
 """What bench/pictures gives to bin/draw beside the examples: bad reports, odd ones, two processes."""
+# The pictures that documents show, each of an example of this name.
+PICTURES = (
+    "silent-node", "join", "heal", "split-grant", "eight-nodes", "second-instance", "partition", "fast-clock",
+)
+WINDOWS = {
+    "silent-node": [("0", "200"), ("3000", "7183")],
+    "eight-nodes": [("40000", "77000")],
+    "two-accusers": [("150", "5000")],
+}
+
 OWN = b"3 0 1.1 0 own 0000000000000000-ffffffffffffffff -\n"
 LATER = b"9 500 1.1 500 own 0000000000000000-7fffffffffffffff 900\n"
 END = b"end 9 4\n"
@@ -69,6 +79,31 @@ NODE_2 = f"""0 - 2.1 0 own - -
 40 - 2.1 400 own {PART} 1000
 0 - 2.2 0 own - -
 """
+# The logs of two services of the same run: the second one began 115 ms after the first.
+BEGUN = 59_123
+
+
+def dated(report, begun, node):
+    """A report as a service would write it that began at a millisecond of the minute 19:17."""
+    lines, instance = [], 0
+    for line in report.splitlines():
+        if line.startswith("end"):
+            lines.append(f"{clock_text(begun + 2700)} end")
+            continue
+        turn, _, _, reading, _ = line.split(" ", 4)
+        if turn == "0":
+            begun, instance = begun + 515 * instance, instance + 1
+            lines.append(f"{clock_text(begun)} begin {node}.{instance}")
+        lines.append(f"{clock_text(begun + int(reading))} {line}")
+    return "\n".join([f"{lines[0][:24]} unsealed", f"{lines[0][:24]} listening 127.0.0.1:4600", *lines, ""])
+
+
+def clock_text(milliseconds):
+    return f"2026-11-29T19:{17 + milliseconds // 60_000}:{milliseconds // 1000 % 60:02}.{milliseconds % 1000:03}Z"
+
+
+LOG_1, LOG_2 = dated(NODE_1, BEGUN, 1), dated(NODE_2, BEGUN + 115, 2)
+ARBITER = f"{clock_text(BEGUN)} begin a1\n{clock_text(BEGUN + 2700)} end\n"
 JOINED = [
     (
         "the clocks of two processes",
@@ -82,4 +117,50 @@ JOINED = [
     ),
     ("a clock that is given", ["@0", "@200"], ["2.1 took flight 1 from 1.1 at 385 ms", "from 385 to 600 ms"]),
     ("two logs without fences", ["--no-fences"], [f"2.1 holds {PART} from 300 to 515 ms"]),
+]
+
+
+# Logs of services, each a list of files: what they are, the words, and what the picture says.
+EARLY = dated(NODE_2, BEGUN + 95, 2)
+RENEWALS = (" 150 own", " 720 own", " 2600 own", " 30 own", " 400 own")
+QUIET_1, QUIET_2 = (
+    "".join(f"{it}\n" for it in log.splitlines() if not any(own in it for own in RENEWALS)) for log in (LOG_1, LOG_2)
+)
+FAULTY = LOG_1.replace(f"{clock_text(BEGUN + 2700)} end", "fault keep")
+NOISY = LOG_1.replace(f"{clock_text(BEGUN + 2700)} end\n", "".join(
+    f"{clock_text(BEGUN + 2700)} {it}\n" for it in ("slow 77", "deaf", "dropped 9", "cannot heal 7")))
+LOGS = [
+    (
+        "two logs, and that of an arbitrator",
+        [LOG_1, LOG_2, ARBITER],
+        [],
+        [
+            "2.1 took flight 1 from 1.1 at 300 ms",
+            f"2.1 holds {PART} from 300 to 515 ms",
+            "nobody for 1,185 ms",
+            "2.2 started at 630 ms",
+            "1.1 ended by order at 2,700 ms",
+            "time of day in ms since 2026-11-29T19:17:59.123Z",
+            "overlaps by at most 10 ms is not red",
+        ],
+    ),
+    ("one log", [LOG_1], [], [f"1.1 holds {REST} from 300 to 1,700 ms", "1.1 ended by order at 2,700 ms"]),
+    ("a window of logs", [LOG_1, LOG_2], ["200", "600"], ["cut: 200 to 600", "2.1 took flight 1 from 1.1 at 300 ms"]),
+    ("a flight that is taken early by the times of day", [LOG_1, EARLY], [], ["overlaps by at most 20 ms is not red"]),
+    ("logs without renewals", [QUIET_1, QUIET_2], [], ["left out: the logs have no `own` lines of renewals"]),
+    ("a log that ends with a fault", [FAULTY, LOG_2], [], ["a process ended with: fault keep"]),
+    ("the log of a node in need", [NOISY], [], ["a turn took 77 ms", "was deaf", "9 dropped", "not heal 7"]),
+    ("two that hold one point", [LOG_1, dated(NODE_1.replace("1.1", "3.1"), BEGUN, 3)], [], ["1.1 and 3.1 both hold"]),
+]
+DATED = clock_text(BEGUN).encode()
+LATEST = LOG_1.encode() + clock_text(BEGUN + 9000).encode()
+BAD += [
+    ("a time of day that falls", (LOG_1 + LOG_1).encode(), [], 6, "goes back in time, by 2700 ms of the time of day"),
+    ("a time of day among none", OWN + DATED + b" end\n", [], 6, "line 2 has a time of day, unlike those before"),
+    ("a line without its time of day", LOG_2.encode() + b"4 - 2.2 9 own - -\n", [], 6, "has no time of day, unlike"),
+    ("a line behind the end of a log", LATEST + b" 4 - 1.1 9 own - -\n", [], 6, "line 15 comes after the end"),
+    ("a day that is none", b"2026-11-31T19:17:59.123Z end\n", [], 6, "line 1 is no line of a report"),
+    ("an event that is none", DATED + b" ended\n", [], 6, "line 1 is no line of a report"),
+    ("an event with too many words", DATED + b" deaf 1\n", [], 6, "line 1 is no line of a report"),
+    ("the end of a schedule in a log", DATED + b" end 9 4\n", [], 6, "line 1 is no line of a report"),
 ]

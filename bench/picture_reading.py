@@ -1,5 +1,6 @@
 """A picture and its report, each read for bench/pictures without the drawing code: who holds a point at a time."""
 import bisect
+import datetime
 import xml.etree.ElementTree as tree
 
 
@@ -108,6 +109,31 @@ def tag(it):
 
 def title(it):
     return next((child.text for child in it if tag(child) == "title"), "")
+
+
+def as_one(logs):
+    """The logs of several services as one report, with times since the first line.
+
+    A process ends with its last line.
+    """
+    lines, first = [], None
+    for log in logs:
+        begun = None
+        for text in log.splitlines():
+            day, _, rest = text.partition(" ")
+            at = round(datetime.datetime.fromisoformat(day[:-1] + "+00:00").timestamp() * 1000)
+            if rest.startswith("begin ") or rest == "end":
+                if begun:
+                    lines.append((begun[0] if rest != "end" else at, f"{begun[1]} stopped"))
+                begun = None
+            if " - " in rest and rest[0].isdigit():
+                turn, _, who, reading, words = rest.split(" ", 4)
+                first = at if first is None else min(first, at)
+                lines.append((at, f"{turn} {{}} {who} {reading} {words}"))
+                begun = at, f"{turn} {{}} {who} {reading}"
+        if begun:
+            lines.append((begun[0], f"{begun[1]} stopped"))
+    return "".join(f"{text.format(at - first)}\n" for at, text in sorted(lines, key=lambda it: it[0]))
 
 
 class Told:

@@ -40,6 +40,7 @@ class Ring:
     def __init__(self, run, axis, has_fences):
         self.axis = axis
         self.has_fences = has_fences
+        self.apart = run.apart
         self.boxes = []
         self.thin = 0
         self.cut_at = {} if has_fences else known_ends(run)
@@ -125,7 +126,10 @@ class Ring:
         return found
 
     def held_twice(self, most):
-        """Places that two instances hold: (x0, x1, lo, hi, one, other). In a good run there are none."""
+        """Places that two instances hold: (x0, x1, lo, hi, one, other). In a good run there are none.
+
+        Where times are taken to be apart, an overlap that is not longer does not count.
+        """
         found, active, ends = [], [], []
         for box in self.boxes:
             if box.kind != "held":
@@ -136,7 +140,8 @@ class Ring:
             item = (box.lo, box.hi, box.x1, box.who)
             at = bisect_left(active, item)
             for other in active[max(at - 1, 0):at + 1]:
-                if other[3] != box.who and other[0] <= box.hi and box.lo <= other[1]:
+                is_long = min(box.x1, other[2]) - box.x0 > self.apart * self.axis.scale
+                if other[3] != box.who and other[0] <= box.hi and box.lo <= other[1] and is_long:
                     lo, hi = max(box.lo, other[0]), min(box.hi, other[1])
                     found.append((box.x0, min(box.x1, other[2]), lo, hi, other[3], box.who))
             insort(active, item)

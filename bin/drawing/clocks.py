@@ -1,4 +1,9 @@
-"""Several processes on one time. Each report counts from the start of its own process.
+"""Several processes on one time.
+
+The lines of services have times of day. These differ by what the machines' clocks differ, and since a line is written
+when its step is done: so a flight may seem to arrive before it was given. By how much tells how far apart they are.
+
+Other reports have no common time. Each report counts from the start of its own process.
 
 A receiver takes a flight after it was given, an heir takes over after its victim's hold ended, and the next instance
 of a node starts after the one before. Each such pair bounds how much later one clock began than the other. A clock
@@ -57,6 +62,25 @@ def offsets(histories, given):
     return [known[i] for i in range(len(histories))], loose
 
 
+# Lines of one moment may be so many milliseconds apart, where no flight shows more.
+LEAST_APART = 10
+
+
+def join_by_day(histories):
+    """Puts histories with times of day on one clock, which begins at the first line of all. Gives that time, and how
+    many milliseconds the times are taken to be apart.
+    """
+    begun = [it.first for it in histories if it.first is not None]
+    if not begun:
+        return None, LEAST_APART
+    for it in histories:
+        it.move(-min(begun))
+    for it in histories[1:]:
+        absorb(histories[0], it)
+    inversions = [it.begins[0] - it.ends[0] for it in histories[0].flights.values() if it.begins and it.how == "took"]
+    return min(begun), max([LEAST_APART, *inversions])
+
+
 def join(histories, given):
     """Puts all histories on the clock of the first one, and returns the sections that nothing ties to it."""
     begun, loose = offsets(histories, given)
@@ -77,9 +101,11 @@ def absorb(history, other):
     history.stretches += other.stretches
     history.marks += other.marks
     history.instances.update(other.instances)
-    history.first = min(history.first, other.first)
+    if other.first is not None:
+        history.first = other.first if history.first is None else min(history.first, other.first)
     history.last = max(history.last, other.last)
     history.is_filtered = history.is_filtered or other.is_filtered
+    history.renewals += other.renewals
     for key, theirs in other.flights.items():
         ours = history.flights.setdefault(key, theirs)
         if ours is not theirs:

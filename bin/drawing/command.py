@@ -2,10 +2,12 @@
 
 Draws a run: who held what, when it moved, who took over from whom, who was primary.
 
-REPORT is what `fabric replay`, `fabric node` or `fabric cluster` writes. FROM and TO cut the time: ticks of true
-time, or milliseconds of the process's clock. Without a FILE the report comes from standard input. Several FILEs are
-the reports of the processes of one cluster. Each counts from its own start, so their clocks are set by what they did
-with each other: flights, take-overs, restarts. FILE@MS says that this process began MS milliseconds after the first.
+REPORT is what `fabric replay`, `fabric node` or `fabric cluster` writes, or the log of `fabricd`. FROM and TO cut the
+time: ticks of true time, or milliseconds of the process's clock, or milliseconds since the first line of all logs.
+Without a FILE the report comes from standard input. Several FILEs are the reports of the processes of one cluster. The
+lines of logs have times of day. Other reports count from the start of each process, so their clocks are set by what
+they did with each other: flights, take-overs, restarts. FILE@MS says that this process began MS milliseconds after
+the first.
 
 The picture is an SVG of at most 2,000,000 bytes, for light and dark, without a script. Each part has a tooltip.
   the ring    Time goes to the right, points go upwards, and each node has its colour. Blank: nobody holds it.
@@ -20,8 +22,9 @@ In a short report each step has a width of its own beside the time that passes. 
 not pass there; the numbers above are the lines of the steps. What falls together is drawn together, and the picture
 says so: FROM TO shows more.
 
---no-fences   takes no fence from the `own` lines. Use it for a log without the `own` lines of renewals. If such a
-              log shows it (an instance goes on past its fence), fences are left out without this word.
+--no-fences   takes no fence from the `own` lines. Use it for a report without the `own` lines of renewals. If it shows
+              this (an instance goes on past its fence, or a log has no renewal), fences are left out without this
+              word. A log of `fabricd` has renewals with "lines":"all".
 
 A report of at most 2,000,000 lines and 300,000,000 bytes is drawn. Refused, with a message that names the line: a
 line that is in no report, a time that falls, a line behind the end, a report that is empty or too long. What follows

@@ -1,7 +1,8 @@
 """A run that is ready to be drawn: one report, or those of several processes, with what is said around the picture."""
 from typing import NamedTuple
 
-from .clocks import join
+from .clocks import join, join_by_day
+from .lines import day_text
 from .run import History
 from .sources import Refused
 from .svg import counted, thousands
@@ -22,16 +23,21 @@ class Run:
     def __init__(self, histories, sections, wants_fences, given):
         self.sections = sections
         self.is_running = any(it.is_running for it in sections)
+        self.is_dated = any(it.is_dated for it in sections)
         self.has_steps = len(histories) == 1
-        loose = join(histories, given) if len(histories) > 1 else []
+        self.day, self.apart = join_by_day(histories) if self.is_dated else (None, 0)
+        loose = join(histories, given) if len(histories) > 1 and not self.is_dated else []
         history = histories[0] if histories else History(None)
+        if self.is_dated and not history.renewals and any(it.fence is not None for it in history.stretches):
+            history.is_filtered = True
         self.first, self.last = history.first or 0, history.last
         self.lives, self.stretches, self.flights = history.lives, history.stretches, history.flights
         self.marks = sorted(history.marks, key=lambda it: it.begins)
         self.partitions, self.steps = history.partitions, history.steps
         self.has_fences = wants_fences and not history.is_filtered
-        self.faults = [it.closing for it in sections if it.closing and it.closing.word == "fault"]
-        self.alarms = some([f"the report ends with: fault {it.fields[0]}" for it in self.faults])
+        ends = [it for it in sections if it.closing and it.closing.word == "fault"]
+        self.faults = [it.closing for it in ends if not it.is_dated]
+        self.alarms = some([alarm_of(it) for it in ends])
         self.title = self.named()
         self.time_label = self.labelled()
         self.notes = [*self.note_fences(history, wants_fences), *self.note_clocks(loose, given), *self.note_ends()]
@@ -49,6 +55,8 @@ class Run:
     def labelled(self):
         if not self.is_running:
             return "true time in ticks (a tick is 1 ms in a running process)"
+        if self.is_dated:
+            return f"time of day in ms since {day_text(self.day)}" if self.day else "time of day"
         return "time in ms since the first process began" if len(self.sections) > 1 else "the process's clock, in ms"
 
     def summary(self, window):
@@ -69,6 +77,8 @@ class Run:
     def note_fences(self, history, wants_fences):
         if not wants_fences:
             return ["fences are left out, as was asked: a silent instance is drawn as a holder until it is taken over"]
+        if history.is_filtered and self.is_dated and not history.renewals:
+            return ["fences are left out: the logs have no `own` lines of renewals, as with \"lines\":\"some\""]
         if history.is_filtered:
             return ["fences are left out: an instance went on past its last fence, so `own` lines are missing"]
         if self.stretches and all(it.fence is None and it.lapse is None for it in self.stretches):
@@ -80,6 +90,8 @@ class Run:
     def note_clocks(self, loose, given):
         if len(self.sections) < 2:
             return []
+        if self.is_dated:
+            return [f"the lines are put by their times of day: what overlaps by at most {self.apart} ms is not red"]
         notes = []
         if not given:
             notes.append("the clocks of the processes are set by flights, take-overs and restarts, some ms off")
@@ -94,10 +106,38 @@ class Run:
             name = f"{it.source.name}: " if it.source.name else ""
             if it.cut:
                 notes.append(f"{name}the report breaks off in line {it.cut}, which is left out")
+            elif it.is_dated:
+                if it.ended is None and not it.closing and it is it.source.sections[-1]:
+                    notes.append(f"{name}the log has no last line: the process goes on, or was killed")
             elif not it.closing and it is self.sections[-1]:
                 notes.append(f"{name}the report has no last line: the process goes on, or was ended")
             notes += some(["at the end " + place_text(place) for place in it.places])
+            notes += [f"{name}{text}" for text in event_texts(it.events)]
         return some(notes, 3 * MOST_NOTES)
+
+
+def alarm_of(section):
+    """What a section ends with, in the words for a report or for one log of several."""
+    text = f"fault {section.closing.fields[0]}"
+    name = f"{section.source.name}: " if section.source.name else ""
+    return f"{name}a process ended with: {text}" if section.is_dated else f"the report ends with: {text}"
+
+
+def event_texts(events):
+    """What the log of a service says that a reader of its picture has to know."""
+    found = []
+    dropped = sum(it.fields[0] for it in events if it.word == "dropped")
+    slow = [it.fields[0] for it in events if it.word == "slow"]
+    if dropped:
+        found.append(f"the log has not all lines: {thousands(dropped)} dropped")
+    if slow:
+        found.append(f"a turn took {thousands(max(slow))} ms, longer than the grain")
+    if any(it.word == "deaf" for it in events):
+        found.append("the endpoint failed: the process was deaf for a while")
+    stuck = sorted({it.fields[0] for it in events if it.word == "cannot"})
+    if stuck:
+        found.append("the manager could not heal " + ", ".join(str(it) for it in stuck[:8]))
+    return found
 
 
 def some(texts, most=None):
@@ -130,6 +170,11 @@ def read_run(sources, wants_fences, given):
         sections += source.sections
     for it in histories:
         it.close()
+    dated = {it.is_dated for it in sections if it.is_running is not None}
+    if len(dated) > 1:
+        raise Refused("some of the reports have times of day, and some have none")
+    if given and dated == {True}:
+        raise Refused("FILE@MS is for reports without times of day")
     if len(histories) > 1 and any(not it.section.is_running for it in histories):
         raise Refused("several reports are joined only where they are of running processes, without true times")
     return Run(histories, sections, wants_fences, {at: given[i] for at, i in begun.items()})

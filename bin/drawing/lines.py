@@ -1,4 +1,5 @@
 """One line of a report: its fields, and whether it could have been printed. The grammar is in docs/formats.md."""
+import datetime
 import re
 from typing import NamedTuple, Optional, Tuple
 
@@ -16,7 +17,8 @@ class BadLine(Exception):
 class Line(NamedTuple):
     """What an instance reported:
 
-    `word` with the fields behind it. `time` is None in the report of a running process.
+    `word` with the fields behind it. `time` is None in the report of a running process. `day` is the time of day in
+    milliseconds, where the line is of the log of a service.
     """
 
     turn: int
@@ -25,11 +27,20 @@ class Line(NamedTuple):
     reading: Optional[int]
     word: str
     fields: tuple
+    day: Optional[int] = None
 
 
 class Closing(NamedTuple):
     """A line behind the reports: `unheld`, `flight`, `end` or `fault`, with its fields."""
 
+    word: str
+    fields: tuple
+
+
+class Event(NamedTuple):
+    """A line of the log of a service that is no report, with its time of day."""
+
+    day: int
     word: str
     fields: tuple
 
@@ -121,7 +132,8 @@ KINDS = {
         as_it_is,
     ),
     "DOMAINS": (NUMBER, domains),
-    "FIELD": ("[a-z]+", as_it_is),
+    "FIELD": ("[a-z_]+", as_it_is),
+    "TEXT": ("[!-~]{1,100}", as_it_is),
 }
 
 
@@ -180,8 +192,25 @@ CLOSINGS = {
         "fault": [
             "usage", "read", "config not json", "config missing FIELD", "config range FIELD LONG",
             "config repeated LONG", "line LONG", "drift LONG", "nosuch LONG", "large LONG", "keep", "link",
-            "clock LONG LONG", "record LONG", "table",
+            "clock LONG LONG", "record LONG", "table", "service FIELD", "folder FIELD", "address TEXT", "key", "door",
+            "page", "silent",
         ],
+    }.items()
+}
+
+EVENTS = {
+    word: [form(text) for text in texts]
+    for word, texts in {
+        "begin": ["WHO"],
+        "unsealed": [""],
+        "again": ["passed"],
+        "listening": ["TEXT"],
+        "slow": ["LONG"],
+        "deaf": [""],
+        "dropped": ["LONG"],
+        "cannot": ["heal P"],
+        "leaving": [""],
+        "end": [""],
     }.items()
 }
 
@@ -196,8 +225,46 @@ def fields_of(forms, text):
     raise BadLine
 
 
+DAY_BYTES = len("2026-11-29T19:17:59.123Z ")
+_known_dates = {}
+
+
+def day_of(text):
+    """The time of day in front of a line of a log, in milliseconds, or None where there is none."""
+    if text[10:11] != "T" or text[23:25] != "Z ":
+        return None
+    try:
+        if text[:10] not in _known_dates:
+            _known_dates[text[:10]] = datetime.date.fromisoformat(text[:10]).toordinal()
+        time = datetime.time.fromisoformat(text[11:23])
+    except ValueError:
+        return None
+    seconds = ((_known_dates[text[:10]] * 24 + time.hour) * 60 + time.minute) * 60 + time.second
+    return 1000 * seconds + time.microsecond // 1000
+
+
+def day_text(day):
+    """A time of day in milliseconds as a log has it."""
+    date = datetime.date.fromordinal(day // 86_400_000).isoformat()
+    seconds, milliseconds = divmod(day % 86_400_000, 1000)
+    return f"{date}T{seconds // 3600:02}:{seconds // 60 % 60:02}:{seconds % 60:02}.{milliseconds:03}Z"
+
+
+def read_dated(day, text):
+    """A line of the log of a service, without its time of day: a Line or an Event."""
+    if HEAD.fullmatch(text):
+        return read_line(text)._replace(day=day)
+    word, _, rest = text.partition(" ")
+    if word not in EVENTS:
+        raise BadLine
+    return Event(day, word, fields_of(EVENTS[word], rest))
+
+
 def read_line(text):
-    """Reads a line without its line feed: a Line or a Closing. Anything else raises BadLine."""
+    """Reads a line without its line feed: a Line, a Closing or an Event. Anything else raises BadLine."""
+    day = day_of(text)
+    if day is not None:
+        return read_dated(day, text[DAY_BYTES:])
     found = HEAD.fullmatch(text)
     if found:
         turn, time, reporter, reading, word, rest = found.groups()

@@ -42,12 +42,13 @@ class NodePanel:
 
     def draw_lives(self):
         """A thin bar while an instance runs, pale once it has left the ring, or where no further line of it comes."""
+        holds = {box.who: box.x1 for box in sorted(self.ring.boxes, key=lambda it: it.x1) if box.kind == "held"}
         for x0, x1, life, count in self.joined(self.run.lives):
             y = self.middle[node_of(life.who)]
             index = palette.index_of(node_of(life.who))
             self.sheet.colours.add(index)
             quiet = x1 if count > 1 else min(x1, max(x0, self.axis.x(life.left or life.heard)))
-            if not life.left and x1 - quiet < LEAST_SILENCE:
+            if not life.left and (x1 - quiet < LEAST_SILENCE or holds.get(life.who, 0) >= x1 - 1):
                 quiet = x1
             title = f"{life.who} ran from {thousands(life.begins[0])} to {thousands(life.ends[0])} {self.sheet.unit}"
             title += f", and {count - 1} more instances" if count > 1 else ""

@@ -1,4 +1,6 @@
 """The ring over time: who holds which points, which are on their way, and what happened to whom."""
+from bisect import bisect_left
+
 from . import palette
 from .boxes import grid
 from .lines import RING, node_of
@@ -58,8 +60,9 @@ class RingPanel:
             self.draw_edge(box)
         for box in self.ring.boxes:
             self.draw_name(box)
+        signs = sorted((self.sheet.axis.x(it.begins), y) for it, y in self.placed())
         for blank in self.ring.blanks():
-            self.draw_blank(blank)
+            self.draw_blank(blank, signs)
 
     def draw_edge(self, box):
         """A faint edge where a fence ended the hold."""
@@ -79,16 +82,18 @@ class RingPanel:
             else:
                 self.picture.text((box.x0 + box.x1) / 2, (top + bottom) / 2 + down, box.who, f"middle {ink}{size}")
 
-    def draw_blank(self, blank):
-        """How long nobody holds what was held, where there is room to say it: above the signs in the middle."""
+    def draw_blank(self, blank, signs):
+        """How long nobody holds what was held, where there is room to say it, and no sign is in the way."""
         x0, x1, lo, hi, ticks = blank
         top, bottom = self.points.y(hi + 1), self.points.y(lo)
         texts = ["nobody"]
         if ticks is not None:
             texts.insert(0, f"nobody for {thousands(round(ticks, 1))} {self.sheet.unit}")
         for text in texts:
-            if x1 - x0 >= 6.3 * len(text) + 8 and bottom - top >= LABEL_HEIGHT:
-                self.picture.text(x0 + 6, min(top + 15, (top + bottom) / 2 + 4), text, "faint")
+            y, end = min(top + 15, (top + bottom) / 2 + 4), x0 + 6.3 * len(text) + 8
+            near = signs[bisect_left(signs, (x0,)):bisect_left(signs, (end + 6,))]
+            if end <= x1 and bottom - top >= LABEL_HEIGHT and not any(y - 16 < sign < y + 8 for _, sign in near):
+                self.picture.text(x0 + 6, y, text, "faint")
                 return
 
     def draw_grid(self, cell):
@@ -138,11 +143,14 @@ class RingPanel:
     def draw_marks(self):
         """What happened, at the ranges that it is about."""
         self.picture.open("g", id="ring-marks")
-        placed = [(it, self.middle(it.place)) for it in self.sheet.marks if it.place and it.kind != "stopped"]
-        in_rows = [(it, y, round(y / self.sheet.level.together)) for it, y in placed]
+        in_rows = [(it, y, round(y / self.sheet.level.together)) for it, y in self.placed()]
         for x, y, kind, title in gathered(self.sheet, in_rows):
             self.picture.use(f"m-{kind}", x, y, title)
         self.picture.close("g")
+
+    def placed(self):
+        """The signs in the ring, each with its y."""
+        return [(it, self.middle(it.place)) for it in self.sheet.marks if it.place and it.kind != "stopped"]
 
     def middle(self, ranges):
         """The middle of the greatest interval."""

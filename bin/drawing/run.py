@@ -11,10 +11,11 @@ ABOUT_PARTITIONS = {"promised", "adopted", "accepted", "primary", "committed", "
 class Instance:
     """What an instance has said so far.
 
-    `seen` is its last line: a time, and what its clock showed. `had` is what it owned last.
+    `seen` is its last line: a time, and what its clock showed. `had` is what it owned last. `gave` is when it gave
+    points, up to the next line that says what it owns.
     """
 
-    __slots__ = ("who", "life", "stretch", "had", "fence", "seen", "partitions")
+    __slots__ = ("who", "life", "stretch", "had", "fence", "seen", "partitions", "gave")
 
     def __init__(self, who, when):
         self.who = who
@@ -23,6 +24,7 @@ class Instance:
         self.had = ()
         self.fence = None
         self.seen = None
+        self.gave = None
         self.partitions = set()
 
     def owned(self) -> Ranges:
@@ -46,10 +48,20 @@ class History:
         self.first = None
         self.last = 0
         self.is_filtered = False
+        self.renewals = 0
 
     def spans(self):
         parts = [it for partition in self.partitions.values() for it in partition.spans()]
         return [*self.lives, *self.stretches, *self.flights.values(), *self.marks, *parts]
+
+    def move(self, ticks):
+        """Puts all of it on another clock."""
+        for it in self.spans():
+            it.move(ticks)
+        self.steps = [(time + ticks, line) for time, line in self.steps]
+        if self.first is not None:
+            self.first += ticks
+            self.last += ticks
 
     def take(self, time, line):
         """A line of the report, at its time on the section's clock."""
@@ -107,6 +119,11 @@ class History:
             TELLERS[word](self, it, when, line)
 
     def own(self, it, when, ranges, fence):
+        if it.gave is not None and self.section.is_dated:
+            when = it.gave  # in a log, what was given is not owned from that line on, and the line `own` comes later
+        it.gave = None
+        if ranges == it.owned() and fence != it.fence:
+            self.renewals += 1
         if ranges != it.owned():
             self.end_stretch(it, when)
             if ranges:
@@ -151,7 +168,7 @@ class History:
     def gave(self, it, when, line):
         receiver, number, ranges = line.fields
         flight = self.flight(line.who, number, receiver, ranges)
-        flight.begins = when
+        flight.begins = it.gave = when
         self.given.setdefault((line.who, receiver), []).append(flight)
 
     def took(self, it, when, line):
@@ -193,8 +210,22 @@ class History:
         it.fence = None
         it.life.ends, it.life.how = when, how
 
+    def end_by_order(self, time):
+        """The process said that it ended."""
+        self.last = time
+        self.steps.append((time, self.steps[-1][1]))
+        when = (time, len(self.steps) - 1)
+        for it in self.instances.values():
+            if it.life.ends is None:
+                it.seen = (time, it.seen[1] + time - it.seen[0]) if it.seen else None
+                it.life.heard = when
+                self.marks.append(Mark(when, "stopped", it.who, f"{it.who} ended by order", self.steps[-1][1]))
+                self.end(it, when, "stopped")
+
     def close(self):
         """Behind the last line: what is still open ends there."""
+        if self.section.ended is not None and self.steps:
+            self.end_by_order(self.section.ended)
         when = (self.last, AFTER_ALL)
         for it in self.instances.values():
             if it.life.ends is None:
