@@ -22,7 +22,7 @@ use Rattle.fabric_steward.specs.Domains.{domains_up}
 use Rattle.fabric_steward.specs.Facts.{Facts}
 use Rattle.fabric_steward.specs.Greetings.{earlier_of, greet_rule, is_earlier, is_to_greet, longest_ago}
 use Rattle.fabric_steward.specs.Laws.{GivesItsNames, KeepsItsNames, Names, declared_of, is_wanted, may_give, names_of}
-use Rattle.fabric_steward.specs.Noted.{partition_of, partition_told, told_at, unit_refused, unit_told, unit_told_of, units_noted}
+use Rattle.fabric_steward.specs.Noted.{partition_of, partition_told, told_at, unit_refused, unit_slowed, unit_told, unit_told_of, units_noted}
 use Rattle.fabric_steward.specs.Policies.{Policy}
 use Rattle.fabric_steward.specs.Rules.{advice, command_of, count_for, create_rule, heal_rule, is_lost, is_to_create, is_to_heal, is_to_learn, join_rule, learn_rule, look_rule, manager_rule}
 use Rattle.fabric_steward.specs.Watching.{observed, still_changing, unit_forgotten, unit_observed, unit_seen, units_observed}
@@ -106,7 +106,7 @@ refused_declared lease _ w = refl
 
 told_declared : (lease : ℕ) (report : Report) (w : UnitWatch) → declared_of (unit_told lease report w) ≡ declared_of w
 told_declared lease (Configured partition epoch) w = refl
-told_declared lease (Superseded partition epoch) w = refl
+told_declared lease (Superseded partition epoch) w = chosen_same declared_of w.learnt (unit_slowed lease w) w refl
 told_declared lease (Refused verb reason) w = refused_declared lease reason w
 told_declared lease _ w = refl
 

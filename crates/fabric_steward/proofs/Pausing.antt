@@ -1,6 +1,6 @@
 -- A partition knows when it was commanded last, and is free only a pause later.
 use Rattle.std.proofs.Common.{arith, ◌≡◌, ℕ, ◌+◌, ◌-◌, ◌*◌, ◌/◌, ◌≤◌, min, max, Bool, true, false, cond, List, [], ◌∷◌, Option, Some, None, map, ap, refl, sym, ◌∙◌}
-use Rattle.std.specs.Prelude.{IfSome, find, option_map, nat_eq, not, slice_get, ◌&&◌}
+use Rattle.std.specs.Prelude.{IfSome, find, option_map, nat_eq, not, slice_get, ◌&&◌, ◌||◌}
 use Rattle.std.proofs.lemmas.Bool.{and_parts, leb-true, eqb-true, eqb-false, false≢true}
 use Rattle.ring_points.specs.declared.unit.Config.{Config}
 use Rattle.fabric_terms.specs.declared.report.Reason.{Reason}
@@ -19,9 +19,9 @@ use Rattle.fabric_steward.specs.Domains.{domains_up}
 use Rattle.fabric_steward.specs.Facts.{Facts}
 use Rattle.fabric_steward.specs.Greetings.{greet_rule, longest_ago}
 use Rattle.fabric_steward.specs.Laws.{PausesBetween}
-use Rattle.fabric_steward.specs.Noted.{partition_of, partition_told, told_at, unit_configured, unit_refused, unit_told, unit_told_of, units_noted}
+use Rattle.fabric_steward.specs.Noted.{partition_of, partition_told, told_at, unit_configured, unit_refused, unit_slowed, unit_told, unit_told_of, units_noted}
 use Rattle.fabric_steward.specs.Policies.{Policy, fresh_policy, unit_watched}
-use Rattle.fabric_steward.specs.Rules.{advice, command_of, count_for, create_rule, has_cause, heal_rule, is_free, is_long, is_lost, is_to_create, is_to_heal, is_to_learn, join_rule, learn_rule, look_rule, manager_rule}
+use Rattle.fabric_steward.specs.Rules.{advice, command_of, count_for, create_rule, has_cause, heal_rule, is_free, is_long, is_lost, is_to_create, is_to_heal, is_to_learn, is_unasked, join_rule, learn_rule, look_rule, manager_rule}
 use Rattle.fabric_steward.specs.Times.{first_pause, is_over}
 use Rattle.fabric_steward.specs.Watching.{observed, still_changing, unit_forgotten, unit_observed, unit_seen, units_observed}
 use Rattle.fabric_steward.proofs.Advising.{AllOf, first_given, found, if_given, map_given, mapped_all}
@@ -75,15 +75,16 @@ refused_knows p lease pause last _ w is k = slowed_knows p lease pause last w is
 configured_knows : (p lease pause : ℕ) (last : Option ℕ) (w : UnitWatch) → IsFirst lease pause → Knows p pause last w → Knows p pause last (unit_configured lease w)
 configured_knows p lease pause last w is k = record { commanded = k.commanded; paused = λ same. let e : pause ≡ max 1 (lease / 4) = is.base in omega arith }
 
-told_knows : (p lease pause : ℕ) (last : Option ℕ) (report : Report) (w : UnitWatch) → IsFirst lease pause → Knows p pause last w → Knows p pause last (unit_told lease report w)
-told_knows p lease pause last (Configured partition epoch) w is k = configured_knows p lease pause last w is k
-told_knows p lease pause last (Superseded partition epoch) w is k = slowed_knows p lease pause last w is k
-told_knows p lease pause last (Refused verb reason) w is k = refused_knows p lease pause last reason w is k
-told_knows p lease pause last _ w is k = k
-
 chosen : (P : UnitWatch → Type 0) (b : Bool) (v w : UnitWatch) → P v → P w → P (cond b v w)
 chosen P true v w one other = one
 chosen P false v w one other = other
+
+told_knows : (p lease pause : ℕ) (last : Option ℕ) (report : Report) (w : UnitWatch) → IsFirst lease pause → Knows p pause last w → Knows p pause last (unit_told lease report w)
+told_knows p lease pause last (Configured partition epoch) w is k = configured_knows p lease pause last w is k
+told_knows p lease pause last (Superseded partition epoch) w is k =
+    chosen (Knows p pause last) w.learnt (unit_slowed lease w) w (slowed_knows p lease pause last w is k) k
+told_knows p lease pause last (Refused verb reason) w is k = refused_knows p lease pause last reason w is k
+told_knows p lease pause last _ w is k = k
 
 told_of_knows : (p lease pause : ℕ) (last : Option ℕ) (partition : ℕ) (report : Report) → IsFirst lease pause → (w : UnitWatch) → Knows p pause last w → Knows p pause last (unit_told_of partition lease report w)
 told_of_knows p lease pause last partition report is w k =
@@ -180,7 +181,7 @@ advice_later p pause now last f s some all =
             (
               unit_later p pause now last f _ (is_to_create f now d s) (λ w. Create w.partition (count_for d w)) s.units some (λ w. middle w.missing (is_free f now w) (is_long now d s w)) (λ w mine. mine) all,
               (
-                unit_later p pause now last f _ (is_to_learn f now d s) (λ w. Learn w.partition (count_for d w)) s.units some (λ w. middle (not w.learnt) (is_free f now w) (is_long now d s w)) (λ w mine. mine) all,
+                unit_later p pause now last f _ (is_to_learn f now d s) (λ w. Learn w.partition (count_for d w)) s.units some (λ w. middle (not w.learnt) (is_free f now w) (is_long now d s w || is_unasked f s w)) (λ w mine. mine) all,
                 (
                   unit_later p pause now last f _ (is_to_heal f now s) (λ w. Heal w.partition (count_for d w)) s.units some (λ w. middle w.learnt (is_free f now w) (has_cause f now s.heal_after w)) (λ w mine. mine) all,
                   tt,

@@ -45,6 +45,10 @@ unit_configured lease w = record w {
 abbrev pub unit_slowed : (lease : ℕ) → UnitWatch → UnitWatch
 unit_slowed lease w = record w { pause = doubled lease w.pause }
 
+-- a manager that has not learnt the partition knows its epoch now, and need not wait longer for that
+abbrev pub unit_superseded : (lease : ℕ) → UnitWatch → UnitWatch
+unit_superseded lease w = if w.learnt then unit_slowed lease w else w
+
 -- there is no such partition, or there is one; any other refusal doubles the pause
 abbrev pub unit_refused : (lease : ℕ) → Reason → UnitWatch → UnitWatch
 unit_refused lease NoUnit w = record w { missing = true }
@@ -54,7 +58,7 @@ unit_refused lease _ w = unit_slowed lease w
 -- what a report says of a partition
 abbrev pub unit_told : (lease : ℕ) → Report → UnitWatch → UnitWatch
 unit_told lease (Configured partition epoch) w = unit_configured lease w
-unit_told lease (Superseded partition epoch) w = unit_slowed lease w
+unit_told lease (Superseded partition epoch) w = unit_superseded lease w
 unit_told lease (Refused verb reason) w = unit_refused lease reason w
 unit_told lease _ w = w
 

@@ -67,8 +67,18 @@ is_learn _ = false
 abbrev pub is_learning : Policy → Bool
 is_learning s = list_any (λ w. is_learn w.deed) s.units
 
+-- a reading is before that one since which something lasts, if both are there
+abbrev pub is_before : (since reading : Option ℕ) → Bool
+is_before (Some since) (Some reading) = nat_lt reading since
+is_before since reading = true
+
+-- Nothing is known of the partition, and it was not commanded since this node manages. A heal then places nothing: it ends
+-- with the epoch that the arbitrators know, or with the answer that there is no such partition.
+abbrev pub is_unasked : Facts → Policy → UnitWatch → Bool
+is_unasked f s w = is_none (f.config_of w.partition) && is_before s.manages_since w.commanded
+
 abbrev pub is_to_learn : Facts → (now domains : ℕ) → Policy → UnitWatch → Bool
-is_to_learn f now domains s w = not w.learnt && is_free f now w && is_long now domains s w
+is_to_learn f now domains s w = not w.learnt && is_free f now w && (is_long now domains s w || is_unasked f s w)
 
 -- learn: the partition is not learnt since the node manages, and no other one is being learnt
 abbrev pub learn_rule : Facts → (now domains : ℕ) → Policy → Option Advice

@@ -3,7 +3,7 @@ use Rattle.std.specs.Prelude.{ℕ, ◌==◌, true, false, if◌then◌else◌, [
 use Rattle.ring_points.specs.declared.unit.Config.{Config}
 use Rattle.fabric_terms.specs.declared.command.Command.TheVariants as command
 use Rattle.fabric_terms.specs.declared.report.Reason.TheVariants.{NoUnit}
-use Rattle.fabric_terms.specs.declared.report.Report.TheVariants.{Configured, Refused}
+use Rattle.fabric_terms.specs.declared.report.Report.TheVariants.{Configured, Refused, Superseded}
 use Rattle.fabric_terms.specs.declared.report.Verb.TheVariants as verb
 use Rattle.ring_rules.specs.declared.input.Input.TheVariants.{Fire, Do}
 use Rattle.fabric_steward.specs.declared.node_watch.NodeWatch.{NodeWatch}
@@ -86,3 +86,15 @@ created = noted Fire (Configured 7 (record { data_loss = 0; configuration = 1 })
 -- it has seen the primary up at 300, and down at 400
 abbrev pub seen_down : Policy
 seen_down = advised without_primary 400 (advised known_whole 300 created)
+
+-- node 1 is gone: two domains are up, and nothing is known of partition 7
+abbrev pub without_one : Facts
+without_one = record managing { is_up = λ node now. if node == 1 then false else true }
+
+-- the manager has greeted node 1
+abbrev pub greeted_one : Policy
+greeted_one = advised without_one 100 worked_policy
+
+-- it has asked for the partition, and heard that there is a later epoch
+abbrev pub told_later : Policy
+told_later = noted Fire (Superseded 7 (record { data_loss = 0; configuration = 5 }) ∷ []) (advised without_one 101 greeted_one)

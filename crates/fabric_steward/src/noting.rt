@@ -55,7 +55,7 @@ fn told(lease: u64, report: &Report, unit: UnitWatch) -> UnitWatch
 {
     match report {
         Report::Configured(_, _) => unit.configured(lease),
-        Report::Superseded(_, _) => unit.slowed(lease),
+        Report::Superseded(_, _) => unit.superseded(lease),
         Report::Refused(_, reason) => unit.refused(lease, *reason),
         _ => unit,
     }

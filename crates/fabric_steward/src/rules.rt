@@ -2,8 +2,8 @@
 ghost use Rattle.std.specs.Prelude.{◌≡◌, find};
 ghost use Rattle.std.specs.Option.{option_copied};
 ghost use Rattle.fabric_steward.specs.Rules.{advice_in, began_again, count_for, create_rule, has_cause, heal_rule};
-ghost use Rattle.fabric_steward.specs.Rules.{is_free, is_learning, is_long, is_lost, is_to_create, is_to_heal};
-ghost use Rattle.fabric_steward.specs.Rules.{is_to_learn, join_rule, learn_rule, look_rule, manager_rule, under_way};
+ghost use Rattle.fabric_steward.specs.Rules.{is_before, is_free, is_learning, is_long, is_lost, is_to_create, is_to_heal};
+ghost use Rattle.fabric_steward.specs.Rules.{is_to_learn, is_unasked, join_rule, learn_rule, look_rule, manager_rule, under_way};
 
 use crate::advice::{Advice, Deed};
 use crate::known::Known;
@@ -50,6 +50,16 @@ fn has_cause<K: Known>(known: &K, now: u64, heal_after: u64, unit: &UnitWatch) -
     lasts(now, heal_after, unit.down)
         || began_again(known, unit.served_by)
         || lasts(now, heal_after, unit.few)
+}
+
+/// Whether a reading is before that one since which something lasts, if both are there.
+fn is_before(since: Option<u64>, reading: Option<u64>) -> bool
+    ensures { result ≡ is_before since reading }
+{
+    match (since, reading) {
+        (Some(since), Some(reading)) => reading < since,
+        _ => true,
+    }
 }
 
 impl Steward {
@@ -195,7 +205,16 @@ impl Steward {
     fn is_to_learn<K: Known>(&self, known: &K, now: u64, domains: usize, unit: &UnitWatch) -> bool
         ensures { result ≡ is_to_learn (K.facts known.now) now domains self.now unit.now }
     {
-        !unit.learnt && is_free(known, now, unit) && self.is_long(now, domains, unit)
+        !unit.learnt
+            && is_free(known, now, unit)
+            && (self.is_long(now, domains, unit) || self.is_unasked(known, unit))
+    }
+
+    /// Whether nothing is known of the partition, and it was not commanded since this node manages.
+    fn is_unasked<K: Known>(&self, known: &K, unit: &UnitWatch) -> bool
+        ensures { result ≡ is_unasked (K.facts known.now) self.now unit.now }
+    {
+        known.config_of(unit.partition).is_none() && is_before(self.manages_since, unit.commanded)
     }
 
     /// Whether a learning heal is under way.

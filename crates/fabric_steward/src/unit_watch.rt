@@ -1,7 +1,7 @@
 ghost use Rattle.std.specs.Prelude.{◌≡◌, ◌≤◌};
 ghost use Rattle.fabric_steward.specs.Afterwards.{unit_commanded};
 ghost use Rattle.fabric_steward.specs.Departures.{unit_moved};
-ghost use Rattle.fabric_steward.specs.Noted.{unit_configured, unit_refused, unit_slowed};
+ghost use Rattle.fabric_steward.specs.Noted.{unit_configured, unit_refused, unit_slowed, unit_superseded};
 ghost use Rattle.fabric_steward.specs.Policies.{unit_watched};
 ghost use Rattle.fabric_steward.specs.Watching.{unit_forgotten};
 
@@ -121,6 +121,18 @@ impl UnitWatch {
         UnitWatch {
             pause: doubled(lease, self.pause),
             ..self
+        }
+    }
+
+    /// A reconfiguration met a later epoch.
+    pub fn superseded(self, lease: u64) -> UnitWatch
+        requires { lease ≤ MAX_LEASE }
+        ensures { result ≡ unit_superseded lease self }
+    {
+        if self.learnt {
+            self.slowed(lease)
+        } else {
+            self
         }
     }
 

@@ -1,8 +1,9 @@
 ghost use Rattle.std.specs.Prelude.{◌≡◌, Some, None};
-ghost use Rattle.fabric_terms.specs.declared.command.Command.TheVariants.{Create, Heal, Join};
+ghost use Rattle.fabric_terms.specs.declared.command.Command.TheVariants.{Create, Heal, Join, Link};
 ghost use Rattle.fabric_steward.specs.Afterwards.{advised, command_given};
-ghost use Rattle.fabric_steward.specs.Worked.{created, joined_once, joined_twice, known_whole, managing, primary_anew};
-ghost use Rattle.fabric_steward.specs.Worked.{seeking, seen_down, told_missing, without_primary, worked_policy};
+ghost use Rattle.fabric_steward.specs.Worked.{created, greeted_one, joined_once, joined_twice, known_whole};
+ghost use Rattle.fabric_steward.specs.Worked.{managing, primary_anew, seeking, seen_down, told_later, told_missing};
+ghost use Rattle.fabric_steward.specs.Worked.{without_one, without_primary, worked_policy};
 
 /// Whom a node joins that does not route, computed: a law of the definition.
 pub fn worked_joins()
@@ -22,4 +23,13 @@ pub fn worked_management()
     ensures down { command_given without_primary 1399 seen_down ≡ None }
     ensures heals { command_given without_primary 1400 seen_down ≡ Some (Heal 7 2) }
     ensures anew { command_given primary_anew 500 (advised known_whole 300 created) ≡ Some (Heal 7 3) }
+{}
+
+/// How a new manager learns of a partition while too few domains are up for it, computed: a law of the definition. It asks
+/// at once, and places once it has managed for `heal_after`.
+pub fn worked_learning()
+    ensures greets { command_given without_one 100 worked_policy ≡ Some (Link 1) }
+    ensures asks { command_given without_one 101 greeted_one ≡ Some (Heal 7 2) }
+    ensures waits { command_given without_one 1099 told_later ≡ None }
+    ensures places { command_given without_one 1100 told_later ≡ Some (Heal 7 2) }
 {}
