@@ -19,6 +19,8 @@ pub struct FrameBag {
     ends: Vec<usize>,
     /// For so many frames more there are spare bytes, `FRAME_LIMIT` each, and spare places for their ends.
     room: usize,
+    /// Where a frame is spelled before it is put behind the others. It serves each frame, so that none clears it.
+    spelled: [u8; FRAME_LIMIT],
 }
 
 impl Model for FrameBag {
@@ -55,6 +57,7 @@ impl FrameBag {
             bytes: BytesMut::new(alloc),
             ends: Vec::new(alloc),
             room: 0,
+            spelled: [0; FRAME_LIMIT],
         }
     }
 
@@ -81,9 +84,8 @@ impl FrameBag {
         ensures frames { self.new.frames ≡ message.now ∷ self.old.frames }
         ensures room { self.new.room + 1 ≡ self.old.room }
     {
-        let mut frame = [0; FRAME_LIMIT];
-        let len = encode(message, &mut frame);
-        self.bytes.extend_reserved(&frame[..len]);
+        let len = encode(message, &mut self.spelled);
+        self.bytes.extend_reserved(&self.spelled[..len]);
         self.ends.push_reserved(self.bytes.len());
         self.room -= 1;
     }

@@ -14,3 +14,4 @@ pub mod Steps
 pub mod Starts
 pub mod Rulings
 pub mod Ticks
+pub mod Places

@@ -12,23 +12,11 @@ ghost use Rattle.world_rules.specs.EventLimits.{most_events, most_frames};
 ghost use Rattle.ring_world.specs.Stands.{Stands};
 ghost use Rattle.ring_world.specs.Steps.{IsSoundFrame, LeavesSound};
 
+use crate::frame_place::FramePlace;
 use crate::world::{Acted, EventRefusal, World};
-use fabric_terms::{Body, Event, Message, OutOfMemory};
+use fabric_terms::{Event, Message, OutOfMemory};
 use ring_node::Input;
 use ring_points::{ARBITRATORS, Who};
-
-/// A place that a frame is read into: a frame is half a kilobyte, and is not moved from there.
-fn empty_message() -> Message {
-    let nobody = Who {
-        actor: 0,
-        instance: 0,
-    };
-    Message {
-        from: nobody,
-        to: nobody,
-        body: Body::Hello { mine: 0 },
-    }
-}
 
 /// Whether a message to this instance, or to whichever runs, is meant for the one that runs.
 fn is_meant(to: Who, me: Who) -> bool
@@ -112,15 +100,19 @@ impl World {
         }
     }
 
-    /// The frame of this number comes to its addressee.
-    pub(crate) fn give(&mut self, line: u64, number: u64) -> Result<Option<Acted>, EventRefusal>
+    /// The frame of this number comes to its addressee. It is read into the place.
+    pub(crate) fn take_give(
+        &mut self,
+        line: u64,
+        number: u64,
+        given: &mut FramePlace,
+    ) -> Result<Option<Acted>, EventRefusal>
         requires world { IsWorld self.old }
         requires fits { Fits (Event.Give number) }
         ensures { (w : RuledWorld fabric) → Stands self.old w →
             Comes self.old self.new w line (Event.Give number) result }
     {
-        let mut input = Input::Frame(empty_message());
-        let Input::Frame(place) = &mut input else {
+        let Input::Frame(place) = &mut given.input else {
             unreachable!();
         };
         if !self.frames.read(number, place) {
@@ -129,9 +121,24 @@ impl World {
         if !self.may_act() {
             return Err(EventRefusal::TooLarge);
         }
-        let Input::Frame(message) = &input else {
+        let input = &given.input;
+        let Input::Frame(message) = input else {
             unreachable!();
         };
-        Ok(self.reach(line, message, &input)?)
+        Ok(self.reach(line, message, input)?)
+    }
+
+    /// The frame of this number comes to its addressee. It is read into a place that lasts no longer.
+    pub(crate) fn give_once(
+        &mut self,
+        line: u64,
+        number: u64,
+    ) -> Result<Option<Acted>, EventRefusal>
+        requires world { IsWorld self.old }
+        requires fits { Fits (Event.Give number) }
+        ensures { (w : RuledWorld fabric) → Stands self.old w →
+            Comes self.old self.new w line (Event.Give number) result }
+    {
+        self.take_give(line, number, &mut FramePlace::new())
     }
 }

@@ -34,7 +34,7 @@ impl World {
     }
 
     /// A node's timer fires.
-    pub(crate) fn fire(&mut self, line: u64, node: u16) -> Result<Option<Acted>, EventRefusal>
+    pub(crate) fn take_fire(&mut self, line: u64, node: u16) -> Result<Option<Acted>, EventRefusal>
         requires world { IsWorld self.old }
         requires fits { Fits (Event.Fire node) }
         ensures { (w : RuledWorld fabric) → Stands self.old w →

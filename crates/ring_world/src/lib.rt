@@ -13,6 +13,7 @@ mod configured_arbiter;
 mod delivery;
 mod event_limits;
 mod events;
+mod frame_place;
 mod replica;
 mod ruling;
 mod running;
@@ -23,5 +24,6 @@ mod stop;
 mod tick;
 mod world;
 
+pub use frame_place::FramePlace;
 pub use node_core::Batch;
 pub use world::{Acted, EventRefusal, World};

@@ -16,6 +16,7 @@ ghost use Rattle.unit_rules.specs.Fabric.{fabric};
 ghost use Rattle.world_rules.specs.Runs.{History, run_of};
 
 use crate::configured_arbiter::ConfiguredArbiter;
+use crate::frame_place::FramePlace;
 use crate::running::Running;
 use arbiter_core::Arbiter;
 use drift_clock::DriftBroken;
@@ -160,8 +161,8 @@ impl World {
                 self.take_tick(*advance, readings.as_slice())?;
                 Ok(None)
             }
-            Event::Fire { node } => self.fire(line, *node),
-            Event::Give { frame } => self.give(line, *frame),
+            Event::Fire { node } => self.take_fire(line, *node),
+            Event::Give { frame } => self.give_once(line, *frame),
             Event::Do { node, command } => self.command(line, *node, command),
             Event::Junk { actor, bytes } => self.junk(*actor, bytes.as_slice()),
         }
@@ -177,6 +178,33 @@ impl World {
         ensures memory { result ≢ Err EventRefusal.OutOfMemory }
     {
         self.take_tick(advance, readings)
+    }
+
+    /// Takes a firing of a node's timer: what `apply` does of it. No event is made for it, which takes a kilobyte whatever
+    /// its kind.
+    pub fn fire(&mut self, line: u64, node: u16) -> Result<Option<Acted>, EventRefusal>
+        requires world { IsWorld self.old }
+        requires fits { Fits (Event.Fire node) }
+        ensures { (c : Configuration) (h : History) → StandsFor self.old c h →
+            Answers self.new c h line (Event.Fire node) result }
+    {
+        self.take_fire(line, node)
+    }
+
+    /// Takes a frame that comes to its addressee: what `apply` does of it. No event is made for it, and it is read into
+    /// the caller's place.
+    pub fn give(
+        &mut self,
+        line: u64,
+        frame: u64,
+        place: &mut FramePlace,
+    ) -> Result<Option<Acted>, EventRefusal>
+        requires world { IsWorld self.old }
+        requires fits { Fits (Event.Give frame) }
+        ensures { (c : Configuration) (h : History) → StandsFor self.old c h →
+            Answers self.new c h line (Event.Give frame) result }
+    {
+        self.take_give(line, frame, place)
     }
 
     /// Takes back what `apply` gave, once it is read: the next step makes its reports in the memory of these. The world

@@ -10,6 +10,7 @@
 mod clocks;
 mod ending;
 mod page;
+mod refusal;
 mod report_observer;
 mod run;
 mod run_observer;

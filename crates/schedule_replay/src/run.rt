@@ -60,7 +60,7 @@ fn take_next<T: RunObserver, S: Source>(
             teller,
             number,
             reader.lines.line(),
-            &mut reader.readings,
+            &mut reader.places,
             text,
         ) {
             Ok(None) => Ok(true),

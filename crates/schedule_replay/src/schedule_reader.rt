@@ -1,14 +1,24 @@
 ghost use Rattle.std.specs.Prelude.{◌≡◌, [], IfOk};
 
+use ring_world::FramePlace;
 use sched_text::TickReadings;
 use source_lines::LineReader;
 use std::alloc::{AllocError, Global};
 
-/// What the lines of a schedule are read with. The list of readings serves each tick, so that it is made once.
+/// Places that serve each line, so that each is made once.
+#[derive(Drop)]
+pub struct EventPlaces {
+    /// The readings of a tick.
+    pub readings: TickReadings,
+    /// The frame that is given.
+    pub frame: FramePlace,
+}
+
+/// What the lines of a schedule are read with.
 #[derive(Drop)]
 pub struct ScheduleReader {
     pub lines: LineReader,
-    pub readings: TickReadings,
+    pub places: EventPlaces,
 }
 
 impl ScheduleReader {
@@ -18,7 +28,10 @@ impl ScheduleReader {
     {
         Ok(ScheduleReader {
             lines: LineReader::new(alloc)?,
-            readings: TickReadings::new(),
+            places: EventPlaces {
+                readings: TickReadings::new(),
+                frame: FramePlace::new(),
+            },
         })
     }
 }

@@ -9,3 +9,4 @@ pub mod Judging
 pub mod Sorting
 pub mod Telling
 pub mod Answering
+pub mod SentLines

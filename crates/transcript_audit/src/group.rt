@@ -4,10 +4,10 @@ ghost use Rattle.line_format.specs.Lines.{lines_of};
 ghost use Rattle.transcript_audit.specs.Groups.{Group};
 ghost use Rattle.transcript_audit.specs.Places.{goes_on, grows, group_in, GoesOn, IsEntry, IsSeen, TellsAs};
 
+use crate::report_line::read_report_line;
 use crate::said::{read_clocks, read_sent};
 use fabric_terms::{OutOfMemory, Report};
 use line_format::LineRefusal;
-use report_lines::read_report;
 use ring_points::Who;
 use run_audit::Moment;
 use source_lines::{cut_line, is_ignored};
@@ -27,7 +27,7 @@ fn take_line(alloc: Global, told: &mut Told, line: &[u8]) -> Result<bool, OutOfM
     if is_ignored(line) {
         return Ok(true);
     }
-    match read_report(alloc, line) {
+    match read_report_line(alloc, line) {
         Ok((head, report)) => {
             told.reports.push(report)?;
             told.who = Some(head.who);

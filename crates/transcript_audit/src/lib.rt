@@ -10,6 +10,7 @@
 mod audit_result;
 mod group;
 mod group_index;
+mod report_line;
 mod said;
 mod transcript;
 mod verdict;

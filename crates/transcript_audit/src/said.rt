@@ -5,8 +5,9 @@ ghost use Rattle.line_format.specs.Readers.{Reads};
 ghost use Rattle.transcript_audit.specs.Places.{summary_of};
 ghost use Rattle.transcript_audit.specs.Said.{clock_at, clocks_on, shown_of, sent_of, section_at, span_of, said_of};
 
+use crate::report_line::read_report_line;
 use line_format::{BadLine, LineRefusal};
-use report_lines::{head_at, read_report};
+use report_lines::head_at;
 use ring_points::{MAX_COUNTER, MAX_NODES, Who};
 use run_audit::comes_after;
 use std::alloc::Global;
@@ -107,7 +108,7 @@ pub fn read_said(
 ) -> Result<Said, LineRefusal>
     ensures { Reads (λ x. x) result (option_map summary_of (said_of line.now)) }
 {
-    match read_report(alloc, line) {
+    match read_report_line(alloc, line) {
         Ok((head, _)) => return Ok(Said::Tells(head.line, head.who)),
         Err(LineRefusal::OutOfMemory) => return Err(LineRefusal::OutOfMemory),
         Err(LineRefusal::BadLine) => {}

@@ -7,15 +7,15 @@ use Rattle.line_format.specs.Lines.{event_of, junk_bytes_of}
 use Rattle.line_format.proofs.LineLaws.{read_is_spelled}
 use Rattle.schedule_replay.proofs.schedule.take_words.Goals as goal
 
-pub take_event-requires-clause-fits : goal.take_event-requires-clause-fits
-take_event-requires-clause-fits g c =
+pub take_fire-requires-clause-fits : goal.take_fire-requires-clause-fits
+take_fire-requires-clause-fits g c =
     let line = c.args.line.now in
     let node = c.in-Ok-Fire.node in
     let read : event_of line ≡ Some (Fire node) = rw c.in-Ok-Fire.field-0-is at c.in-Ok-Fire.ensures in
     (read_is_spelled line (Fire node) read).0
 
-pub take_event-requires-in-Ok-Give-clause-fits : goal.take_event-requires-in-Ok-Give-clause-fits
-take_event-requires-in-Ok-Give-clause-fits g c =
+pub take_give-requires-clause-fits : goal.take_give-requires-clause-fits
+take_give-requires-clause-fits g c =
     let line = c.args.line.now in
     let frame = c.in-Ok-Give.frame in
     let read : event_of line ≡ Some (Give frame) = rw c.in-Ok-Give.field-0-is at c.in-Ok-Give.ensures in
@@ -29,16 +29,16 @@ take_tick-requires-clause-fits g c =
     let read : event_of line ≡ Some (Tick advance rs) = rw c.in-Ok-Tick.field-0-is at c.in-Ok-Tick.ensures in
     subst (λ (xs : List (ℕ × ℕ)). Fits (Tick advance xs)) (sym c.as_slice.ensures.value) (read_is_spelled line (Tick advance rs) read).0
 
-pub take_event-requires-in-Ok-Start-clause-fits : goal.take_event-requires-in-Ok-Start-clause-fits
-take_event-requires-in-Ok-Start-clause-fits g c =
+pub take_start-requires-clause-fits : goal.take_start-requires-clause-fits
+take_start-requires-clause-fits g c =
     let line = c.args.line.now in
     let actor = c.in-Ok-Start.actor in
     let reading = c.in-Ok-Start.reading in
     let read : event_of line ≡ Some (Start actor reading) = rw c.in-Ok-Start.field-0-is at c.in-Ok-Start.ensures in
     (read_is_spelled line (Start actor reading) read).0
 
-pub take_event-requires-in-Ok-Stop-clause-fits : goal.take_event-requires-in-Ok-Stop-clause-fits
-take_event-requires-in-Ok-Stop-clause-fits g c =
+pub take_stop-requires-clause-fits : goal.take_stop-requires-clause-fits
+take_stop-requires-clause-fits g c =
     let line = c.args.line.now in
     let actor = c.in-Ok-Stop.actor in
     let read : event_of line ≡ Some (Stop actor) = rw c.in-Ok-Stop.field-0-is at c.in-Ok-Stop.ensures in

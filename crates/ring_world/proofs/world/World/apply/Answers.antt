@@ -59,29 +59,29 @@ returns-in_ok-take_tick-in-Tick c k h s =
 
 -- a node's timer fires
 
-pub fire-requires-clause-world : goal.fire-requires-clause-world
-fire-requires-clause-world c = c.requires.world
+pub take_fire-requires-clause-world : goal.take_fire-requires-clause-world
+take_fire-requires-clause-world c = c.requires.world
 
-pub fire-requires-clause-fits : goal.fire-requires-clause-fits
-fire-requires-clause-fits c = subst Fits c.in-Fire.is c.requires.fits
+pub take_fire-requires-clause-fits : goal.take_fire-requires-clause-fits
+take_fire-requires-clause-fits c = subst Fits c.in-Fire.is c.requires.fits
 
 pub returns-in-Fire : goal.returns-in-Fire
 returns-in-Fire c k h s =
-    answered_as c.args.self.now c.fire.new.self k h c.args.line (Fire c.in-Fire.node) c.args.event.now c.fire.result c.in-Fire.is s c.requires.fits
-    (c.fire.ensures (ruled k h) s.keeps.state)
+    answered_as c.args.self.now c.take_fire.new.self k h c.args.line (Fire c.in-Fire.node) c.args.event.now c.take_fire.result c.in-Fire.is s c.requires.fits
+    (c.take_fire.ensures (ruled k h) s.keeps.state)
 
 -- a frame is given
 
-pub give-requires-clause-world : goal.give-requires-clause-world
-give-requires-clause-world c = c.requires.world
+pub give_once-requires-clause-world : goal.give_once-requires-clause-world
+give_once-requires-clause-world c = c.requires.world
 
-pub give-requires-clause-fits : goal.give-requires-clause-fits
-give-requires-clause-fits c = subst Fits c.in-Give.is c.requires.fits
+pub give_once-requires-clause-fits : goal.give_once-requires-clause-fits
+give_once-requires-clause-fits c = subst Fits c.in-Give.is c.requires.fits
 
 pub returns-in-Give : goal.returns-in-Give
 returns-in-Give c k h s =
-    answered_as c.args.self.now c.give.new.self k h c.args.line (Give c.in-Give.frame) c.args.event.now c.give.result c.in-Give.is s c.requires.fits
-    (c.give.ensures (ruled k h) s.keeps.state)
+    answered_as c.args.self.now c.give_once.new.self k h c.args.line (Give c.in-Give.frame) c.args.event.now c.give_once.result c.in-Give.is s c.requires.fits
+    (c.give_once.ensures (ruled k h) s.keeps.state)
 
 -- a node is commanded
 
