@@ -18,17 +18,20 @@ use Rattle.client_sessions.specs.declared.telling.StepTold.{StepTold}
 use Rattle.client_sessions.specs.declared.watchers.Watcher.{Watcher}
 use Rattle.client_sessions.specs.Utterances.{Line, Reply, Utterance}
 
--- the open answers; the clients that watch, in the order in which they began; and what is known to choose the lines of the log
+-- the open answers; the clients that watch, in the order in which they began; what is known to choose the lines of the log;
+-- and the client that is the parent of the process, if it has one, which stands from life to life
 pub record Kept : Type 0 where
   pub answers : Answers
   pub watchers : List Watcher
   pub choice : Choice
+  pub parent : Option ℕ
 
-abbrev pub fresh_kept : ℕ → Bool → Kept
-fresh_kept lease all_lines = record {
+abbrev pub fresh_kept : ℕ → Bool → Option ℕ → Kept
+fresh_kept lease all_lines parent = record {
   answers = record { waiting = []; lease = lease };
   watchers = [];
   choice = record { all = all_lines; own = None };
+  parent = parent;
 }
 
 -- A step of the actor, as its clients and the log hear of it: the head of its lines, the partition of which it takes a
@@ -127,6 +130,7 @@ after_step s t = record {
   answers = record s.answers { waiting = open_after (by_step t.prepared t.reports) s.answers.waiting };
   watchers = s.watchers;
   choice = choice_after s.choice t.reports;
+  parent = s.parent;
 }
 
 -- a step as it is handed in

@@ -21,13 +21,14 @@ use ring_rules::Input;
 use std::alloc::{AllocError, Global};
 use std::marker::Model;
 
-/// What a process keeps for its clients: the answers that are open, the clients that watch, and what chooses the lines
-/// of the log. Beside these it has room that is used again.
+/// What a process keeps for its clients: the answers that are open, the clients that watch, what chooses the lines of
+/// the log, and which client is the parent of the process. Beside these it has room that is used again.
 #[derive(Drop)]
 pub struct Sessions {
     answers: OpenAnswers,
     watching: Vec<Watcher>,
     written: Written,
+    parent: Option<u32>,
     ended: Ended,
     text: Vec<u8>,
 }
@@ -39,7 +40,12 @@ impl Model for Sessions {
 
     ghost Value = { Kept };
 
-    ghost view = { λ s. record { answers = s.answers; watchers = s.watching.items; choice = s.written } };
+    ghost view = { λ s. record {
+      answers = s.answers;
+      watchers = s.watching.items;
+      choice = s.written;
+      parent = s.parent;
+    } };
 
     ghost invariant = { λ s. (length s.watching.items ≤ most_watchers) ×
         (most_watchers ≤ vec_capacity s.watching) };
@@ -47,14 +53,20 @@ impl Model for Sessions {
 
 impl Sessions {
     /// No answer is open and no client watches. The lease is the configured one, in ticks. The log has every report
-    /// if `all_lines` says so.
-    pub fn new(alloc: Global, lease: u64, all_lines: bool) -> Result<Sessions, AllocError>
-        ensures { IfOk result (λ s. s ≡ fresh_kept lease all_lines) }
+    /// if `all_lines` says so. The parent is a client, if the process has one.
+    pub fn new(
+        alloc: Global,
+        lease: u64,
+        all_lines: bool,
+        parent: Option<u32>,
+    ) -> Result<Sessions, AllocError>
+        ensures { IfOk result (λ s. s ≡ fresh_kept lease all_lines parent) }
     {
         Ok(Sessions {
             answers: OpenAnswers::new(alloc, lease)?,
             watching: Vec::with_capacity(alloc, MAX_WATCHERS)?,
             written: Written::new(all_lines),
+            parent,
             ended: Ended::new(alloc)?,
             text: Vec::new(alloc),
         })
@@ -168,6 +180,13 @@ impl Sessions {
         ensures { result ≡ due_of self.now.answers.waiting }
     {
         self.answers.due()
+    }
+
+    /// The client that is the parent of the process, if it has one. It stands from life to life.
+    pub fn parent(&self) -> Option<u32>
+        ensures { result ≡ self.now.parent }
+    {
+        self.parent
     }
 
     /// How many answers are open.

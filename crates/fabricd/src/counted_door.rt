@@ -1,19 +1,42 @@
 use door_io::{Door, MAX_ASKED, Said};
-use serve_edge::SocketDoor;
+use serve_edge::{PARENT_CLIENT, ServedDoor};
 use serve_top::Tally;
 
 /// The door of the process, whose clients are counted.
 #[derive(Drop)]
 pub struct CountedDoor<'a> {
-    inner: SocketDoor<'a>,
+    inner: ServedDoor<'a>,
     tally: &'a Tally,
+    /// How many clients were dropped so far.
+    dropped: u64,
 }
 
 impl<'a> CountedDoor<'a> {
     /// The clients of this door.
-    pub fn new(inner: SocketDoor<'a>, tally: &'a Tally) -> Self {
-        CountedDoor { inner, tally }
+    pub fn new(inner: ServedDoor<'a>, tally: &'a Tally) -> Self {
+        CountedDoor {
+            inner,
+            tally,
+            dropped: 0,
+        }
     }
+}
+
+impl CountedDoor<'_> {
+    /// Counts the clients, and those that were dropped since this was called last.
+    fn count(&mut self) {
+        self.tally.set_connections(self.inner.clients() as u64);
+        let dropped = self.inner.dropped();
+        for _ in self.dropped..dropped {
+            self.tally.count(|counters| counters.count_client_dropped());
+        }
+        self.dropped = dropped;
+    }
+}
+
+/// Whether it is a line of the parent.
+fn is_of_parent(said: Said) -> bool {
+    matches!(said, Said::Line(PARENT_CLIENT, _))
 }
 
 impl Door for CountedDoor<'_> {
@@ -28,7 +51,8 @@ impl Door for CountedDoor<'_> {
 
     fn next(&mut self, into: &mut [u8; MAX_ASKED]) -> Said {
         let said = self.inner.next(into);
-        self.tally.set_connections(self.inner.clients() as u64);
+        self.tally.set_parent_asks(is_of_parent(said));
+        self.count();
         said
     }
 

@@ -9,8 +9,10 @@ mod counted_door;
 mod counted_log;
 mod events;
 mod finish;
+mod heard_parent;
 mod opening;
 mod recalling;
+mod running;
 mod serve;
 mod serving;
 mod start;
@@ -27,6 +29,7 @@ use fabric_status::Status;
 use ring_points::ARBITRATORS;
 use serve_top::{End, HELP, VERSION_LINE};
 use serve_words::{ServeForm, read_form};
+use std::cell::Cell;
 use std::process::ExitCode;
 use std::{env, io};
 
@@ -54,14 +57,14 @@ fn tell(rt: &HostRuntime, text: &str) -> End {
     }
 }
 
-/// Does what the words ask. This program has no parent: a word that speaks of one is in none of its forms.
-fn run_form<'a>(rt: &'a HostRuntime, form: ServeForm<'a>) -> End {
+/// Does what the words ask.
+fn run_form<'a>(rt: &'a HostRuntime, form: ServeForm<'a>, greeted: &'a Cell<bool>) -> End {
     match form {
         ServeForm::Node {
             node,
             file,
             options,
-            parent: None,
+            parent,
         } => run_actor(
             rt,
             Serving {
@@ -69,6 +72,8 @@ fn run_form<'a>(rt: &'a HostRuntime, form: ServeForm<'a>) -> End {
                 arbiter: 0,
                 file,
                 options,
+                parent,
+                greeted,
             },
         ),
         ServeForm::Arbiter {
@@ -84,6 +89,8 @@ fn run_form<'a>(rt: &'a HostRuntime, form: ServeForm<'a>) -> End {
                     arbiter,
                     file,
                     options,
+                    parent: None,
+                    greeted,
                 },
             )
         }
@@ -92,17 +99,17 @@ fn run_form<'a>(rt: &'a HostRuntime, form: ServeForm<'a>) -> End {
         ServeForm::Again { file, folders } => tell_again(rt, file, folders),
         ServeForm::Help => tell(rt, HELP),
         ServeForm::Version => tell(rt, VERSION_LINE),
-        ServeForm::Node { .. } => End::As(Status::Usage),
     }
 }
 
 fn main(rt: HostRuntime) -> io::Result<ExitCode> {
     let _streams = hold_streams(&rt)?;
     let words = words_of(&rt)?;
+    let greeted = Cell::new(false);
     let end = match read_form(rt.alloc(), &words) {
-        Ok(Some(form)) => run_form(&rt, form),
+        Ok(Some(form)) => run_form(&rt, form, &greeted),
         Ok(None) => End::As(Status::Usage),
         Err(_) => End::As(Status::OutOfMemory),
     };
-    Ok(ExitCode::from(tell_end(&rt, &end)))
+    Ok(ExitCode::from(tell_end(&rt, &end, greeted.get())))
 }

@@ -9,7 +9,7 @@ use crate::started::{Started, short};
 use door_io::ClientDevices;
 use edge_io::{EdgeRefusal, Links};
 use fabric_status::Status;
-use serve_edge::{PageSockets, SocketDoor, StdoutLog, bind_door, bind_page};
+use serve_edge::{PageSockets, ServedDoor, SocketDoor, StdoutLog, bind_door, bind_page};
 use serve_top::{End, TalliedClients};
 use serve_turns::Service;
 use std::net::SocketAddr;
@@ -41,7 +41,7 @@ pub fn open_door<'a>(started: Started<'a>) -> Result<Clients<'a>, End> {
     ))?;
     let log = StdoutLog::new(started.rt, started.output);
     let devices = ClientDevices {
-        door: CountedDoor::new(door, started.tally),
+        door: CountedDoor::new(ServedDoor::new(door, started.parent), started.tally),
         log: CountedLog::new(log, started.tally),
     };
     Ok(TalliedClients::new(devices, started.tally))

@@ -6,65 +6,27 @@ ghost use Rattle.service_file.specs.Sound.{IsSoundService};
 use crate::actor_start::{NotedActor, take_actor};
 use crate::events::Events;
 use crate::opening::{open_door, open_endpoint, open_page};
+use crate::running::{run_for_parent, run_free};
 use crate::serving::Serving;
 use crate::start::read_given;
 use crate::started::{Keeps, Started, read_records, short};
-use client_sessions::Sessions;
-use door_io::Clients;
-use edge_io::{Devices, Links};
+use edge_io::Links;
 use fabric_edge::{FolderKeeper, MonoClock};
-use fabric_status::Status;
 use frame_seal::{SealKey, SealedLinks};
 use ring_points::Who;
 use serve_edge::{
-    LogOutput, PageSockets, PollBoard, PollRest, STANDARD_OUTPUT, ServedLinks, StartFault,
-    StdoutLog, enter_folder,
+    LogOutput, PageSockets, ParentStream, PollBoard, PollRest, STANDARD_ERROR, STANDARD_INPUT,
+    STANDARD_OUTPUT, ServedLinks, StartFault, StdoutLog, enter_folder,
 };
-use serve_lives::{NoPolicy, NoSink, NodePolicy, Returning, serve as serve_actor};
+use serve_lives::{NoPolicy, NodePolicy};
 use serve_top::{
-    Begins, BoardDevices, BoardFacts, End, NotedKeeper, StatusBoard, TalliedLinks, TalliedPolicy,
-    Tally, plan_of, status_by, whole_of,
+    Begins, BoardDevices, BoardFacts, End, NotedKeeper, StatusBoard, TalliedLinks, Tally, plan_of,
+    whole_of,
 };
-use serve_turns::{Audience, Board, Policy, Service};
-use service_file::{ActorFile, LineChoice, ServiceSettings};
+use serve_turns::Service;
+use service_file::{ActorFile, ServiceSettings};
 use std::alloc::{AllocError, Global};
 use std::net::SocketAddr;
-
-/// Runs the actor, which listens, to its end, by this policy.
-fn run_by<N: Links, C: Clients + Drop, P: Policy + Returning + Drop, B: Board>(
-    started: Started<'_>,
-    policy: P,
-    clients: C,
-    board: &mut B,
-    links: &mut N,
-    keeps: &mut Keeps<'_>,
-) -> Result<End, End>
-    requires service { IsService started.service.now.plan }
-    requires listens { AllListen started.service.now.plan (N.opened links.old) }
-{
-    let service = started.service;
-    let policy = TalliedPolicy::new(policy, started.tally);
-    let mut audience = Audience { clients, policy };
-    let all = started.settings.lines == LineChoice::AllLines;
-    let sessions = Sessions::new(service.alloc, service.config().lease, all).map_err(|error| short(
-        error,
-    ))?;
-    let mut sink = NoSink {};
-    let mut clock = MonoClock::new(started.rt);
-    let mut devices = Devices {
-        sink: &mut sink,
-        links,
-        keeps,
-        clock: &mut clock,
-    };
-    let end = serve_actor(&mut devices, &mut audience, service, board, sessions);
-    let status = status_by(end);
-    if status == Status::Ok {
-        started.events.say(b"end\n");
-    }
-    started.events.finish();
-    Ok(End::As(status))
-}
 
 /// The board of the process.
 fn board_of<'a>(
@@ -109,13 +71,18 @@ fn open_and_run<N: Links + Drop>(
             actor: service.actor(),
             instance: 0,
         });
-        return run_by(started, NoPolicy {}, clients, &mut board, &mut links, keeps);
+        return run_free(started, NoPolicy {}, clients, &mut board, &mut links, keeps);
     }
     let config = service.config();
     let policy = NodePolicy::new(service.alloc, config, started.settings, service.actor()).map_err(
         |error| short(error),
     )?;
-    run_by(started, policy, clients, &mut board, &mut links, keeps)
+    match started.parent {
+        None => run_free(started, policy, clients, &mut board, &mut links, keeps),
+        Some(parent) => run_for_parent(
+            started, parent, policy, clients, &mut board, &mut links, keeps,
+        ),
+    }
 }
 
 /// Runs the actor over links that are sealed by the key, if there is one.
@@ -148,6 +115,28 @@ fn declared_in(alloc: Global, settings: &ServiceSettings) -> Result<Vec<u16>, Al
         declared.push(entry.partition)?;
     }
     Ok(declared)
+}
+
+/// Where the log of the process goes: standard output has the lines of a parent, if there is one.
+fn log_of(hold: Option<u64>) -> i32 {
+    match hold {
+        None => STANDARD_OUTPUT,
+        Some(_) => STANDARD_ERROR,
+    }
+}
+
+/// The stream of the parent that may owe a `done` for so many ticks, if there is one.
+fn open_parent<'a>(
+    alloc: Global,
+    board: &'a PollBoard,
+    hold: Option<u64>,
+) -> Result<Option<ParentStream<'a>>, End> {
+    let Some(hold) = hold else {
+        return Ok(None);
+    };
+    let streams = (STANDARD_INPUT, STANDARD_OUTPUT);
+    let stream = ParentStream::new(alloc, board, streams, hold).map_err(|error| short(error))?;
+    Ok(Some(stream))
 }
 
 /// The addresses of the options, and the key or why it is refused.
@@ -197,7 +186,8 @@ fn run<'a>(rt: &'a HostRuntime, serving: Serving<'a>) -> Result<End, End> {
     enter_folder(rt, folder).map_err(|fault| End::Start(fault))?;
     let tally = Tally::new(alloc);
     let board = PollBoard::new(alloc).map_err(|error| short(error))?;
-    let output = LogOutput::new(alloc, &board, STANDARD_OUTPUT).map_err(|error| short(error))?;
+    let stream = open_parent(alloc, &board, given.hold)?;
+    let output = LogOutput::new(alloc, &board, log_of(given.hold)).map_err(|error| short(error))?;
     let events = Events::new(rt, &output);
     let (actor, file) = take_actor(rt, &events, serving.actor, &checksum)?;
     let started = Started {
@@ -209,6 +199,8 @@ fn run<'a>(rt: &'a HostRuntime, serving: Serving<'a>) -> Result<End, End> {
         board: &board,
         output: &output,
         events: &events,
+        parent: stream.as_ref(),
+        greeted: serving.greeted,
         listen: serving.options.listen,
     };
     let opened = Opened {

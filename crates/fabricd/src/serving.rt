@@ -1,4 +1,5 @@
-use serve_words::ServeOptions;
+use serve_words::{Parent, ServeOptions};
+use std::cell::Cell;
 
 /// Which actor runs, by which FILE and options.
 #[derive(Clone, Copy)]
@@ -8,4 +9,8 @@ pub struct Serving<'a> {
     pub arbiter: u8,
     pub file: &'a str,
     pub options: ServeOptions<'a>,
+    /// Of a node that has a parent.
+    pub parent: Option<Parent>,
+    /// Whether the parent was told its first line: from then on standard output has nothing but its lines.
+    pub greeted: &'a Cell<bool>,
 }

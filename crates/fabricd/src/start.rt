@@ -4,9 +4,11 @@ ghost use Rattle.fabric_terms.specs.Sound.{IsSound};
 ghost use Rattle.service_file.specs.Sound.{IsSoundService};
 
 use crate::serving::Serving;
+use fabric_status::Status;
 use frame_seal::SealKey;
 use serve_edge::{StartFault, read_address, read_file, read_key};
 use serve_top::{End, Setup, need_address, read_setup};
+use serve_words::Parent;
 use std::net::SocketAddr;
 
 /// FILE, the addresses of the options, and the key or why it is refused: that is said in its turn.
@@ -16,6 +18,17 @@ pub struct Given {
     pub listen: Option<SocketAddr>,
     pub page: Option<SocketAddr>,
     pub key: Result<Option<SealKey>, StartFault>,
+    /// For how many ticks the parent may owe a `done`, if there is a parent.
+    pub hold: Option<u64>,
+}
+
+/// For how many ticks a parent may owe a `done`: half a lease if no number is given, and less than a lease.
+fn hold_of(lease: u64, parent: Parent) -> Result<u64, End> {
+    match parent.hold {
+        None => Ok(lease / 2),
+        Some(hold) if hold < lease => Ok(hold),
+        Some(_) => Err(End::As(Status::Usage)),
+    }
 }
 
 /// The address of an option.
@@ -55,6 +68,10 @@ pub fn read_given(rt: &HostRuntime, serving: Serving<'_>) -> Result<Given, End>
         Err(fault) => return Err(End::Start(fault)),
     };
     let setup = read_setup(rt.alloc(), &bytes)?;
+    let hold = match serving.parent {
+        None => None,
+        Some(parent) => Some(hold_of(setup.config.lease, parent)?),
+    };
     let listen = address_of(rt, serving.options.listen)?;
     let page = address_of(rt, serving.options.page)?;
     let key = key_of(rt, serving.options.key, &setup.checksum);
@@ -63,5 +80,6 @@ pub fn read_given(rt: &HostRuntime, serving: Serving<'_>) -> Result<Given, End>
         listen,
         page,
         key,
+        hold,
     })
 }

@@ -8,12 +8,13 @@ use edge_io::EdgeRefusal;
 use fabric_edge::FolderKeeper;
 use fabric_status::Status;
 use keep_log::Kept;
-use serve_edge::{LogOutput, PollBoard, StartFault};
+use serve_edge::{LogOutput, ParentStream, PollBoard, StartFault};
 use serve_top::{
     Begins, BoardFacts, End, NotedKeeper, Tally, is_nothing, judge_beginning, status_of,
 };
 use serve_turns::Service;
 use service_file::{ActorFile, ServiceSettings};
+use std::cell::Cell;
 
 /// What the parts of a process share.
 #[derive(Clone, Copy)]
@@ -26,6 +27,10 @@ pub struct Started<'a> {
     pub board: &'a PollBoard,
     pub output: &'a LogOutput<'a>,
     pub events: &'a Events<'a>,
+    /// The stream of the parent, if the process has one.
+    pub parent: Option<&'a ParentStream<'a>>,
+    /// Whether the parent was told its first line.
+    pub greeted: &'a Cell<bool>,
     /// Where the endpoint is bound, if that is not where others reach the actor.
     pub listen: Option<&'a str>,
 }

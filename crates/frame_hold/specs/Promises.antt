@@ -3,6 +3,7 @@ use Rattle.std.specs.Prelude.{◌≡◌, ℕ, ◌+◌, ◌≤◌, ◌^◌, ◌�
 use Rattle.edge_io.specs.Edge.{Grew}
 use Rattle.edge_io.specs.declared.datagram.Datagram.{Datagram}
 use Rattle.frame_hold.specs.declared.holding.Owed.{Owed}
+use Rattle.frame_hold.specs.Kept.{free_of, held_of}
 use Rattle.frame_hold.specs.Waits.{frame_waits}
 
 -- a datagram that was to be given, and whether it was
@@ -23,6 +24,11 @@ pub record Given (all : List Datagram) (old new : Option (List Datagram)) (befor
   pub whole : map (λ t. t.0) tries ≡ all
   pub sent : Grew old new (went tries)
   pub failed : (before + lost tries ≤ now) ⊎ (2 ^ 64 ≤ now + 1)
+
+-- What the actor may send was given to links, and the others wait still; or all wait still, for want of memory.
+abbrev pub LetsOut : ℕ → List Owed → List Datagram → List Datagram → Option (List Datagram) → Option (List Datagram) → ℕ → ℕ → Type 0
+LetsOut actor owed held stays old new before now =
+    (Given (free_of actor owed held) old new before now × (stays ≡ held_of actor owed held)) ⊎ (stays ≡ held)
 
 -- none of them waits for one of these numbers
 abbrev pub NoneWaits : List Owed → List Datagram → Type 0

@@ -52,6 +52,13 @@ impl HeldFrames {
         }
     }
 
+    /// No frame waits any more.
+    pub fn clear(&mut self)
+        ensures { self.new ≡ [] }
+    {
+        self.frames.clear();
+    }
+
     /// The frames, the oldest first.
     pub fn as_slice(&self) -> &[Datagram]
         ensures { result.now ≡ self.now }

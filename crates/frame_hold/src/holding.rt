@@ -87,6 +87,13 @@ impl Holding {
         }
     }
 
+    /// No number is open any more.
+    pub fn clear(&mut self)
+        ensures { self.new ≡ [] }
+    {
+        self.owed.clear();
+    }
+
     /// The line of this number gives something up, and was written at this reading. A refused call opens nothing.
     pub fn note(&mut self, number: u64, what: GivesUp, now: u64) -> Result<(), OutOfMemory>
         ensures ok { IfOk result (λ _. self.new ≡

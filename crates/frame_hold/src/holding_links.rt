@@ -1,10 +1,11 @@
-ghost use Rattle.std.specs.Prelude.{◌≡◌, ◌++◌, ◌∷◌, [], ℕ, true, false, IfOk, OnOk, OnErr, IsErr, IsErrOf, length};
+ghost use Rattle.std.specs.Prelude.{◌≡◌, ◌≢◌, ◌≤◌, ◌++◌, ◌∷◌, [], ℕ, true, false, IfOk, IfSome, OnOk, OnErr, IsErr};
+ghost use Rattle.std.specs.Prelude.{IsErrOf, length};
 ghost use Rattle.std.specs.List.{list_any};
-ghost use Rattle.edge_io.specs.Arrivals.{IsListening};
-ghost use Rattle.edge_io.specs.Edge.{Grew, HasCauseOf};
+ghost use Rattle.edge_io.specs.Arrivals.{IsListening, Receives};
+ghost use Rattle.edge_io.specs.Edge.{Grew, HasCause, HasCauseOf};
 ghost use Rattle.edge_io.specs.declared.refusal.EdgeRefusal.TheVariants as refusal;
 ghost use Rattle.frame_hold.specs.Kept.{free_of, held_of, held_with};
-ghost use Rattle.frame_hold.specs.Promises.{Given, NeverBeforeDone};
+ghost use Rattle.frame_hold.specs.Promises.{Given, LetsOut, NeverBeforeDone};
 ghost use Rattle.frame_hold.specs.Waits.{frame_waits, is_number, is_overdue, without};
 
 use crate::frames::frame_waits;
@@ -44,6 +45,16 @@ impl<'n, N: Links> HoldingLinks<'n, N> {
         ensures { result ≡ length self.now.held }
     {
         self.held.as_slice().len()
+    }
+
+    /// Nothing is owed any more, and no frame waits: those that did are lost.
+    pub fn forget(&mut self)
+        ensures holding { self.new.holding ≡ [] }
+        ensures held { self.new.held ≡ [] }
+        ensures below { self.new.inner.now ≡ self.old.inner.now }
+    {
+        self.holding.clear();
+        self.held.clear();
     }
 
     /// The line of this number gives something up, and was written at this reading. From now on its frames wait.
@@ -87,6 +98,7 @@ impl<'n, N: Links> HoldingLinks<'n, N> {
         ensures holding { self.new.holding ≡ self.old.holding }
         ensures opened { N.opened self.new.inner.now ≡ N.opened self.old.inner.now }
         ensures arrivals { (any : ℕ) → N.arrivals self.new.inner.now any ≡ N.arrivals self.old.inner.now any }
+        ensures later { N.faults self.old.inner.now ≤ N.faults self.new.inner.now }
     {
         give_free(self.inner, actor, &self.holding, self.held.as_slice())?;
         self.held.drop_free(actor, &self.holding);
@@ -94,7 +106,7 @@ impl<'n, N: Links> HoldingLinks<'n, N> {
     }
 
     /// Sends a frame that waits for nothing. Another one is kept for later, as if it were sent.
-    fn pass_or_keep(&mut self, from: u16, to: &str, bytes: &[u8]) -> Result<(), EdgeRefusal>
+    pub fn pass_or_keep(&mut self, from: u16, to: &str, bytes: &[u8]) -> Result<(), EdgeRefusal>
         requires { IsListening from (N.opened self.old.inner.now) }
         ensures passed { frame_waits self.old.holding bytes.now ≡ false →
             OnOk result (Grew (N.sent self.old.inner.now) (N.sent self.new.inner.now)
@@ -119,6 +131,31 @@ impl<'n, N: Links> HoldingLinks<'n, N> {
             Err(OutOfMemory) => Err(EdgeRefusal::OutOfMemory),
         }
     }
+
+    /// Gives the links below what the actor may send now, and then takes of them the next datagram that has arrived at
+    /// the actor. What is not given for want of memory waits still.
+    pub fn let_out_and_take(
+        &mut self,
+        actor: u16,
+        into: &mut [u8; DATAGRAM_BYTES],
+    ) -> Result<Option<usize>, Failed>
+        requires { IsListening actor (N.opened self.old.inner.now) }
+        ensures lets_out { LetsOut actor self.old.holding self.old.held self.new.held (N.sent self.old.inner.now)
+            (N.sent self.new.inner.now) (N.faults self.old.inner.now) (N.faults self.new.inner.now) }
+        ensures never { NeverBeforeDone self.old.holding (N.sent self.old.inner.now) (N.sent self.new.inner.now) }
+        ensures holding { self.new.holding ≡ self.old.holding }
+        ensures length { IfOk result (λ answer. IfSome answer (λ n. n ≤ DATAGRAM_BYTES)) }
+        ensures ok { IfOk result (λ answer. Receives (N.arrivals self.old.inner.now actor) answer into.new
+            (N.arrivals self.new.inner.now actor)) }
+        ensures err { OnErr result (N.arrivals self.new.inner.now actor ≡ N.arrivals self.old.inner.now actor) }
+        ensures others { (other : ℕ) → other ≢ actor →
+            N.arrivals self.new.inner.now other ≡ N.arrivals self.old.inner.now other }
+        ensures opened { N.opened self.new.inner.now ≡ N.opened self.old.inner.now }
+        ensures cause { HasCause (N.faults self.old.inner.now) (N.faults self.new.inner.now) result }
+    {
+        let _ = self.let_out(actor);
+        self.inner.receive(actor, into)
+    }
 }
 
 /// Gives the links a datagram. What they fail to send is lost.
@@ -129,6 +166,7 @@ fn give_one<N: Links>(links: &mut N, datagram: &Datagram) -> Result<(), OutOfMem
     ensures err { OnErr result (N.sent links.new ≡ N.sent links.old) }
     ensures opened { N.opened links.new ≡ N.opened links.old }
     ensures arrivals { (any : ℕ) → N.arrivals links.new any ≡ N.arrivals links.old any }
+    ensures later { N.faults links.old ≤ N.faults links.new }
 {
     let bytes = datagram.bytes.as_slice();
     match links.send(datagram.from, datagram.to.as_str(), bytes) {
@@ -151,6 +189,7 @@ fn give_free<N: Links>(
     ensures never { NeverBeforeDone holding.now (N.sent links.old) (N.sent links.new) }
     ensures opened { N.opened links.new ≡ N.opened links.old }
     ensures arrivals { (any : ℕ) → N.arrivals links.new any ≡ N.arrivals links.old any }
+    ensures later { N.faults links.old ≤ N.faults links.new }
 {
     for datagram in held {
         if is_free(actor, holding, datagram) {
@@ -186,6 +225,6 @@ impl<N: Links> Links for HoldingLinks<'_, N> {
         actor: u16,
         into: &mut [u8; DATAGRAM_BYTES],
     ) -> Result<Option<usize>, Failed> {
-        self.inner.receive(actor, into)
+        self.let_out_and_take(actor, into)
     }
 }

@@ -1,3 +1,5 @@
+ghost use Rattle.std.specs.Prelude.{◌≡◌};
+
 use crate::frames::names_length;
 use edge_io::{DATAGRAM_BYTES, EdgeRefusal, Failed, Links};
 
@@ -10,7 +12,10 @@ pub struct OneLengthLinks<'n, N: Links> {
 
 impl<'n, N: Links> OneLengthLinks<'n, N> {
     /// Links over these.
-    pub fn new(inner: &'n mut N) -> OneLengthLinks<'n, N> {
+    pub fn new(inner: &'n mut N) -> OneLengthLinks<'n, N>
+        ensures inner { result.inner.now ≡ inner.old }
+        ensures same { result.inner.ghost_name ≡ inner.entry.ghost_name }
+    {
         OneLengthLinks { inner }
     }
 }

@@ -79,22 +79,45 @@ impl Client {
         came
     }
 
+    /// Takes in what it has said by now, as much as there is room for. What waits for it is written before.
+    pub fn gather(&mut self) {
+        self.flush();
+        if self.stage == Stage::Open {
+            self.read();
+        }
+    }
+
+    /// Takes the next of the lines that have come, into the front of the buffer; its end where nothing more comes.
+    pub fn next_gathered(&mut self, into: &mut [u8; MAX_ASKED]) -> Came
+        ensures { FitsLine result }
+    {
+        if self.stage == Stage::Over {
+            return Came::Gone;
+        }
+        let came = self.next_line(into);
+        if came == Came::Nothing && self.stage == Stage::Ended {
+            return Came::Gone;
+        }
+        came
+    }
+
     /// Drops it: nothing is said to it any more, and its connection ends at the next question what comes of it.
     pub fn close(&mut self) {
         self.stage = Stage::Over;
     }
 
     /// Says the text to it: the text waits, and is written as far as the client takes it. A client for which too much
-    /// waits is dropped.
-    pub fn hear(&mut self, text: &[u8]) {
+    /// waits is dropped. Says whether it is.
+    pub fn hear(&mut self, text: &[u8]) -> bool {
         if self.stage == Stage::Over {
-            return;
+            return false;
         }
         if self.unread.push(text) {
             self.flush();
-        } else {
-            self.stage = Stage::Over;
+            return false;
         }
+        self.stage = Stage::Over;
+        true
     }
 
     /// What is awaited of it.
@@ -120,11 +143,11 @@ impl Client {
         self.unread.front().len()
     }
 
-    /// Whether nothing more is to be said by it or to it. A parent that says nothing more is gone at once.
+    /// Whether nothing more is to be said by it or to it.
     fn is_gone(&self) -> bool {
         match self.stage {
             Stage::Open => false,
-            Stage::Ended => self.unread.is_empty() || matches!(self.wire, Wire::Streams { .. }),
+            Stage::Ended => self.unread.is_empty(),
             Stage::Over => true,
         }
     }
@@ -155,6 +178,7 @@ impl Client {
         match self.wire.read(&mut piece[..room]) {
             Moved::Bytes(count) => {
                 self.cut.take(&piece[..count]);
+                self.has_more = true;
             }
             Moved::Nothing => {}
             Moved::Ended => self.stage = Stage::Ended,
@@ -162,7 +186,7 @@ impl Client {
     }
 
     /// Writes what waits, as far as the client takes it.
-    fn flush(&mut self) {
+    pub fn flush(&mut self) {
         if self.unread.is_empty() {
             return;
         }

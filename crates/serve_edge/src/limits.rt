@@ -13,7 +13,7 @@ pub const MAX_PAUSE_TICKS: u64 = 100;
 /// How many bytes of the log are written at once.
 pub const MAX_PIECE: usize = 4_096;
 
-/// How often the log is written to at once.
+/// How often the log, or a parent when the process ends, is written to at once.
 pub const MAX_WRITES: usize = 16;
 
 /// How many bytes of a configuration's file are read.

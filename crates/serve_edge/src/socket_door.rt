@@ -24,6 +24,8 @@ pub struct SocketDoor<'a> {
     board: &'a PollBoard,
     gate: Gate<'a>,
     clients: Vec<Slot<Client>>,
+    /// How many clients were dropped: there was no place for them, or they did not read.
+    dropped: u64,
     /// The place that is asked first.
     first: usize,
     ghost first_in: { first < 64 },
@@ -45,6 +47,7 @@ impl<'a> SocketDoor<'a> {
             board,
             gate: Gate::new(board, DOOR, Listener::Door(listener)),
             clients,
+            dropped: 0,
             first: 0,
         })
     }
@@ -54,6 +57,15 @@ impl SocketDoor<'_> {
     /// How many clients there are.
     pub fn clients(&self) -> usize {
         self.clients.iter().filter(|slot| !slot.is_free()).count()
+    }
+
+    /// How many clients were dropped: there was no place for them, or they did not read.
+    pub fn dropped(&self) -> u64 {
+        self.dropped
+    }
+
+    fn count_dropped(&mut self) {
+        self.dropped = self.dropped.saturating_add(1);
     }
 
     /// Takes connections that have come.
@@ -69,6 +81,7 @@ impl SocketDoor<'_> {
     /// Gives a connection the first free place, or closes it.
     fn settle(&mut self, wire: Wire) {
         let Some(place) = self.clients.iter().position(|slot| slot.is_free()) else {
+            self.count_dropped();
             return;
         };
         if let Ok(client) = Client::new(self.alloc, wire, MAX_UNREAD) {
@@ -144,8 +157,11 @@ impl Door for SocketDoor<'_> {
             return;
         }
         if let Some(held) = &mut slot.held {
-            held.hear(text);
+            let is_dropped = held.hear(text);
             self.board.watch(CLIENTS + place, held.watch());
+            if is_dropped {
+                self.count_dropped();
+            }
         }
     }
 

@@ -14,10 +14,9 @@ use crate::pausing::pass_time;
 use crate::returning::Returning;
 use client_sessions::Sessions;
 use door_io::Clients;
-use edge_io::Outside;
 use fabric_turns::recall;
 use keep_log::Kept;
-use serve_turns::{Audience, Board, Live, Policy, Service, live_on};
+use serve_turns::{Audience, Board, Handover, Live, Policy, Service, live_on};
 use state_lines::ChangeTimes;
 use turn_rules::StopCause;
 
@@ -29,7 +28,7 @@ fn is_spent(kept: &Kept) -> bool
 }
 
 /// A life from these records and sessions. The sessions stand for the next one; or the process ends.
-fn live_from<O: Outside, C: Clients, P: Policy, B: Board>(
+fn live_from<O: Handover, C: Clients, P: Policy, B: Board>(
     outside: &mut O,
     audience: &mut Audience<C, P>,
     service: &Service,
@@ -55,7 +54,7 @@ fn live_from<O: Outside, C: Clients, P: Policy, B: Board>(
 }
 
 /// A life with these sessions, from the records that are kept of the actor.
-fn live_once<O: Outside, C: Clients, P: Policy, B: Board>(
+fn live_once<O: Handover, C: Clients, P: Policy, B: Board>(
     outside: &mut O,
     audience: &mut Audience<C, P>,
     service: &Service,
@@ -78,7 +77,7 @@ fn live_once<O: Outside, C: Clients, P: Policy, B: Board>(
 }
 
 /// The next life, with these sessions.
-fn live_next<O: Outside, C: Clients, P: Policy, B: Board>(
+fn live_next<O: Handover, C: Clients, P: Policy, B: Board>(
     outside: &mut O,
     audience: &mut Audience<C, P>,
     service: &Service,
@@ -105,7 +104,7 @@ fn live_next<O: Outside, C: Clients, P: Policy, B: Board>(
 /// Serves its actor, which listens, until the process ends. Where the instance of a node has left, the next one begins
 /// after the pause that the policy says, with what the process keeps for its clients; it does not where the process was
 /// told to leave, or all numbers of instances are used up.
-pub fn serve<O: Outside, C: Clients, P: Policy + Returning, B: Board>(
+pub fn serve<O: Handover, C: Clients, P: Policy + Returning, B: Board>(
     outside: &mut O,
     audience: &mut Audience<C, P>,
     service: &Service,

@@ -9,7 +9,7 @@ use Rattle.ring_points.specs.declared.point.Point.{Point}
 use Rattle.ring_rules.specs.declared.input.Input.{Input}
 use Rattle.serve_rules.specs.Events.{Advised, Asked, Coming, Event, Gone, OfTurn, input_of}
 use Rattle.serve_rules.specs.Laws.{ProcessIsAfter}
-use Rattle.serve_rules.specs.Lines.{AtOnce, Commands, Line, Refused, line_of}
+use Rattle.serve_rules.specs.Lines.{AtOnce, Commands, LetsGo, Line, Refused, line_of}
 use Rattle.serve_rules.specs.Lives.{happenings, served}
 use Rattle.serve_rules.specs.Served.{Served, after_event, bids, command_in, comes_of, happening_of, process_after, process_with, with_coming, with_line, with_new, with_reading, with_request}
 use Rattle.serve_rules.specs.Services.{life_of}
@@ -47,6 +47,7 @@ of_line : (plan : Plan) (kept : List Record) (v : Served) (turn client : ℕ) (l
     → (with_line plan v client line (behind plan kept v turn (bids (command_in line))) new).process ≡ behind plan kept v turn (bids (command_in line))
 of_line plan kept v turn client (Refused tag fault) new = refl
 of_line plan kept v turn client (AtOnce tag r) new = of_request plan v client r
+of_line plan kept v turn client (LetsGo number) new = refl
 of_line plan kept v turn client (Commands tag c) None = refl
 of_line plan kept v turn client (Commands tag c) (Some step) = refl
 

@@ -1,8 +1,7 @@
 -- A line that is refused, and the answer to a command.
-use Rattle.std.proofs.Common.{◌≡◌, ℕ, Bool, true, false, List, [], ◌∷◌, Option, Some, None, refl, ap, ◌∙◌}
+use Rattle.std.proofs.Common.{◌≡◌, ℕ, List, [], ◌∷◌, Option, Some, None, refl, ap}
 use Rattle.std.specs.Prelude.{if◌then◌else◌, length}
 use Rattle.client_sessions.specs.Answers.{refusal}
-use Rattle.client_sessions.specs.Utterances.{Utterance}
 use Rattle.door_lines.specs.declared.fault.Fault.{Fault}
 use Rattle.fabric_terms.specs.declared.record.Record.{Record}
 use Rattle.fabric_terms.specs.declared.report.Report.{Report}
@@ -14,10 +13,9 @@ use Rattle.open_answers.specs.declared.question.Ending.{Ending}
 use Rattle.open_answers.specs.declared.question.Ending.TheVariants as ending
 use Rattle.open_answers.specs.declared.question.Question.{Question}
 use Rattle.serve_rules.specs.Events.{Asked, Event}
-use Rattle.serve_rules.specs.Laws.{EndsOrIsKept, IsSilent, RefusedLinesAreSilent, is_open}
+use Rattle.serve_rules.specs.Laws.{EndsOrIsKept, RefusedLinesAreSilent, is_open}
 use Rattle.serve_rules.specs.Lines.{Line, Refused, line_of}
 use Rattle.serve_rules.specs.Served.{Served, after_event, bids, command_in, new_step, of_event, of_line, process_after, with_line}
-use Rattle.turn_rules.specs.Happenings.{Comes}
 use Rattle.turn_rules.specs.Plans.{Plan}
 
 abbrev line_event : ℕ → ℕ → Option (List ℕ) → Event

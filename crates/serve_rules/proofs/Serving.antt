@@ -1,5 +1,5 @@
 -- What has come at the door and what was said, summed up.
-use Rattle.std.proofs.Common.{◌≡◌, ℕ, List, [], ◌∷◌, ◌++◌, Option, Some, refl, ap, sym, subst, ◌∙◌, append_assoc}
+use Rattle.std.proofs.Common.{◌≡◌, List, [], ◌∷◌, ◌++◌, Option, refl, ap, sym, subst, ◌∙◌, append_assoc}
 use Rattle.std.proofs.lemmas.List.{append-nil}
 use Rattle.client_sessions.specs.Utterances.{InTurn, Uttered, Utterance, Utters}
 use Rattle.client_sessions.specs.Utterances as says

@@ -2,9 +2,8 @@
 use Rattle.std.proofs.Common.{◌≡◌, ◌<◌, arith, ℕ, Bool, true, false, List, [], ◌∷◌, Option, Some, None, length, refl, ap, ◌∙◌, ⊎_elim}
 use Rattle.std.specs.Prelude.{◌==◌, ◌≢◌, if◌then◌else◌}
 use Rattle.std.proofs.lemmas.Bool.Decides.{eqb_tells}
-use Rattle.client_sessions.specs.Utterances.{Utterance}
 use Rattle.fabric_terms.specs.declared.record.Record.{Record}
-use Rattle.serve_rules.specs.Events.{Coming, Event}
+use Rattle.serve_rules.specs.Events.{Event}
 use Rattle.serve_rules.specs.Served.{Served, after_event, new_step, newer_than, of_coming, of_event, process_after, with_coming}
 use Rattle.turn_rules.specs.Plans.{Plan}
 use Rattle.turn_rules.specs.Process.{Process}

@@ -1,5 +1,5 @@
 -- A life of a served process, from its records up to a moment.
-use Rattle.std.specs.Prelude.{◌≡◌, ℕ, false, List, [], ◌∷◌, ◌++◌}
+use Rattle.std.specs.Prelude.{◌≡◌, false, List, [], ◌∷◌, ◌++◌}
 use Rattle.client_sessions.specs.Sessions.{Kept}
 use Rattle.client_sessions.specs.Utterances.{Utterance}
 use Rattle.fabric_terms.specs.declared.record.Record.{Record}

@@ -1,5 +1,5 @@
 -- What a served process is after what has come, and what it says of what comes.
-use Rattle.std.specs.Prelude.{◌≡◌, ◌<◌, ◌≤◌, ℕ, ◌==◌, Bool, true, false, List, [], ◌∷◌, ◌++◌, Option, Some, None, is_none, length, slice_get, if◌then◌else◌}
+use Rattle.std.specs.Prelude.{◌<◌, ◌≤◌, ℕ, ◌==◌, Bool, true, false, List, [], ◌∷◌, ◌++◌, Option, Some, None, is_none, length, slice_get, if◌then◌else◌}
 use Rattle.client_sessions.specs.Answers.{after_time, answered_by, late_replies, own_answer, refusal, with_answer, without_client}
 use Rattle.client_sessions.specs.Sessions.{Kept, Step as Telling, after_step, of_step, prepared_by}
 use Rattle.client_sessions.specs.Utterances.{Utterance}
@@ -17,10 +17,11 @@ use Rattle.ring_rules.specs.Rings.{settings_of}
 use Rattle.ring_rules.specs.Slots.{fence_of}
 use Rattle.ring_rules.specs.declared.input.Input.{Input}
 use Rattle.serve_rules.specs.Events.{Advised, Asked, Coming, Event, Gone, OfTurn, input_of, sought_by}
-use Rattle.serve_rules.specs.Lines.{AtOnce, Commands, Line, Refused, line_of}
+use Rattle.serve_rules.specs.Lines.{AtOnce, Commands, LetsGo, Line, Refused, line_of}
 use Rattle.serve_rules.specs.Services.{actor_of, life_of}
 use Rattle.state_lines.specs.Answers.{lines_text}
 use Rattle.state_lines.specs.Changes.{seen_after}
+use Rattle.state_lines.specs.Holds.{held_of, lead_of}
 use Rattle.state_lines.specs.Logs.{log_of}
 use Rattle.state_lines.specs.States.{arbiter_state_of, state_of}
 use Rattle.state_lines.specs.declared.change_times.SeenChange.{SeenChange}
@@ -116,9 +117,21 @@ abbrev pub log_text : ℕ → ℕ → ℕ → ℕ → Option Member → List ℕ
 log_text tag partition first count (Some (Node s)) = lines_text (Some tag) (log_of s partition first count)
 log_text tag partition first count _ = []
 
+-- what a parent may serve
+
+abbrev pub hold_text : FabricConfig → (now : ℕ) → ℕ → Point → Option Member → List ℕ
+hold_text c now tag point (Some (Node s)) = lines_text (Some tag) (held_of c s now point ∷ [])
+hold_text c now tag point _ = []
+
+abbrev pub lead_text : ℕ → ℕ → Option Member → List ℕ
+lead_text tag partition (Some (Node s)) = lines_text (Some tag) (lead_of s partition ∷ [])
+lead_text tag partition _ = []
+
 abbrev pub text_at_once : FabricConfig → Served → ℕ → Request → List ℕ
 text_at_once c v tag request.State = state_text c v tag (member_of v.process)
 text_at_once c v tag (request.Log partition first count) = log_text tag partition first count (member_of v.process)
+text_at_once c v tag (request.Hold point) = hold_text c (present v.process.last) tag point (member_of v.process)
+text_at_once c v tag (request.Lead partition) = lead_text tag partition (member_of v.process)
 text_at_once c v tag _ = []
 
 abbrev pub with_request : Plan → Served → ℕ → Request → Served
@@ -162,12 +175,14 @@ asker client tag = record { client = client; tag = tag }
 abbrev pub of_line : Plan → Served → ℕ → Line → Option Step → List Utterance
 of_line plan v client (Refused tag fault) new = refusal client tag fault ∷ []
 of_line plan v client (AtOnce tag r) new = answered_by (asker client tag) (text_at_once plan.config v tag r) ∷ []
+of_line plan v client (LetsGo number) new = []
 of_line plan v client (Commands tag c) new =
     of_new v.sessions (input_of (Bids c)) (sought_by c) new ++ own_reply (asker client tag) c (input_of (Bids c)) new
 
 abbrev pub with_line : Plan → Served → ℕ → Line → Process → Option Step → Served
 with_line plan v client (Refused tag fault) p new = v
 with_line plan v client (AtOnce tag r) p new = with_request plan v client r
+with_line plan v client (LetsGo number) p new = v
 with_line plan v client (Commands tag c) p new =
     with_own (with_new v p (input_of (Bids c)) (sought_by c) new) (asker client tag) c (input_of (Bids c)) new (present p.last)
 

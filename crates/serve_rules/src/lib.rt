@@ -10,4 +10,7 @@
 
 mod laws;
 
-pub use laws::{answers_end_or_are_kept, refused_lines_are_silent, the_process_is_its_actor};
+pub use laws::{
+    answers_end_or_are_kept, letting_go_is_silent, refused_lines_are_silent,
+    the_process_is_its_actor,
+};

@@ -88,16 +88,19 @@ fn a_primary_that_is_down_is_healed(rt: HostRuntime) -> Result<(), Fail> {
 }
 
 #[test]
-fn to_give_way_doubles_the_pause(rt: HostRuntime) -> Result<(), Fail> {
+fn refusals_double_the_pause_and_a_new_epoch_does_not(rt: HostRuntime) -> Result<(), Fail> {
     let mut policy = policy(rt.alloc())?;
     let world = managing();
     commands(&rt, &mut policy, &world, 0, Said::Heal(7, 3));
     policy.note(&Input::Fire, &[Report::Superseded(7, EPOCH)]);
-    commands(&rt, &mut policy, &world, 499, Said::Nothing);
-    commands(&rt, &mut policy, &world, 500, Said::Heal(7, 3));
+    commands(&rt, &mut policy, &world, 249, Said::Nothing);
+    commands(&rt, &mut policy, &world, 250, Said::Heal(7, 3));
     refused(&mut policy, Reason::Busy);
-    commands(&rt, &mut policy, &world, 1499, Said::Nothing);
-    commands(&rt, &mut policy, &world, 1500, Said::Heal(7, 3));
+    commands(&rt, &mut policy, &world, 749, Said::Nothing);
+    commands(&rt, &mut policy, &world, 750, Said::Heal(7, 3));
+    refused(&mut policy, Reason::Busy);
+    commands(&rt, &mut policy, &world, 1749, Said::Nothing);
+    commands(&rt, &mut policy, &world, 1750, Said::Heal(7, 3));
     Ok(())
 }
 
@@ -116,12 +119,14 @@ fn to_cease_to_manage_forgets(rt: HostRuntime) -> Result<(), Fail> {
 }
 
 #[test]
-fn a_lone_manager_waits_before_it_places(rt: HostRuntime) -> Result<(), Fail> {
+fn a_lone_manager_asks_and_waits_before_it_places(rt: HostRuntime) -> Result<(), Fail> {
     let mut policy = policy(rt.alloc())?;
     let mut world = managing();
     world.down = 2;
     commands(&rt, &mut policy, &world, 0, Said::Find(2 << 60));
     commands(&rt, &mut policy, &world, 1, Said::Link(2));
+    commands(&rt, &mut policy, &world, 2, Said::Heal(7, 2));
+    policy.note(&Input::Fire, &[Report::Superseded(7, EPOCH)]);
     commands(&rt, &mut policy, &world, 999, Said::Nothing);
     commands(&rt, &mut policy, &world, 1000, Said::Find(2 << 60));
     commands(&rt, &mut policy, &world, 1999, Said::Nothing);

@@ -1,7 +1,9 @@
 // Clients of a door on a Unix socket.
 use crate::temporary::{enter, remove};
 use door_io::{Door, MAX_ASKED, MAX_CLIENTS, Said};
-use serve_edge::{DOOR_NAME, PARENT_CLIENT, ParentDoor, PollBoard, SocketDoor, bind_door};
+use serve_edge::{
+    DOOR_NAME, PARENT_CLIENT, ParentStream, PollBoard, ServedDoor, SocketDoor, bind_door,
+};
 use std::io::{Read, Write};
 use std::os::fd::AsRawFd;
 use std::os::unix::net::UnixStream;
@@ -134,15 +136,27 @@ fn a_client_more_than_there_are_places_is_closed(rt: HostRuntime) -> Result<(), 
     remove(&rt)
 }
 
-/// A door with a parent, and the parent's end of its stream.
-fn parent_door<'a>(
+/// The stream of a parent that has the other end of the connection.
+fn stream_of<'a>(
     rt: &HostRuntime,
     board: &'a PollBoard,
     child: &UnixStream,
-    hold: u64,
-) -> Result<ParentDoor<'a>, Fail> {
+) -> Result<ParentStream<'a>, Fail> {
     let streams = (child.as_raw_fd(), child.as_raw_fd());
-    Ok(ParentDoor::new(rt.alloc(), board, door(rt, board)?, streams, hold)?)
+    Ok(ParentStream::new(rt.alloc(), board, streams, 100)?)
+}
+
+/// A board, and the stream of a parent on it.
+#[derive(Clone, Copy)]
+struct Parts<'a> {
+    board: &'a PollBoard,
+    stream: &'a ParentStream<'a>,
+}
+
+/// The door of the current folder, for a parent and for clients.
+fn served_door<'a>(rt: &HostRuntime, parts: Parts<'a>) -> Result<ServedDoor<'a>, Fail> {
+    let door = door(rt, parts.board)?;
+    Ok(ServedDoor::new(door, Some(parts.stream)))
 }
 
 #[test]
@@ -150,18 +164,29 @@ fn a_parent_and_clients_come_in_turn(rt: HostRuntime) -> Result<(), Fail> {
     enter(&rt)?;
     let board = PollBoard::new(rt.alloc())?;
     let (mut parent, child) = UnixStream::pair(&rt)?;
-    let mut door = parent_door(&rt, &board, &child, 100)?;
+    let stream = stream_of(&rt, &board, &child)?;
+    let parts = Parts {
+        board: &board,
+        stream: &stream,
+    };
+    let mut door = served_door(&rt, parts)?;
     let mut first = client(&rt)?;
     first.write_all(b"one\ntwo\n")?;
     parent.write_all(b"uno\ndos\n")?;
+    stream.gather();
+    parent.write_all(b"tres\n")?;
     gives(&rt, &mut door, Said::Line(PARENT_CLIENT, 3), b"uno");
     gives(&rt, &mut door, Said::Line(64, 3), b"one");
     gives(&rt, &mut door, Said::Line(PARENT_CLIENT, 3), b"dos");
     gives(&rt, &mut door, Said::Line(64, 3), b"two");
+    gives(&rt, &mut door, Said::Quiet, b"");
     door.answer(PARENT_CLIENT, b"done 1\n");
     reads(&rt, &mut parent, b"done 1\n")?;
     drop(parent);
-    gives(&rt, &mut door, Said::Gone(PARENT_CLIENT), b"");
+    stream.gather();
+    gives(&rt, &mut door, Said::Line(PARENT_CLIENT, 4), b"tres");
+    stream.gather();
+    gives(&rt, &mut door, Said::Line(PARENT_CLIENT, 6), b"@0 end");
     gives(&rt, &mut door, Said::Quiet, b"");
     remove(&rt)
 }
@@ -171,15 +196,23 @@ fn a_parent_may_read_late_but_not_too_late(rt: HostRuntime) -> Result<(), Fail> 
     enter(&rt)?;
     let board = PollBoard::new(rt.alloc())?;
     let (_parent, child) = UnixStream::pair(&rt)?;
-    let mut door = parent_door(&rt, &board, &child, 100)?;
+    let stream = stream_of(&rt, &board, &child)?;
+    let parts = Parts {
+        board: &board,
+        stream: &stream,
+    };
+    let mut door = served_door(&rt, parts)?;
     let text = vec![in rt.alloc(); b'x'; 250_000]?;
     for _ in 0..8 {
         door.answer(PARENT_CLIENT, &text);
     }
     board.set_now(99);
+    stream.gather();
     gives(&rt, &mut door, Said::Quiet, b"");
-    assert!(rt; !door.is_silent());
+    assert!(rt; !stream.is_silent());
     board.set_now(100);
-    assert!(rt; door.is_silent());
+    stream.gather();
+    assert!(rt; stream.is_silent());
+    gives(&rt, &mut door, Said::Line(PARENT_CLIENT, 6), b"@0 end");
     remove(&rt)
 }

@@ -60,7 +60,6 @@ pub record AreCounts (a : Asked) (counts : Counts) : Type 0 where
   pub watchers : counts.watchers ≡ a.door.watchers
   pub checksum : counts.checksum ≡ a.door.checksum
   pub sealed : counts.sealed ≡ a.sealed
-  pub held_frames : counts.held_frames ≡ 0
 
 -- and those of a node
 pub record AreNodeCounts (a : Asked) (settings : Settings) (s : NodeState fabric) (counts : Counts) : Type 0 where

@@ -87,7 +87,7 @@ impl PageOf<'_> {
             without_manager: 0,
             connections: self.tally.connections(),
             watchers: self.shown.sessions.watchers,
-            held_frames: 0,
+            held_frames: self.tally.held_frames(),
             checksum: self.facts.checksum,
             version: Vec::from_slice(self.alloc, VERSION.as_bytes())?,
             instance: 0,

@@ -1,42 +1,74 @@
+ghost use Rattle.std.specs.Prelude.{◌≡◌};
+
+use crate::commanders::Commanders;
 use crate::tally::Tally;
-use fabric_terms::Report;
+use fabric_terms::{Command, Report};
 use node_core::NodeCore;
 use ring_node::Input;
 use ring_points::Point;
 use serve_lives::Returning;
 use serve_turns::{Advice, Policy};
 use status_page::Asker;
+use std::alloc::Global;
 
 /// A policy whose commands are counted, and what it sees of the steps.
 #[derive(Drop)]
 pub struct TalliedPolicy<'a, P: Policy> {
     inner: P,
     tally: &'a Tally,
+    commanders: Commanders,
     /// Whether the next step by a command is one of the policy.
     said: bool,
 }
 
 impl<'a, P: Policy> TalliedPolicy<'a, P> {
     /// The commands of this policy.
-    pub fn new(inner: P, tally: &'a Tally) -> Self {
+    pub fn new(alloc: Global, inner: P, tally: &'a Tally) -> Self {
         TalliedPolicy {
             inner,
             tally,
+            commanders: Commanders::new(alloc),
             said: false,
         }
     }
 }
 
-/// Who has given the command of this input.
-fn asker_of(input: &Input, said: bool) -> Option<Asker> {
-    match input {
-        Input::Do(_) if said => Some(Asker::Policy),
-        Input::Do(_) => Some(Asker::Door),
-        _ => None,
-    }
-}
-
 impl<P: Policy> TalliedPolicy<'_, P> {
+    /// Who has given the command of this step.
+    fn asker(&self) -> Asker {
+        if self.said {
+            Asker::Policy
+        } else if self.tally.parent_asks() {
+            Asker::Parent
+        } else {
+            Asker::Door
+        }
+    }
+
+    /// Counts a command, and says who has given it.
+    fn count_command(&mut self, command: &Command) -> Asker
+        ensures { self.new.inner ≡ self.old.inner }
+    {
+        let asker = self.asker();
+        self.tally.count(|counters| counters.count_command(asker));
+        self.commanders.note(command, asker);
+        asker
+    }
+
+    /// Counts what a step takes, and says who is answered by a refusal in it.
+    fn count_input(&mut self, input: &Input) -> Option<Asker>
+        ensures { self.new.inner ≡ self.old.inner }
+    {
+        match input {
+            Input::Do(command) => Some(self.count_command(command)),
+            Input::Fire => {
+                self.tally.count(|counters| counters.count_firing());
+                None
+            }
+            Input::Frame(_) => self.commanders.answered(input),
+        }
+    }
+
     fn count_report(&self, report: &Report, asker: Option<Asker>, now: u64) {
         match report {
             Report::Committed(partition, _, last) => self.tally.committed(*partition, *last),
@@ -64,14 +96,8 @@ impl<P: Policy> Policy for TalliedPolicy<'_, P> {
     }
 
     fn note(&mut self, input: &Input, told: &[Report], now: u64) {
-        let asker = asker_of(input, self.said);
+        let asker = self.count_input(input);
         self.said = false;
-        if let Some(asker) = asker {
-            self.tally.count(|counters| counters.count_command(asker));
-        }
-        if let Input::Fire = input {
-            self.tally.count(|counters| counters.count_firing());
-        }
         for report in told {
             self.count_report(report, asker, now);
         }

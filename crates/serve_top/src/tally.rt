@@ -13,6 +13,10 @@ pub struct Tally {
     /// Of partitions whose primary the actor has been, the last entry that it reported as committed.
     committed: RefCell<Vec<PartitionGauge>>,
     connections: Cell<u64>,
+    /// How many frames wait until the parent has let go.
+    held_frames: Cell<u64>,
+    /// Whether the line that was taken last is one of the parent.
+    parent_asks: Cell<bool>,
     /// Whether the actor was told to leave.
     leaving: Cell<bool>,
     /// Whether the endpoint has failed so often that the log says so.
@@ -28,6 +32,8 @@ impl Tally {
             managed: Cell::new(0),
             committed: RefCell::new(Vec::new(alloc)),
             connections: Cell::new(0),
+            held_frames: Cell::new(0),
+            parent_asks: Cell::new(false),
             leaving: Cell::new(false),
             deaf: Cell::new(false),
         }
@@ -113,6 +119,25 @@ impl Tally {
 
     pub fn connections(&self) -> u64 {
         self.connections.get()
+    }
+
+    /// So many frames wait until the parent has let go.
+    pub fn set_held_frames(&self, frames: u64) {
+        self.held_frames.set(frames);
+    }
+
+    pub fn held_frames(&self) -> u64 {
+        self.held_frames.get()
+    }
+
+    /// A line was taken, of the parent or of another client.
+    pub fn set_parent_asks(&self, is_parent: bool) {
+        self.parent_asks.set(is_parent);
+    }
+
+    /// Whether the line that was taken last is one of the parent.
+    pub fn parent_asks(&self) -> bool {
+        self.parent_asks.get()
     }
 
     /// The actor was told to leave.

@@ -1,7 +1,7 @@
 -- The start of the actor, carried out and told.
 use Rattle.std.proofs.Common.{◌≡◌, ℕ, true, false, List, [], ◌∷◌, ◌++◌, Option, Some, None, Result, Err, length, refl, ap, sym, subst, ◌∙◌}
 use Rattle.std.proofs.lemmas.List.{append-nil}
-use Rattle.client_sessions.specs.Sessions.{Kept, Step as Telling, after_step, of_step}
+use Rattle.client_sessions.specs.Sessions.{Kept, after_step, of_step}
 use Rattle.client_sessions.specs.Utterances.{Utterance, Uttered}
 use Rattle.door_io.specs.Clients.{ClientsTold}
 use Rattle.edge_io.specs.Told.{Told}
@@ -36,7 +36,6 @@ use Rattle.turn_rules.specs.Happenings.{Begins, History}
 use Rattle.turn_rules.specs.Order.{GoesServed, TurnPosition, arrive}
 use Rattle.turn_rules.specs.Plans.{Plan, is_node_at}
 use Rattle.turn_rules.specs.Process.{Full, Left, Process, after, happens, left_end}
-use Rattle.turn_rules.specs.Steps.{Step}
 use Rattle.turn_rules.specs.declared.stop_cause.StopCause.{StopCause}
 use Rattle.turn_rules.specs.declared.stop_cause.StopCause.TheVariants as stop
 
@@ -119,6 +118,7 @@ module _ (plan : Plan) (o : Beginning) (told told' : Told) (clients clients' : C
         (serves_uttered (arrived_of es) (said_of plan o.kept o.sessions es) (of_event plan o.kept v e) o.clients clients clients' t.serves uttered);
     advised = advice ∙ t.advised;
     sessions = kept_sessions;
+    leaving = ap (λ (u : Served). u.leaving) leaves ∙ t.keeps.leaving ∙ sym (ap (λ (x : Live). x.leaving) rest);
   }
 
   -- one or the other
@@ -128,18 +128,18 @@ module _ (plan : Plan) (o : Beginning) (told told' : Told) (clients clients' : C
 
 -- It is not carried out as a whole.
 pub start_stops : (plan : Plan) (o : Beginning) (told told' : Told) (clients : ClientsTold) (advised : Option (List Command)) (l new : Live) (es : List Event) (reading : Option ℕ) (p : TurnPosition) (r : StopCause)
-    → At plan o (around told clients advised) l es p → l.ending ≡ false → new.sessions ≡ l.sessions → StopsIn (life_of plan o.kept) o.told told' (happenings plan o.kept o.sessions es) (came_at 0 (Begins reading)) r → Ends plan o (around told' clients advised) new r
-start_stops plan o told told' clients advised l new es reading p stop.OutOfMemory t going same k =
+    → At plan o (around told clients advised) l es p → l.ending ≡ false → new.sessions ≡ l.sessions → new.leaving ≡ l.leaving → StopsIn (life_of plan o.kept) o.told told' (happenings plan o.kept o.sessions es) (came_at 0 (Begins reading)) r → Ends plan o (around told' clients advised) new r
+start_stops plan o told told' clients advised l new es reading p stop.OutOfMemory t going same leaving k =
     (k.0, cut_quiet plan o told told' clients advised l es 0 (Begins reading) p t going tt k.0 k.1)
-start_stops plan o told told' clients advised l new es reading p stop.KeepFault t going same k =
+start_stops plan o told told' clients advised l new es reading p stop.KeepFault t going same leaving k =
     (k.0, (cut_quiet plan o told told' clients advised l es 0 (Begins reading) p t going tt k.0 k.1.0, k.1.1, k.1.2, k.1.3))
-start_stops plan o told told' clients advised l new es reading p stop.TableFull t going same k =
-    over_quiet plan o told told' clients advised l es 0 (Begins reading) p t going tt new Full (quiet_begin plan o.kept o.sessions es 0 reading k.1) same k.0
-start_stops plan o told told' clients advised l new es reading p stop.WriteFault t going same k = absurd k
-start_stops plan o told told' clients advised l new es reading p stop.LinkFault t going same k = absurd k
-start_stops plan o told told' clients advised l new es reading p (stop.ClockBack y z) t going same k = absurd k
-start_stops plan o told told' clients advised l new es reading p (stop.Left why) t going same k = absurd k
-start_stops plan o told told' clients advised l new es reading p (stop.BadKeep i) t going same k = absurd k
+start_stops plan o told told' clients advised l new es reading p stop.TableFull t going same leaving k =
+    over_quiet plan o told told' clients advised l es 0 (Begins reading) p t going tt new Full (quiet_begin plan o.kept o.sessions es 0 reading k.1) same leaving k.0
+start_stops plan o told told' clients advised l new es reading p stop.WriteFault t going same leaving k = absurd k
+start_stops plan o told told' clients advised l new es reading p stop.LinkFault t going same leaving k = absurd k
+start_stops plan o told told' clients advised l new es reading p (stop.ClockBack y z) t going same leaving k = absurd k
+start_stops plan o told told' clients advised l new es reading p (stop.Left why) t going same leaving k = absurd k
+start_stops plan o told told' clients advised l new es reading p (stop.BadKeep i) t going same leaving k = absurd k
 
 -- The actor starts.
 

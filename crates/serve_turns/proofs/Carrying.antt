@@ -1,5 +1,5 @@
 -- Records kept and frames sent, and nothing written, since the sink tells nothing.
-use Rattle.std.proofs.Common.{arith, ◌≡◌, ℕ, List, map, Option, None, Result, Ok, Err, refl, ap, subst, ◌∙◌}
+use Rattle.std.proofs.Common.{arith, ◌≡◌, ℕ, List, [], map, Option, None, Result, Ok, Err, refl, ap, sym, subst, ◌∙◌}
 use Rattle.edge_io.specs.declared.datagram.Datagram.{Datagram}
 use Rattle.edge_io.specs.Edge.{Grew}
 use Rattle.edge_io.specs.Told.{Told}
@@ -10,7 +10,8 @@ use Rattle.fabric_turns.specs.Steps.{work_in}
 use Rattle.keep_log.specs.Spellings.{spelling as record_spelling}
 use Rattle.serve_turns.specs.Steps.{CarriesAll}
 use Rattle.turn_effects.proofs.Carrying.{carried, ended_keeping, ended_sending}
-use Rattle.turn_effects.specs.Carried.{KeepsAll, KeptMore, SendsAll}
+use Rattle.turn_effects.proofs.Sending.{nothing_sent}
+use Rattle.turn_effects.specs.Carried.{KeepsAll, KeptMore, SendsAll, SentMore}
 use Rattle.turn_members.specs.declared.deed.Deed.{Deed}
 use Rattle.turn_rules.specs.Effects.{WroteMore, own_sends, sent_by}
 use Rattle.turn_rules.specs.Works.{Work, posts_of}
@@ -69,6 +70,10 @@ ended_at_frames s a b c (Err (stop.ClockBack x y)) k p silent = absurd p
 ended_at_frames s a b c (Err (stop.Left why)) k p silent = absurd p
 ended_at_frames s a b c (Err (stop.BadKeep i)) k p silent = absurd p
 ended_at_frames s a b c (Err stop.TableFull) k p silent = absurd p
+
+-- memory was short when it was handed over, which changes nothing that the devices tell
+pub hands_nothing : (all : List Datagram) (a b : Told) → b ≡ a → SendsAll all a b (Err stop.OutOfMemory)
+hands_nothing all a b same = (0, subst (λ (t : Told). SentMore [] a t) (sym same) (nothing_sent a))
 
 -- the endpoints stay open
 pub all_opened : (s : Work) (a b : Told) (r : Result (Unit {0}) StopCause) → CarriesAll s a b r → b.opened ≡ a.opened

@@ -110,6 +110,7 @@ module _ (plan : Plan) (v : Served) (turn client : ℕ) (line : Option (List ℕ
   command_quiet = record {
     says = λ p. command_says p None;
     sessions = λ p. ap (λ (w : Served). w.sessions) (command_leaves p None);
+    leaving = λ p. ap (λ (w : Served). w.leaving) (command_leaves p None);
   }
 
 -- What is kept and said of a command's step, and of its answer.
@@ -177,7 +178,7 @@ module _ (plan : Plan) (o : Beginning) (b m c : Around) (l k l' : Live) (es : Li
   )
   command_reaches (Some why) left =
       over_event plan o b c l l' es (asked_at turn client line) (bids_at turn command) (busy turn) (Left why) met
-      (leaves (life_of plan o.kept) o.told c.told l'.run (happenings plan o.kept o.sessions es) (bids_at turn command) (busy turn) deed why carried left) keeps_command.sessions said_command advised
+      (leaves (life_of plan o.kept) o.told c.told l'.run (happenings plan o.kept o.sessions es) (bids_at turn command) (busy turn) deed why carried left) keeps_command.sessions keeps_command.leaving said_command advised
 
 pub command_done : (plan : Plan) (o : Beginning) (b m c : Around) (l : Live) (run : Run) (k l' : Live) (es : List Event) (turn client : ℕ) (line : Option (List ℕ)) (tag : ℕ) (command : Command) (deed : Deed) (r : Result (Unit {0}) StopCause)
     → line_of plan (served plan o.kept o.sessions es).sessions client line ≡ Commands tag command → Meets plan o b l es (asked_at turn client line) (bids_at turn command) (busy turn)

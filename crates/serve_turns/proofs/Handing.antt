@@ -6,7 +6,7 @@ use Rattle.std.proofs.lemmas.Bool.Decides.{eqb_tells, nat_tests}
 use Rattle.edge_io.specs.Arrivals.{Hands, next_arrival, Receives as Takes}
 use Rattle.edge_io.specs.Edge.{Grew, HasRisen}
 use Rattle.edge_io.specs.Readings.{Gives, is_fall, readings_after}
-use Rattle.edge_io.specs.Told.{ReadsClock, Receives, Told}
+use Rattle.edge_io.specs.Told.{Receives, Told}
 use Rattle.edge_io.specs.declared.endpoint.Endpoint.{Endpoint}
 use Rattle.edge_io.specs.declared.refusal.Failed.{Failed as HasFailed}
 use Rattle.fabric_turns.proofs.Acting.{after_next}
@@ -17,12 +17,12 @@ use Rattle.fabric_turns.specs.Moves.{at_place}
 use Rattle.fabric_turns.specs.Runs.{AtBy, IsLast, Run, Stands}
 use Rattle.fabric_turns.specs.Steps.{ReadBack}
 use Rattle.serve_turns.specs.Moves.{OverBy}
-use Rattle.turn_rules.specs.Effects.{Did, FailedSince, Stays, lines_of, lost, records_of}
+use Rattle.turn_rules.specs.Effects.{Did, FailedSince, lines_of, lost, records_of}
 use Rattle.turn_rules.specs.Handed.{Answered, Arrival, Gave, Handed, answer_in, answers_at, failures_of, is_at, is_endpoint_of, readings_of}
-use Rattle.turn_rules.specs.Happenings.{Absent, Begins, Comes, Datagram, Failed, Happening, Hears, History, LinkAnswer, Turns}
+use Rattle.turn_rules.specs.Happenings.{Absent, Datagram, Failed, Happening, Hears, History, LinkAnswer}
 use Rattle.turn_rules.specs.Order.{Busy, GoesServed, IsInOrderBy, TurnPosition, heard_all, hearing}
 use Rattle.turn_rules.specs.Plans.{Plan, Setting}
-use Rattle.turn_rules.specs.Process.{Back, Process, after, clamped, reads, reads_as}
+use Rattle.turn_rules.specs.Process.{Back, Process, after, reads, reads_as}
 use Rattle.turn_rules.specs.Steps.{Step, present}
 use Rattle.turn_rules.specs.Works.{Work, works_of}
 

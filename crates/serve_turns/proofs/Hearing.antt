@@ -1,6 +1,5 @@
 -- The links are asked once in a turn.
-use Rattle.std.proofs.Common.{◌≡◌, ◌<◌, ◌+◌, ℕ, Bool, true, false, List, [], ◌∷◌, length, take, Option, Some, None, Result, Ok, Err, ap, sym, subst, ◌∙◌}
-use Rattle.std.specs.Prelude.{slice_get}
+use Rattle.std.proofs.Common.{◌≡◌, ◌<◌, ◌+◌, ℕ, Bool, true, false, List, ◌∷◌, length, take, Option, Some, None, Ok, Err, ap, ◌∙◌}
 use Rattle.door_io.specs.Clients.{ClientsTold}
 use Rattle.edge_io.specs.Told.{Receives, Told}
 use Rattle.edge_io.specs.declared.refusal.Failed.{Failed as HasFailed}
@@ -15,15 +14,13 @@ use Rattle.serve_turns.proofs.Handing.{absent_comes, failure_comes}
 use Rattle.serve_turns.proofs.Placing.{one_actor}
 use Rattle.serve_turns.proofs.Turning.{came_at, meets, met_passes, passes, quiet_answer, turn_event}
 use Rattle.serve_turns.specs.Live.{Around, At, Beginning, Live, around}
-use Rattle.serve_turns.specs.Moves.{ComesTo, Meets}
+use Rattle.serve_turns.specs.Moves.{Meets}
 use Rattle.serve_turns.specs.Turns.{ComesToEither}
 use Rattle.turn_rules.proofs.Served.{goes_served}
 use Rattle.turn_rules.specs.Happenings.{Absent, Datagram, Failed, Hears}
 use Rattle.turn_rules.specs.Order.{TurnPosition, heard_all, hearing}
 use Rattle.turn_rules.specs.Plans.{Plan}
 use Rattle.turn_rules.specs.Process.{Process, after, hears_frame}
-use Rattle.turn_rules.specs.declared.stop_cause.StopCause.{StopCause}
-use Rattle.fabric_terms.specs.declared.message.Message.{Message}
 
 module _ (plan : Plan) (o : Beginning) (told told' : Told) (clients : ClientsTold) (advised : Option (List Command)) (l : Live) (es : List Event) (turn n : ℕ) (into : List ℕ) (small : n < 64)
     (t : At plan o (around told clients advised) l es (hearing plan turn 0 n)) (going : l.ending ≡ false) (alone : length plan.actors ≡ 1) where

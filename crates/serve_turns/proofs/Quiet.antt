@@ -10,6 +10,7 @@ use Rattle.client_sessions.specs.declared.watchers.Watcher.{Watcher}
 use Rattle.door_io.specs.Clients.{Asks, ClientsTold}
 use Rattle.door_io.specs.Doors.{Arrived}
 use Rattle.door_io.specs.Doors as door
+use Rattle.door_lines.specs.Speakers.{is_parent}
 use Rattle.door_lines.specs.declared.asked.Request.{Request}
 use Rattle.door_lines.specs.declared.fault.Fault.{Fault}
 use Rattle.door_lines.specs.declared.fault.Fault.TheVariants as fault
@@ -17,15 +18,15 @@ use Rattle.edge_io.specs.Told.{Told}
 use Rattle.fabric_terms.specs.declared.command.Command.{Command}
 use Rattle.fabric_turns.specs.Runs.{AtBy, Run}
 use Rattle.serve_rules.proofs.Lives.{served_process}
-use Rattle.serve_rules.proofs.Reading.{at_once_comes, at_once_leaves, at_once_says, gone_leaves, gone_says, unnamed_comes, unnamed_leaves, unnamed_says}
+use Rattle.serve_rules.proofs.Reading.{at_once_comes, at_once_leaves, at_once_says, gone_leaves, gone_says, let_go_comes, let_go_leaves, let_go_says, unnamed_comes, unnamed_leaves, unnamed_says}
 use Rattle.serve_rules.proofs.Refusals.{refused_says, refused_stays}
 use Rattle.serve_rules.proofs.Serving.{serves_as, serves_asks, serves_uttered}
 use Rattle.serve_rules.specs.Events.{Advised, Asked, Event, Gone}
-use Rattle.serve_rules.specs.Lines.{AtOnce, Line, Refused, line_of, watch_line}
+use Rattle.serve_rules.specs.Lines.{AtOnce, LetsGo, Line, Refused, line_of, place_line, watch_line}
 use Rattle.serve_rules.specs.Lives.{happenings, said_of, served}
 use Rattle.serve_rules.specs.Said.{arrived_in, arrived_of}
 use Rattle.serve_rules.specs.Served.{IsDue, Served, after_event, bids, command_in, comes_of, happening_of, of_event, text_at_once, with_request}
-use Rattle.serve_rules.specs.Services.{actor_of, life_of}
+use Rattle.serve_rules.specs.Services.{actor_of, life_of, speaker_of}
 use Rattle.serve_turns.specs.Asking.{watch_request}
 use Rattle.serve_turns.specs.Live.{Around, At, Beginning, Keeps, Live, advice_in}
 use Rattle.serve_turns.specs.Moves.{Takes, TakesAs, went_well}
@@ -89,6 +90,20 @@ takes_refused plan told a b advised advised' l l' p client tag fault going same 
           (subst (λ (us : List Utterance). Uttered us a b) (sym (refused_says plan o.kept v p.turn client line tag fault here)) said)
           refl advice (ap (λ (k : Live). k.run) same)
           (subst (λ (w : Served). Keeps w l') (sym (refused_stays plan o.kept v p.turn client line tag fault here)) (subst (λ (k : Live). Keeps v k) (sym same) at.keeps)),
+    )
+
+-- a line by which the parent lets go: the outside alone notes it
+pub takes_let_go : (plan : Plan) (told told' : Told) (clients : ClientsTold) (advised : Option (List Command)) (l : Live) (p : TurnPosition) (client number : ℕ) → l.ending ≡ false → told' ≡ told
+    → TakesAs plan client (LetsGo number) (record { told = told; clients = clients; advised = advised }) l p (record { told = told'; clients = clients; advised = advised }) l p went_well
+takes_let_go plan told told' clients advised l p client number going same line is o es before at came =
+    let v = served plan o.kept o.sessions es in
+    let here : line_of plan v.sessions client line ≡ LetsGo number = ap (λ (s : Kept). line_of plan s client line) at.keeps.sessions ∙ is in (
+      line_event p client line ∷ es,
+      at_quiet plan o (record { told = told; clients = before; advised = advised }) (record { told = told'; clients = clients; advised = advised }) clients l l es p (line_event p client line) at
+          (let_go_comes plan o.kept v p.turn client line number here) tt going came
+          (subst (λ (us : List Utterance). Uttered us clients clients) (sym (let_go_says plan o.kept v p.turn client line number here)) (record { in_turn = refl }))
+          same refl refl
+          (subst (λ (w : Served). Keeps w l) (sym (let_go_leaves plan o.kept v p.turn client line number here)) at.keeps),
     )
 
 -- a line that is answered at once
@@ -167,16 +182,23 @@ watch_says : (plan : Plan) (v : Served) (client tag : ℕ) (all : Bool) → answ
 watch_says plan v client tag true = refl
 watch_says plan v client tag false = refl
 
-watch_is : (l : Live) (client tag : ℕ) (all : Bool) → has_place l.sessions.watchers client ≡ true → watch_line l.sessions client tag (watch_request all) ≡ AtOnce tag (watch_request all)
+-- a parent is refused
+pub watch_of_parent : (plan : Plan) (v : Kept) (client tag : ℕ) (r : Request) → is_parent (speaker_of plan v client) ≡ true → watch_line plan v client tag r ≡ Refused (Some tag) fault.Line
+watch_of_parent plan v client tag r parent = ap (λ (b : Bool). if b then Refused (Some tag) fault.Line else place_line v client tag r) parent
+
+pub watch_of_other : (plan : Plan) (v : Kept) (client tag : ℕ) (r : Request) → is_parent (speaker_of plan v client) ≡ false → watch_line plan v client tag r ≡ place_line v client tag r
+watch_of_other plan v client tag r other = ap (λ (b : Bool). if b then Refused (Some tag) fault.Line else place_line v client tag r) other
+
+watch_is : (l : Live) (client tag : ℕ) (all : Bool) → has_place l.sessions.watchers client ≡ true → place_line l.sessions client tag (watch_request all) ≡ AtOnce tag (watch_request all)
 watch_is l client tag all has = ap (λ (b : Bool). if b then AtOnce tag (watch_request all) else Refused (Some tag) fault.Busy) has
 
-watch_is_not : (l : Live) (client tag : ℕ) (all : Bool) → has_place l.sessions.watchers client ≡ false → watch_line l.sessions client tag (watch_request all) ≡ Refused (Some tag) fault.Busy
+watch_is_not : (l : Live) (client tag : ℕ) (all : Bool) → has_place l.sessions.watchers client ≡ false → place_line l.sessions client tag (watch_request all) ≡ Refused (Some tag) fault.Busy
 watch_is_not l client tag all has = ap (λ (b : Bool). if b then AtOnce tag (watch_request all) else Refused (Some tag) fault.Busy) has
 
 -- finds a place
 pub takes_watch : (plan : Plan) (told : Told) (a b : ClientsTold) (advised advised' : Option (List Command)) (l l' : Live) (p : TurnPosition) (client tag : ℕ) (all : Bool) → l.ending ≡ false → has_place l.sessions.watchers client ≡ true → advised' ≡ advised
     → l' ≡ record l { sessions = watching_now l client all } → Uttered (answered_by (record { client = client; tag = tag }) [] ∷ []) a b
-    → TakesAs plan client (watch_line l.sessions client tag (watch_request all)) (record { told = told; clients = a; advised = advised }) l p (record { told = told; clients = b; advised = advised' }) l' p went_well
+    → TakesAs plan client (place_line l.sessions client tag (watch_request all)) (record { told = told; clients = a; advised = advised }) l p (record { told = told; clients = b; advised = advised' }) l' p went_well
 takes_watch plan told a b advised advised' l l' p client tag all going has advice now said line is =
     takes_at_once plan told a b advised advised' l l' p client tag (watch_request all) going (ap (λ (q : Live). q.run) now) advice
     (λ v shows. subst (λ (u : Utterance). Uttered (u ∷ []) a b) (sym (watch_says plan v client tag all)) said)
@@ -185,7 +207,7 @@ takes_watch plan told a b advised advised' l l' p client tag all going has advic
 -- or does not
 pub takes_no_watch : (plan : Plan) (told : Told) (a b : ClientsTold) (advised advised' : Option (List Command)) (l l' : Live) (p : TurnPosition) (client tag : ℕ) (all : Bool) → l.ending ≡ false → has_place l.sessions.watchers client ≡ false → advised' ≡ advised
     → l' ≡ record l { sessions = watching_now l client all } → Uttered (refusal client (Some tag) fault.Busy ∷ []) a b
-    → TakesAs plan client (watch_line l.sessions client tag (watch_request all)) (record { told = told; clients = a; advised = advised }) l p (record { told = told; clients = b; advised = advised' }) l' p went_well
+    → TakesAs plan client (place_line l.sessions client tag (watch_request all)) (record { told = told; clients = a; advised = advised }) l p (record { told = told; clients = b; advised = advised' }) l' p went_well
 takes_no_watch plan told a b advised advised' l l' p client tag all going has advice now said line is =
     let w : Watcher = record { client = client; all = all } in
     let stays : watched l.sessions.watchers w ≡ l.sessions.watchers = ap (λ (b : Bool). if b then with_watcher l.sessions.watchers w else l.sessions.watchers) has in

@@ -1,28 +1,27 @@
 -- A turn of a node begins with a reading.
-use Rattle.std.proofs.Common.{◌≡◌, ◌<◌, ℕ, Bool, true, false, List, [], ◌∷◌, ◌++◌, length, map, Option, Some, None, Result, Ok, Err, refl, ap, sym, subst, ◌∙◌}
+use Rattle.std.proofs.Common.{◌≡◌, ℕ, true, false, List, [], ◌∷◌, ◌++◌, length, map, Option, Some, Err, refl, ap, sym, subst, ◌∙◌}
 use Rattle.std.specs.Prelude.{is_none, slice_get}
 use Rattle.std.proofs.lemmas.List.{append-nil}
 use Rattle.client_sessions.specs.Answers.{after_time, late_replies}
 use Rattle.client_sessions.specs.Sessions.{Kept}
 use Rattle.client_sessions.specs.Utterances.{Utterance, Uttered}
 use Rattle.door_io.specs.Clients.{ClientsTold}
-use Rattle.door_io.specs.Doors.{Arrived}
 use Rattle.edge_io.specs.Told.{Told}
 use Rattle.fabric_terms.specs.declared.command.Command.{Command}
 use Rattle.fabric_turns.proofs.Acting.{after_next}
 use Rattle.fabric_turns.proofs.Coming.{ready_read, turn_began_by}
 use Rattle.fabric_turns.specs.Moves.{at_place}
 use Rattle.fabric_turns.specs.Runs.{AtBy, IsReady, Run}
-use Rattle.fabric_turns.specs.Steps.{ReadBack, ReadOn, ReadsNow}
+use Rattle.fabric_turns.specs.Steps.{ReadOn, ReadsNow}
 use Rattle.fire_pace.specs.Pace.{pace_after}
 use Rattle.serve_rules.proofs.Lives.{served_process}
 use Rattle.serve_rules.proofs.Serving.{serves_as, serves_uttered}
 use Rattle.serve_rules.proofs.Stepping.{event_leaves, event_says}
 use Rattle.serve_rules.specs.Events.{Event}
 use Rattle.serve_rules.specs.Lives.{happenings, said_of, served}
-use Rattle.serve_rules.specs.Said.{Serves, arrived_of}
+use Rattle.serve_rules.specs.Said.{arrived_of}
 use Rattle.serve_rules.specs.Served.{Served, after_event, changes_seen, member_of, new_step, of_event, of_reading, process_after, with_reading}
-use Rattle.serve_rules.specs.Services.{IsService, life_of}
+use Rattle.serve_rules.specs.Services.{life_of}
 use Rattle.serve_turns.proofs.Handing.{back_at, read_fell}
 use Rattle.serve_turns.proofs.Turning.{IsQuiet, came_at, over_quiet, turn_event}
 use Rattle.serve_turns.specs.Live.{At, Beginning, Live, around}
@@ -34,10 +33,10 @@ use Rattle.turn_members.specs.Members.{seen}
 use Rattle.turn_members.specs.declared.member.Member.{Member as Running}
 use Rattle.turn_rules.proofs.Served.{goes_served}
 use Rattle.turn_rules.specs.Happenings.{Happening, History, Turns}
-use Rattle.turn_rules.specs.Order.{Busy, GoesServed, TurnPosition, Turning}
+use Rattle.turn_rules.specs.Order.{Busy, GoesServed, Turning}
 use Rattle.turn_rules.specs.Plans.{Plan, Setting, commands_in, orders_at}
-use Rattle.turn_rules.specs.Process.{Back, End, Process, after, happens, reads}
-use Rattle.turn_rules.specs.Steps.{Member, Step, present}
+use Rattle.turn_rules.specs.Process.{Back, End, Process, after, happens}
+use Rattle.turn_rules.specs.Steps.{Member, present}
 use Rattle.turn_rules.specs.declared.order.Order.{Order}
 use Rattle.turn_rules.specs.declared.stop_cause.StopCause.{StopCause}
 use Rattle.turn_rules.specs.declared.stop_cause.StopCause.TheVariants as stop
@@ -130,9 +129,9 @@ fell_quiet plan o es turn reading end ended =
       says = event_says plan o.kept v e p (new_step v p) refl refl ∙ ap (of_reading v.sessions p) off;
     }
 
-pub reading_stops : (plan : Plan) (o : Beginning) (told told' : Told) (clients : ClientsTold) (advised : Option (List Command)) (l new : Live) (es : List Event) (turn : ℕ) (r : StopCause) → At plan o (around told clients advised) l es (at_place turn 0 Turning) → l.ending ≡ false → new.sessions ≡ l.sessions
+pub reading_stops : (plan : Plan) (o : Beginning) (told told' : Told) (clients : ClientsTold) (advised : Option (List Command)) (l new : Live) (es : List Event) (turn : ℕ) (r : StopCause) → At plan o (around told clients advised) l es (at_place turn 0 Turning) → l.ending ≡ false → new.sessions ≡ l.sessions → new.leaving ≡ l.leaving
     → ReadsNow l.run told new.run told' (Err r) → Ends plan o (around told' clients advised) new r
-reading_stops plan o told told' clients advised l new es turn (stop.ClockBack former latter) t going sessions k =
+reading_stops plan o told told' clients advised l new es turn (stop.ClockBack former latter) t going sessions leaving k =
     let s : Setting = life_of plan o.kept in
     let h : History = happenings plan o.kept o.sessions es in
     let v : Served = served plan o.kept o.sessions es in
@@ -141,14 +140,14 @@ reading_stops plan o told told' clients advised l new es turn (stop.ClockBack fo
     let ended : (after s (x ∷ h)).end ≡ Some (Back former latter) = ap (λ (q : Process). q.end) fell in
     let over = back_at s o.told told told' l.run h x (at_place turn 0 Turning) (at_place turn 0 (Busy (orders_at plan turn 0) 0)) former latter t.run k
     (at_place turn 0 Turning, (t.run.order, record { turn = refl; place = refl; goes = refl })) fell refl refl (λ actor. refl) in
-    (over_quiet plan o told told' clients advised l es turn (Turns k.told) (at_place turn 0 Turning) t going tt new (Back former latter) (fell_quiet plan o es turn k.told (Back former latter) ended) sessions over.0, over.1)
-reading_stops plan o told told' clients advised l new es turn stop.OutOfMemory t going sessions k = absurd k
-reading_stops plan o told told' clients advised l new es turn stop.WriteFault t going sessions k = absurd k
-reading_stops plan o told told' clients advised l new es turn stop.KeepFault t going sessions k = absurd k
-reading_stops plan o told told' clients advised l new es turn stop.LinkFault t going sessions k = absurd k
-reading_stops plan o told told' clients advised l new es turn (stop.Left why) t going sessions k = absurd k
-reading_stops plan o told told' clients advised l new es turn (stop.BadKeep i) t going sessions k = absurd k
-reading_stops plan o told told' clients advised l new es turn stop.TableFull t going sessions k = absurd k
+    (over_quiet plan o told told' clients advised l es turn (Turns k.told) (at_place turn 0 Turning) t going tt new (Back former latter) (fell_quiet plan o es turn k.told (Back former latter) ended) sessions leaving over.0, over.1)
+reading_stops plan o told told' clients advised l new es turn stop.OutOfMemory t going sessions leaving k = absurd k
+reading_stops plan o told told' clients advised l new es turn stop.WriteFault t going sessions leaving k = absurd k
+reading_stops plan o told told' clients advised l new es turn stop.KeepFault t going sessions leaving k = absurd k
+reading_stops plan o told told' clients advised l new es turn stop.LinkFault t going sessions leaving k = absurd k
+reading_stops plan o told told' clients advised l new es turn (stop.Left why) t going sessions leaving k = absurd k
+reading_stops plan o told told' clients advised l new es turn (stop.BadKeep i) t going sessions leaving k = absurd k
+reading_stops plan o told told' clients advised l new es turn stop.TableFull t going sessions leaving k = absurd k
 
 -- the process can go on
 pub turn_can : (plan : Plan) (l new : Live) (run' : Run) (b c : Told) (reading : ℕ) → CanGoOn plan l b → ReadOn reading l.run b run' c → new.run ≡ run' → new.ending ≡ l.ending → CanGoOn plan new c

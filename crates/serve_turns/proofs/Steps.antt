@@ -131,14 +131,15 @@ at_event plan o b c l l' es e x p m at keeps said advised = record {
 -- it has ended
 pub over_event : (plan : Plan) (o : Beginning) (b c : Around) (l l' : Live) (es : List Event) (e : Event) (x : Happening) (p : TurnPosition) (end : End) → Meets plan o b l es e x p
     → OverBy (life_of plan o.kept) o.told c.told (x ∷ happenings plan o.kept o.sessions es) end → (after_event plan o.kept (served plan o.kept o.sessions es) e).sessions ≡ l'.sessions
-    → Uttered (of_event plan o.kept (served plan o.kept o.sessions es) e) b.clients c.clients → c.advised ≡ b.advised → Over plan o c l' end
-over_event plan o b c l l' es e x p end m over sessions said advised = record {
+    → (after_event plan o.kept (served plan o.kept o.sessions es) e).leaving ≡ l'.leaving → Uttered (of_event plan o.kept (served plan o.kept o.sessions es) e) b.clients c.clients → c.advised ≡ b.advised → Over plan o c l' end
+over_event plan o b c l l' es e x p end m over sessions leaving said advised = record {
   events = e ∷ es;
   actor = subst (λ (h : History). OverBy (life_of plan o.kept) o.told c.told h end) (sym m.comes) over;
   due = m.due;
   serves = serves_event plan o b c l es e x p m said;
   advised = advised ∙ m.advised;
   sessions = sessions;
+  leaving = leaving;
 }
 
 cut_event : (plan : Plan) (o : Beginning) (b c : Around) (l : Live) (es : List Event) (e : Event) (x : Happening) (p : TurnPosition) (part : Work) → Meets plan o b l es e x p
@@ -154,29 +155,31 @@ cut_event plan o b c l es e x p part m cut clients advised = record {
   advised = advised ∙ m.advised;
 }
 
--- Without a step nothing is said of the event, and the sessions stay.
+-- Without a step nothing is said of the event, and the sessions stay, and whether the process was told to leave.
 pub record IsQuiet (plan : Plan) (v : Served) (e : Event) : Type 0 where
   pub says : (p : Process) → of_coming plan v e.coming p None ≡ []
   pub sessions : (p : Process) → (with_coming plan v e.coming p None).sessions ≡ v.sessions
+  pub leaving : (p : Process) → (with_coming plan v e.coming p None).leaving ≡ v.leaving
 
 nothing_uttered : (a b : ClientsTold) (us : List Utterance) → us ≡ [] → b ≡ a → Uttered us a b
 nothing_uttered a b us none same = subst (λ (vs : List Utterance). Uttered vs a b) (sym none) (record { in_turn = sym same })
 
 -- its step is not done as a whole
 pub ends_event : (plan : Plan) (o : Beginning) (b c : Around) (l l' : Live) (es : List Event) (e : Event) (x : Happening) (p : TurnPosition) (r : StopCause) → Meets plan o b l es e x p → IsQuiet plan (served plan o.kept o.sessions es) e
-    → StopsIn (life_of plan o.kept) o.told c.told (happenings plan o.kept o.sessions es) x r → c.clients ≡ b.clients → c.advised ≡ b.advised → l'.sessions ≡ l.sessions → Ends plan o c l' r
-ends_event plan o b c l l' es e x p stop.OutOfMemory m q k clients advised same = (k.0, cut_event plan o b c l es e x p k.0 m k.1 clients advised)
-ends_event plan o b c l l' es e x p stop.KeepFault m q k clients advised same =
+    → StopsIn (life_of plan o.kept) o.told c.told (happenings plan o.kept o.sessions es) x r → c.clients ≡ b.clients → c.advised ≡ b.advised → l'.sessions ≡ l.sessions → l'.leaving ≡ l.leaving → Ends plan o c l' r
+ends_event plan o b c l l' es e x p stop.OutOfMemory m q k clients advised same leaving = (k.0, cut_event plan o b c l es e x p k.0 m k.1 clients advised)
+ends_event plan o b c l l' es e x p stop.KeepFault m q k clients advised same leaving =
     (k.0, (cut_event plan o b c l es e x p k.0 m k.1.0 clients advised, k.1.1, k.1.2, k.1.3))
-ends_event plan o b c l l' es e x p stop.TableFull m q k clients advised same =
+ends_event plan o b c l l' es e x p stop.TableFull m q k clients advised same leaving =
     over_event plan o b c l l' es e x p Full m k.0
     (ap (λ (v : Served). v.sessions) (leaves_none plan o es e x m.comes k.1) ∙ q.sessions _ ∙ m.keeps.sessions ∙ sym same)
+    (ap (λ (v : Served). v.leaving) (leaves_none plan o es e x m.comes k.1) ∙ q.leaving _ ∙ m.keeps.leaving ∙ sym leaving)
     (nothing_uttered b.clients c.clients (of_event plan o.kept (served plan o.kept o.sessions es) e) (says_none plan o es e x m.comes k.1 ∙ q.says _) clients) advised
-ends_event plan o b c l l' es e x p stop.WriteFault m q k clients advised same = absurd k
-ends_event plan o b c l l' es e x p stop.LinkFault m q k clients advised same = absurd k
-ends_event plan o b c l l' es e x p (stop.ClockBack y z) m q k clients advised same = absurd k
-ends_event plan o b c l l' es e x p (stop.Left why) m q k clients advised same = absurd k
-ends_event plan o b c l l' es e x p (stop.BadKeep i) m q k clients advised same = absurd k
+ends_event plan o b c l l' es e x p stop.WriteFault m q k clients advised same leaving = absurd k
+ends_event plan o b c l l' es e x p stop.LinkFault m q k clients advised same leaving = absurd k
+ends_event plan o b c l l' es e x p (stop.ClockBack y z) m q k clients advised same leaving = absurd k
+ends_event plan o b c l l' es e x p (stop.Left why) m q k clients advised same leaving = absurd k
+ends_event plan o b c l l' es e x p (stop.BadKeep i) m q k clients advised same leaving = absurd k
 
 -- A step by an input, of which only the step is told.
 
@@ -184,6 +187,7 @@ pub step_quiet : (plan : Plan) (o : Beginning) (es : List Event) (e : Event) (x 
 step_quiet plan o es e x i is = record {
   says = λ p. is.says (served plan o.kept o.sessions es) p None;
   sessions = λ p. ap (λ (v : Served). v.sessions) (is.leaves (served plan o.kept o.sessions es) p None);
+  leaving = λ p. ap (λ (v : Served). v.leaving) (is.leaves (served plan o.kept o.sessions es) p None);
 }
 
 module _ (plan : Plan) (o : Beginning) (b c : Around) (l l' : Live) (es : List Event) (e : Event) (x : Happening) (p : TurnPosition) (i : Input) (deed : Deed) (m : Meets plan o b l es e x p) (is : IsStepBy plan o es e x i)
@@ -211,7 +215,7 @@ module _ (plan : Plan) (o : Beginning) (b c : Around) (l l' : Live) (es : List E
   step_reaches None stays =
       at_event plan o b c l l' es e x p m (settles (life_of plan o.kept) o.told c.told l'.run (happenings plan o.kept o.sessions es) x p deed k stays) keeps_step said_step advised
   step_reaches (Some why) left =
-      over_event plan o b c l l' es e x p (Left why) m (leaves (life_of plan o.kept) o.told c.told l'.run (happenings plan o.kept o.sessions es) x p deed why k left) keeps_step.sessions said_step advised
+      over_event plan o b c l l' es e x p (Left why) m (leaves (life_of plan o.kept) o.told c.told l'.run (happenings plan o.kept o.sessions es) x p deed why k left) keeps_step.sessions keeps_step.leaving said_step advised
 
 -- What the calls of the code say, put together.
 

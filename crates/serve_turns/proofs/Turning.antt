@@ -1,5 +1,5 @@
 -- What comes in a turn of the actor: a step of it meets the life, and what is no step passes it by.
-use Rattle.std.proofs.Common.{◌≡◌, ℕ, false, List, [], ◌∷◌, ◌++◌, Option, Some, None, Result, Ok, Err, refl, ap, sym, subst, ◌∙◌}
+use Rattle.std.proofs.Common.{◌≡◌, ℕ, false, List, [], ◌∷◌, ◌++◌, Option, Some, None, Result, Ok, Err, refl, ap, sym, ◌∙◌}
 use Rattle.std.proofs.lemmas.List.{append-nil}
 use Rattle.client_sessions.specs.Sessions.{Kept}
 use Rattle.client_sessions.specs.Utterances.{Utterance}
@@ -9,10 +9,8 @@ use Rattle.fabric_terms.specs.declared.command.Command.{Command}
 use Rattle.fabric_terms.specs.declared.message.Message.{Message}
 use Rattle.fabric_terms.specs.declared.record.Record.{Record}
 use Rattle.fabric_turns.specs.Runs.{AtBy, MeetsBy}
-use Rattle.fire_pace.specs.News.{Step as PacedStep}
 use Rattle.fire_pace.specs.Pace.{pace_after}
 use Rattle.frame_format.specs.Kinds.{message_of}
-use Rattle.ring_rules.specs.declared.input.Input.{Input}
 use Rattle.ring_rules.specs.declared.input.Input.TheVariants as input
 use Rattle.serve_rules.proofs.Lives.{served_process}
 use Rattle.serve_rules.proofs.Serving.{serves_as}
@@ -24,7 +22,7 @@ use Rattle.serve_rules.specs.Served.{IsDue, Served, after_event, new_step, newer
 use Rattle.serve_rules.specs.Services.{life_of}
 use Rattle.serve_turns.specs.Live.{Around, At, Beginning, Keeps, Live, around}
 use Rattle.serve_turns.specs.Moves.{ComesTo, Cut, CutIn, IsStepBy, Meets, Over, OverBy, Reaches}
-use Rattle.turn_rules.specs.Happenings.{Begins, Comes, Datagram, Fires, Happening, Hears, History, LinkAnswer, Rests}
+use Rattle.turn_rules.specs.Happenings.{Begins, Comes, Datagram, Fires, Happening, Hears, LinkAnswer, Rests}
 use Rattle.turn_rules.specs.Order.{GoesServed, TurnPosition}
 use Rattle.turn_rules.specs.Plans.{Plan}
 use Rattle.turn_rules.specs.Process.{End, Process, after, happens, hears_frame}
@@ -80,9 +78,9 @@ module _ (plan : Plan) (o : Beginning) (told told' : Told) (clients : ClientsTol
       }
 
   -- with it the life is over
-  pub over_quiet : (new : Live) (end : End) → IsQuiet plan o.kept (served plan o.kept o.sessions es) (turn_event turn x) → new.sessions ≡ l.sessions
+  pub over_quiet : (new : Live) (end : End) → IsQuiet plan o.kept (served plan o.kept o.sessions es) (turn_event turn x) → new.sessions ≡ l.sessions → new.leaving ≡ l.leaving
       → OverBy (life_of plan o.kept) o.told told' (came_at turn x ∷ happenings plan o.kept o.sessions es) end → Over plan o (around told' clients advised) new end
-  over_quiet new end quiet sessions actor =
+  over_quiet new end quiet sessions leaving actor =
       let v : Served = served plan o.kept o.sessions es in
       let e : Event = turn_event turn x in
       let said : List Utterance = said_of plan o.kept o.sessions es in
@@ -93,6 +91,7 @@ module _ (plan : Plan) (o : Beginning) (told told' : Told) (clients : ClientsTol
         serves = serves_as (arrived_of es) (arrived_of es ++ []) said (said ++ of_event plan o.kept v e) o.clients clients (sym (append-nil (arrived_of es))) (sym (append-nil said) ∙ ap (λ (us : List Utterance). said ++ us) (sym quiet.says)) t.serves;
         advised = t.advised;
         sessions = ap (λ (u : Served). u.sessions) quiet.leaves ∙ t.keeps.sessions ∙ sym sessions;
+        leaving = ap (λ (u : Served). u.leaving) quiet.leaves ∙ t.keeps.leaving ∙ sym leaving;
       }
 
   -- the process ended in its step

@@ -48,8 +48,8 @@ pub record CutIn (s : Setting) (a b : Told) (h : History) (x : Happening) (part 
 
 -- How a life ends.
 
--- The life has ended so, by the event that came last; all of its steps are done, what they say is said, and this is kept for
--- the clients.
+-- The life has ended so, by the event that came last; all of its steps are done, what they say is said; and this is kept for
+-- the clients, and whether one of them told the process to leave.
 pub record Over (plan : Plan) (o : Beginning) (b : Around) (l : Live) (end : End) : Type 0 where
   pub events : List Event
   pub actor : OverBy (life_of plan o.kept) o.told b.told (happenings plan o.kept o.sessions events) end
@@ -57,6 +57,7 @@ pub record Over (plan : Plan) (o : Beginning) (b : Around) (l : Live) (end : End
   pub serves : Serves (arrived_of events) (said_of plan o.kept o.sessions events) o.clients b.clients
   pub advised : b.advised ≡ advice_of o.advised events
   pub sessions : (served plan o.kept o.sessions events).sessions ≡ l.sessions
+  pub leaving : (served plan o.kept o.sessions events).leaving ≡ l.leaving
 
 -- The process ended in the step of the event that came last: all steps before it are done, and of it this part; of the event
 -- nothing is said.

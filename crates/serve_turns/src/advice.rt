@@ -10,12 +10,12 @@ ghost use Rattle.turn_rules.specs.Order.{Busy};
 ghost use Rattle.turn_rules.specs.Plans.{is_node_at};
 
 use crate::audience::Audience;
+use crate::handover::Handover;
 use crate::live::Live;
 use crate::policy::{Advice, Policy};
 use crate::service::Service;
 use crate::stepping::act_told;
 use door_io::Clients;
-use edge_io::Outside;
 use fabric_terms::Command;
 use ring_node::Input;
 use turn_members::Member;
@@ -34,7 +34,7 @@ fn advice_for<P: Policy>(policy: &mut P, live: &Live) -> Advice
 }
 
 /// Does what the policy has said, if it names nodes that are there.
-fn do_advice<O: Outside, C: Clients, P: Policy>(
+fn do_advice<O: Handover, C: Clients, P: Policy>(
     outside: &mut O,
     audience: &mut Audience<C, P>,
     service: &Service,
@@ -60,7 +60,7 @@ fn do_advice<O: Outside, C: Clients, P: Policy>(
 }
 
 /// Takes what the policy says. Says whether the process is to end.
-pub(crate) fn take_advice<O: Outside, C: Clients, P: Policy>(
+pub(crate) fn take_advice<O: Handover, C: Clients, P: Policy>(
     outside: &mut O,
     audience: &mut Audience<C, P>,
     service: &Service,

@@ -5,8 +5,9 @@ ghost use Rattle.client_sessions.specs.Utterances.{Uttered};
 ghost use Rattle.edge_io.specs.Told.{Told};
 ghost use Rattle.fabric_turns.specs.Runs.{AreMembers};
 ghost use Rattle.ring_points.specs.Whos.{arbiter_actor};
-ghost use Rattle.serve_rules.specs.Lines.{AtOnce, request_line, watch_line};
+ghost use Rattle.serve_rules.specs.Lines.{AtOnce, place_line, request_line, watch_line};
 ghost use Rattle.serve_rules.specs.Served.{Served, log_text, member_of, state_text, text_at_once, with_request};
+ghost use Rattle.serve_rules.specs.Services.{IsService};
 ghost use Rattle.serve_turns.specs.Asking.{is_command, is_watch, watch_request};
 ghost use Rattle.serve_turns.specs.Live.{Keeps, around};
 ghost use Rattle.serve_turns.specs.Moves.{TakesAs, went_well};
@@ -15,6 +16,7 @@ ghost use Rattle.turn_rules.specs.Order.{TurnPosition};
 ghost use Rattle.turn_rules.specs.Plans.{Plan as PlanOf};
 
 use crate::audience::Audience;
+use crate::lines::refuse_line;
 use crate::live::Live;
 use crate::policy::Policy;
 use crate::service::Service;
@@ -22,8 +24,8 @@ use door_io::Clients;
 use door_lines::{Fault, Request};
 use fabric_terms::OutOfMemory;
 use open_answers::Asker;
-use ring_points::ARBITRATORS;
-use state_lines::{push_arbiter_state, push_log, push_node_state};
+use ring_points::{ARBITRATORS, MAX_READING};
+use state_lines::{push_arbiter_state, push_hold, push_lead, push_log, push_node_state};
 use turn_members::Member;
 
 /// The number of an arbitrator, as its state has it. Numbers are 1 to 9, but a plan may have any: one of more than a byte
@@ -73,8 +75,10 @@ fn push_lines(
     tag: u32,
     request: &Request,
 ) -> Result<(), OutOfMemory>
+    requires service { IsService service.now.plan }
     requires runs { length live.now.run.members ≡ 1 }
     requires members { AreMembers service.now.plan live.now.run.members }
+    requires last { IfSome live.now.run.last (λ reading. reading ≤ MAX_READING) }
     ensures { (v : Served) → Shows v live.now → OnOk result (text.new.items
         ≡ text.old.items ++ text_at_once service.now.plan.config v tag request.now) }
 {
@@ -86,6 +90,17 @@ fn push_lines(
             count,
         } => match live.run.member_at(0) {
             Member::Node(core) => push_log(text, Some(tag), core, *partition, *first, *count),
+            Member::Arbiter(_, _) => Ok(()),
+        },
+        Request::Hold(point) => match live.run.member_at(0) {
+            Member::Node(core) => {
+                let config = service.config();
+                push_hold(text, Some(tag), config, core, live.present(), *point)
+            }
+            Member::Arbiter(_, _) => Ok(()),
+        },
+        Request::Lead(partition) => match live.run.member_at(0) {
+            Member::Node(core) => push_lead(text, Some(tag), core, *partition),
             Member::Arbiter(_, _) => Ok(()),
         },
         _ => Ok(()),
@@ -100,8 +115,10 @@ fn say_lines<C: Clients, P: Policy>(
     asker: Asker,
     request: &Request,
 )
+    requires service { IsService service.now.plan }
     requires runs { length live.old.run.members ≡ 1 }
     requires members { AreMembers service.now.plan live.old.run.members }
+    requires last { IfSome live.old.run.last (λ reading. reading ≤ MAX_READING) }
     ensures said { (v : Served) → Shows v live.old →
         Uttered (answered_by asker (text_at_once service.now.plan.config v asker.tag request.now) ∷ [])
         (C.told audience.old.clients) (C.told audience.new.clients) }
@@ -148,9 +165,11 @@ fn answer_at_once<C: Clients, P: Policy>(
     asker: Asker,
     request: &Request,
 )
+    requires service { IsService service.now.plan }
     requires going { live.old.ending ≡ false }
     requires runs { length live.old.run.members ≡ 1 }
     requires members { AreMembers service.now.plan live.old.run.members }
+    requires last { IfSome live.old.run.last (λ reading. reading ≤ MAX_READING) }
     ensures done { is_watch request.now ≡ false → (told : Told) (p : TurnPosition) →
         TakesAs service.now.plan asker.client (AtOnce asker.tag request.now)
         (around told (C.told audience.old.clients) (P.advised audience.old.policy)) live.old p
@@ -162,7 +181,7 @@ fn answer_at_once<C: Clients, P: Policy>(
 }
 
 /// A client begins to watch, or is refused where as many others watch as may.
-fn take_watch<C: Clients, P: Policy>(
+fn find_place<C: Clients, P: Policy>(
     audience: &mut Audience<C, P>,
     live: &mut Live,
     asker: Asker,
@@ -171,7 +190,7 @@ fn take_watch<C: Clients, P: Policy>(
     requires going { live.old.ending ≡ false }
     ensures done { (plan : PlanOf) (told : Told) (p : TurnPosition) →
         TakesAs plan asker.client
-        (watch_line live.old.sessions asker.client asker.tag (watch_request all))
+        (place_line live.old.sessions asker.client asker.tag (watch_request all))
         (around told (C.told audience.old.clients) (P.advised audience.old.policy)) live.old p
         (around told (C.told audience.new.clients) (P.advised audience.new.policy)) live.new p went_well }
     ensures run { live.new.run ≡ live.old.run }
@@ -186,6 +205,31 @@ fn take_watch<C: Clients, P: Policy>(
     }
 }
 
+/// A client asks to watch. A parent is refused: it has every report of the log without asking.
+fn take_watch<C: Clients, P: Policy>(
+    audience: &mut Audience<C, P>,
+    service: &Service,
+    live: &mut Live,
+    asker: Asker,
+    all: bool,
+)
+    requires service { IsService service.now.plan }
+    requires going { live.old.ending ≡ false }
+    ensures done { (told : Told) (p : TurnPosition) →
+        TakesAs service.now.plan asker.client
+        (watch_line service.now.plan live.old.sessions asker.client asker.tag (watch_request all))
+        (around told (C.told audience.old.clients) (P.advised audience.old.policy)) live.old p
+        (around told (C.told audience.new.clients) (P.advised audience.new.policy)) live.new p went_well }
+    ensures run { live.new.run ≡ live.old.run }
+    ensures ending { live.new.ending ≡ live.old.ending }
+{
+    if service.is_parent(live, asker.client) {
+        refuse_line(audience, live, asker.client, Some(asker.tag), Fault::Line);
+    } else {
+        find_place(audience, live, asker, all);
+    }
+}
+
 /// Answers a request that is no command.
 pub(crate) fn answer_request<C: Clients, P: Policy>(
     audience: &mut Audience<C, P>,
@@ -194,9 +238,11 @@ pub(crate) fn answer_request<C: Clients, P: Policy>(
     asker: Asker,
     request: &Request,
 )
+    requires service { IsService service.now.plan }
     requires going { live.old.ending ≡ false }
     requires runs { length live.old.run.members ≡ 1 }
     requires members { AreMembers service.now.plan live.old.run.members }
+    requires last { IfSome live.old.run.last (λ reading. reading ≤ MAX_READING) }
     ensures done { is_command request.now ≡ false → (told : Told) (p : TurnPosition) →
         TakesAs service.now.plan asker.client
         (request_line service.now.plan live.old.sessions asker.client asker.tag request.now)
@@ -205,8 +251,8 @@ pub(crate) fn answer_request<C: Clients, P: Policy>(
     ensures run { live.new.run ≡ live.old.run }
 {
     match request {
-        Request::Watch => take_watch(audience, live, asker, false),
-        Request::WatchAll => take_watch(audience, live, asker, true),
+        Request::Watch => take_watch(audience, service, live, asker, false),
+        Request::WatchAll => take_watch(audience, service, live, asker, true),
         _ => answer_at_once(audience, service, live, asker, request),
     }
 }

@@ -10,12 +10,13 @@ ghost use Rattle.turn_rules.specs.Happenings.{Datagram, Hears};
 ghost use Rattle.turn_rules.specs.Order.{Busy, TurnPosition, hearing, heard_all};
 
 use crate::audience::Audience;
+use crate::handover::Handover;
 use crate::live::Live;
 use crate::policy::Policy;
 use crate::service::Service;
 use crate::stepping::act_told;
 use door_io::Clients;
-use edge_io::{DATAGRAM_BYTES, Outside};
+use edge_io::DATAGRAM_BYTES;
 use fabric_terms::{Body, Message};
 use ring_node::Input;
 use ring_points::{FRAME_LIMIT, Who};
@@ -42,7 +43,7 @@ fn empty_place() -> Message {
 }
 
 /// A datagram that has come. What is no frame changes nothing.
-fn take_datagram<O: Outside, C: Clients, P: Policy>(
+fn take_datagram<O: Handover, C: Clients, P: Policy>(
     outside: &mut O,
     audience: &mut Audience<C, P>,
     service: &Service,
@@ -72,7 +73,7 @@ fn take_datagram<O: Outside, C: Clients, P: Policy>(
 }
 
 /// Asks the links once what has come. Says whether it was a datagram.
-fn hear_one<O: Outside, C: Clients, P: Policy>(
+fn hear_one<O: Handover, C: Clients, P: Policy>(
     outside: &mut O,
     audience: &mut Audience<C, P>,
     service: &Service,
@@ -100,7 +101,7 @@ fn hear_one<O: Outside, C: Clients, P: Policy>(
 }
 
 /// Hears what has come: at most `MAX_HEARD` datagrams.
-pub(crate) fn hear<O: Outside, C: Clients, P: Policy>(
+pub(crate) fn hear<O: Handover, C: Clients, P: Policy>(
     outside: &mut O,
     audience: &mut Audience<C, P>,
     service: &Service,

@@ -13,12 +13,12 @@ ghost use Rattle.turn_rules.specs.Order.{Firing, onward};
 ghost use Rattle.turn_rules.specs.Plans.{Plan as PlanOf};
 
 use crate::audience::Audience;
+use crate::handover::Handover;
 use crate::live::Live;
 use crate::policy::Policy;
 use crate::service::Service;
 use crate::stepping::act_told;
 use door_io::Clients;
-use edge_io::Outside;
 use fire_pace::left_of;
 use ring_node::Input;
 use turn_members::Member;
@@ -50,7 +50,7 @@ pub(crate) fn next_firing(service: &Service, live: &Live) -> u64
 }
 
 /// The node fires if a firing is due, and else its turn ends.
-pub(crate) fn end_turn<O: Outside, C: Clients, P: Policy>(
+pub(crate) fn end_turn<O: Handover, C: Clients, P: Policy>(
     outside: &mut O,
     audience: &mut Audience<C, P>,
     service: &Service,

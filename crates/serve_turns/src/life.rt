@@ -17,13 +17,14 @@ ghost use Rattle.turn_rules.specs.Steps.{present};
 use crate::audience::Audience;
 use crate::board::{Board, Shown};
 use crate::firing::next_firing;
+use crate::handover::Handover;
 use crate::live::Live;
 use crate::policy::Policy;
 use crate::service::Service;
 use crate::start::start;
 use crate::turns::take_turn;
 use door_io::Clients;
-use edge_io::{DATAGRAM_BYTES, Outside};
+use edge_io::DATAGRAM_BYTES;
 use keep_log::Kept;
 use turn_rules::StopCause;
 
@@ -92,7 +93,7 @@ fn rest_at<B: Board>(board: &mut B, live: &Live, most: u64)
 }
 
 /// All turns, until the process is told to end: it says so. Before each of them the process rests.
-fn take_turns<O: Outside, C: Clients, P: Policy, B: Board>(
+fn take_turns<O: Handover, C: Clients, P: Policy, B: Board>(
     outside: &mut O,
     audience: &mut Audience<C, P>,
     service: &Service,
@@ -118,7 +119,7 @@ fn take_turns<O: Outside, C: Clients, P: Policy, B: Board>(
 }
 
 /// The start of the actor and all turns.
-fn start_and_turn<O: Outside, C: Clients, P: Policy, B: Board>(
+fn start_and_turn<O: Handover, C: Clients, P: Policy, B: Board>(
     outside: &mut O,
     audience: &mut Audience<C, P>,
     service: &Service,
@@ -155,7 +156,7 @@ fn close_answers<C: Clients, P: Policy>(
 
 /// A life of the process, from what is kept of its actor to its end. Where the actor has left, each open answer ends with
 /// `unknown`, and the sessions go on in the next life.
-pub fn live_on<O: Outside, C: Clients, P: Policy, B: Board>(
+pub fn live_on<O: Handover, C: Clients, P: Policy, B: Board>(
     outside: &mut O,
     audience: &mut Audience<C, P>,
     service: &Service,

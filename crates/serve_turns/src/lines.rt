@@ -1,36 +1,27 @@
 // The lines of clients. Each is answered: refused, at once, or by the step that it makes.
-ghost use Rattle.std.specs.Prelude.{◌≡◌, ◌<◌, ◌∷◌, [], Some, false, length, true};
+ghost use Rattle.std.specs.Prelude.{◌≡◌, ◌∷◌, [], None, Some, false};
 ghost use Rattle.door_io.specs.Doors.{Asked as AskedAtDoor, Gone as GoneAtDoor};
 ghost use Rattle.door_lines.specs.Requests.{FitsAsked};
 ghost use Rattle.edge_io.specs.Told.{Told};
-ghost use Rattle.fabric_terms.specs.Ranges.{FitsCommand};
 ghost use Rattle.fabric_turns.specs.Moves.{at_place};
-ghost use Rattle.open_answers.specs.Answers.{most_open_answers};
-ghost use Rattle.serve_rules.specs.Events.{sought_by};
-ghost use Rattle.serve_rules.specs.Lines.{Commands, Refused, command_line, request_line};
-ghost use Rattle.serve_rules.specs.Services.{actor_of, speaker_of};
+ghost use Rattle.serve_rules.specs.Lines.{Refused, let_go_by, request_line};
+ghost use Rattle.serve_rules.specs.Services.{speaker_of};
 ghost use Rattle.serve_turns.specs.Live.{Around, around};
 ghost use Rattle.serve_turns.specs.Moves.{Moves, Takes, TakesAs, went_well};
 ghost use Rattle.serve_turns.specs.Steps.{CanGoOn};
 ghost use Rattle.turn_rules.specs.Order.{Busy, TurnPosition};
-ghost use Rattle.turn_rules.specs.Plans.{Plan as PlanOf, is_node_at};
-ghost use Rattle.world_rules.specs.Schedules.{command_names};
+ghost use Rattle.turn_rules.specs.Plans.{Plan as PlanOf};
 
-use crate::actor_step::act;
 use crate::answers::answer_request;
+use crate::asked_commands::{AskedCommand, take_command};
 use crate::audience::Audience;
+use crate::handover::Handover;
 use crate::live::Live;
 use crate::policy::Policy;
 use crate::service::Service;
-use crate::stepping::go_on;
-use crate::telling::{answer, tell};
 use door_io::{Clients, MAX_ASKED, Said};
-use door_lines::{Asked, Fault, Request, read_asked};
-use edge_io::Outside;
-use fabric_terms::Command;
+use door_lines::{Asked, Fault, Request, Speaker, read_asked, read_done};
 use open_answers::Asker;
-use ring_node::Input;
-use ring_points::Point;
 use turn_rules::StopCause;
 
 /// The most lines of clients in one turn.
@@ -48,13 +39,6 @@ struct Spoken<'a> {
 struct AskedBy {
     client: u32,
     asked: Asked,
-}
-
-/// A command that a client asks for.
-#[derive(Drop)]
-struct AskedCommand {
-    asker: Asker,
-    command: Command,
 }
 
 /// Refuses a line.
@@ -76,82 +60,8 @@ pub(crate) fn refuse_line<C: Clients, P: Policy>(
         .refuse(&mut audience.clients, client, tag, fault);
 }
 
-/// The point that a command asks about.
-fn sought_by(command: &Command) -> Option<Point>
-    ensures { result ≡ sought_by command.now }
-{
-    match command {
-        Command::Find(key) => Some(*key),
-        _ => None,
-    }
-}
-
-/// The step of the node by a command of a client, carried out, told and answered.
-fn do_command<O: Outside, C: Clients, P: Policy>(
-    outside: &mut O,
-    audience: &mut Audience<C, P>,
-    service: &Service,
-    live: &mut Live,
-    turn: u64,
-    asked: AskedCommand,
-) -> Result<(), StopCause>
-    requires can { CanGoOn service.now.plan live.old (O.told outside.old) }
-    requires node { is_node_at service.now.plan 0 ≡ true }
-    requires command { FitsCommand asked.command }
-    requires named { command_names service.now.plan.config (actor_of service.now.plan) asked.command ≡ true }
-    requires room { length live.old.sessions.answers.waiting < most_open_answers }
-    ensures done { TakesAs service.now.plan asked.asker.client (Commands asked.asker.tag asked.command)
-        (around (O.told outside.old) (C.told audience.old.clients) (P.advised audience.old.policy)) live.old
-        (at_place turn 0 (Busy [] 0))
-        (around (O.told outside.new) (C.told audience.new.clients) (P.advised audience.new.policy)) live.new
-        (at_place turn 0 (Busy [] 0)) result }
-    ensures can { CanGoOn service.now.plan live.new (O.told outside.new) }
-{
-    let asker = asked.asker;
-    let input = Input::Do(asked.command);
-    let deed = act(outside, service, &mut live.run, turn, &input)?;
-    let Input::Do(command) = &input else {
-        return go_on(live);
-    };
-    tell(audience, live, &deed, &input, sought_by(command));
-    answer(audience, live, &deed, asker, command);
-    go_on(live)
-}
-
-/// A command of a client: it is done if it names nodes that are there, and its answer finds room.
-fn take_command<O: Outside, C: Clients, P: Policy>(
-    outside: &mut O,
-    audience: &mut Audience<C, P>,
-    service: &Service,
-    live: &mut Live,
-    turn: u64,
-    asked: AskedCommand,
-) -> Result<(), StopCause>
-    requires can { CanGoOn service.now.plan live.old (O.told outside.old) }
-    requires node { is_node_at service.now.plan 0 ≡ true }
-    requires command { FitsCommand asked.command }
-    ensures done { TakesAs service.now.plan asked.asker.client
-        (command_line service.now.plan live.old.sessions asked.asker.tag asked.command)
-        (around (O.told outside.old) (C.told audience.old.clients) (P.advised audience.old.policy)) live.old
-        (at_place turn 0 (Busy [] 0))
-        (around (O.told outside.new) (C.told audience.new.clients) (P.advised audience.new.policy)) live.new
-        (at_place turn 0 (Busy [] 0)) result }
-    ensures can { CanGoOn service.now.plan live.new (O.told outside.new) }
-{
-    let Asker { client, tag } = asked.asker;
-    if !service.names(&asked.command) {
-        refuse_line(audience, live, client, Some(tag), Fault::NoSuch);
-        Ok(())
-    } else if !live.sessions.has_room() {
-        refuse_line(audience, live, client, Some(tag), Fault::Busy);
-        Ok(())
-    } else {
-        do_command(outside, audience, service, live, turn, asked)
-    }
-}
-
 /// What a client asks, by its kind.
-fn take_asked<O: Outside, C: Clients, P: Policy>(
+fn take_asked<O: Handover, C: Clients, P: Policy>(
     outside: &mut O,
     audience: &mut Audience<C, P>,
     service: &Service,
@@ -160,7 +70,7 @@ fn take_asked<O: Outside, C: Clients, P: Policy>(
     by: AskedBy,
 ) -> Result<(), StopCause>
     requires can { CanGoOn service.now.plan live.old (O.told outside.old) }
-    requires fits { FitsAsked (speaker_of service.now.plan) by.asked }
+    requires fits { FitsAsked (speaker_of service.now.plan live.old.sessions by.client) by.asked }
     ensures done { TakesAs service.now.plan by.client
         (request_line service.now.plan live.old.sessions by.client by.asked.tag by.asked.request)
         (around (O.told outside.old) (C.told audience.old.clients) (P.advised audience.old.policy)) live.old
@@ -185,8 +95,57 @@ fn take_asked<O: Outside, C: Clients, P: Policy>(
     }
 }
 
+/// The number of which this speaker says by a line that it has let go, if the line says so.
+fn let_go_by(speaker: Speaker, line: &[u8]) -> Option<u64>
+    ensures { result ≡ let_go_by speaker line.now }
+{
+    match speaker {
+        Speaker::Parent => read_done(line).ok(),
+        _ => None,
+    }
+}
+
+/// A line of a client that lets go of nothing.
+fn take_other<O: Handover, C: Clients, P: Policy>(
+    outside: &mut O,
+    audience: &mut Audience<C, P>,
+    service: &Service,
+    live: &mut Live,
+    turn: u64,
+    speaker: Speaker,
+    spoken: Spoken<'_>,
+) -> Result<(), StopCause>
+    requires can { CanGoOn service.now.plan live.old (O.told outside.old) }
+    requires speaker { speaker ≡ speaker_of service.now.plan live.old.sessions spoken.client }
+    requires other { let_go_by speaker spoken.line.now ≡ None }
+    ensures done { Takes service.now.plan (AskedAtDoor spoken.entry.client (Some spoken.entry.line.now) ∷ [])
+        (around (O.told outside.old) (C.told audience.old.clients) (P.advised audience.old.policy)) live.old
+        (at_place turn 0 (Busy [] 0))
+        (around (O.told outside.new) (C.told audience.new.clients) (P.advised audience.new.policy)) live.new
+        (at_place turn 0 (Busy [] 0)) result }
+    ensures can { live.new.ending ≡ false → CanGoOn service.now.plan live.new (O.told outside.new) }
+{
+    let mut asked = Asked {
+        tag: 0,
+        request: Request::End,
+    };
+    match read_asked(speaker, spoken.line, &mut asked) {
+        Err(bad) => {
+            refuse_line(audience, live, spoken.client, bad.tag, Fault::Line);
+            Ok(())
+        }
+        Ok(()) => {
+            let by = AskedBy {
+                client: spoken.client,
+                asked,
+            };
+            take_asked(outside, audience, service, live, turn, by)
+        }
+    }
+}
+
 /// A line of a client, without its line feed.
-fn take_line<O: Outside, C: Clients, P: Policy>(
+fn take_line<O: Handover, C: Clients, P: Policy>(
     outside: &mut O,
     audience: &mut Audience<C, P>,
     service: &Service,
@@ -202,21 +161,12 @@ fn take_line<O: Outside, C: Clients, P: Policy>(
         (at_place turn 0 (Busy [] 0)) result }
     ensures can { live.new.ending ≡ false → CanGoOn service.now.plan live.new (O.told outside.new) }
 {
-    let mut asked = Asked {
-        tag: 0,
-        request: Request::End,
-    };
-    match read_asked(service.speaker(), spoken.line, &mut asked) {
-        Err(bad) => {
-            refuse_line(audience, live, spoken.client, bad.tag, Fault::Line);
+    let speaker = service.speaker(live, spoken.client);
+    match let_go_by(speaker, spoken.line) {
+        None => take_other(outside, audience, service, live, turn, speaker, spoken),
+        Some(number) => {
+            outside.let_go(number);
             Ok(())
-        }
-        Ok(()) => {
-            let by = AskedBy {
-                client: spoken.client,
-                asked,
-            };
-            take_asked(outside, audience, service, live, turn, by)
         }
     }
 }
@@ -232,7 +182,7 @@ fn forget(live: &mut Live, client: u32)
 }
 
 /// Takes one thing, if something has come at the door, and answers it. Says whether something had come.
-fn take_one<O: Outside, C: Clients, P: Policy>(
+fn take_one<O: Handover, C: Clients, P: Policy>(
     outside: &mut O,
     audience: &mut Audience<C, P>,
     service: &Service,
@@ -274,7 +224,7 @@ fn take_one<O: Outside, C: Clients, P: Policy>(
 }
 
 /// Takes lines of clients, at most `MAX_TURN_LINES`, and none behind one that tells the process to end.
-pub(crate) fn take_lines<O: Outside, C: Clients, P: Policy>(
+pub(crate) fn take_lines<O: Handover, C: Clients, P: Policy>(
     outside: &mut O,
     audience: &mut Audience<C, P>,
     service: &Service,

@@ -1,9 +1,11 @@
 ghost use Rattle.std.specs.Prelude.{◌≡◌, slice_get, Some};
 ghost use Rattle.edge_io.specs.declared.endpoint.Endpoint.{Endpoint};
-ghost use Rattle.serve_rules.specs.Services.{IsService, actor_of, speaker_of};
+ghost use Rattle.door_lines.specs.Speakers.{is_parent};
+ghost use Rattle.serve_rules.specs.Services.{IsService, actor_of, node_speaker, speaker_of};
 ghost use Rattle.turn_rules.specs.Plans.{is_node_at};
 ghost use Rattle.world_rules.specs.Schedules.{command_names};
 
+use crate::live::Live;
 use door_lines::Speaker;
 use fabric_terms::{Command, FabricConfig};
 use std::alloc::Global;
@@ -15,6 +17,17 @@ use world_rules::is_named;
 pub struct Service {
     pub alloc: Global,
     pub plan: Plan,
+}
+
+/// Who says a line of this client of a node.
+fn node_speaker(parent: Option<u32>, client: u32) -> Speaker
+    ensures { result ≡ node_speaker parent client }
+{
+    match parent {
+        None => Speaker::NodeClient,
+        Some(parent) if parent == client => Speaker::Parent,
+        Some(_) => Speaker::ChildClient,
+    }
 }
 
 impl Service {
@@ -41,16 +54,24 @@ impl Service {
         self.plan.is_node_at(0)
     }
 
-    /// What its clients may ask.
-    pub fn speaker(&self) -> Speaker
+    /// Who says a line of this client, which decides what it may ask.
+    pub fn speaker(&self, live: &Live, client: u32) -> Speaker
         requires { IsService self.now.plan }
-        ensures { result ≡ speaker_of self.now.plan }
+        ensures { result ≡ speaker_of self.now.plan live.now.sessions client }
     {
         if self.is_node() {
-            Speaker::NodeClient
+            node_speaker(live.sessions.parent(), client)
         } else {
             Speaker::ArbiterClient
         }
+    }
+
+    /// Whether this client is the parent of the node.
+    pub fn is_parent(&self, live: &Live, client: u32) -> bool
+        requires { IsService self.now.plan }
+        ensures { result ≡ is_parent (speaker_of self.now.plan live.now.sessions client) }
+    {
+        matches!(self.speaker(live, client), Speaker::Parent)
     }
 
     /// Whether the nodes that a command names are there.

@@ -12,20 +12,20 @@ ghost use Rattle.turn_rules.specs.Plans.{is_node_at};
 
 use crate::actor_step::join;
 use crate::audience::Audience;
+use crate::handover::Handover;
 use crate::live::Live;
 use crate::policy::Policy;
 use crate::service::Service;
 use crate::stepping::go_on;
 use crate::telling::tell_start;
 use door_io::Clients;
-use edge_io::Outside;
 use fabric_turns::{Run, read_clock};
 use keep_log::Kept;
 use turn_members::Deed;
 use turn_rules::StopCause;
 
 /// The start of a node, carried out but for what is told of it: it reads the clock first.
-fn begin_node<O: Outside>(
+fn begin_node<O: Handover>(
     outside: &mut O,
     service: &Service,
     run: &mut Run,
@@ -49,7 +49,7 @@ fn begin_node<O: Outside>(
 }
 
 /// The start of the actor, carried out but for what is told of it.
-fn begin<O: Outside>(
+fn begin<O: Handover>(
     outside: &mut O,
     service: &Service,
     run: &mut Run,
@@ -73,7 +73,7 @@ fn begin<O: Outside>(
 }
 
 /// Starts the actor from what is kept of it, and tells its start.
-pub(crate) fn start<O: Outside, C: Clients, P: Policy>(
+pub(crate) fn start<O: Handover, C: Clients, P: Policy>(
     outside: &mut O,
     audience: &mut Audience<C, P>,
     service: &Service,

@@ -11,12 +11,12 @@ ghost use Rattle.turn_rules.specs.Order.{TurnPosition};
 
 use crate::actor_step::act;
 use crate::audience::Audience;
+use crate::handover::Handover;
 use crate::live::Live;
 use crate::policy::Policy;
 use crate::service::Service;
 use crate::telling::tell;
 use door_io::Clients;
-use edge_io::Outside;
 use ring_node::Input;
 use turn_rules::StopCause;
 
@@ -32,7 +32,7 @@ pub(crate) fn go_on(live: &Live) -> Result<(), StopCause>
 }
 
 /// The step of the actor by an input, carried out and told.
-pub(crate) fn act_told<O: Outside, C: Clients, P: Policy>(
+pub(crate) fn act_told<O: Handover, C: Clients, P: Policy>(
     outside: &mut O,
     audience: &mut Audience<C, P>,
     service: &Service,

@@ -12,12 +12,13 @@ use crate::advice::take_advice;
 use crate::audience::Audience;
 use crate::datagrams::hear;
 use crate::firing::end_turn;
+use crate::handover::Handover;
 use crate::lines::take_lines;
 use crate::live::Live;
 use crate::policy::Policy;
 use crate::service::Service;
 use door_io::Clients;
-use edge_io::{DATAGRAM_BYTES, Outside};
+use edge_io::DATAGRAM_BYTES;
 use fabric_turns::read_clock;
 use turn_members::Member;
 use turn_rules::StopCause;
@@ -33,9 +34,8 @@ fn see_changes(live: &mut Live, now: u64)
     }
 }
 
-/// A turn of a node begins: the clock is read, answers whose time is over end, and the reconfigurations that are under
-/// way are seen.
-fn begin_turn<O: Outside, C: Clients, P: Policy>(
+/// The clock is read, answers whose time is over end, and the reconfigurations that are under way are seen.
+fn read_turn<O: Handover, C: Clients, P: Policy>(
     outside: &mut O,
     audience: &mut Audience<C, P>,
     live: &mut Live,
@@ -57,9 +57,30 @@ fn begin_turn<O: Outside, C: Clients, P: Policy>(
     Ok(())
 }
 
+/// A turn of a node begins. What the parent has sent is taken in before the clock is read, so that each line of it that is
+/// answered in the turn is older than the reading.
+fn begin_turn<O: Handover, C: Clients, P: Policy>(
+    outside: &mut O,
+    audience: &mut Audience<C, P>,
+    live: &mut Live,
+) -> Result<(), StopCause>
+    requires runs { length live.old.run.members ≡ 1 }
+    ensures done { (plan : PlanOf) (turn : ℕ) → CanGoOn plan live.old (O.told outside.old) →
+        Moves plan
+        (around (O.told outside.old) (C.told audience.old.clients) (P.advised audience.old.policy)) live.old
+        (at_place turn 0 Turning)
+        (around (O.told outside.new) (C.told audience.new.clients) (P.advised audience.new.policy)) live.new
+        (at_place turn 0 (Busy [] 0)) result }
+    ensures can { (plan : PlanOf) → CanGoOn plan live.old (O.told outside.old) →
+        OnOk result (CanGoOn plan live.new (O.told outside.new)) }
+{
+    outside.gather();
+    read_turn(outside, audience, live)
+}
+
 /// What comes of clients and of the policy in a turn of a node. Says whether the process is to end: a client has told
 /// it to end, or it has told it to leave and the policy is done with that.
-fn take_orders<O: Outside, C: Clients, P: Policy>(
+fn take_orders<O: Handover, C: Clients, P: Policy>(
     outside: &mut O,
     audience: &mut Audience<C, P>,
     service: &Service,
@@ -86,7 +107,7 @@ fn take_orders<O: Outside, C: Clients, P: Policy>(
 }
 
 /// A turn of a node. Says whether the process is to end.
-fn node_turn<O: Outside, C: Clients, P: Policy>(
+fn node_turn<O: Handover, C: Clients, P: Policy>(
     outside: &mut O,
     audience: &mut Audience<C, P>,
     service: &Service,
@@ -114,7 +135,7 @@ fn node_turn<O: Outside, C: Clients, P: Policy>(
 }
 
 /// A turn of an arbitrator. Says whether the process is to end.
-fn arbiter_turn<O: Outside, C: Clients, P: Policy>(
+fn arbiter_turn<O: Handover, C: Clients, P: Policy>(
     outside: &mut O,
     audience: &mut Audience<C, P>,
     service: &Service,
@@ -141,7 +162,7 @@ fn arbiter_turn<O: Outside, C: Clients, P: Policy>(
 }
 
 /// A turn of the actor. Turns count from 1. Says whether the process is to end.
-pub(crate) fn take_turn<O: Outside, C: Clients, P: Policy>(
+pub(crate) fn take_turn<O: Handover, C: Clients, P: Policy>(
     outside: &mut O,
     audience: &mut Audience<C, P>,
     service: &Service,

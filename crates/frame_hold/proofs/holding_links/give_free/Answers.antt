@@ -1,4 +1,4 @@
-use Rattle.std.proofs.Common.{◌≡◌, ◌+◌, ℕ, List, Option, take, sym, subst, ◌∙◌}
+use Rattle.std.proofs.Common.{◌≡◌, ◌≤◌, ◌+◌, ℕ, List, Option, take, sym, subst, arith, ◌∙◌}
 use Rattle.edge_io.specs.declared.datagram.Datagram.{Datagram}
 use Rattle.frame_hold.specs.Kept.{free_of}
 use Rattle.frame_hold.specs.Promises.{Given, NeverBeforeDone}
@@ -27,19 +27,22 @@ loop-datagram-preserved g c =
     let P : g.row.N.Denot → Type 0 = λ links.
     Given (free_of c.args.actor owed (take (l.datagram-index + 1) c.args.held.now)) (sent start) (sent links) (faults start) (faults links)
     × (g.N.Links.opened links ≡ g.N.Links.opened start)
-    × ((any : ℕ) → g.N.Links.arrivals links any ≡ g.N.Links.arrivals start any) in
+    × ((any : ℕ) → g.N.Links.arrivals links any ≡ g.N.Links.arrivals start any)
+    × (faults start ≤ faults links) in
     elim c.if-is_free.branch [
       | then-is_free+in_ok-give_one w ↦ subst P (sym w.links-is) (
         given_next c.args.actor owed c.args.held.now l.datagram-index c.datagram-item.result (sent start) (sent l.links) (sent w.give_one.new.links) (faults start) (faults l.links) (faults w.give_one.new.links)
             c.loop-datagram-test.true c.datagram-item.is (sym c.is_free.ensures ∙ w.if-is_free.true) l.invariant.0 w.in_ok-give_one.ensures.given,
         w.give_one.ensures.opened ∙ l.invariant.1,
         λ any. w.give_one.ensures.arrivals any ∙ l.invariant.2 any,
+        omega (arith, l.invariant.3, w.give_one.ensures.later),
       )
       | else-is_free w ↦ subst P (sym w.links-is) (
         given_over c.args.actor owed c.args.held.now l.datagram-index c.datagram-item.result (sent start) (sent l.links) (faults start) (faults l.links)
             c.loop-datagram-test.true c.datagram-item.is (sym c.is_free.ensures ∙ w.if-is_free.false) l.invariant.0,
         l.invariant.1,
         l.invariant.2,
+        l.invariant.3,
       )
     ]
 

@@ -1,4 +1,4 @@
-use Rattle.std.proofs.Common.{◌≡◌, ℕ, take}
+use Rattle.std.proofs.Common.{◌≡◌, ◌≤◌, ℕ, take}
 use Rattle.frame_hold.specs.Kept.{free_of}
 use Rattle.frame_hold.specs.Promises.{Given}
 use Rattle.frame_hold.proofs.holding_links.give_free.Given as goal
@@ -9,3 +9,4 @@ invariant-loop-datagram g l =
     Given (free_of l.actor l.holding (take l.datagram-index l.held)) (g.N.Links.sent l.fn.links) (g.N.Links.sent l.links) (g.N.Links.faults l.fn.links) (g.N.Links.faults l.links)
     × (g.N.Links.opened l.links ≡ g.N.Links.opened l.fn.links)
     × ((any : ℕ) → g.N.Links.arrivals l.links any ≡ g.N.Links.arrivals l.fn.links any)
+    × (g.N.Links.faults l.fn.links ≤ g.N.Links.faults l.links)

@@ -1,7 +1,7 @@
 use Rattle.std.proofs.Common.{Err, Ok}
 use Rattle.std.proofs.lemmas.Result.{err_from_is_err_and}
 use Rattle.fabric_turns.specs.Steps.{work_in}
-use Rattle.serve_turns.proofs.Carrying.{ended_at_frames, ended_at_records, kept_of, kept_silent, sent_of, sent_silent}
+use Rattle.serve_turns.proofs.Carrying.{ended_at_frames, ended_at_records, kept_of, kept_silent, sent_silent}
 use Rattle.serve_turns.proofs.actor_step.carry.Goals as goal
 
 pub returns-in_err-keep_all-clause-carries : goal.returns-in_err-keep_all-clause-carries
@@ -22,14 +22,12 @@ pub returns-clause-carries : goal.returns-clause-carries
 returns-clause-carries g c =
     let work = work_in c.args.service.now.plan.config c.args.deed.now in
     let kept = kept_of c.args.service.now.plan.config c.args.deed.now c.as_slice-records.result.now (g.O.Outside.told c.args.outside.now) (g.O.Outside.told c.keep_all.new.outside) (Ok c.in_ok-keep_all.field-0) c.as_slice-records.ensures c.in_ok-keep_all.ensures in
-    ended_at_frames work (g.O.Outside.told c.args.outside.now) (g.O.Outside.told c.keep_all.new.outside) (g.O.Outside.told c.send_all.new.outside) c.send_all.result kept
-    (sent_of c.args.service.now.plan.config c.config.result.now c.args.deed.now c.as_slice-frames.result.now (g.O.Outside.told c.keep_all.new.outside) (g.O.Outside.told c.send_all.new.outside) c.send_all.result c.config.ensures c.as_slice-frames.ensures c.send_all.ensures)
+    ended_at_frames work (g.O.Outside.told c.args.outside.now) (g.O.Outside.told c.keep_all.new.outside) (g.O.Outside.told c.hand_and_send.new.outside) c.hand_and_send.result kept c.hand_and_send.ensures
     (kept_silent work.actor work.records (g.O.Outside.told c.args.outside.now) (g.O.Outside.told c.keep_all.new.outside) (Ok c.in_ok-keep_all.field-0) kept c.requires.silent)
 
 pub returns-clause-silent : goal.returns-clause-silent
 returns-clause-silent g c =
     let work = work_in c.args.service.now.plan.config c.args.deed.now in
     let kept = kept_of c.args.service.now.plan.config c.args.deed.now c.as_slice-records.result.now (g.O.Outside.told c.args.outside.now) (g.O.Outside.told c.keep_all.new.outside) (Ok c.in_ok-keep_all.field-0) c.as_slice-records.ensures c.in_ok-keep_all.ensures in
-    sent_silent _ (g.O.Outside.told c.keep_all.new.outside) (g.O.Outside.told c.send_all.new.outside) c.send_all.result
-    (sent_of c.args.service.now.plan.config c.config.result.now c.args.deed.now c.as_slice-frames.result.now (g.O.Outside.told c.keep_all.new.outside) (g.O.Outside.told c.send_all.new.outside) c.send_all.result c.config.ensures c.as_slice-frames.ensures c.send_all.ensures)
+    sent_silent _ (g.O.Outside.told c.keep_all.new.outside) (g.O.Outside.told c.hand_and_send.new.outside) c.hand_and_send.result c.hand_and_send.ensures
     (kept_silent work.actor work.records (g.O.Outside.told c.args.outside.now) (g.O.Outside.told c.keep_all.new.outside) (Ok c.in_ok-keep_all.field-0) kept c.requires.silent)

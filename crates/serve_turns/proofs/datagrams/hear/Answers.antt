@@ -3,7 +3,7 @@ use Rattle.std.proofs.lemmas.Result.{err_from_is_err_and}
 use Rattle.serve_turns.proofs.Hearing.{either_more, either_none}
 use Rattle.serve_turns.proofs.Placing.{at_as}
 use Rattle.serve_turns.proofs.datagrams.hear.Goals as goal
-use Rattle.turn_rules.specs.Order.{heard_all, hearing}
+use Rattle.turn_rules.specs.Order.{hearing}
 
 pub returns-in_err-hear_one-clause-done : goal.returns-in_err-hear_one-clause-done
 returns-in_err-hear_one-clause-done g c =

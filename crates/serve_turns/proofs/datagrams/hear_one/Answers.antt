@@ -1,4 +1,4 @@
-use Rattle.std.proofs.Common.{Some, Ok, Err, ◌∷◌, take, sym, ◌∙◌}
+use Rattle.std.proofs.Common.{Ok, Err, ◌∷◌, take}
 use Rattle.std.proofs.lemmas.Result.{err_from_is_err_and}
 use Rattle.fabric_turns.proofs.Hearing.{received_as}
 use Rattle.serve_turns.proofs.Hearing.{absent_next, datagram_next, failed_next}

@@ -1,5 +1,4 @@
-use Rattle.std.proofs.Common.{None, sym, ap, ◌∙◌}
-use Rattle.fabric_turns.specs.Runs.{Run}
+use Rattle.std.proofs.Common.{None, sym, ◌∙◌}
 use Rattle.serve_turns.proofs.Begun.{arbiter_starts}
 use Rattle.serve_turns.proofs.start.begin.Goals as goal
 

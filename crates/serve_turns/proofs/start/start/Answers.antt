@@ -27,7 +27,7 @@ returns-in_err-deed-clause-done g c =
     let k = c.in_err-deed.ensures.done o.kept o.told (happenings plan o.kept o.sessions es) kept at.run in
     rw (p.1, p.2)
     (start_stops plan o (g.O.Outside.told c.args.outside.now) (g.O.Outside.told c.begin.new.outside) (g.C.Clients.told c.args.audience.now.clients) (g.P.Policy.advised c.args.audience.now.policy)
-    l (record l { run = c.begin.new.run }) es k.0 (arrive plan 0 0) c.in_err-deed.field-0.0 at (ap (λ (q : Live). q.ending) c.live.view_is ∙ c.requires.can.going) refl k.1)
+    l (record l { run = c.begin.new.run }) es k.0 (arrive plan 0 0) c.in_err-deed.field-0.0 at (ap (λ (q : Live). q.ending) c.live.view_is ∙ c.requires.can.going) refl refl k.1)
 
 pub returns-clause-done : goal.returns-clause-done
 returns-clause-done g c = λ o es kept t.

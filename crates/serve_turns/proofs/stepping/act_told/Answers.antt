@@ -28,7 +28,7 @@ returns-in_err-deed-clause-done g c =
     (ends_event plan o b d l (record l { run = c.act.new.run }) es e x q c.in_err-deed.field-0.0 m (step_quiet plan o es e x c.args.input.now is)
     (c.in_err-deed.ensures.done o.kept o.told (happenings plan o.kept o.sessions es) x q m.run
     (subst (λ (n : ℕ). IsStep (life_of plan o.kept) (happenings plan o.kept o.sessions es) x n 0 c.args.input.now) turn is.step))
-    refl refl refl)
+    refl refl refl refl)
 
 pub returns-clause-done : goal.returns-clause-done
 returns-clause-done g c = λ o es e x q turn met is.

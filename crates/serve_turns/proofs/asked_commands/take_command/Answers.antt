@@ -1,6 +1,6 @@
 use Rattle.std.proofs.Common.{sym, ◌∙◌}
 use Rattle.serve_rules.proofs.Reading.{names_nobody}
-use Rattle.serve_turns.proofs.lines.take_command.Goals as goal
+use Rattle.serve_turns.proofs.asked_commands.take_command.Goals as goal
 
 pub returns-then-not-names-clause-done : goal.returns-then-not-names-clause-done
 returns-then-not-names-clause-done g c = λ line is.

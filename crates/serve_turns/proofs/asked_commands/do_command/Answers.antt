@@ -13,7 +13,7 @@ use Rattle.serve_rules.specs.Lines.{Commands, line_of}
 use Rattle.serve_rules.specs.Lives.{happenings, served}
 use Rattle.serve_turns.proofs.Commands.{asked_at, bids_at, busy, command_done, command_quiet, meets_command, step_leaves_room}
 use Rattle.serve_turns.proofs.Steps.{ends_event}
-use Rattle.serve_turns.proofs.lines.do_command.Goals as goal
+use Rattle.serve_turns.proofs.asked_commands.do_command.Goals as goal
 use Rattle.serve_turns.specs.Live.{Around, At, Live, around}
 use Rattle.serve_turns.specs.Telling.{told_of}
 use Rattle.turn_rules.specs.Steps.{present}
@@ -42,7 +42,7 @@ returns-in_err-deed-clause-done g c =
     rw (p.1, p.2)
     (ends_event plan o b d l (record l { run = c.act.new.run }) es (asked_at c.args.turn client line) (bids_at c.args.turn command) (busy c.args.turn) c.in_err-deed.field-0.0 met
     (command_quiet plan (served plan o.kept o.sessions es) c.args.turn client line tag command here)
-    (c.in_err-deed.ensures.done o.kept o.told (happenings plan o.kept o.sessions es) (bids_at c.args.turn command) (busy c.args.turn) met.run refl) refl refl refl)
+    (c.in_err-deed.ensures.done o.kept o.told (happenings plan o.kept o.sessions es) (bids_at c.args.turn command) (busy c.args.turn) met.run refl) refl refl refl refl)
 
 pub answer-requires : goal.answer-requires
 answer-requires g c =

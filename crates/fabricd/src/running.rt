@@ -1,0 +1,172 @@
+// A served process that has started, to its end: over its devices, or over those that hold frames for a parent.
+ghost use Rattle.std.specs.Prelude.{◌≡◌, None};
+ghost use Rattle.fabric_turns.specs.Runs.{AllListen};
+ghost use Rattle.serve_rules.specs.Services.{IsService};
+
+use crate::heard_parent::HeardParent;
+use crate::started::{Keeps, Started, short};
+use client_sessions::Sessions;
+use door_io::Clients;
+use edge_io::{Devices, Links};
+use fabric_edge::MonoClock;
+use fabric_status::Status;
+use frame_hold::{HoldingLinks, OneLengthLinks};
+use parent_hold::{HeldDevices, HoldTerms};
+use serve_edge::{PARENT_CLIENT, ParentStream};
+use serve_lives::{NoSink, Returning, serve as serve_actor};
+use serve_top::{End, FIRST_LINE, TalliedPolicy, status_by};
+use serve_turns::{Audience, Board, Handover, Policy};
+use service_file::LineChoice;
+
+/// Whether the log and the parent have every report.
+fn has_all_lines(started: Started<'_>) -> bool {
+    started.settings.lines == LineChoice::AllLines
+}
+
+/// What the process keeps for its clients.
+fn sessions_of(started: Started<'_>) -> Result<Sessions, End> {
+    let service = started.service;
+    let parent = started.parent.map(|_| PARENT_CLIENT);
+    Sessions::new(
+        service.alloc,
+        service.config().lease,
+        has_all_lines(started),
+        parent,
+    )
+    .map_err(|error| short(error))
+}
+
+/// How the process ends, with what is left to say.
+fn finish(started: Started<'_>, status: Status) -> End {
+    let mut end = End::As(status);
+    if let Some(parent) = started.parent {
+        parent.finish();
+        if status == Status::Ok && parent.is_silent() {
+            end = End::Silent;
+        }
+    }
+    if let End::As(Status::Ok) = end {
+        started.events.say(b"end\n");
+    }
+    started.events.finish();
+    end
+}
+
+/// Runs the actor, which listens, over these devices to its end.
+fn run_over<O: Handover, C: Clients + Drop, P: Policy + Returning + Drop, B: Board>(
+    started: Started<'_>,
+    policy: P,
+    clients: C,
+    board: &mut B,
+    outside: &mut O,
+) -> Result<End, End>
+    requires service { IsService started.service.now.plan }
+    requires listens { AllListen started.service.now.plan (O.told outside.old).opened }
+    requires silent { (o : O) → (O.told o).held ≡ None }
+{
+    let policy = TalliedPolicy::new(started.service.alloc, policy, started.tally);
+    let mut audience = Audience { clients, policy };
+    let sessions = sessions_of(started)?;
+    if let Some(parent) = started.parent {
+        started.greeted.set(true);
+        parent.say(FIRST_LINE.as_bytes());
+    }
+    let end = serve_actor(outside, &mut audience, started.service, board, sessions);
+    Ok(finish(started, status_by(end)))
+}
+
+/// Runs an actor that has no parent.
+pub fn run_free<N: Links, C: Clients + Drop, P: Policy + Returning + Drop, B: Board>(
+    started: Started<'_>,
+    policy: P,
+    clients: C,
+    board: &mut B,
+    links: &mut N,
+    keeps: &mut Keeps<'_>,
+) -> Result<End, End>
+    requires service { IsService started.service.now.plan }
+    requires listens { AllListen started.service.now.plan (N.opened links.old) }
+{
+    let mut sink = NoSink {};
+    let mut clock = MonoClock::new(started.rt);
+    let mut devices = Devices {
+        sink: &mut sink,
+        links,
+        keeps,
+        clock: &mut clock,
+    };
+    run_over(started, policy, clients, board, &mut devices)
+}
+
+/// Runs a node for its parent over these links: what the node has given up is owed to them, and they hold its frames.
+fn run_holding<N: Links, C: Clients + Drop, P: Policy + Returning + Drop, B: Board>(
+    started: Started<'_>,
+    parent: &ParentStream<'_>,
+    policy: P,
+    clients: C,
+    board: &mut B,
+    links: &mut HoldingLinks<'_, N>,
+    keeps: &mut Keeps<'_>,
+) -> Result<End, End>
+    requires service { IsService started.service.now.plan }
+    requires listens { AllListen started.service.now.plan (N.opened links.old.inner.now) }
+{
+    let mut sink = NoSink {};
+    let mut clock = MonoClock::new(started.rt);
+    let devices = Devices {
+        sink: &mut sink,
+        links,
+        keeps,
+        clock: &mut clock,
+    };
+    let terms = HoldTerms {
+        all_lines: has_all_lines(started),
+        hold: parent.hold(),
+    };
+    let heard = HeardParent::new(parent, started.tally);
+    let mut held = HeldDevices::new(started.service.alloc, devices, heard, terms);
+    run_over(started, policy, clients, board, &mut held)
+}
+
+/// Runs a node for its parent over links of one length. A frame by which another node could take over what the node has
+/// given up waits until the parent has let go.
+fn run_held<N: Links, C: Clients + Drop, P: Policy + Returning + Drop, B: Board>(
+    started: Started<'_>,
+    parent: &ParentStream<'_>,
+    policy: P,
+    clients: C,
+    board: &mut B,
+    links: &mut N,
+    keeps: &mut Keeps<'_>,
+) -> Result<End, End>
+    requires service { IsService started.service.now.plan }
+    requires listens { AllListen started.service.now.plan (N.opened links.old) }
+{
+    let mut holding = HoldingLinks::new(started.service.alloc, links);
+    run_holding(started, parent, policy, clients, board, &mut holding, keeps)
+}
+
+/// Runs a node for its parent. Its links have one length.
+pub fn run_for_parent<N: Links, C: Clients + Drop, P: Policy + Returning + Drop, B: Board>(
+    started: Started<'_>,
+    parent: &ParentStream<'_>,
+    policy: P,
+    clients: C,
+    board: &mut B,
+    links: &mut N,
+    keeps: &mut Keeps<'_>,
+) -> Result<End, End>
+    requires service { IsService started.service.now.plan }
+    requires listens { AllListen started.service.now.plan (N.opened links.old) }
+{
+    let mut one_length = OneLengthLinks::new(links);
+    run_held(
+        started,
+        parent,
+        policy,
+        clients,
+        board,
+        &mut one_length,
+        keeps,
+    )
+}

@@ -1,0 +1,4 @@
+pub mod Had
+pub mod Lines
+pub mod Handing
+pub mod Laws

@@ -1,0 +1,85 @@
+// The devices of a node that has a parent, as the outside of its process.
+use crate::held_devices::HeldDevices;
+use crate::parent_lines::ParentLines;
+use edge_io::{Clock, DATAGRAM_BYTES, EdgeRefusal, Failed, Keeper, Links, Outside, Sink};
+use fabric_terms::OutOfMemory;
+use serve_turns::Handover;
+use turn_members::{Deed, Member};
+
+impl<'k, 'h, 'n, 'd, 'c, K: Sink, N: Links, D: Keeper, C: Clock, P: ParentLines> Outside
+    for HeldDevices<'k, 'h, 'n, 'd, 'c, K, N, D, C, P> {
+    ghost use Rattle.std.specs.Prelude.{None};
+
+    ghost told = { λ d. record {
+      loans = record {
+        sink = d.sink.ghost_name;
+        links = d.links.ghost_name;
+        keeps = d.keeps.ghost_name;
+        clock = d.clock.ghost_name;
+      };
+      held = K.held d.sink.now;
+      sink_faults = K.faults d.sink.now;
+      kept = D.kept d.keeps.now;
+      keep_faults = D.faults d.keeps.now;
+      opened = N.opened d.links.now.inner.now;
+      arrivals = N.arrivals d.links.now.inner.now;
+      sent = None;
+      link_faults = N.faults d.links.now.inner.now;
+      readings = C.readings d.clock.now;
+      last = C.last d.clock.now;
+      falls = C.falls d.clock.now;
+    } };
+
+    fn listen(&mut self, actor: u16, at: &str) -> Result<(), EdgeRefusal> {
+        self.links.listen(actor, at)
+    }
+
+    fn send(&mut self, from: u16, to: &str, bytes: &[u8]) -> Result<(), EdgeRefusal> {
+        self.send_or_keep(from, to, bytes)
+    }
+
+    fn receive(
+        &mut self,
+        actor: u16,
+        into: &mut [u8; DATAGRAM_BYTES],
+    ) -> Result<Option<usize>, Failed> {
+        self.let_out_and_take(actor, into)
+    }
+
+    fn records(&mut self, actor: u16) -> Result<Vec<Vec<u8>>, EdgeRefusal> {
+        self.keeps.records(actor)
+    }
+
+    fn append_synced(&mut self, actor: u16, bytes: &[u8]) -> Result<(), EdgeRefusal> {
+        self.keeps.append_synced(actor, bytes)
+    }
+
+    fn now(&mut self) -> u64 {
+        let now = self.clock.now();
+        self.last = now;
+        now
+    }
+
+    fn write_all(&mut self, text: &[u8]) -> Result<(), EdgeRefusal> {
+        edge_io::write_all(self.sink, text)
+    }
+}
+
+impl<'k, 'h, 'n, 'd, 'c, K: Sink, N: Links, D: Keeper, C: Clock, P: ParentLines> Handover
+    for HeldDevices<'k, 'h, 'n, 'd, 'c, K, N, D, C, P> {
+    fn gather(&mut self) {
+        self.gather_lines();
+    }
+
+    fn see(&mut self, actor: &Member) {
+        self.see_member(actor);
+    }
+
+    fn hand_over(&mut self, deed: &Deed, now: u64) -> Result<(), OutOfMemory> {
+        self.give_up(deed, now)
+    }
+
+    fn let_go(&mut self, number: u64) {
+        self.close_number(number);
+    }
+}
