@@ -1,0 +1,4 @@
+pub mod Auditing
+pub mod Backs
+pub mod BeforeBlanks
+pub mod Frames

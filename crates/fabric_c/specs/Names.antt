@@ -1,0 +1,55 @@
+-- The names of messages and of records.
+use Rattle.std.specs.Prelude.{ℕ, List, codes}
+use Rattle.fabric_terms.specs.declared.message.Body.{Body}
+use Rattle.fabric_terms.specs.declared.message.Body.TheVariants as message
+use Rattle.fabric_terms.specs.declared.record.Record.{Record}
+use Rattle.fabric_terms.specs.declared.record.Record.TheVariants as kept
+
+abbrev pub frame_name : Body → List ℕ
+frame_name (message.Hello mine) = codes "Hello"
+frame_name (message.HelloFor mine length) = codes "HelloFor"
+frame_name (message.Offer mine yours) = codes "Offer"
+frame_name (message.OfferFor mine yours length) = codes "OfferFor"
+frame_name (message.Take mine yours) = codes "Take"
+frame_name (message.Renew mine yours stamp version got want ranges) = codes "Renew"
+frame_name (message.RenewAck mine yours stamp version) = codes "RenewAck"
+frame_name (message.Transfer mine yours flight ranges) = codes "Transfer"
+frame_name (message.Gone mine yours got bound) = codes "Gone"
+frame_name (message.Seek origin key hops) = codes "Seek"
+frame_name (message.Found key holder) = codes "Found"
+frame_name (message.Accuse victim) = codes "Accuse"
+frame_name (message.Ruled victim ruling) = codes "Ruled"
+frame_name (message.Claim victim round) = codes "Claim"
+frame_name (message.Kept victim round claimer) = codes "Kept"
+frame_name (message.Prepare partition epoch) = codes "Prepare"
+frame_name (message.Prepared partition epoch config) = codes "Prepared"
+frame_name (message.NoPrepare partition epoch kept) = codes "NoPrepare"
+frame_name (message.Vote config) = codes "Vote"
+frame_name (message.Voted partition epoch kept) = codes "Voted"
+frame_name (message.NoVote partition epoch kept) = codes "NoVote"
+frame_name (message.DoneAsk config) = codes "DoneAsk"
+frame_name (message.DoneKept partition epoch) = codes "DoneKept"
+frame_name (message.NoDone partition epoch kept) = codes "NoDone"
+frame_name (message.Promise partition epoch) = codes "Promise"
+frame_name (message.Promised partition epoch at last) = codes "Promised"
+frame_name (message.Sync partition epoch origin last) = codes "Sync"
+frame_name (message.Fetch partition epoch lsn) = codes "Fetch"
+frame_name (message.Piece partition epoch lsn entry_epoch text) = codes "Piece"
+frame_name (message.Adopted partition epoch last) = codes "Adopted"
+frame_name (message.Activate config) = codes "Activate"
+frame_name (message.Activated partition epoch) = codes "Activated"
+frame_name (message.Append partition epoch lsn text) = codes "Append"
+frame_name (message.Appended partition epoch last) = codes "Appended"
+frame_name (message.Older partition epoch kept) = codes "Older"
+
+abbrev pub record_name : Record → List ℕ
+record_name (kept.Boot instance) = codes "Boot"
+record_name (kept.AccusedBy victim first) = codes "AccusedBy"
+record_name (kept.PreparedBy partition epoch preparer) = codes "PreparedBy"
+record_name (kept.VotedFor config) = codes "VotedFor"
+record_name (kept.DoneFor config) = codes "DoneFor"
+record_name (kept.PromisedAt partition epoch) = codes "PromisedAt"
+record_name (kept.Wrote partition epoch lsn text) = codes "Wrote"
+record_name (kept.Incoming partition epoch lsn entry_epoch text) = codes "Incoming"
+record_name (kept.AdoptedAt partition epoch last own) = codes "AdoptedAt"
+record_name (kept.ClaimedBy victim round claimer) = codes "ClaimedBy"
