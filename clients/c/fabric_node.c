@@ -1621,6 +1621,11 @@ enum fabric_node_error fabric_node_poll(struct fabric_node *node, int millisecon
     return leave(node, error);
 }
 
+int fabric_node_descriptor(const struct fabric_node *node)
+{
+    return node->process == 0 ? -1 : node->output;
+}
+
 enum fabric_node_error fabric_node_close(struct fabric_node *node)
 {
     enum fabric_node_error error = enter(node);

@@ -109,6 +109,10 @@ enum fabric_node_error fabric_node_leads(struct fabric_node *node, uint16_t part
  * starts a child again. */
 enum fabric_node_error fabric_node_poll(struct fabric_node *node, int milliseconds);
 
+/* What to wait for, beside others, between two polls: readable once lines have come. -1 if no child runs. The next child
+ * has another one. Poll before each wait, since lines may have been read along with an answer. */
+int fabric_node_descriptor(const struct fabric_node *node);
+
 /* Closes the child's standard input, waits for its end, and frees the node. In a handler it is freed when the call that
  * runs the handler returns, so it must not be used behind that. */
 enum fabric_node_error fabric_node_close(struct fabric_node *node);

@@ -6,6 +6,7 @@
 #include <dirent.h>
 #include <errno.h>
 #include <inttypes.h>
+#include <poll.h>
 #include <stdio.h>
 #include <stdlib.h>
 #include <string.h>
@@ -330,6 +331,16 @@ static void do_polled(int time, int low, int high)
         printf("polled %ld\n", passed);
 }
 
+static void do_readable(int time)
+{
+    struct pollfd ready = {fabric_node_descriptor(node), POLLIN, 0};
+    indent();
+    if (ready.fd < 0)
+        printf("readable none\n");
+    else
+        printf("readable %s\n", poll(&ready, 1, time) > 0 ? "yes" : "no");
+}
+
 static void do_close(void)
 {
     enum fabric_node_error error = fabric_node_close(node);
@@ -370,6 +381,8 @@ static void run_other(const char *word, const char *rest)
         do_leads((unsigned)atoi(rest));
     else if (strcmp(word, "poll") == 0)
         do_poll(atoi(rest));
+    else if (strcmp(word, "readable") == 0)
+        do_readable(atoi(rest));
     else if (strcmp(word, "sleep") == 0)
         usleep((useconds_t)atoi(rest) * 1000);
     else if (strcmp(word, "faults") == 0)

@@ -4,6 +4,7 @@ A line of `[calls]` is a call, or `on HANDLER N CALL`: what the N-th call of a h
 """
 import math
 import os
+import select
 import sys
 import time
 
@@ -142,6 +143,11 @@ class Driver:
         self.node.poll(int(milliseconds) / 1000)
         passed = 1000 * (time.monotonic() - began)
         say("polled", "%s-%s" % (low, high) if int(low) <= passed <= int(high) else passed)
+
+    def do_readable(self, milliseconds):
+        descriptor = self.node.descriptor()
+        ready = descriptor is not None and select.select([descriptor], [], [], int(milliseconds) / 1000)[0]
+        say("readable", "none" if descriptor is None else "yes" if ready else "no")
 
     def do_until(self, word, count, milliseconds):
         end = time.monotonic() + int(milliseconds) / 1000

@@ -37,6 +37,10 @@ class Child:
         self._unsent = bytearray()
         self._reads = True  # it takes what is sent
 
+    def descriptor(self):
+        """Where its lines come from: it is readable once something has come."""
+        return self._output
+
     def next_line(self):
         """The bytes of the next line, or None if no whole one has come. Of a line that is too long, a front."""
         end = self._unread.find(b"\n", self._searched)

@@ -131,6 +131,14 @@ class Node:
         while life.take_line():
             pass
 
+    def descriptor(self):
+        """What to wait for, beside others, between two polls: readable once lines have come. None if no child runs.
+
+        The next child has another one. Poll before each wait, since lines may have been read along with an answer.
+        """
+        life = self._enter()
+        return None if life.child is None else life.child.descriptor()
+
     def close(self):
         """Closes the child's standard input, waits for its end, and starts no other."""
         life = self._enter()
