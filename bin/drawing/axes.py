@@ -71,6 +71,10 @@ class TimeAxis:
         share = (time - before) / (after - before)
         return self.knots[index - 1] + share * (self.knots[index] - self.knots[index - 1])
 
+    def has_still(self):
+        """Whether several steps have one time."""
+        return any(a == b for a, b in zip(self.times, self.times[1:]))
+
     def right(self):
         return self.end + self.tail
 

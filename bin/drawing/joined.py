@@ -25,6 +25,7 @@ class Run:
         self.is_running = any(it.is_running for it in sections)
         self.is_dated = any(it.is_dated for it in sections)
         self.has_steps = len(histories) == 1
+        self.broken_off = [life for it in histories if len(sections) > 1 for life in broken_off(it)]
         self.day, self.apart = join_by_day(histories) if self.is_dated else (None, 0)
         loose = join(histories, given) if len(histories) > 1 and not self.is_dated else []
         history = histories[0] if histories else History(None)
@@ -84,7 +85,7 @@ class Run:
         if self.stretches and all(it.fence is None and it.lapse is None for it in self.stretches):
             return ["no line has a fence, so none is drawn"]
         if self.has_lapses() and not self.is_running:
-            return ["where a fence is: a clock is taken to run evenly between two lines, and then as true time does"]
+            return ["fences are drawn as if clocks ran evenly between two lines, and like true time after the last one"]
         return []
 
     def note_clocks(self, loose, given):
@@ -114,6 +115,14 @@ class Run:
             notes += some(["at the end " + place_text(place) for place in it.places])
             notes += [f"{name}{text}" for text in event_texts(it.events)]
         return some(notes, 3 * MOST_NOTES)
+
+
+def broken_off(history):
+    """The lives whose process did not say how it ended: it was killed, or it goes on."""
+    section = history.section
+    if section is None or section.closing or section.ended is not None:
+        return []
+    return [it for it in history.lives if it.how == "end"]
 
 
 def alarm_of(section):

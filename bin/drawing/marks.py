@@ -7,11 +7,14 @@ SIGNS = {
     "discharged": ('<circle class="sign" r="4"/>', "discharged"),
     "heir": ('<path class="sign" d="M0 -5L5 0L0 5L-5 0z"/>', "became heir"),
     "tookover": ('<path class="full" d="M0 -5L5 0L0 5L-5 0z"/>', "took over"),
-    "left": ('<path class="sign" d="M-4 -4L4 4M-4 4L4 -4"/>', "left the ring"),
+    "left": (
+        '<path class="rim" d="M-4 -4L4 4M-4 4L4 -4"/><path class="sign" d="M-4 -4L4 4M-4 4L4 -4"/>', "left the ring",
+    ),
     "returned": ('<path class="sign" d="M4 -4L-4 0L4 4z"/>', "flight returned"),
     "start": ('<path class="full" d="M-1 -5v10h2v-10z"/>', "started"),
     "stopped": ('<path class="full" d="M-4 -4h8v8h-8z"/>', "stopped"),
-    "promised": ('<path class="full" d="M-.75 -3.5h1.5v7h-1.5z"/>', "promised an epoch"),
+    "silent": ('<path class="sign" d="M-3.5 -3.5h7v7h-7z"/>', "its last line: killed, or it goes on"),
+    "promised": ('<path class="bare" d="M-.75 -3.5h1.5v7h-1.5z"/>', "promised an epoch"),
 }
 
 

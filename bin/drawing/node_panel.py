@@ -3,13 +3,17 @@ from . import palette
 from .lines import node_of
 from .marks import gathered
 from .spans import Mark
-from .svg import counted, thousands
+from .svg import counted, text_width, thousands
 
 MOST_HEIGHT, LEAST_HEIGHT = 20, 9.5
+# A lane of this height has room for names.
+NAMED_LANE = 12
 # A shorter silence at the end is no news.
 LEAST_SILENCE = 60
 # With more flights than that, no arrows are drawn; with more instances, the bars of holds are not apart by instance.
 MOST_ARROWS, MOST_LIVES = 2_000, 2_000
+# So many arrows are drawn more faintly, or the lanes could not be read.
+MANY_ARROWS = 60
 
 
 def lane_name(node):
@@ -32,7 +36,7 @@ class NodePanel:
         self.picture.open("g", id="nodes")
         for node, y in self.middle.items():
             self.picture.line(self.axis.left, y, self.axis.right(), y, "rule")
-            size = "right" if self.lane >= 12 else "right small"
+            size = "right" if self.lane >= NAMED_LANE else "right small"
             self.picture.text(self.axis.left - 8, y + 4, lane_name(node), size)
         self.draw_lives()
         self.draw_holds()
@@ -90,7 +94,7 @@ class NodePanel:
             for x0, x1 in united(them, self.sheet.level.together / 12):
                 half = self.lane * 0.36
                 self.picture.rect(x0, y - half, x1 - x0, 2 * half, f"n{index}", f"{who} holds points")
-                if x1 - x0 >= 7 * len(who) + 4 and self.lane >= 12:
+                if x1 - x0 >= text_width(who, 10) + 5 and self.lane >= NAMED_LANE:
                     self.picture.text(x0 + 4, y + 3.5, who, f"small {palette.ink_on(index)}")
 
     def draw_flights(self):
@@ -104,6 +108,7 @@ class NodePanel:
         if len(found) > MOST_ARROWS:
             self.sheet.notes.append(f"no arrows: {counted(len(found), 'flight')} would cover the lanes")
             found = {}
+        faint = " many" if len(found) > MANY_ARROWS else ""
         for (giver, receiver, _), them in found.items():
             x, it = them[0]
             more = f", and {len(them) - 1} more flights" if len(them) > 1 else ""
@@ -111,16 +116,30 @@ class NodePanel:
             title = f"{it.receiver} took flight {it.number} from {it.giver} {when}{more}"
             y0, y1 = self.middle[giver], self.middle[receiver]
             tip = 4 if y1 > y0 else -4
-            self.picture.path(f"M{x:.1f} {y0:.1f}V{y1:.1f}m-3 {-tip}l3 {tip}l3 {-tip}", "change flown", title)
+            self.picture.path(f"M{x:.1f} {y0:.1f}V{y1:.1f}m-3 {-tip}l3 {tip}l3 {-tip}", f"change flown{faint}", title)
 
     def draw_marks(self):
         starts = [Mark(it.begins, "start", it.who, f"{it.who} started", "-") for it in self.run.lives]
         for it in starts:
             it.line = self.sheet.line_at(it.begins)
-        those = [it for it in [*starts, *self.sheet.marks] if node_of(it.who) in self.middle]
+        those = [it for it in [*starts, *self.silences(), *self.sheet.marks] if node_of(it.who) in self.middle]
         placed = [(it, self.middle[node_of(it.who)], node_of(it.who)) for it in those]
         for x, y, kind, title in gathered(self.sheet, placed):
             self.picture.use(f"m-{kind}", x, y, title)
+        if self.lane >= NAMED_LANE:
+            self.name_earlier(those)
+
+    def name_earlier(self, marks):
+        """Names the instance beside a sign that is on the bar of a later one: the later one was not accused."""
+        for it in marks:
+            others = (life for life in self.run.lives if life.begins < it.begins < life.ends and life.who != it.who)
+            if self.sheet.is_seen(it.begins[0]) and any(node_of(life.who) == node_of(it.who) for life in others):
+                self.picture.text(self.axis.x(it.begins) + 6, self.middle[node_of(it.who)] - 3, it.who, "tiny")
+
+    def silences(self):
+        """The last lines of processes that did not say how they ended, if the picture goes on for long behind them."""
+        quiet = [it for it in self.run.broken_off if self.axis.x(it.heard) < self.axis.right() - LEAST_SILENCE]
+        return [Mark(it.heard, "silent", it.who, f"the last line of {it.who}", "-") for it in quiet]
 
 
 def united(spans, gap):

@@ -10,7 +10,7 @@ from .lines import node_of, order_of
 from .node_panel import NodePanel
 from .partition_panel import PartitionPanel
 from .ring_panel import RingPanel, point_text
-from .svg import Picture, counted
+from .svg import Picture, counted, text_width
 from .time_panel import TimePanel
 
 MAX_PICTURE = 2_000_000
@@ -18,6 +18,8 @@ WIDTH, LEFT, RIGHT = 1000, 138, 16
 # The ring is higher if many nodes hold points, so that a block can bear its name.
 LEAST_RING, MOST_RING, RING_OF_NODE = 300, 560, 9
 MOST_NAMES = 4
+# In the legend: from a sample to its words, and from them to the next sample.
+SAMPLE, BETWEEN = 17, 15
 MOST_TWICE = 100
 
 
@@ -151,10 +153,11 @@ def draw_legend(sheet, y):
     entries = [(node, whos) for node, whos in instances.items() if palette.index_of(node) in sheet.colours]
     for node, whos in entries[:64]:
         name = ", ".join(whos[:MOST_NAMES]) + (f" .. {whos[-1]}" if len(whos) > MOST_NAMES else "")
-        x, y = room(x, y, 22 + 6.4 * len(name))
+        width = SAMPLE + text_width(name)
+        x, y = room(x, y, width)
         picture.rect(x, y - 9, 12, 10, f"n{palette.index_of(node)}")
-        picture.text(x + 16, y, name)
-        x += 30 + 6.4 * len(name)
+        picture.text(x + SAMPLE, y, name)
+        x += width + BETWEEN
     if len(entries) > 64:
         x, y = room(x, y, 150)
         picture.text(x, y, f"and {len(entries) - 64:,} more nodes", "faint")
@@ -163,10 +166,11 @@ def draw_legend(sheet, y):
         sheet.notes.append(f"there are {many} colours: nodes {many} numbers apart share one, and blocks bear names")
     x, y = 12, y + 20
     for draw, name in signs(sheet):
-        x, y = room(x, y, 22 + 5.9 * len(name))
+        width = SAMPLE + text_width(name)
+        x, y = room(x, y, width)
         draw(x + 6, y - 4)
-        picture.text(x + 16, y, name)
-        x += 30 + 5.9 * len(name)
+        picture.text(x + SAMPLE, y, name)
+        x += width + BETWEEN
     picture.close("g")
     return y + 10
 
@@ -188,7 +192,7 @@ def signs(sheet):
             has(lambda x, y: picture.rect(x - 6, y - 5, 12, 10, f"h{first}"), "striped: in flight, the giver's colour")
         if run.has_lapses():
             has(lambda x, y: picture.line(x, y - 6, x, y + 6, f"edge e{first}"), "a fence ended the hold")
-    if sheet.axis.has_steps:
+    if sheet.axis.has_still():
         has(lambda x, y: picture.line(x - 6, y, x + 6, y, "still"), "steps at one time, in their order")
     if sheet.has_pale:
         has(lambda x, y: picture.rect(x - 6, y - 2, 12, 4, f"n{first} gone"), "pale: it left, or says nothing more")

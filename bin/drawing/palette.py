@@ -41,7 +41,8 @@ def themed(theme):
         ".paper{fill:%(paper)s}text{fill:%(ink)s}.faint{fill:%(faint)s}.alarm{fill:%(alarm)s}"
         ".rule{stroke:%(rule)s}.tick{stroke:%(faint)s}.still{stroke:%(faint)s}.frame{stroke:%(faint)s}"
         ".fault{stroke:%(alarm)s}.rise{stroke:%(ink)s}.change{stroke:%(ink)s}.flown{stroke:%(ink)s}"
-        ".both{fill:%(alarm)s}.sign{fill:%(paper)s;stroke:%(ink)s}.full{fill:%(ink)s}" % theme
+        ".both{fill:%(alarm)s}.sign{fill:%(paper)s;stroke:%(ink)s}.full{fill:%(ink)s;stroke:%(paper)s}"
+        ".bare{fill:%(ink)s}.rim{stroke:%(paper)s}" % theme
     )
 
 
@@ -53,6 +54,7 @@ BASE = (
     ".rise{fill:none;stroke-width:1.5}.change{stroke-width:1.5;fill:none}.dashed{stroke-dasharray:3 2}"
     ".flown{stroke-width:1;opacity:.55}"
     ".edge{stroke-width:1.5;stroke-dasharray:3 2}.both{opacity:.85}.sign{stroke-width:1.3}"
+    ".full{stroke-width:.9;paint-order:stroke}.rim{stroke-width:4;fill:none}.many{opacity:.22}"
     ".replica{opacity:.55}.gone{opacity:.35}text.dark{fill:#000}text.pale{fill:#fff}"
     "#ring rect,#ring path,#nodes rect{shape-rendering:crispEdges}"
 )

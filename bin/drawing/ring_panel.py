@@ -5,12 +5,12 @@ from . import palette
 from .boxes import grid
 from .lines import RING, node_of
 from .marks import gathered
-from .svg import counted, number, thousands
+from .svg import counted, number, text_width, thousands
 
 # Above so many boxes a grid shows the ring.
 MOST_BOXES = 6_000
-# A block of this size bears the name of its instance.
-LABEL_WIDTH, LABEL_HEIGHT, TINY_HEIGHT = 24, 12, 8
+# A block that is so high bears the name of its instance, if it is wide enough.
+LABEL_HEIGHT, TINY_HEIGHT = 12, 8
 # In a block that is so wide, the name is at its left edge, out of the way of the signs.
 WIDE = 90
 
@@ -74,7 +74,7 @@ class RingPanel:
     def draw_name(self, box):
         top, bottom = self.points.y(box.hi + 1), self.points.y(box.lo)
         width, height = box.x1 - box.x0, bottom - top
-        if box.kind == "held" and width >= max(LABEL_WIDTH, 7 * len(box.who) + 4) and height >= TINY_HEIGHT:
+        if box.kind == "held" and width >= text_width(box.who) + 4 and height >= TINY_HEIGHT:
             size, down = ("", 4) if height >= LABEL_HEIGHT else (" tiny", 3)
             ink = palette.ink_on(palette.index_of(node_of(box.who)))
             if width >= WIDE:
@@ -90,7 +90,7 @@ class RingPanel:
         if ticks is not None:
             texts.insert(0, f"nobody for {thousands(round(ticks, 1))} {self.sheet.unit}")
         for text in texts:
-            y, end = min(top + 15, (top + bottom) / 2 + 4), x0 + 6.3 * len(text) + 8
+            y, end = min(top + 15, (top + bottom) / 2 + 4), x0 + text_width(text) + 12
             near = signs[bisect_left(signs, (x0,)):bisect_left(signs, (end + 6,))]
             if end <= x1 and bottom - top >= LABEL_HEIGHT and not any(y - 16 < sign < y + 8 for _, sign in near):
                 self.picture.text(x0 + 6, y, text, "faint")

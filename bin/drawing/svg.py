@@ -6,6 +6,20 @@ def escape(text):
     return text
 
 
+# The advance of the letters of DejaVu Sans, in hundredths of the size: each width with its letters.
+WIDTHS = {
+    28: "'ijl", 32: " ,.", 34: "/:;|\\", 36: "-f", 39: "()[]t!r", 52: "szc?*_", 59: "vxyFkL", 62: "TYaoeP",
+    68: "AVBRXZC", 76: "HNDGUOQ", 83: "w#+<=>^~", 97: "mWM%@",
+}
+WIDTH_OF = {letter: width for width, letters in WIDTHS.items() for letter in letters}
+OTHER_WIDTH = 64
+
+
+def text_width(text, size=11):
+    """About how wide a text is, so that the next one begins behind it."""
+    return sum(WIDTH_OF.get(it, OTHER_WIDTH) for it in text) * size / 100
+
+
 def number(value):
     """A length with two decimals at most, and no zeros behind."""
     text = f"{value:.2f}"
