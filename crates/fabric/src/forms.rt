@@ -1,6 +1,6 @@
 /// The version, which CHANGELOG.md owns, and the forms of the program, a line each.
 pub const FORMS: &str = "\
-fabric 0.9.0
+fabric 1.0.0
 fabric replay          runs the schedule on standard input and writes its report
 fabric trace           runs the schedule on standard input and writes its transcript
 fabric writes          runs the schedule on standard input and writes its committed logs
