@@ -43,7 +43,8 @@ impl TakeOvers {
     pub fn has(&self, who: Who) -> bool
         ensures { result ≡ taken_at who self.now }
     {
-        self.table.contains_key(&Instance::new(who))
+        // In most runs nobody was taken over, and then no instance need be looked up.
+        !self.table.is_empty() && self.table.contains_key(&Instance::new(who))
     }
 
     fn put(&mut self, victim: Who)
