@@ -21,7 +21,7 @@ use list::{
 };
 use pair::{push_number_behind, push_who_behind};
 use refused::{push_left, push_refused, refused_of};
-use ring::{push_flight, push_found, push_heir, push_nowhere, push_own, push_ranges_of};
+use ring::{own_of, push_flight, push_found, push_heir, push_nowhere, push_own, push_ranges_of};
 use std::alloc::Global;
 use text_fields::{after_word, push_bytes};
 use unit::{push_entry, push_in, unit_report_of};
@@ -40,8 +40,10 @@ fn plain_report_of(words: &[u8]) -> Result<Report, BadLine>
     }
 }
 
+// A report of any kind. It is never inlined: it clears the room of each kind, whichever comes.
+#[inline(never)]
 #[tactic(auto, unfolding(line_format::specs::Readers::report_of))]
-fn report_of(alloc: Global, words: &[u8]) -> Result<Report, LineRefusal>
+fn any_report_of(alloc: Global, words: &[u8]) -> Result<Report, LineRefusal>
     ensures { Reads (λ x. x) result (report_of words.now) }
 {
     if let Ok(rest) = after_word(b"units ", words) {
@@ -53,6 +55,18 @@ fn report_of(alloc: Global, words: &[u8]) -> Result<Report, LineRefusal>
     } else {
         Ok(plain_report_of(words)?)
     }
+}
+
+/// The report behind a head. BadLine comes exactly where the bytes are none, unless memory was short before that was
+/// seen. What a node owns is told most often, and is tried first.
+#[tactic(auto, using(crate::proofs::OwnLines::own_is_told))]
+fn report_of(alloc: Global, words: &[u8]) -> Result<Report, LineRefusal>
+    ensures { Reads (λ x. x) result (report_of words.now) }
+{
+    if let Ok(rest) = after_word(b"own ", words) {
+        return Ok(own_of(rest)?);
+    }
+    any_report_of(alloc, words)
 }
 
 /// The head and the report of a line, without its line feed. BadLine comes exactly where the bytes are no

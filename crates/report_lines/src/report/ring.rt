@@ -23,8 +23,9 @@ use text_fields::{
     number_word, point_word, ranges_word, who_word,
 };
 
+/// What a node owns, and up to which reading.
 #[tactic(auto, unfolding(line_format::specs::Readers::own_of))]
-fn own_of(words: &[u8]) -> Result<Report, BadField>
+pub fn own_of(words: &[u8]) -> Result<Report, BadField>
     ensures { Gives (λ x. x) result (own_of words.now) }
 {
     let (ranges, rest) = ranges_word(words)?;
