@@ -82,7 +82,7 @@ class Service:
         it = self.cluster
         own = [str(self.number), ADDRESSES, "%d-%d" % PARTITIONS, "--try", it.tries]
         words = [*it.program_words, *own, "--", it.fabricd, "node", str(self.number), it.file, "--parent",
-                 "--hold", str(HOLD), "--folder", self.folder, "--listen", address(30 + self.number)]
+                 "--hold", str(HOLD), "--folder", self.folder, "--listen", address(30 + self.number), *it.key_words]
         self.lives, self.began = self.lives + 1, now()
         self.cluster.said.append(Said(self.began, self.number, "begin", ()))
         with open(self.folder + ".log", "a") as log:
@@ -149,14 +149,21 @@ class Service:
 
 
 class Cluster:
-    def __init__(self, fabricd, program_words, tries, place, stopped):
+    def __init__(self, fabricd, program_words, tries, place, stopped, is_sealed=False):
         self.fabricd, self.program_words, self.tries, self.place = fabricd, program_words, tries, place
         self.stopped, self.said, self.served, self.files, self.begun = stopped, [], {}, 0, 0.0
         self.services = [Service(self, n) for n in NODES]
         self.arbiters = {}
         self.frames = [0, 0, 0]
         os.makedirs(place)
+        self.key_words = self.make_key() if is_sealed else []
         self.write_file(SERVICE)
+
+    def make_key(self):
+        path = os.path.join(self.place, "key")
+        with open(os.open(path, os.O_CREAT | os.O_WRONLY, 0o600), "wb") as file:
+            file.write(os.urandom(32))
+        return ["--key", path]
 
     def write_file(self, service):
         self.files += 1
@@ -170,7 +177,8 @@ class Cluster:
 
     def start_arbiter(self, number):
         folder = self.arbiter_folder(number)
-        words = [self.fabricd, "arbiter", str(number), self.file, "--folder", folder, "--listen", address(40 + number)]
+        words = [self.fabricd, "arbiter", str(number), self.file, "--folder", folder, "--listen", address(40 + number),
+                 *self.key_words]
         with open(folder + ".log", "a") as log:
             self.arbiters[number] = subprocess.Popen(words, stdin=subprocess.DEVNULL, stdout=log, stderr=log)
 
@@ -219,22 +227,16 @@ class Cluster:
             time.sleep(1)  # a node whose service was killed just before has not ended yet
         raise SystemExit("fabricd again says %s" % said.stdout.strip())
 
-    def manager(self):
-        for it in self.services:
-            state = it.state()
-            if state and state.manages():
-                return it
-        return None
-
     def log_of(self, partition):
-        """The texts of a partition's log, once its primary has committed one more."""
-        for _ in range(PATIENCE):
+        """The texts of a log, once the primary has committed one more. If none does, the ring begins again."""
+        asked = now()
+        while now() < asked + 4 * PATIENCE:
             for it in self.services:
                 lines = it.ask("write %d ?" % partition, 5.0)
                 if lines and any(" committed %d " % partition in line for line in lines):
                     return entries_of(it, partition)
             time.sleep(1)
-            if now() > self.begun + PATIENCE and not self.manager():
+            if now() > max(asked, self.begun) + PATIENCE / 2:
                 self.begin_again()
         raise SystemExit("partition %d has no primary" % partition)
 

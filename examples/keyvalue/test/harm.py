@@ -8,7 +8,8 @@ import time
 from cluster import ARBITERS, LEASE, PARTITIONS, kill_process, now
 
 PAST = 4 * LEASE / 1000  # seconds after which another node has taken over, if one can
-WITHOUT = 10 * LEASE / 1000  # seconds without a manager, or without half of the ring, after which the ring begins again
+WITHOUT = 8 * LEASE / 1000  # seconds for which a node is not back, or nobody manages, after which the ring begins again
+TURN = 10 * PAST  # seconds for which one is the victim, if no kill comes between a line and its `done`
 POLL = "7"  # the number of this call of the system on x86-64
 
 
@@ -45,10 +46,13 @@ def stop_at_rest(child):
 
 
 class Harm:
-    """`chances` says how likely each end of a stop is, `acts` what is done at other moments, and `pause` how often."""
+    """`chances` says how likely each end of a stop is, and `acts` what is done at other moments.
 
-    def __init__(self, chances, acts, pause):
-        self.chances, self.acts, self.pause = chances, acts, pause
+    `pause` is how long it takes from one of these acts to the next, and `gives` from one command `give` to the next.
+    """
+
+    def __init__(self, chances, acts, pause, gives):
+        self.chances, self.acts, self.pause, self.gives = chances, acts, pause, gives
         self.cluster, self.states, self.is_on, self.is_busy, self.victim = None, {}, False, False, 1
         names = ("stops", "losing", "promised", "service", "child", "kills", "past", "begun")
         self.counts = {name: 0 for name in names}
@@ -75,6 +79,7 @@ class Harm:
         self.states[service.number] = None
         if what == "past":
             self.count("past")
+            self.whole = now() + PAST
             threading.Timer(PAST, service.go_on, [process]).start()
             return
         self.count("kills", handler, what)
@@ -83,11 +88,15 @@ class Harm:
         else:
             kill_process(child)
             service.go_on(process)
+        self.rotate()
 
     # ---- At any other moment. ----
 
+    def target(self):
+        return self.cluster.services[self.victim - 1]
+
     def act(self):
-        service = self.cluster.services[self.victim - 1]
+        service = self.target()
         child = service.child() if service.is_running() else None
         if child and self.may_harm(service):
             getattr(self, random.choice(self.acts))(service, service.process.pid, child)
@@ -147,9 +156,9 @@ class Harm:
 
     def run(self, cluster, seconds):
         """Harms for so long. What has ended starts again, and primaries move."""
-        self.cluster, self.is_on = cluster, True
+        self.cluster, self.is_on, self.turn = cluster, True, now() + TURN
         until = now() + seconds
-        due = {what: now() for what in (self.look, self.swap, self.give, self.rotate)}
+        due = {what: now() for what in (self.look, self.swap, self.give)}
         due[self.begin_act] = now() + PAST
         self.whole = now() + WITHOUT
         while now() < until:
@@ -157,6 +166,8 @@ class Harm:
             for what in due:
                 if now() >= due[what]:
                     due[what] = now() + what()
+            if now() >= self.turn:
+                self.rotate()
             if now() > self.whole + WITHOUT and not self.is_busy:
                 self.begin_again()
             time.sleep(0.02)
@@ -171,43 +182,54 @@ class Harm:
                 it.start()
 
     def look(self):
-        """What the nodes say. One that does not route counts as harmed."""
-        for it in self.cluster.services:
-            state = it.state()
-            self.states[it.number] = state if state and state.phase == "routing" else None
-        known = [state for state in self.states.values() if state]
-        if self.manager() and sum(it.share() for it in known) > 0.5:
+        """What the nodes say. One that does not route counts as harmed. Before all are up nothing is judged."""
+        said = {it.number: it.state() for it in self.cluster.services}
+        for number, state in said.items():
+            self.states[number] = state if state and state.phase == "routing" else None
+        known = [state for state in said.values() if state and state.phase == "routing"]
+        is_whole = self.manager() and len(known) == len(said) and sum(it.share() for it in known) > 0.5
+        if is_whole or self.is_busy or None in said.values():
             self.whole = max(self.whole, now())
         return 0.25
 
     def manager(self):
-        known = [it for it in self.cluster.services if self.states.get(it.number)]
-        return next((it for it in known if self.states[it.number].manages()), None)
+        known = [(it, self.states.get(it.number)) for it in self.cluster.services]
+        return next((it for it, state in known if state and state.manages()), None)
 
     def swap(self):
-        """The manager moves primaries to the victim and away from it. So the victim promises to follow other epochs."""
-        manager, victim, partition = self.manager(), self.states.get(self.victim), random.randint(*PARTITIONS)
-        others = [n for n, state in self.states.items() if state and n != self.victim]
-        if manager and victim and others and partition not in self.states[manager.number].changing:
-            to = random.choice(others) if victim.roles.get(partition) == "primary" else self.victim
-            manager.ask("swap %d %d" % (partition, to), 0.01)
-        return 0.2
+        """Primaries move to the victim, and away from it once it may be harmed. So it promises other epochs."""
+        service, victim, manager = self.target(), self.states.get(self.victim), self.manager()
+        known = self.states.get(manager.number) if manager else None
+        if known and victim:
+            still = set(range(PARTITIONS[0], PARTITIONS[1] + 1)) - known.changing
+            led = {partition for partition in still if victim.roles.get(partition) == "primary"}
+            others = [n for n, state in list(self.states.items()) if state and n != self.victim]
+            if led and others and self.may_harm(service):
+                manager.ask("swap %d %d" % (random.choice(sorted(led)), random.choice(others)), 0.01)
+            elif still - led and len(led) < 2:
+                manager.ask("swap %d %d" % (random.choice(sorted(still - led)), self.victim), 0.01)
+        return 0.1
 
     def give(self):
         """The victim gives all that it owns to another node."""
-        if self.states.get(self.victim):
-            to = random.choice([it.number for it in self.cluster.services if it.number != self.victim])
-            self.cluster.services[self.victim - 1].ask("give %d all" % to, 0.01)
-        return random.uniform(2, 4) * PAST
+        service = self.target()
+        if not self.may_harm(service):
+            return 0.1
+        to = random.choice([it.number for it in self.cluster.services if it is not service])
+        service.ask("give %d all" % to, 0.01)
+        return random.uniform(*self.gives)
 
     def rotate(self):
-        self.victim = self.victim % len(self.cluster.services) + 1
-        return 10 * PAST
+        """Another one is the victim: after each kill between a line and its `done`, and else after some time."""
+        if not self.is_busy:
+            self.victim = self.victim % len(self.cluster.services) + 1
+        self.turn = now() + TURN
 
     def begin_act(self):
-        if self.is_on and not self.is_busy and self.acts:
-            self.is_busy = True
-            threading.Thread(target=self.act, daemon=True).start()
+        if self.is_busy or not self.may_harm(self.target()):
+            return 0.1
+        self.is_busy = True
+        threading.Thread(target=self.act, daemon=True).start()
         return random.uniform(*self.pause)
 
     def begin_again(self):
