@@ -66,7 +66,8 @@ class Bench:
         for name, value in (names or {}).items():
             command = command.replace(name, value)
         return subprocess.Popen(["bash", "-c", command], cwd=where, env=self.environment, stdin=subprocess.DEVNULL,
-                                stdout=output, stderr=subprocess.STDOUT, start_new_session=True)
+                                stdout=output, stderr=subprocess.STDOUT, start_new_session=True,
+                                preexec_fn=take_interrupts)
 
     def await_in(self, text, files, wants, seconds=20):
         """Waits until one of the files has a line."""
@@ -76,6 +77,11 @@ class Bench:
             return True
         self.fault(text, f"no line {wants!r} within {seconds} s: {[read(it)[-300:] for it in files]}")
         return False
+
+
+def take_interrupts():
+    """What a shell has started in the background ignores Ctrl-C, and so would what is started here."""
+    signal.signal(signal.SIGINT, signal.SIG_DFL)
 
 
 def read(path):
