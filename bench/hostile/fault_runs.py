@@ -161,7 +161,7 @@ class Served(Crew):
         file = os.path.join(self.folder, "file")
         with open(file, "w") as into:
             into.write(self.config(1, 1) + "\n" + self.SERVICE + "\n")
-        kind = "node" if self.kind == "served" else "arbiter"
+        kind = self.actor_kind()
         other = "arbiter" if kind == "node" else "node"
         self.others = [self.serve(fabricd, other, file)]
         process = self.serve(fabricd, kind, file, fault)
@@ -225,8 +225,11 @@ class Served(Crew):
             if not os.path.exists(os.path.join(self.folder, kind, "door")) or self.said[-1:] == ["dropped"]:
                 break
 
+    def actor_kind(self):
+        return "node" if self.kind == "served" else "arbiter"
+
     def records(self):
-        kind = "node" if self.kind == "served" else "arbiter"
+        kind = self.actor_kind()
         actor = 1 if kind == "node" else 32_769
         path = os.path.join(self.folder, kind, "kept", str(actor))
         return [(path, actor)] if os.path.exists(path) else []
@@ -262,8 +265,9 @@ def bad_records(crew):
 class Sweep:
     """Runs with one fault each, some at a time, until the faults are not reached or the time is over."""
 
-    def __init__(self, folder, jobs, statuses, seconds):
-        self.folder, self.jobs, self.statuses = folder, jobs, statuses
+    def __init__(self, folder, jobs, statuses, seconds, look=None):
+        """`look` is given each run that ended, its crew and its fault, and says what is wrong with it, if it sees it."""
+        self.folder, self.jobs, self.statuses, self.look = folder, jobs, statuses, look
         self.until, self.places = time.monotonic() + seconds, list(range(jobs))
         self.lock, self.found, self.counts = threading.Lock(), [], {}
 
@@ -283,6 +287,7 @@ class Sweep:
             is_begun = not fault.words or ended.status not in (127, -signal.SIGALRM)
             wrong = faults_of(ended, self.statuses) if is_begun else None
             wrong = wrong or (bad_records(crew) and "records: " + bad_records(crew))
+            wrong = wrong or (self.look and self.look(crew, fault, ended))
             before = list(getattr(crew, "acknowledged", []))
             if not wrong:
                 wrong = self.again(crew, program, before)
