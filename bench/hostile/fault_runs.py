@@ -72,7 +72,8 @@ class Crew:
     """Who runs, and how. `kind` is cluster, node, arbiter, or served; a place gives a folder and ports."""
 
     def __init__(self, kind, folder, place):
-        self.kind, self.folder, self.base = kind, os.path.join(folder, f"{kind}-{place}"), int(os.environ.get("FIRST_PORT", "43000")) + 40 * place
+        self.kind, self.folder = kind, os.path.join(folder, f"{kind}-{place}")
+        self.base = int(os.environ.get("FIRST_PORT", "43000")) + 40 * place
         self.others = []
         shutil.rmtree(self.folder, ignore_errors=True)
         os.makedirs(self.folder, mode=0o700)
@@ -144,8 +145,11 @@ class Planned(Crew):
             self.others.append(self.start([fabric, "node", "1", many], plan, "n1"))
         self.others.append(self.start([fabric, "node", "2", many], self.config(2, 1) + "\n1 join 1\n", "n2"))
 
+    def place_of_it(self):
+        return "it"
+
     def records(self):
-        folder = os.path.join(self.folder, "it", "kept")
+        folder = os.path.join(self.folder, self.place_of_it(), "kept")
         names = os.listdir(folder) if os.path.isdir(folder) else []
         return [(os.path.join(folder, it), int(it)) for it in names]
 
@@ -228,6 +232,9 @@ class Served(Crew):
     def actor_kind(self):
         return "node" if self.kind == "served" else "arbiter"
 
+    def place_of_it(self):
+        return self.actor_kind()
+
     def records(self):
         kind = self.actor_kind()
         actor = 1 if kind == "node" else 32_769
@@ -266,10 +273,10 @@ class Sweep:
     """Runs with one fault each, some at a time, until the faults are not reached or the time is over."""
 
     def __init__(self, folder, jobs, statuses, seconds, look=None):
-        """`look` is given each run that ended, its crew and its fault, and says what is wrong with it, if it sees it."""
+        """`look` is given each run that ended, its crew and its fault, and says what is wrong with it."""
         self.folder, self.jobs, self.statuses, self.look = folder, jobs, statuses, look
         self.until, self.places = time.monotonic() + seconds, list(range(jobs))
-        self.lock, self.found, self.counts = threading.Lock(), [], {}
+        self.lock, self.found, self.counts, self.reached = threading.Lock(), [], {}, 0
 
     def place(self):
         with self.lock:
@@ -283,6 +290,8 @@ class Sweep:
             ended = crew.run(program, fault)
             if ended.status == NOT_REACHED:
                 return NOT_REACHED
+            with self.lock:
+                self.reached = max(self.reached, int(fault.where.get("FROM", 0)))
             # 127: the loader failed before the program began. A signal of an alarm: strace did not come to it in 3 s.
             is_begun = not fault.words or ended.status not in (127, -signal.SIGALRM)
             wrong = faults_of(ended, self.statuses) if is_begun else None
