@@ -26,6 +26,7 @@ from chaos_records import Bad, Records  # noqa: E402
 from serving import Asked, Door  # noqa: E402
 
 NOT_REACHED = 99
+DEAF = -signal.SIGTERM  # its door took no client any more, so a signal ended it
 TURNS = 120
 PATIENCE = float(os.environ.get("PATIENCE", "4"))  # times the usual wait, where processes wait long for a processor
 # A run takes a second or some. On a loaded machine a shorter lease would end in it.
@@ -82,7 +83,10 @@ class Crew:
         spread = {n: f"{((n - 1) << 64) // nodes:016x}" for n in range(1, nodes + 1)}
         listed = [{"node": n, "point": spread[n], "domain": n, "at": f"127.0.0.1:{self.base + n}"} for n in spread]
         voters = [{"arbiter": a, "at": f"127.0.0.1:{self.base + 20 + a}"} for a in range(1, arbiters + 1)]
-        return json.dumps({**RING, "nodes": listed, "arbiters": voters, "first": 1}, separators=(",", ":"))
+        return json.dumps({**self.ring(), "nodes": listed, "arbiters": voters, "first": 1}, separators=(",", ":"))
+
+    def ring(self):
+        return RING
 
     def start(self, words, stdin, name, fault=None, where=None):
         place = os.path.join(self.folder, name)
@@ -155,7 +159,11 @@ class Planned(Crew):
 
 
 class Served(Crew):
-    """A process of `fabricd`: a node beside an arbitrator, or an arbitrator beside a node, and a client of it."""
+    """A process of `fabricd`: a node beside an arbitrator, or an arbitrator beside a node, and a client of it. The
+    manager asks again after a quarter of a lease, so the lease is shorter."""
+
+    def ring(self):
+        return {**RING, "lease": 16_000, "answer": 5_000, "grain": 1_000}
 
     SERVICE = json.dumps({"join": [1], "partitions": [{"partition": 7, "replicas": 1}], "heal_after": 100,
                           "lines": "all"})
@@ -169,15 +177,25 @@ class Served(Crew):
         other = "arbiter" if kind == "node" else "node"
         self.others = [self.serve(fabricd, other, file)]
         process = self.serve(fabricd, kind, file, fault)
-        asking = threading.Thread(target=self.ask_all, args=(kind, turns), daemon=True)
+        asking = threading.Thread(target=self.ask_all, args=(kind, turns, process), daemon=True)
         asking.start()
         asking.join(40 * PATIENCE)
-        status = wait(process, 20 * PATIENCE)
+        status = self.end_of(process)
         for it in self.others:
             it.kill()
             it.wait()
         self.others = []
         return Ended(status, self.lines(kind), " ".join(self.said))
+
+    def end_of(self, process):
+        """The status. Where the door takes no client any more, nobody can order the end, and a signal is the end."""
+        if self.said[-1:] != ["dropped"]:
+            return wait(process, 20 * PATIENCE)
+        try:
+            return process.wait(2 * PATIENCE)
+        except subprocess.TimeoutExpired:
+            process.terminate()
+            return wait(process, PATIENCE)
 
     def serve(self, fabricd, kind, file, fault=None):
         place = os.path.join(self.folder, kind)
@@ -199,14 +217,16 @@ class Served(Crew):
             self.said.append("dropped")
             return []
 
-    def ask_all(self, kind, turns):
-        self.said = []
+    def ask_all(self, kind, turns, process):
+        self.said, self.log = [], []
         until = time.monotonic() + 4 * PATIENCE
-        while time.monotonic() < until:
+        while time.monotonic() < until and process.poll() is None:
             lines = self.one(kind, "state", 1.0 * PATIENCE)
             if kind == "arbiter" and lines or any(" primary " in it for it in lines):
                 break
             time.sleep(0.05)
+        if process.poll() is not None:
+            return
         self.said = []
         asked = ["state"] if kind == "arbiter" else ["find 8000000000000000", f"units {WHOLE}"]
         if kind == "node":
@@ -242,12 +262,14 @@ class Served(Crew):
         return [(path, actor)] if os.path.exists(path) else []
 
 
-def faults_of(ended, statuses):
-    """What is wrong with how a run ended."""
+def faults_of(ended, statuses, is_heard=True):
+    """What is wrong with how a run ended. Where it is not heard, since no write succeeds, it has no last line."""
     if ended.status is None:
         return "it did not end"
     if ended.status not in statuses:
         return f"status {ended.status}"
+    if ended.status == DEAF:
+        return None
     lines = ended.lines.split(b"\n")
     if lines[-1] and ended.status not in (1, 4):
         return f"the last line is cut: {lines[-1][:80]!r}"
@@ -255,7 +277,7 @@ def faults_of(ended, statuses):
         if not LINE.fullmatch(line) and not EVENT.fullmatch(line):
             return f"a line of no form: {line[:80]!r}"
     want = LAST.get(ended.status)
-    if want and (len(lines) < 2 or want not in lines[-2]):
+    if want and is_heard and (len(lines) < 2 or want not in lines[-2]):
         return f"status {ended.status}, and the last line is {lines[-2:-1]}"
     return None
 
@@ -294,7 +316,8 @@ class Sweep:
                 self.reached = max(self.reached, int(fault.where.get("FROM", 0)))
             # 127: the loader failed before the program began. A signal of an alarm: strace did not come to it in 3 s.
             is_begun = not fault.words or ended.status not in (127, -signal.SIGALRM)
-            wrong = faults_of(ended, self.statuses) if is_begun else None
+            is_heard = not re.match("write [0-9]+ from there on", fault.name)
+            wrong = faults_of(ended, self.statuses, is_heard) if is_begun else None
             wrong = wrong or (bad_records(crew) and "records: " + bad_records(crew))
             wrong = wrong or (self.look and self.look(crew, fault, ended))
             before = list(getattr(crew, "acknowledged", []))
