@@ -11,7 +11,8 @@ import time
 from checks import Said
 
 HERE = os.path.dirname(os.path.realpath(__file__))
-HOST, PORT = "127.0.0.1", int(os.environ.get("KEYVALUE_PORT", 50100))
+HOST, PORT = "127.0.0.1", int(os.environ.get("KEYVALUE_PORT", 20100))
+PORTS = 43
 NODES, ARBITERS = (1, 2, 3), (1, 2, 3)
 PARTITIONS = (1, 6)  # the first and the last one
 LEASE = int(os.environ.get("KEYVALUE_LEASE", 600))
@@ -24,6 +25,14 @@ SERVICE = {
     "partitions": [{"partition": p, "replicas": 3} for p in range(PARTITIONS[0], PARTITIONS[1] + 1)],
     "heal_after": LEASE,
 }
+
+
+def is_port_taken_by_connections():
+    """Whether the system may give one of the ports to a connection. Who asks where nobody listens may then be connected
+    with itself, and the service that belongs there cannot start."""
+    with open("/proc/sys/net/ipv4/ip_local_port_range") as file:
+        first, last = map(int, file.read().split())
+    return first <= PORT + PORTS and PORT <= last
 
 
 def address(place):
