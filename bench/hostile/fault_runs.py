@@ -189,7 +189,7 @@ class Served(Crew):
 
     def end_of(self, process):
         """The status. Where the door takes no client any more, nobody can order the end, and a signal is the end."""
-        if self.said[-1:] != ["dropped"]:
+        if "dropped" not in self.said:
             return wait(process, 20 * PATIENCE)
         try:
             return process.wait(2 * PATIENCE)
