@@ -21,7 +21,7 @@ use Rattle.fabric_steward.specs.Greetings.{greet_rule, longest_ago}
 use Rattle.fabric_steward.specs.Laws.{PausesBetween}
 use Rattle.fabric_steward.specs.Noted.{partition_of, partition_told, told_at, unit_configured, unit_refused, unit_slowed, unit_told, unit_told_of, units_noted}
 use Rattle.fabric_steward.specs.Policies.{Policy, fresh_policy, unit_watched}
-use Rattle.fabric_steward.specs.Rules.{advice, command_of, count_for, create_rule, has_cause, heal_rule, is_free, is_long, is_lost, is_to_create, is_to_heal, is_to_learn, is_unasked, join_rule, learn_rule, look_rule, manager_rule}
+use Rattle.fabric_steward.specs.Rules.{advice, command_of, count_for, create_rule, has_cause, heal_rule, is_free, is_long, is_lost, is_to_create, is_to_heal, is_to_learn, join_rule, learn_rule, look_rule, manager_rule}
 use Rattle.fabric_steward.specs.Times.{first_pause, is_over}
 use Rattle.fabric_steward.specs.Watching.{observed, still_changing, unit_forgotten, unit_observed, unit_seen, units_observed}
 use Rattle.fabric_steward.proofs.Advising.{AllOf, first_given, found, if_given, map_given, mapped_all}
@@ -181,7 +181,7 @@ advice_later p pause now last f s some all =
             (
               unit_later p pause now last f _ (is_to_create f now d s) (λ w. Create w.partition (count_for d w)) s.units some (λ w. middle w.missing (is_free f now w) (is_long now d s w)) (λ w mine. mine) all,
               (
-                unit_later p pause now last f _ (is_to_learn f now d s) (λ w. Learn w.partition (count_for d w)) s.units some (λ w. middle (not w.learnt) (is_free f now w) (is_long now d s w || is_unasked f s w)) (λ w mine. mine) all,
+                unit_later p pause now last f _ (is_to_learn f now d s) (λ w. Learn w.partition (count_for d w)) s.units some (λ w. middle (not w.learnt) (is_free f now w) (is_long now d s w)) (λ w mine. mine) all,
                 (
                   unit_later p pause now last f _ (is_to_heal f now s) (λ w. Heal w.partition (count_for d w)) s.units some (λ w. middle w.learnt (is_free f now w) (has_cause f now s.heal_after w)) (λ w mine. mine) all,
                   tt,

@@ -14,7 +14,7 @@ use Rattle.fabric_steward.specs.Domains.{domains_up}
 use Rattle.fabric_steward.specs.Facts.{Facts}
 use Rattle.fabric_steward.specs.Greetings.{greet_rule}
 use Rattle.fabric_steward.specs.Policies.{Policy}
-use Rattle.fabric_steward.specs.Times.{is_over, lasts}
+use Rattle.fabric_steward.specs.Times.{is_over, lasts, look_time}
 
 -- reconfigurations of the policy that are under way when a further heal may begin: fewer than this
 abbrev pub most_at_once : ℕ
@@ -43,7 +43,7 @@ is_free f now w = not (f.is_changing w.partition) && is_over now w.pause w.comma
 
 -- it manages long enough for the partition
 abbrev pub is_long : (now domains : ℕ) → Policy → UnitWatch → Bool
-is_long now domains s w = nat_le w.replicas domains || lasts now s.heal_after s.manages_since
+is_long now domains s w = nat_le w.replicas domains || lasts now (look_time s.lease s.heal_after) s.manages_since
 
 -- how many replicas there can be
 abbrev pub count_for : (domains : ℕ) → UnitWatch → ℕ
@@ -59,31 +59,30 @@ create_rule f now domains s =
     then option_map (λ w. Create w.partition (count_for domains w)) (find (is_to_create f now domains s) s.units)
     else None
 
+-- reconfigurations of the policy that are under way
+abbrev pub under_way : Policy → ℕ
+under_way s = count_by (λ w. is_some w.deed) s.units
+
 abbrev pub is_learn : Option Deed → Bool
 is_learn (Some deed.Learn) = true
 is_learn _ = false
 
--- a learning heal is under way
-abbrev pub is_learning : Policy → Bool
-is_learning s = list_any (λ w. is_learn w.deed) s.units
+-- a learning heal of the partition is under way, and began within two leases: one that waits longer holds no other up
+abbrev pub is_being_learnt : (now : ℕ) → Policy → UnitWatch → Bool
+is_being_learnt now s w = is_learn w.deed && not (is_over now (s.lease * 2) w.commanded)
 
--- a reading is before that one since which something lasts, if both are there
-abbrev pub is_before : (since reading : Option ℕ) → Bool
-is_before (Some since) (Some reading) = nat_lt reading since
-is_before since reading = true
-
--- Nothing is known of the partition, and it was not commanded since this node manages. A heal then places nothing: it ends
--- with the epoch that the arbitrators know, or with the answer that there is no such partition.
-abbrev pub is_unasked : Facts → Policy → UnitWatch → Bool
-is_unasked f s w = is_none (f.config_of w.partition) && is_before s.manages_since w.commanded
+abbrev pub is_learning : (now : ℕ) → Policy → Bool
+is_learning now s = list_any (is_being_learnt now s) s.units
 
 abbrev pub is_to_learn : Facts → (now domains : ℕ) → Policy → UnitWatch → Bool
-is_to_learn f now domains s w = not w.learnt && is_free f now w && (is_long now domains s w || is_unasked f s w)
+is_to_learn f now domains s w = not w.learnt && is_free f now w && is_long now domains s w
 
--- learn: the partition is not learnt since the node manages, and no other one is being learnt
+-- Learn: the partition is not learnt since the node manages, no other one is being learnt, and few reconfigurations are
+-- under way. Where the arbitrators know a later epoch than this node, the heal is a question: it places nothing, and ends
+-- with that epoch.
 abbrev pub learn_rule : Facts → (now domains : ℕ) → Policy → Option Advice
 learn_rule f now domains s =
-    if f.manages now && not (is_learning s)
+    if f.manages now && not (is_learning now s) && nat_lt (under_way s) most_at_once
     then option_map (λ w. Learn w.partition (count_for domains w)) (find (is_to_learn f now domains s) s.units)
     else None
 
@@ -102,10 +101,6 @@ has_cause f now heal_after w = lasts now heal_after w.down || began_again f w.se
 
 abbrev pub is_to_heal : Facts → (now : ℕ) → Policy → UnitWatch → Bool
 is_to_heal f now s w = w.learnt && is_free f now w && has_cause f now s.heal_after w
-
--- reconfigurations of the policy that are under way
-abbrev pub under_way : Policy → ℕ
-under_way s = count_by (λ w. is_some w.deed) s.units
 
 -- heal: the partition is learnt and has a cause, and few reconfigurations are under way
 abbrev pub heal_rule : Facts → (now domains : ℕ) → Policy → Option Advice

@@ -12,6 +12,11 @@ later reading ticks = min (reading + ticks) greatest_reading
 abbrev pub first_pause : ℕ → ℕ
 first_pause lease = max 1 (lease / 4)
 
+-- For how long a new manager looks before it asks. What it places comes after the pause of its question, so after
+-- `heal_after` ticks, or after the pause where that is longer.
+abbrev pub look_time : (lease heal_after : ℕ) → ℕ
+look_time lease heal_after = heal_after - first_pause lease
+
 -- a pause is doubled up to two leases
 abbrev pub doubled : (lease pause : ℕ) → ℕ
 doubled lease pause = min (pause * 2) (lease * 2)

@@ -95,6 +95,18 @@ without_one = record managing { is_up = λ node now. if node == 1 then false els
 abbrev pub greeted_one : Policy
 greeted_one = advised without_one 100 worked_policy
 
--- it has asked for the partition, and heard that there is a later epoch
+-- it has asked for the partition at 850, and heard that there is a later epoch
 abbrev pub told_later : Policy
-told_later = noted Fire (Superseded 7 (record { data_loss = 0; configuration = 5 }) ∷ []) (advised without_one 101 greeted_one)
+told_later = noted Fire (Superseded 7 (record { data_loss = 0; configuration = 5 }) ∷ []) (advised without_one 850 greeted_one)
+
+-- two partitions are declared, and the manager has asked for the first one, whose reconfiguration waits
+abbrev pub two_declared : Policy
+two_declared = record worked_policy {
+  units = unit_watched 1000 (record { partition = 7; replicas = 3 }) ∷ unit_watched 1000 (record { partition = 8; replicas = 3 }) ∷ [];
+}
+
+abbrev pub first_waits : Facts
+first_waits = record managing { is_changing = λ partition. partition == 7 }
+
+abbrev pub first_asked : Policy
+first_asked = advised managing 0 two_declared

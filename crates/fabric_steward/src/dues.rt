@@ -4,7 +4,7 @@ ghost use Rattle.fabric_steward.specs.Dues.{due, node_due, nodes_due, own_due, s
 
 use crate::node_watch::NodeWatch;
 use crate::steward::Steward;
-use crate::times::later;
+use crate::times::{later, look_time};
 use crate::unit_watch::UnitWatch;
 use ring_points::MAX_LEASE;
 
@@ -43,20 +43,23 @@ fn nodes_due(now: u64, lease: u64, nodes: &[NodeWatch], due: u64) -> u64
     soonest
 }
 
-fn unit_due(now: u64, heal_after: u64, unit: &UnitWatch, due: u64) -> u64
-    ensures { result ≡ unit_due now heal_after unit.now due }
+fn unit_due(now: u64, lease: u64, heal_after: u64, unit: &UnitWatch, due: u64) -> u64
+    requires { lease ≤ MAX_LEASE }
+    ensures { result ≡ unit_due now lease heal_after unit.now due }
 {
     let few = sooner_after(now, heal_after, unit.few, due);
     let down = sooner_after(now, heal_after, unit.down, few);
-    sooner_after(now, unit.pause, unit.commanded, down)
+    let held_up = sooner_after(now, lease * 2, unit.commanded, down);
+    sooner_after(now, unit.pause, unit.commanded, held_up)
 }
 
-fn units_due(now: u64, heal_after: u64, units: &[UnitWatch], due: u64) -> u64
-    ensures { result ≡ units_due now heal_after units.now due }
+fn units_due(now: u64, lease: u64, heal_after: u64, units: &[UnitWatch], due: u64) -> u64
+    requires { lease ≤ MAX_LEASE }
+    ensures { result ≡ units_due now lease heal_after units.now due }
 {
     let mut soonest = due;
     for unit in units {
-        soonest = unit_due(now, heal_after, unit, soonest);
+        soonest = unit_due(now, lease, heal_after, unit, soonest);
     }
     soonest
 }
@@ -66,7 +69,8 @@ impl Steward {
     fn own_due(&self, now: u64) -> u64
         ensures { result ≡ own_due now self.now }
     {
-        let managed = sooner_after(now, self.heal_after, self.manages_since, u64::MAX);
+        let looked = look_time(self.lease, self.heal_after);
+        let managed = sooner_after(now, looked, self.manages_since, u64::MAX);
         let asked = sooner_after(now, self.lease * 2, self.manager_asked, managed);
         sooner(now, self.join_due, asked)
     }
@@ -77,6 +81,12 @@ impl Steward {
         ensures { result ≡ due now self.now }
     {
         let asked = nodes_due(now, self.lease, self.nodes.as_slice(), self.own_due(now));
-        units_due(now, self.heal_after, self.units.as_slice(), asked)
+        units_due(
+            now,
+            self.lease,
+            self.heal_after,
+            self.units.as_slice(),
+            asked,
+        )
     }
 }

@@ -42,4 +42,4 @@ pub use leaving_units::MIN_SPARED;
 pub use linked::Linked;
 pub use rules::MAX_AT_ONCE;
 pub use steward::Steward;
-pub use worked::{worked_joins, worked_learning, worked_management};
+pub use worked::{worked_joins, worked_learning, worked_management, worked_waiting};

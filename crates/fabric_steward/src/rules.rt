@@ -2,14 +2,14 @@
 ghost use Rattle.std.specs.Prelude.{◌≡◌, find};
 ghost use Rattle.std.specs.Option.{option_copied};
 ghost use Rattle.fabric_steward.specs.Rules.{advice_in, began_again, count_for, create_rule, has_cause, heal_rule};
-ghost use Rattle.fabric_steward.specs.Rules.{is_before, is_free, is_learning, is_long, is_lost, is_to_create, is_to_heal};
-ghost use Rattle.fabric_steward.specs.Rules.{is_to_learn, is_unasked, join_rule, learn_rule, look_rule, manager_rule, under_way};
+ghost use Rattle.fabric_steward.specs.Rules.{is_being_learnt, is_free, is_learning, is_long, is_lost, is_to_create};
+ghost use Rattle.fabric_steward.specs.Rules.{is_to_heal, is_to_learn, join_rule, learn_rule, look_rule, manager_rule, under_way};
 
 use crate::advice::{Advice, Deed};
 use crate::known::Known;
 use crate::node_watch::NodeWatch;
 use crate::steward::Steward;
-use crate::times::{is_over, lasts};
+use crate::times::{is_over, lasts, look_time};
 use crate::unit_watch::UnitWatch;
 use ring_points::Who;
 
@@ -50,16 +50,6 @@ fn has_cause<K: Known>(known: &K, now: u64, heal_after: u64, unit: &UnitWatch) -
     lasts(now, heal_after, unit.down)
         || began_again(known, unit.served_by)
         || lasts(now, heal_after, unit.few)
-}
-
-/// Whether a reading is before that one since which something lasts, if both are there.
-fn is_before(since: Option<u64>, reading: Option<u64>) -> bool
-    ensures { result ≡ is_before since reading }
-{
-    match (since, reading) {
-        (Some(since), Some(reading)) => reading < since,
-        _ => true,
-    }
 }
 
 impl Steward {
@@ -151,7 +141,8 @@ impl Steward {
     fn is_long(&self, now: u64, domains: usize, unit: &UnitWatch) -> bool
         ensures { result ≡ is_long now domains self.now unit.now }
     {
-        unit.replicas as usize <= domains || lasts(now, self.heal_after, self.manages_since)
+        let looked = look_time(self.lease, self.heal_after);
+        unit.replicas as usize <= domains || lasts(now, looked, self.manages_since)
     }
 
     /// The last answer was that there is no such partition.
@@ -181,11 +172,12 @@ impl Steward {
         unit.missing && is_free(known, now, unit) && self.is_long(now, domains, unit)
     }
 
-    /// The partition is not learnt since the node manages, and no other one is being learnt.
+    /// The partition is not learnt since the node manages, no other one is being learnt, and few reconfigurations are
+    /// under way.
     fn learn_rule<K: Known>(&self, known: &K, now: u64, domains: usize) -> Option<Advice>
         ensures { result ≡ learn_rule (K.facts known.now) now domains self.now }
     {
-        if !known.manages(now) || self.is_learning() {
+        if !known.manages(now) || self.is_learning(now) || MAX_AT_ONCE <= self.under_way() {
             return None;
         }
         match self.unit_to_learn(known, now, domains) {
@@ -205,25 +197,22 @@ impl Steward {
     fn is_to_learn<K: Known>(&self, known: &K, now: u64, domains: usize, unit: &UnitWatch) -> bool
         ensures { result ≡ is_to_learn (K.facts known.now) now domains self.now unit.now }
     {
-        !unit.learnt
-            && is_free(known, now, unit)
-            && (self.is_long(now, domains, unit) || self.is_unasked(known, unit))
+        !unit.learnt && is_free(known, now, unit) && self.is_long(now, domains, unit)
     }
 
-    /// Whether nothing is known of the partition, and it was not commanded since this node manages.
-    fn is_unasked<K: Known>(&self, known: &K, unit: &UnitWatch) -> bool
-        ensures { result ≡ is_unasked (K.facts known.now) self.now unit.now }
+    /// Whether a learning heal of the partition is under way, and began within two leases.
+    fn is_being_learnt(&self, now: u64, unit: &UnitWatch) -> bool
+        ensures { result ≡ is_being_learnt now self.now unit.now }
     {
-        known.config_of(unit.partition).is_none() && is_before(self.manages_since, unit.commanded)
+        matches!(unit.deed, Some(Deed::Learn)) && !is_over(now, self.lease * 2, unit.commanded)
     }
 
-    /// Whether a learning heal is under way.
-    fn is_learning(&self) -> bool
-        ensures { result ≡ is_learning self.now }
+    fn is_learning(&self, now: u64) -> bool
+        ensures { result ≡ is_learning now self.now }
     {
         self.units
             .iter()
-            .any(|unit| matches!(unit.deed, Some(Deed::Learn)))
+            .any(|unit| self.is_being_learnt(now, unit))
     }
 
     /// The partition is learnt and has a cause, and few reconfigurations are under way.

@@ -18,6 +18,13 @@ pub fn first_pause(lease: u64) -> u64
     1.max(lease / 4)
 }
 
+/// For how long a new manager looks before it asks: a pause less than `heal_after`.
+pub fn look_time(lease: u64, heal_after: u64) -> u64
+    ensures { result ≡ Times.look_time lease heal_after }
+{
+    heal_after.saturating_sub(first_pause(lease))
+}
+
 /// A pause is doubled up to two leases.
 pub fn doubled(lease: u64, pause: u64) -> u64
     requires { lease ≤ MAX_LEASE }

@@ -1,8 +1,8 @@
 ghost use Rattle.std.specs.Prelude.{◌≡◌, Some, None};
 ghost use Rattle.fabric_terms.specs.declared.command.Command.TheVariants.{Create, Heal, Join, Link};
 ghost use Rattle.fabric_steward.specs.Afterwards.{advised, command_given};
-ghost use Rattle.fabric_steward.specs.Worked.{created, greeted_one, joined_once, joined_twice, known_whole};
-ghost use Rattle.fabric_steward.specs.Worked.{managing, primary_anew, seeking, seen_down, told_later, told_missing};
+ghost use Rattle.fabric_steward.specs.Worked.{created, first_asked, first_waits, greeted_one, joined_once, joined_twice};
+ghost use Rattle.fabric_steward.specs.Worked.{known_whole, managing, primary_anew, seeking, seen_down, told_later, told_missing};
 ghost use Rattle.fabric_steward.specs.Worked.{without_one, without_primary, worked_policy};
 
 /// Whom a node joins that does not route, computed: a law of the definition.
@@ -26,10 +26,17 @@ pub fn worked_management()
 {}
 
 /// How a new manager learns of a partition while too few domains are up for it, computed: a law of the definition. It asks
-/// at once, and places once it has managed for `heal_after`.
+/// a pause before it has managed for `heal_after`, and places then.
 pub fn worked_learning()
     ensures greets { command_given without_one 100 worked_policy ≡ Some (Link 1) }
-    ensures asks { command_given without_one 101 greeted_one ≡ Some (Heal 7 2) }
+    ensures looks { command_given without_one 849 greeted_one ≡ None }
+    ensures asks { command_given without_one 850 greeted_one ≡ Some (Heal 7 2) }
     ensures waits { command_given without_one 1099 told_later ≡ None }
     ensures places { command_given without_one 1100 told_later ≡ Some (Heal 7 2) }
+{}
+
+/// A partition whose learning heal waits holds the next one up for two leases, computed: a law of the definition.
+pub fn worked_waiting()
+    ensures waits { command_given first_waits 1999 first_asked ≡ None }
+    ensures goes_on { command_given first_waits 2000 first_asked ≡ Some (Heal 8 3) }
 {}

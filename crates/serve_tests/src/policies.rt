@@ -125,10 +125,12 @@ fn a_lone_manager_asks_and_waits_before_it_places(rt: HostRuntime) -> Result<(),
     world.down = 2;
     commands(&rt, &mut policy, &world, 0, Said::Find(2 << 60));
     commands(&rt, &mut policy, &world, 1, Said::Link(2));
-    commands(&rt, &mut policy, &world, 2, Said::Heal(7, 2));
-    policy.note(&Input::Fire, &[Report::Superseded(7, EPOCH)]);
     commands(&rt, &mut policy, &world, 999, Said::Nothing);
     commands(&rt, &mut policy, &world, 1000, Said::Find(2 << 60));
+    assert_eq!(rt; policy.due(1000), 1750);
+    commands(&rt, &mut policy, &world, 1749, Said::Nothing);
+    commands(&rt, &mut policy, &world, 1750, Said::Heal(7, 2));
+    policy.note(&Input::Fire, &[Report::Superseded(7, EPOCH)]);
     commands(&rt, &mut policy, &world, 1999, Said::Nothing);
     commands(&rt, &mut policy, &world, 2000, Said::Find(2 << 60));
     commands(&rt, &mut policy, &world, 2001, Said::Link(2));
