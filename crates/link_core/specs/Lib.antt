@@ -2,6 +2,7 @@ pub mod Limits
 pub mod Links
 pub mod Deadlines
 pub mod Sound
+pub mod Settings
 pub mod Handshakes
 pub mod Renewals
 pub mod Flights

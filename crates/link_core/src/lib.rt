@@ -23,6 +23,7 @@ mod refusal;
 mod renewal;
 mod rounds;
 mod ruling;
+mod settings;
 
 pub use announce::{Announce, Announced};
 pub use laws::{
@@ -33,3 +34,4 @@ pub use links::{Links16, MAX_ACCUSED, SLOTS};
 pub use notes::{LinkNote, LinkNotes, MAX_NOTES};
 pub use refusal::LinkRefusal;
 pub use ring_rules::{Link, LinkState};
+pub use settings::LinkSettings;

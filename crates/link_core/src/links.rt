@@ -4,6 +4,7 @@ ghost use Rattle.ring_rules.specs.Slots.{fence_of};
 ghost use Rattle.link_core.specs.Calls.{call_in, flight_sent, flight_taken, no_links, slot_closed};
 ghost use Rattle.link_core.specs.Links.{did, did_after, with_slot};
 
+mod again;
 mod dispatch;
 mod opening;
 mod ruling_frames;
@@ -12,6 +13,7 @@ mod slot_firing;
 
 use crate::deadlines::{Deadlines, change};
 use crate::flight;
+use again::free_each;
 use arrayvec::ArrayVec;
 use drift_clock::Bound;
 use fabric_terms::Outbox;
@@ -213,8 +215,8 @@ impl Links16 {
           accused = take accused self.old.accused;
         } }
     {
-        self.slots = free_slots();
-        self.deadlines = Deadlines::none();
+        free_each(&mut self.slots);
+        self.deadlines.clear();
         self.last_session = last_session;
         self.accused.truncate(accused);
     }
