@@ -10,3 +10,4 @@ pub mod Come
 pub mod Promised
 pub mod Found
 pub mod Alike
+pub mod Begun

@@ -5,4 +5,5 @@ pub mod Greetings
 pub mod Owned
 pub mod Refusals
 pub mod Steps
+pub mod Begins
 pub mod Up

@@ -8,6 +8,7 @@
 #![tactic(auto)]
 
 mod acked;
+mod again;
 mod cause;
 mod commands;
 mod frames;

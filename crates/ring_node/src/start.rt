@@ -1,5 +1,6 @@
 ghost use Rattle.std.specs.Prelude.{◌≡◌, ◌≤◌, [], IfOk, is_ok, length, map, true};
 ghost use Rattle.fabric_terms.specs.Sound.{IsSound};
+ghost use Rattle.link_core.specs.Settings.{AreSoundSettings};
 ghost use Rattle.ring_node.specs.Nodes.{step};
 ghost use Rattle.ring_node.specs.Steps.{begun, first_phase, first_ranges, started};
 ghost use Rattle.ring_rules.specs.Rings.{longest_of, points_of, settings_of};
@@ -10,7 +11,7 @@ use crate::reports::Reports;
 use arrayvec::ArrayVec;
 use fabric_terms::{FabricConfig, NodeEntry, OutOfMemory, Report, Why};
 use join_phases::{Booting, Phase};
-use link_core::Links16;
+use link_core::{LinkSettings, Links16};
 use ring_points::{MAX_NODES, Point, RangeSet, Who};
 use ring_route::RouteTable;
 use std::alloc::Global;
@@ -28,20 +29,42 @@ fn longest_of(nodes: &[NodeEntry], node: u16) -> u64
     0
 }
 
-/// The point of each node.
-fn points_of(nodes: &[NodeEntry]) -> ArrayVec<(u16, Point), MAX_NODES>
+/// Makes these points those of the nodes.
+pub(crate) fn put_points(points: &mut ArrayVec<(u16, Point), MAX_NODES>, nodes: &[NodeEntry])
     requires { length nodes.now ≤ MAX_NODES }
-    ensures { map (λ p. (p.0, p.1.0)) result.items ≡ points_of nodes.now }
+    ensures { map (λ p. (p.0, p.1.0)) points.new.items ≡ points_of nodes.now }
 {
-    let mut points = ArrayVec::new();
+    points.clear();
     for entry in nodes {
         points.push((entry.node, entry.point));
     }
-    points
+}
+
+/// What the links of this node go by.
+pub(crate) fn link_settings(config: &FabricConfig, node: u16) -> LinkSettings
+    requires { IsSound config.now }
+    ensures settings { result ≡ record {
+      lease = config.now.lease;
+      longest = longest_of node config.now.nodes;
+      answer = config.now.answer;
+      bound = config.now.bound;
+      arbitrators = length config.now.arbiters;
+      rounds = config.now.rounds;
+    } }
+    ensures sound { AreSoundSettings result }
+{
+    LinkSettings {
+        lease: config.lease,
+        longest: longest_of(config.nodes.as_slice(), node),
+        answer: config.answer,
+        bound: config.bound,
+        arbitrators: config.arbiters.as_slice().len() as u8,
+        rounds: config.rounds,
+    }
 }
 
 /// How an instance begins: with the whole ring, as instance 1 of the first node does, or with nothing.
-fn first_phase(whole: bool) -> (Phase, RangeSet)
+pub(crate) fn first_phase(whole: bool) -> (Phase, RangeSet)
     ensures phase { result.0 ≡ first_phase whole }
     ensures ranges { result.1 ≡ first_ranges whole }
 {
@@ -58,18 +81,18 @@ impl RingNode {
         ensures settings { result.settings ≡ settings_of config.now me.actor }
         ensures ring { result.ring ≡ new_ring config.now me phase ranges }
     {
-        let points = points_of(config.nodes.as_slice());
-        let longest = longest_of(config.nodes.as_slice(), me.actor);
-        let arbitrators = config.arbiters.as_slice().len() as u8;
+        let mut points = ArrayVec::new();
+        put_points(&mut points, config.nodes.as_slice());
+        let settings = link_settings(config, me.actor);
         RingNode {
             links: Links16::new(
                 me,
-                config.lease,
-                longest,
-                config.answer,
-                config.bound,
-                arbitrators,
-                config.rounds,
+                settings.lease,
+                settings.longest,
+                settings.answer,
+                settings.bound,
+                settings.arbitrators,
+                settings.rounds,
             ),
             token: Token::new(ranges),
             routes: RouteTable::new(me, points.as_slice()),

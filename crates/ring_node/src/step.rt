@@ -32,7 +32,8 @@ impl RingNode {
             && (before.left || !self.is_left())
     }
 
-    fn keep_owned(&self, owned: &mut Owned)
+    /// Makes what was owned what the node owns now. Ranges that are the same are not copied.
+    pub fn keep_owned(&self, owned: &mut Owned)
         ensures { owned.new ≡ owned_of self.now }
     {
         keep_ranges(&mut owned.ranges, self.token.ranges());

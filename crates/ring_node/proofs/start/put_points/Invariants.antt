@@ -1,6 +1,6 @@
 use Rattle.std.proofs.Common.{◌≡◌, ◌≤◌, length, map, take}
 use Rattle.ring_rules.specs.Rings.{points_of}
-use Rattle.ring_node.proofs.start.points_of.Given as goal
+use Rattle.ring_node.proofs.start.put_points.Given as goal
 
 abbrev pub invariant-loop-entry : goal.invariant-loop-entry
 invariant-loop-entry l = record {

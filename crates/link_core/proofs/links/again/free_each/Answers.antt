@@ -1,4 +1,4 @@
-use Rattle.std.proofs.Common.{◌≡◌, ◌∙◌, ℕ, zero, suc, ◌<◌, List, [], ◌∷◌, length, replicate, Option, None, refl, ap, arith}
+use Rattle.std.proofs.Common.{◌≡◌, ◌∙◌, ℕ, zero, suc, ◌<◌, [], ◌∷◌, length, replicate, Option, None, refl, ap, arith}
 use Rattle.ring_rules.specs.declared.link.Link.{Link}
 use Rattle.ring_rules.specs.Rings.{Slots}
 use Rattle.ring_rules.specs.Slots.{slot_at}

@@ -1,0 +1,19 @@
+-- How an instance begins that may have no number: where all numbers are spent, it has left.
+use Rattle.std.specs.Prelude.{Bool, List, [], ◌∷◌, None, if◌then◌else◌}
+use Rattle.fabric_terms.specs.declared.report.Report.{Report}
+use Rattle.fabric_terms.specs.declared.report.Report.TheVariants.{LeftRing, Own}
+use Rattle.fabric_terms.specs.declared.report.Why.TheVariants.{Counters}
+use Rattle.join_phases.specs.declared.phases.Phase.{Phase}
+use Rattle.join_phases.specs.Phases.{left}
+use Rattle.ring_points.specs.declared.interval.Interval.{Interval}
+use Rattle.ring_node.specs.Steps.{first_phase, first_ranges}
+
+abbrev pub begun_phase : (whole spent : Bool) → Phase
+begun_phase whole spent = if spent then left Counters else first_phase whole
+
+abbrev pub begun_ranges : (whole spent : Bool) → List Interval
+begun_ranges whole spent = if spent then [] else first_ranges whole
+
+-- what it tells, by what it owns then
+abbrev pub begun_told : (spent : Bool) → List Interval → List Report
+begun_told spent ranges = if spent then LeftRing Counters ∷ Own ranges None ∷ [] else Own ranges None ∷ []
