@@ -14,7 +14,7 @@ use Rattle.cold_start.specs.Starts.{node_begun_in, start_in, started_in}
 use Rattle.ring_rules.specs.Starts.{node_started, start_first}
 use Rattle.token_core.specs.Tokens.{last_number}
 use Rattle.unit_rules.specs.ReplicaStates.{ReplicaState}
-use Rattle.node_core.specs.UnitParts.{Part, domains_of}
+use Rattle.node_core.specs.Begins.{part_begun}
 use Rattle.world_rules.specs.Nodes.{boots_of, instance_begun, is_spent}
 use Rattle.unit_rules.specs.Fabric.{fabric}
 use Rattle.node_core.specs.declared.kept.NodeKept.{NodeKept}
@@ -35,10 +35,6 @@ with_in : (whole : Who) (c : FabricConfig) (me : Who) (spent : Bool) → started
 unfolding started_in
 with_in whole c me true = refl
 with_in whole c me false = refl
-
--- what runs above the ring of an instance that begins with these replicas
-abbrev pub part_begun : FabricConfig → List (ℕ × ReplicaState) → Part
-part_begun c states = record { domains = domains_of c; state = record { managed = record { units = []; reconfigs = [] }; states = states } }
 
 pub starts_by : (c : FabricConfig) (me : Who) (whole spent : Bool) (new : Node) (told : List Report) (states : List (ℕ × ReplicaState)) → step new [] told ≡ begun c me whole spent → GoesBy c (core_of new (part_begun c states))
 starts_by c me whole spent new told states e = record {
