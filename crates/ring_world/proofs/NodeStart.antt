@@ -1,6 +1,6 @@
 -- A start of a node: the world stands for the world after it.
 use Rattle.std.proofs.Common.{◌≡◌, ℕ, zero, suc, ◌+◌, ◌≤◌, ◌<◌, ◌^◌, Bool, true, false, cond, List, [], ◌∷◌, ◌++◌, Option, Some, None, refl, sym, ap, subst, ◌∙◌, arith, length, get_or}
-use Rattle.std.specs.Prelude.{◌==◌, nat_lt, unwrap_or, slice_get, slice_set, insert, map, Vec}
+use Rattle.std.specs.Prelude.{◌==◌, nat_lt, unwrap_or, slice_get, slice_set, insert, map, Vec, Box}
 use Rattle.std.specs.Vec.{with_item}
 use Rattle.std.proofs.lemmas.Option.{slice_get_read}
 use Rattle.std.proofs.lemmas.List.Edits.{length-insert}
@@ -209,9 +209,9 @@ module _ (a : World) (w : RuledWorld fabric) (node reading : ℕ) (n : Core) (o 
   }
 
 -- what is seen after the start is committed
-pub seen_entered : (a new : World) (clocks : Vec (Who × ℕ) Global) (running : Vec Running Global) (kept : Vec NodeKept Global) (place node : ℕ) (k : Who × ℕ) (q : Running) (o : Outcome)
+pub seen_entered : (a new : World) (clocks : Vec (Who × ℕ) Global) (running : Vec Running Global) (kept : Vec NodeKept Global) (ended : Vec (Box Core Global) Global) (place node : ℕ) (k : Who × ℕ) (q : Running) (o : Outcome)
     → clocks.items ≡ insert a.clocks.items place k → running.items ≡ insert a.running.items place q → kept.items ≡ slice_set a.kept.items node nothing_kept
-    → new ≡ record a { clocks = clocks; running = running; kept = kept; events = a.events + 1; sent = a.sent + length o.frames; frames = new.frames; places = new.places }
+    → new ≡ record a { clocks = clocks; running = running; kept = kept; ended = ended; events = a.events + 1; sent = a.sent + length o.frames; frames = new.frames; places = new.places }
     → new.frames.frames ≡ posted_all o.frames a.frames.frames
     → seen_of new ≡ record (seen_of a) {
       events = a.events + 1;
@@ -221,7 +221,7 @@ pub seen_entered : (a new : World) (clocks : Vec (Who × ℕ) Global) (running :
       running = insert a.running.items place q;
       kept = slice_set a.kept.items node nothing_kept;
     }
-seen_entered a new clocks running kept place node k q o cs rs ks rest frames =
+seen_entered a new clocks running kept ended place node k q o cs rs ks rest frames =
     ap seen_of rest
     ∙ (ap (λ (x : List (Who × ℕ)). with_parts x running.items kept.items new.frames.frames) cs
     ∙ (ap (λ (x : List Running). with_parts (insert a.clocks.items place k) x kept.items new.frames.frames) rs
@@ -256,7 +256,7 @@ module _ (a : World) (node : ℕ) (k : NodeKept) (within : node < length a.kept.
   begun_from n o begins goes_by small = record { kept = k; here = here; begins = begins; goes_by = goes_by; small = small }
 
   -- what is kept of it stays where it does not start
-  pub put_kept_back : (q : NodeKept) → q ≡ k → Same a (record a { kept = with_item a.kept node q })
-  put_kept_back q same =
+  pub put_kept_back : (q : NodeKept) (ended : Vec (Box Core Global) Global) → q ≡ k → Same a (record a { kept = with_item a.kept node q; ended = ended })
+  put_kept_back q ended same =
       let items : slice_set a.kept.items node q ≡ a.kept.items = ap (λ x. slice_set a.kept.items node x) same ∙ set_same a.kept.items node k here in
       record { seen = ap (λ (ks : List NodeKept). record (seen_of a) { kept = ks }) items; places = λ p lt. refl }

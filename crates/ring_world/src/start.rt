@@ -1,5 +1,8 @@
-ghost use Rattle.std.specs.Prelude.{◌≡◌, ◌≤◌, ◌<◌, ◌∷◌, [], None, true, OnOk, length, insert, vec_len, vec_capacity};
-ghost use Rattle.node_core.specs.Nodes.{most_reports};
+ghost use Rattle.std.specs.Prelude.{◌≡◌, ◌≤◌, ◌<◌, ◌∷◌, List, [], None, IfOk, OnErr, OnOk, insert, length, true};
+ghost use Rattle.std.specs.Prelude.{vec_capacity, vec_len};
+ghost use Rattle.fabric_terms.specs.Sound.{IsSound};
+ghost use Rattle.fabric_terms.specs.declared.record.Record.{Record};
+ghost use Rattle.node_core.specs.Nodes.{Amounts, Does, GoesBy, IsSmall, most_reports, nothing_kept};
 ghost use Rattle.fabric_terms.specs.Ranges.{Fits};
 ghost use Rattle.fabric_lemmas.specs.Maps.{at};
 ghost use Rattle.world_rules.specs.Nodes.{node_begun};
@@ -15,9 +18,10 @@ ghost use Rattle.ring_world.specs.Starts.{place_for};
 use crate::running::Running;
 use crate::world::{Acted, EventRefusal, World};
 use drift_clock::Drift;
-use fabric_terms::{Event, OutOfMemory};
-use node_core::NodeCore;
+use fabric_terms::{Event, FabricConfig, OutOfMemory};
+use node_core::{NodeCore, NodeKept, Outcome};
 use ring_points::{MAX_READING, Who};
+use std::alloc::Global;
 use world_rules::is_configured_node;
 
 /// Where the clock of this node has to stand.
@@ -42,6 +46,37 @@ fn put_in<T: Drop>(items: &mut Vec<T>, place: usize, item: T)
     match items.insert(place, item) {
         Ok(()) => {}
         Err(_) => unreachable!(),
+    }
+}
+
+/// Begins the next instance of the node, in the place of a node that has ended where there is one: a node is 36 KB, and
+/// most of it stays where it lies then. It is an error where memory is short, and then nothing is changed.
+fn begin_node(
+    alloc: Global,
+    ended: &mut Vec<Box<NodeCore>>,
+    config: &FabricConfig,
+    node: u16,
+    kept: &mut NodeKept,
+    reading: u64,
+) -> Result<(Box<NodeCore>, Outcome), OutOfMemory>
+    requires sound { IsSound config.now }
+    requires node { is_configured_node config.now node ≡ true }
+    ensures begins { IfOk result (λ r. (records : List Record) → Amounts records kept.old →
+        Does (node_begun fabric config.now node records) r.0.value r.1) }
+    ensures goes_by { IfOk result (λ r. GoesBy config.now r.0.value) }
+    ensures small { IfOk result (λ r. IsSmall r.0.value.state r.1) }
+    ensures taken { OnOk result (kept.new ≡ nothing_kept) }
+    ensures refused { OnErr result (kept.new ≡ kept.old) }
+{
+    let Some(mut core) = ended.pop() else {
+        return NodeCore::begin(alloc, config, node, kept, reading);
+    };
+    match core.begin_again(config, node, kept) {
+        Ok(outcome) => Ok((core, outcome)),
+        Err(refused) => {
+            ended.push_reserved(core);
+            Err(refused)
+        }
     }
 }
 
@@ -74,7 +109,8 @@ impl World {
             Steps self.old self.new (node_acted fabric w node reading ((w.time, reading) ∷ []) (node_begun fabric self.old.config node (kept_of w node))) line result }
     {
         let kept = &mut self.kept[usize::from(node)];
-        let (core, outcome) = NodeCore::begin(self.alloc, &self.config, node, kept, reading)?;
+        let ended = &mut self.ended;
+        let (core, outcome) = begin_node(self.alloc, ended, &self.config, node, kept, reading)?;
         let who = core.me();
         let drift = Drift::new(self.config.bound, self.time, reading);
         let place = place_for(&self.clocks, node);

@@ -1,4 +1,4 @@
-ghost use Rattle.std.specs.Prelude.{◌≡◌, ◌≤◌, ◌<◌, [], ◌∷◌, IfOk};
+ghost use Rattle.std.specs.Prelude.{◌≡◌, ◌≤◌, ◌<◌, ◌∷◌, ◌++◌, [], IfOk, vec_capacity, vec_len};
 ghost use Rattle.fabric_terms.specs.Ranges.{Fits};
 ghost use Rattle.unit_rules.specs.Fabric.{fabric};
 ghost use Rattle.world_rules.specs.Worlds.{World as RuledWorld};
@@ -7,7 +7,7 @@ ghost use Rattle.ring_world.specs.Stands.{Stands};
 
 use crate::world::{Acted, EventRefusal, World};
 use fabric_terms::{Event, OutOfMemory, Report};
-use node_core::Batch;
+use node_core::{Batch, NodeCore};
 use ring_points::{ARBITRATORS, MAX_NODE_NUMBER, Who};
 use std::alloc::Global;
 
@@ -17,6 +17,21 @@ fn stopped(alloc: Global) -> Result<Batch<Report>, OutOfMemory>
     let mut reports = Vec::new(alloc);
     reports.push(Report::Stopped)?;
     Ok(Batch::new(reports))
+}
+
+/// Drops a node. It is never inlined: a node is moved to the stack where it is dropped, and whoever calls that inline pays
+/// for 36 KB each time.
+#[inline(never)]
+fn drop_node(_node: Box<NodeCore>) {}
+
+/// Keeps a node that has ended, for a start to come. Where memory is short for one more, it is dropped.
+fn keep_ended(ended: &mut Vec<Box<NodeCore>>, node: Box<NodeCore>)
+    ensures { vec_len ended.old < vec_capacity ended.old → ended.new.items ≡ ended.old.items ++ node ∷ [] }
+{
+    match ended.reserve(1) {
+        Ok(()) => ended.push_reserved(node),
+        Err(_) => drop_node(node),
+    }
 }
 
 impl World {
@@ -35,8 +50,9 @@ impl World {
         }
         let reports = stopped(self.alloc)?;
         let (who, reading) = self.clocks.remove(place);
-        let mut ended = self.running.remove(place);
-        self.kept[usize::from(node)] = ended.node.take_kept();
+        let mut core = self.running.remove(place).node;
+        self.kept[usize::from(node)] = core.take_kept();
+        keep_ended(&mut self.ended, core);
         self.events += 1;
         Ok(Some(Acted {
             line,

@@ -22,7 +22,7 @@ use arbiter_core::Arbiter;
 use drift_clock::DriftBroken;
 use fabric_terms::{Event, FabricConfig, OutOfMemory, Report};
 use frame_bag::FrameBag;
-use node_core::{Batch, NodeEffects, NodeKept};
+use node_core::{Batch, NodeCore, NodeEffects, NodeKept};
 use point_places::Places;
 use ring_points::{MAX_ARBITRATORS, MAX_NODE_NUMBER, Who};
 use std::alloc::Global;
@@ -114,6 +114,8 @@ pub struct World {
     pub(crate) places: Places,
     /// Where each node's step leaves what it does. There are none before the first step.
     pub(crate) effects: Option<Box<NodeEffects>>,
+    /// Nodes that have stopped: a start begins in the place of one of them, where there is one.
+    pub(crate) ended: Vec<Box<NodeCore>>,
 }
 
 impl World {
@@ -143,6 +145,7 @@ impl World {
             sent: 0,
             places,
             effects: None,
+            ended: Vec::new(alloc),
         })
     }
 

@@ -59,7 +59,7 @@ returns-in_err-core c w s absent =
     let can = c.requires.can in
     let within : c.from.result < length c.args.self.now.kept.items = omega (arith, can.1.nodes.kept.table, c.requires.node, c.from.ensures) in
     let p = err_from_is_err_and c.from_residual.result c.from_residual.ensures.1 in
-    rw p.1 (put_kept_back c.args.self.now c.from.result c.index_mut-kept.result.now within c.index_mut-kept.ensures.value c.begin.new.kept c.in_err-core.ensures.refused)
+    rw p.1 (put_kept_back c.args.self.now c.from.result c.index_mut-kept.result.now within c.index_mut-kept.ensures.value c.begin_node.new.kept c.begin_node.new.ended c.in_err-core.ensures.refused)
 
 pub returns : goal.returns
 returns c w s absent =
@@ -76,10 +76,10 @@ returns c w s absent =
     let place : c.place_for-place.result ≡ place_for c.args.node a.clocks.items = c.place_for-place.ensures.place ∙ ap (λ (ks : List (Who × ℕ)). place_for c.args.node ks) c.deref-2.ensures.value in
     begin_moves a w c.args.node c.args.reading n o k q s c.requires.node c.requires.reading begins
     (record { bound = c.new-drift.ensures.bound; latest = c.new-drift.ensures.latest; first = c.new-drift.ensures.first }) refl refl absent c.commit.new.self c.args.line c.commit.result c.requires.events c.requires.sent
-    (seen_entered a c.commit.new.self c.put_in.new.items c.put_in-2.new.items (with_item a.kept c.from.result c.begin.new.kept) (place_for c.args.node a.clocks.items) c.args.node (n.state.ring.me, c.args.reading) q o
+    (seen_entered a c.commit.new.self c.put_in.new.items c.put_in-2.new.items (with_item a.kept c.from.result c.begin_node.new.kept) c.begin_node.new.ended (place_for c.args.node a.clocks.items) c.args.node (n.state.ring.me, c.args.reading) q o
     (c.put_in.ensures ∙ (ap (λ (i : ℕ). insert a.clocks.items i (c.me-who.result, c.args.reading)) place ∙ ap (λ (x : Who). insert a.clocks.items (place_for c.args.node a.clocks.items) (x, c.args.reading)) who))
     (c.put_in-2.ensures ∙ ap (λ (i : ℕ). insert a.running.items i q) place)
-    (ap (λ (i : ℕ). slice_set a.kept.items i c.begin.new.kept) c.from.ensures ∙ ap (λ (x : NodeKept). slice_set a.kept.items c.args.node x) c.in_ok-core.ensures.taken)
+    (ap (λ (i : ℕ). slice_set a.kept.items i c.begin_node.new.kept) c.from.ensures ∙ ap (λ (x : NodeKept). slice_set a.kept.items c.args.node x) c.in_ok-core.ensures.taken)
     c.commit.ensures.rest c.commit.ensures.frames)
     (λ p lt. c.commit.ensures.places p lt ∙ ap (λ (x : Who). placed_by x o.reports p (place_at a.places p)) who)
     (c.commit.ensures.acted ∙ ap (λ (x : Who). record { line = c.args.line; time = a.time; who = x; reading = Some c.args.reading; sent = numbers_after a.sent (length o.frames); reports = o.reports }) who)

@@ -57,8 +57,8 @@ remove-reading-requires c =
     let here = placed c.args.self.now can.0 c.in-Some.place c.args.node k.value can.1 k.here in
     omega (arith, here.clock_within)
 
-pub remove-ended-requires : goal.remove-ended-requires
-remove-ended-requires c =
+pub remove-requires : goal.remove-requires
+remove-requires c =
     let can = c.requires.can in
     let k = c.in-Some.ensures can.0 can.1 in
     let here = placed c.args.self.now can.0 c.in-Some.place c.args.node k.value can.1 k.here in
@@ -78,7 +78,7 @@ returns c w s =
     let step : world_step fabric a.config w (Stop c.args.node) ≡ node_stops fabric w c.args.node (Some k.value) =
     stop_node_is a w c.args.node c.requires.node ∙ ap (λ o. node_stops fabric w c.args.node o) k.found in
     let at = placed a w place c.args.node k.value s k.here in
-    let code : c.remove-ended.result ≡ at.code = read_at a.running.items place at.code c.remove-ended.result at.here c.remove-ended.ensures.value in
+    let code : c.remove.result ≡ at.code = read_at a.running.items place at.code c.remove.result at.here c.remove.ensures.value in
     let kept : c.take_kept.result ≡ kept_in k.value.node =
     c.take_kept.ensures.given ∙ (ap (λ (n : Core). kept_in n.state) c.deref_mut.ensures.value ∙ (ap (λ (r : Running). kept_in r.node.value.state) code ∙ ap (λ (n : NodeState fabric). kept_in n) at.runs.node)) in (
       record {
@@ -87,8 +87,8 @@ returns c w s =
         room = room_is a w (Stop c.args.node) false s refl refl ∙ room;
       },
       stop_moves a w place c.args.node k.value c.remove-reading.result s k.here c.remove-reading.ensures.value (few_events a false room) _ _ _ _ step
-          (seen_ended a c.args.node place c.remove-reading.new.self.items c.remove-ended.new.self.items (slice_set a.kept.items c.from.result c.take_kept.result) (kept_in k.value.node)
-          c.remove-reading.ensures.items c.remove-ended.ensures.items
+          (seen_ended a c.args.node place c.remove-reading.new.self.items c.remove.new.self.items (slice_set a.kept.items c.from.result c.take_kept.result) (kept_in k.value.node)
+          c.remove-reading.ensures.items c.remove.ensures.items
           (ap (λ (i : ℕ). slice_set a.kept.items i c.take_kept.result) c.from.ensures ∙ ap (λ (q : NodeKept). slice_set a.kept.items c.args.node q) kept))
           refl
           (ap (λ (rs : List Report). record { line = c.args.line; time = a.time; who = c.remove-reading.result.0; reading = Some c.remove-reading.result.1; sent = (0, 0); reports = rs }) c.in_ok-reports.ensures),
