@@ -1,5 +1,5 @@
 -- A call that is a row of links is a row of the rules.
-use Rattle.std.proofs.Common.{◌≡◌, ℕ, ◌+◌, ◌≤◌, false, List, ◌++◌, refl, sym, ap, ◌∙◌, arith, append_assoc, length-append}
+use Rattle.std.proofs.Common.{◌≡◌, ℕ, ◌≤◌, false, List, ◌++◌, refl, sym, ap, ◌∙◌, arith, append_assoc, length-append}
 use Rattle.ring_points.specs.declared.who.Who.{Who}
 use Rattle.fabric_terms.specs.declared.message.Body.{Body}
 use Rattle.fabric_terms.specs.declared.message.Message.{Message}

@@ -18,7 +18,7 @@ use Rattle.ring_rules.specs.Rings.{Slots}
 use Rattle.ring_rules.specs.Slots.{slot_at, slot_where, is_free, is_hello, of_instance, of_node, of_session, greets_by, greets_node_by}
 use Rattle.link_core.specs.declared.announce.Announce.{Announce}
 use Rattle.link_core.specs.declared.notes.LinkNote.{LinkNote}
-use Rattle.link_core.specs.Links.{Links, Turn, Did, SlotRow, is_spent, new_link, same, unknown, in_found}
+use Rattle.link_core.specs.Links.{Links, Did, SlotRow, is_spent, new_link, same, unknown, in_found}
 use Rattle.link_core.specs.Kept.{IsHeard}
 use Rattle.link_core.specs.Handshakes.{accept_counted, accept_free, accept, hello_crossed, hello_of_node, offer_same, offer_repeated_to, hello_repeated, hello_of_instance, offer_taken, take_again, offer_repeated, offer_seen, take_in, take_seen}
 use Rattle.link_core.specs.Renewals.{wanted_if, renew_in, renew_seen, ack_in, ack_seen}

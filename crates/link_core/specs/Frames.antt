@@ -1,5 +1,5 @@
 -- The row of a frame on the links of a node.
-use Rattle.std.specs.Prelude.{ℕ, Bool, true, ◌&&◌, min, nat_le, nat_lt}
+use Rattle.std.specs.Prelude.{ℕ, Bool, true, false, ◌&&◌, min, nat_le, nat_lt}
 use Rattle.ring_points.specs.declared.who.Who.{Who}
 use Rattle.ring_points.specs.Whos.{arbiter_actor}
 use Rattle.fabric_terms.specs.declared.message.Body.{Body}
@@ -22,6 +22,11 @@ may_come arbitrators from (body.Ruled victim ruling) =
 may_come arbitrators from (body.Kept victim round claimer) =
     nat_lt (arbiter_actor 0) from.actor && nat_le from.actor (arbiter_actor arbitrators)
 may_come arbitrators from _ = true
+
+-- an acknowledgement of a renewal
+abbrev pub is_ack : Body → Bool
+is_ack (body.RenewAck mine yours stamp version) = true
+is_ack _ = false
 
 -- The row of a frame; a frame of another kind changes nothing.
 abbrev pub frame_row : ℕ → Announce → Who → Body → Links → Did

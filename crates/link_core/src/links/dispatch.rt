@@ -1,8 +1,11 @@
-ghost use Rattle.std.specs.Prelude.{◌≡◌, ◌<◌, ◌≤◌, ◌+◌, IsTrue, length};
-ghost use Rattle.link_core.specs.Frames.{flight_row, frame_row, may_come, renewal_row, ruling_row};
+ghost use Rattle.std.specs.Prelude.{◌≡◌, ◌<◌, ◌≤◌, ◌+◌, ℕ, IsTrue, List, [], length, true};
+ghost use Rattle.fabric_terms.specs.declared.message.Body.{Body as Said};
+ghost use Rattle.link_core.specs.Frames.{flight_row, frame_row, is_ack, may_come, renewal_row, ruling_row};
+ghost use Rattle.link_core.specs.declared.announce.Announce.{Announce as Announcement};
 ghost use Rattle.link_core.specs.Links.{did, did_after};
 ghost use Rattle.link_core.specs.Outcomes.{FrameHeard};
 ghost use Rattle.link_core.specs.Limits.{most_row_messages};
+ghost use Rattle.ring_points.specs.declared.who.Who.{Who};
 
 use crate::announce::{Announce, Announced};
 use crate::links::Links16;
@@ -47,6 +50,26 @@ impl Links16 {
         // So a frame is answered by no more frames than there is room for.
         prove!(usize::from(self.arbitrators) <= MAX_ARBITRATORS);
         self.frame(now, message, announce, out)
+    }
+
+    /// As `hear`, for an acknowledgement of a renewal. It sends nothing and leaves no notes, so that no list of notes is
+    /// made for it.
+    pub fn acknowledged(&mut self, message: &Message)
+        requires ack { is_ack message.now.body ≡ true }
+        requires frame { IsTrue (may_come self.old.arbitrators message.now.from message.now.body) }
+        ensures { (now : ℕ) (a : Announcement) (sent : List (Who × Said)) →
+            FrameHeard now a message.now self.old sent (did self.new sent []) }
+    {
+        prove!(usize::from(self.arbitrators) <= MAX_ARBITRATORS);
+        match &message.body {
+            Body::RenewAck {
+                mine,
+                yours,
+                stamp,
+                version,
+            } => self.hear_ack(Session::new(message.from, *mine, *yours), *stamp, *version),
+            _ => unreachable!(),
+        }
     }
 
     /// The row of a frame: here that of a greeting and of its answers. Another frame goes to the function of its family,
