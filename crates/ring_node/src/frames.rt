@@ -100,11 +100,23 @@ impl RingNode {
             && self.may_send(message.from.actor, &message.body)
     }
 
-    /// Another node is noted as heard.
-    fn hear_sender(&mut self, now: u64, from: Who)
-        ensures { Rings (λ c. rules.sender_heard now from) self.old self.new }
+    /// Whether the sender of a frame that passes is a node. Only an arbitrator's answer may come from another actor, so
+    /// that no other sender is looked for again.
+    #[tactic(auto, using(crate::proofs::Come::sender_is_node))]
+    fn is_from_node(&self, message: &Message) -> bool
+        requires { IsTrue (rules.passes self.now.settings self.now.ring message.now) }
+        ensures { result ≡ rules.is_node self.now.ring message.now.from.actor }
     {
-        if self.is_node(from.actor) && from.actor != self.links.me().actor {
+        !is_arbiters_answer(&message.body) || self.is_node(message.from.actor)
+    }
+
+    /// The sender of a frame that passes is noted as heard, where it is another node.
+    fn hear_sender(&mut self, now: u64, message: &Message)
+        requires { IsTrue (rules.passes self.old.settings self.old.ring message.now) }
+        ensures { Rings (λ c. rules.sender_heard now message.now.from) self.old self.new }
+    {
+        let from = message.from;
+        if self.is_from_node(message) && from.actor != self.links.me().actor {
             self.routes.heard(from, now);
         }
     }
@@ -124,6 +136,7 @@ impl RingNode {
         match &message.body {
             Body::Seek { origin, key, hops } => self.hear_seek(*origin, *key, *hops, out, told),
             Body::Found { key, holder } => self.hear_found(now, *key, *holder, out, told),
+            Body::RenewAck { .. } => self.hear_ack(message),
             _ => self.hear_link(now, message, out, told),
         }
     }
@@ -141,7 +154,7 @@ impl RingNode {
     {
         if self.passes(message) {
             // First, so that the row of the frame knows of its sender.
-            self.hear_sender(now, message.from);
+            self.hear_sender(now, message);
             self.hear_frame(now, message, out, told);
         }
     }

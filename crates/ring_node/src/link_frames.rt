@@ -1,7 +1,7 @@
-ghost use Rattle.std.specs.Prelude.{◌≡◌, ◌+◌, ◌≤◌, IsTrue, false, length};
-ghost use Rattle.link_core.specs.Frames.{may_come};
+ghost use Rattle.std.specs.Prelude.{◌≡◌, ◌+◌, ◌≤◌, ℕ, IsTrue, false, length, true};
+ghost use Rattle.link_core.specs.Frames.{is_ack, may_come};
 ghost use Rattle.link_core.specs.Ties.{is_search};
-ghost use Rattle.ring_node.specs.Nodes.{by, step};
+ghost use Rattle.ring_node.specs.Nodes.{Rings, by, step};
 ghost use Rattle.ring_rules.specs.Deeds.{counted};
 ghost use Rattle.ring_rules.specs.Frames.{frame_row};
 ghost use Rattle.link_core.specs.Limits.{most_row_messages};
@@ -44,5 +44,19 @@ impl RingNode {
                 self.notes(&cause, notes.as_slice(), out, told)
             }
         )
+    }
+
+    /// The row of an acknowledgement of a renewal. It leaves no notes to do.
+    pub(crate) fn hear_ack(&mut self, message: &Message)
+        requires ack { is_ack message.now.body ≡ true }
+        requires frame { IsTrue (may_come self.old.settings.arbitrators message.now.from message.now.body) }
+        ensures { (now : ℕ) → Rings
+            (λ c w. counted w (frame_row c now message.now.from message.now.body w)) self.old self.new }
+    {
+        prove!(self.has_numbers());
+        self.links.acknowledged(message);
+        // The number of the next session is within its bound, as ever.
+        prove!(self.links.last_session() <= u32::MAX);
+        prove!(self.has_numbers());
     }
 }

@@ -49,9 +49,12 @@ impl RingNode {
         ensures kept { owned.new ≡ owned_of self.now }
         ensures few { length told.new ≤ length told.old + 1 }
     {
-        if !self.owns_same(owned) {
-            told.push(Report::Own(self.token.ranges().copy(), self.links.fence()));
+        // Most often nothing has changed, and then the ranges are compared once.
+        if self.owns_same(owned) {
+            owned.left = self.is_left();
+            return;
         }
+        told.push(Report::Own(self.token.ranges().copy(), self.links.fence()));
         self.keep_owned(owned);
     }
 
