@@ -2,6 +2,7 @@
 -- it reads, and makes the node leave exactly where it does not act any more.
 use Rattle.std.proofs.Common.{◌≡◌, ℕ, Bool, true, false, not, ◌&&◌, refl, sym, ap, ◌∙◌}
 use Rattle.std.specs.Prelude.{◌==◌, is_some}
+use Rattle.std.proofs.lemmas.List.{append-nil}
 use Rattle.fabric_terms.specs.declared.command.Command.{Command}
 use Rattle.fabric_terms.specs.declared.command.Command.TheVariants as command
 use Rattle.fabric_terms.specs.declared.message.Body.{Body}
@@ -20,10 +21,12 @@ use Rattle.ring_rules.specs.Steps.{before_fence, command_received, frame_if, inp
 use Rattle.ring_rules.proofs.Rows.{command_received-is, frame_received-is, ring_step-is}
 use Rattle.world_rules.specs.Nodes.{comes_above}
 use Rattle.reconfig_phases.specs.Answers.{answered_unit}
+use Rattle.unit_desk.specs.UnitEffects.{Does}
+use Rattle.unit_desk.specs.declared.unit_effects.UnitEffects.{UnitEffects}
 use Rattle.unit_rules.specs.Deeds.{Acted, still}
 use Rattle.unit_rules.specs.Loads.{Site}
 use Rattle.unit_rules.specs.Steps.{Failover, command_row, failover_step, frame_row}
-use Rattle.node_core.specs.UnitParts.{is_later}
+use Rattle.node_core.specs.UnitParts.{is_above, is_later, is_to_replica}
 use Rattle.node_core.specs.Rows.{comes_first, row_if}
 
 -- which inputs are above the ring at all
@@ -39,16 +42,6 @@ unit_command (command.Resolve partition name) = true
 unit_command (command.Names partition range) = true
 unit_command _ = false
 
-abbrev unit_body : Body → Bool
-unit_body (body.Promise partition epoch) = true
-unit_body (body.Sync partition epoch origin last) = true
-unit_body (body.Fetch partition epoch lsn) = true
-unit_body (body.Piece partition epoch lsn entry_epoch text) = true
-unit_body (body.Activate config) = true
-unit_body (body.Append partition epoch lsn text) = true
-unit_body (body.Appended partition epoch last) = true
-unit_body _ = false
-
 -- the ring has no row for them
 
 command_idle : (c : Settings) (now : ℕ) (d : Command) (r : Ring) → has_numbers r ≡ true → unit_command d ≡ true → (command_received c now d (begun r)).ring ≡ r
@@ -62,7 +55,7 @@ command_idle c now (command.Resolve partition name) r n u = rw (command_received
 command_idle c now (command.Names partition range) r n u = rw (command_received-is c now (command.Names partition range) (begun r), n) refl
 command_idle c now d r n u = absurd (cc (u))
 
-frame_idle : (c : Settings) (now : ℕ) (x : Who) (b : Body) (w : Work) → has_numbers w.ring ≡ true → unit_body b ≡ true → frame_received c now x b w ≡ w
+frame_idle : (c : Settings) (now : ℕ) (x : Who) (b : Body) (w : Work) → has_numbers w.ring ≡ true → is_to_replica b ≡ true → frame_received c now x b w ≡ w
 frame_idle c now x (body.Promise partition epoch) w n u = rw (frame_received-is c now x (body.Promise partition epoch) w, n) refl
 frame_idle c now x (body.Sync partition epoch origin last) w n u = rw (frame_received-is c now x (body.Sync partition epoch origin last) w, n) refl
 frame_idle c now x (body.Fetch partition epoch lsn) w n u = rw (frame_received-is c now x (body.Fetch partition epoch lsn) w, n) refl
@@ -104,7 +97,7 @@ frame_same c now r q x (body.Older partition epoch kept) s a m = absurd (cc (a))
 frame_same c now r q x b s a m = refl
 
 -- a frame of the ring is none of the rows above
-frame_still : (c : Site) (now : ℕ) (r : Ring) (x : Who) (b : Body) (s : Failover) → is_some (answered_unit b) ≡ false → unit_body b ≡ false → frame_row c now r x b s ≡ still s
+frame_still : (c : Site) (now : ℕ) (r : Ring) (x : Who) (b : Body) (s : Failover) → is_some (answered_unit b) ≡ false → is_to_replica b ≡ false → frame_row c now r x b s ≡ still s
 frame_still c now r x (body.Promise partition epoch) s a u = absurd (cc (u))
 frame_still c now r x (body.Sync partition epoch origin last) s a u = absurd (cc (u))
 frame_still c now r x (body.Fetch partition epoch lsn) s a u = absurd (cc (u))
@@ -137,10 +130,28 @@ command_still c now r d s u = refl
 
 -- whether it comes above or not
 
-frame_still_if : (c : Site) (now : ℕ) (r : Ring) (m : Message) (s : Failover) (comes : Bool) → is_some (answered_unit m.body) ≡ false → unit_body m.body ≡ false → row_if comes c now r s (input.Frame m) ≡ still s
+frame_still_if : (c : Site) (now : ℕ) (r : Ring) (m : Message) (s : Failover) (comes : Bool) → is_some (answered_unit m.body) ≡ false → is_to_replica m.body ≡ false → row_if comes c now r s (input.Frame m) ≡ still s
 unfolding failover_step
 frame_still_if c now r m s true a u = frame_still c now r m.from m.body s a u
 frame_still_if c now r m s false a u = refl
+
+-- an input that has no row above leaves what is there
+pub nothing_above : (c : Site) (now : ℕ) (r : Ring) (s : Failover) (i : Input) (comes : Bool) → is_later i ≡ false → is_above i ≡ false → row_if comes c now r s i ≡ still s
+nothing_above c now r s input.Fire comes a u = absurd (cc (a))
+nothing_above c now r s (input.Frame m) comes a u = frame_still_if c now r m s comes a u
+nothing_above c now r s (input.Do d) comes a u = absurd (cc (u))
+
+-- one that the ring does not let come leaves it too
+pub not_acting : (c : Site) (now : ℕ) (r : Ring) (s : Failover) (i : Input) (acts lets : Bool) → acts ≡ false → row_if (acts && lets) c now r s i ≡ still s
+not_acting c now r s i acts lets e = ap (λ (b : Bool). row_if (b && lets) c now r s i) e
+
+pub not_let : (c : Site) (now : ℕ) (r : Ring) (s : Failover) (i : Input) (acts lets : Bool) → lets ≡ false → row_if (acts && lets) c now r s i ≡ still s
+not_let c now r s i true lets e = ap (λ (b : Bool). row_if b c now r s i) e
+not_let c now r s i false lets e = refl
+
+-- and nothing is left in the effects
+pub leaves_none : (c : Site) (now : ℕ) (r : Ring) (s : Failover) (i : Input) (comes : Bool) (d : UnitEffects) → row_if comes c now r s i ≡ still s → Does (row_if comes c now r s i) s d d
+leaves_none c now r s i comes d e = rw e (record { state = refl; left = record { records = sym (append-nil d.records); sent = sym (append-nil d.out); told = sym (append-nil d.told) } })
 
 command_still_if : (c : Site) (now : ℕ) (r : Ring) (d : Command) (s : Failover) (comes : Bool) → unit_command d ≡ false → row_if comes c now r s (input.Do d) ≡ still s
 unfolding failover_step
@@ -169,7 +180,7 @@ command_first c site now r s d false e n l =
     command_still_if site now (command_received c now d (begun r)).ring d s (not (is_left (command_received c now d (begun r)).ring.phase) && true) e
     ∙ sym (command_still_if site now r d s true e)
 
-frame_first_if : (c : Settings) (site : Site) (now : ℕ) (r : Ring) (s : Failover) (m : Message) (u : Bool) → unit_body m.body ≡ u → is_some (answered_unit m.body) ≡ false → has_numbers r ≡ true → is_left r.phase ≡ false
+frame_first_if : (c : Settings) (site : Site) (now : ℕ) (r : Ring) (s : Failover) (m : Message) (u : Bool) → is_to_replica m.body ≡ u → is_some (answered_unit m.body) ≡ false → has_numbers r ≡ true → is_left r.phase ≡ false
     → (k : Work) → k ≡ frame_received c now m.from m.body (sender_heard now m.from (begun r))
     → row_if (not (is_left k.ring.phase) && true) site now k.ring s (input.Frame m) ≡ row_if true site now r s (input.Frame m)
 frame_first_if c site now r s m true e a n l k is =
@@ -184,7 +195,7 @@ frame_first_if c site now r s m false e a n l k is =
 
 frame_first : (c : Settings) (site : Site) (now : ℕ) (r : Ring) (s : Failover) (m : Message) (comes : Bool) → is_some (answered_unit m.body) ≡ false → has_numbers r ≡ true → is_left r.phase ≡ false
     → row_if (not (is_left (frame_if c now m (begun r) comes).ring.phase) && comes) site now (frame_if c now m (begun r) comes).ring s (input.Frame m) ≡ row_if comes site now r s (input.Frame m)
-frame_first c site now r s m true a n l = frame_first_if c site now r s m (unit_body m.body) refl a n l (frame_received c now m.from m.body (sender_heard now m.from (begun r))) refl
+frame_first c site now r s m true a n l = frame_first_if c site now r s m (is_to_replica m.body) refl a n l (frame_received c now m.from m.body (sender_heard now m.from (begun r))) refl
 frame_first c site now r s m false a n l = never site now r s (input.Frame m) (not (is_left r.phase))
 
 input_first : (c : Settings) (site : Site) (now : ℕ) (r : Ring) (s : Failover) (i : Input) → is_later i ≡ false → has_numbers r ≡ true → is_left r.phase ≡ false

@@ -1,6 +1,8 @@
 -- What runs above the ring at a node, as its code has it, and which of its rows come before the ring's own.
 use Rattle.std.specs.Prelude.{ℕ, ◌+◌, ◌*◌, Bool, true, false, List, map, length, is_some, if◌then◌else◌}
 use Rattle.fabric_terms.specs.declared.config.FabricConfig.{FabricConfig}
+use Rattle.fabric_terms.specs.declared.message.Body.{Body}
+use Rattle.fabric_terms.specs.declared.message.Body.TheVariants as body
 use Rattle.ring_points.specs.Limits.{most_arbiters}
 use Rattle.ring_rules.specs.declared.input.Input.{Input}
 use Rattle.ring_rules.specs.declared.input.Input.TheVariants as input
@@ -29,6 +31,22 @@ abbrev pub is_later : Input → Bool
 is_later input.Fire = true
 is_later (input.Frame m) = is_some (answered_unit m.body)
 is_later (input.Do d) = false
+
+-- the frames to a replica
+abbrev pub is_to_replica : Body → Bool
+is_to_replica (body.Promise partition epoch) = true
+is_to_replica (body.Sync partition epoch origin last) = true
+is_to_replica (body.Fetch partition epoch lsn) = true
+is_to_replica (body.Piece partition epoch lsn entry_epoch text) = true
+is_to_replica (body.Activate config) = true
+is_to_replica (body.Append partition epoch lsn text) = true
+is_to_replica (body.Appended partition epoch last) = true
+is_to_replica _ = false
+
+-- of the inputs that come first, those that may have a row above the ring
+abbrev pub is_above : Input → Bool
+is_above (input.Frame m) = is_to_replica m.body
+is_above _ = true
 
 abbrev pub first_row : Site → ℕ → Ring → Failover → Input → Acted Failover
 first_row c now r s i = if is_later i then still s else failover_step c now r s i

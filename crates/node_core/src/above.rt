@@ -10,17 +10,44 @@ ghost use Rattle.world_rules.specs.Nodes.{comes_above};
 ghost use Rattle.unit_desk.specs.UnitEffects.{Does, HasRoom};
 ghost use Rattle.unit_rules.specs.Deeds.{frames_of};
 ghost use Rattle.unit_rules.specs.Steps.{failover_step};
-ghost use Rattle.node_core.specs.UnitParts.{is_later, most_fired, site_at};
+ghost use Rattle.node_core.specs.UnitParts.{is_above, is_later, is_to_replica, most_fired, site_at};
 ghost use Rattle.node_core.specs.Memory.{row_stores};
 ghost use Rattle.node_core.specs.Nodes.{FitsInput};
 ghost use Rattle.node_core.specs.Rows.{comes_first, comes_later, row_if};
 
 use crate::unit_part::UnitNode;
-use fabric_terms::{Message, OutOfMemory, Outbox};
+use fabric_terms::{Body, Message, OutOfMemory, Outbox};
 use join_phases::Phase;
 use ring_node::{Input, RingNode};
 use ring_points::MAX_ARBITRATORS;
 use unit_desk::UnitEffects;
+
+/// Whether a frame is one to a replica.
+fn is_to_replica(body: &Body) -> bool
+    ensures { result ≡ is_to_replica body.now }
+{
+    matches!(
+        body,
+        Body::Promise { .. }
+            | Body::Sync { .. }
+            | Body::Fetch { .. }
+            | Body::Piece { .. }
+            | Body::Activate { .. }
+            | Body::Append { .. }
+            | Body::Appended { .. }
+    )
+}
+
+/// Whether an input may have a row above the ring, of those that come before the ring's own. Most frames are the ring's
+/// alone, and whether one of these passes is asked once then.
+fn is_above(input: &Input) -> bool
+    ensures { result ≡ is_above input.now }
+{
+    match input {
+        Input::Frame(message) => is_to_replica(&message.body),
+        _ => true,
+    }
+}
 
 /// Whether the ring lets the input come to what runs above it: any but a frame that does not pass.
 fn comes_above(ring: &RingNode, input: &Input) -> bool
@@ -88,7 +115,7 @@ pub(crate) fn take_first(
     ensures memory { OnErr result ((comes_first ring.now.settings now ring.now.ring input.now &&
         row_stores (site_at ring.now.settings units.old) now ring.now.ring units.old.state input.now) ≡ true) }
 {
-    if ring.acts(now) && comes_above(ring, input) {
+    if ring.acts(now) && is_above(input) && comes_above(ring, input) {
         take(now, ring, units, input, effects)
     } else {
         Ok(())
