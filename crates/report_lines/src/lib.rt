@@ -11,4 +11,4 @@ mod report;
 
 pub use field::{partition_word, text_of};
 pub use name::last_name;
-pub use report::{head_at, print_report, print_sent, read_report};
+pub use report::{head_at, print_report, print_sent, read_report, report_of};

@@ -60,7 +60,7 @@ fn any_report_of(alloc: Global, words: &[u8]) -> Result<Report, LineRefusal>
 /// The report behind a head. BadLine comes exactly where the bytes are none, unless memory was short before that was
 /// seen. What a node owns is told most often, and is tried first.
 #[tactic(auto, using(crate::proofs::OwnLines::own_is_told))]
-fn report_of(alloc: Global, words: &[u8]) -> Result<Report, LineRefusal>
+pub fn report_of(alloc: Global, words: &[u8]) -> Result<Report, LineRefusal>
     ensures { Reads (λ x. x) result (report_of words.now) }
 {
     if let Ok(rest) = after_word(b"own ", words) {
