@@ -10,7 +10,7 @@ use Rattle.fabric_terms.specs.Runs.{Clocks}
 use Rattle.run_audit.specs.Auditing.{entry_of as audited_entry}
 use Rattle.run_audit.specs.declared.moment.Moment.{Moment}
 use Rattle.line_format.specs.Lines.{lines_of}
-use Rattle.line_format.specs.Readers.{Reads, line_of}
+use Rattle.line_format.specs.Readers.{Reads}
 use Rattle.line_format.specs.declared.refusal.LineRefusal.{LineRefusal}
 use Rattle.line_format.specs.declared.refusal.LineRefusal.TheVariants as refusal
 use Rattle.std.proofs.lemmas.Bool.Decides.{nat_tests}
@@ -18,27 +18,27 @@ use Rattle.source_lines.specs.Lines.{is_ignored}
 use Rattle.transcript_audit.specs.declared.group.Told.{Told}
 use Rattle.transcript_audit.specs.Groups.{Group, group_from, entry_of}
 use Rattle.transcript_audit.specs.Places.{goes_on, grown_by, grows, begun_with, group_in, GoesOn, IsEntry, IsSeen, TellsAs}
-use Rattle.transcript_audit.specs.Said.{Said, Opens, Shows, Tells, said_of, sent_of, shown_of}
+use Rattle.transcript_audit.specs.Said.{Said, Opens, Shows, Tells, said_of, shown_of, telling_of}
 use Rattle.transcript_audit.proofs.Growing.{goes_tells, goes_quiet, grows_on, grows_stop, grows_line, grows_clocks}
-use Rattle.transcript_audit.proofs.SaidSteps.{said_report, said_sent, said_quiet, shows_shown}
+use Rattle.transcript_audit.proofs.SaidSteps.{said_quiet, said_telling, shows_shown}
 
 -- what holds of the value holds of it in other words
 pub on_each : {A E : Type 0} {P Q : A → Type 0} (r : Result A E) → ((x : A) → P x → Q x) → IfOk r P → IfOk r Q
 on_each (Ok x) f p = f x p
 on_each (Err e) f p = p
 
-pub tells_report : (l : List ℕ) (g : Group) (old new : Told) (h : Head) (r : Report) → is_ignored l ≡ false → line_of l ≡ Some (h, r) → TellsAs old g
+pub tells_report : (l : List ℕ) (g : Group) (old new : Told) (h : Head) (r : Report) → is_ignored l ≡ false → telling_of l ≡ Some (Tells h.line h.who (Some r)) → TellsAs old g
     → new.who ≡ Some h.who → new.reports.items ≡ old.reports.items ++ r ∷ [] → GoesOn (goes_on l) new true g
 tells_report l g old new h r i e tells who items =
-    rw (goes_tells l h.line h.who (Some r) i (said_report l h r e)) (record { who = who; reports = items ∙ ap (λ x. x ++ r ∷ []) tells.reports })
+    rw (goes_tells l h.line h.who (Some r) i (said_telling l (Tells h.line h.who (Some r)) e)) (record { who = who; reports = items ∙ ap (λ x. x ++ r ∷ []) tells.reports })
 
-pub tells_sent : (l : List ℕ) (g : Group) (old new : Told) (n : ℕ) (w : Who) → is_ignored l ≡ false → line_of l ≡ None → sent_of l ≡ Some (n, w) → TellsAs old g
-    → new.who ≡ Some w → new.reports ≡ old.reports → GoesOn (goes_on l) new true g
-tells_sent l g old new n w i e f tells who same =
-    rw (goes_tells l n w None i (said_sent l n w e f)) (record { who = who; reports = ap (λ x. x.items) same ∙ tells.reports })
+pub tells_sent : (l : List ℕ) (g : Group) (old new : Told) (h : Head) → is_ignored l ≡ false → telling_of l ≡ Some (Tells h.line h.who None) → TellsAs old g
+    → new.who ≡ Some h.who → new.reports ≡ old.reports → GoesOn (goes_on l) new true g
+tells_sent l g old new h i e tells who same =
+    rw (goes_tells l h.line h.who None i (said_telling l (Tells h.line h.who None) e)) (record { who = who; reports = ap (λ x. x.items) same ∙ tells.reports })
 
-pub tells_nothing : (l : List ℕ) (g : Group) (t : Told) → is_ignored l ≡ false → line_of l ≡ None → sent_of l ≡ None → TellsAs t g → GoesOn (goes_on l) t false g
-tells_nothing l g t i e f tells = rw (goes_quiet l i (said_quiet l e f)) tells
+pub tells_nothing : (l : List ℕ) (g : Group) (t : Told) → is_ignored l ≡ false → telling_of l ≡ None → TellsAs t g → GoesOn (goes_on l) t false g
+tells_nothing l g t i e tells = rw (goes_quiet l i (said_quiet l e)) tells
 
 -- a line that goes on with the group
 pub goes_further : (l : List ℕ) (ls : List (List ℕ)) (new : Told) (h : Group) → GoesOn (goes_on l) new true h → (k : Group) × TellsAs new k × (grows ls k ≡ grows (l ∷ ls) h)

@@ -54,6 +54,10 @@ sent_of bytes = head_at bytes >>= λ head. after_word (codes "sent ") head.1 >>=
 abbrev pub told_of : List ℕ → Option Said
 told_of bytes = line_of bytes >>= λ x. Some (Tells x.0.line x.0.who (Some x.1))
 
+-- what an instance tells on a line
+abbrev pub telling_of : List ℕ → Option Said
+telling_of bytes = first_of (told_of bytes) (made (λ x. Tells x.0 x.1 None) sent_of bytes)
+
 -- what a line says, if it is one of a transcript
 unfoldable pub said_of : List ℕ → Option Said
 said_of bytes =

@@ -4,8 +4,8 @@ ghost use Rattle.line_format.specs.Lines.{lines_of};
 ghost use Rattle.transcript_audit.specs.Groups.{Group};
 ghost use Rattle.transcript_audit.specs.Places.{goes_on, grows, group_in, GoesOn, IsEntry, IsSeen, TellsAs};
 
-use crate::report_line::read_report_line;
-use crate::said::{read_clocks, read_sent};
+use crate::said::read_clocks;
+use crate::told_line::read_telling;
 use fabric_terms::{OutOfMemory, Report};
 use line_format::LineRefusal;
 use ring_points::Who;
@@ -27,20 +27,18 @@ fn take_line(alloc: Global, told: &mut Told, line: &[u8]) -> Result<bool, OutOfM
     if is_ignored(line) {
         return Ok(true);
     }
-    match read_report_line(alloc, line) {
-        Ok((head, report)) => {
+    match read_telling(alloc, line) {
+        Ok((head, Some(report))) => {
             told.reports.push(report)?;
             told.who = Some(head.who);
             Ok(true)
         }
+        Ok((head, None)) => {
+            told.who = Some(head.who);
+            Ok(true)
+        }
         Err(LineRefusal::OutOfMemory) => Err(OutOfMemory),
-        Err(LineRefusal::BadLine) => match read_sent(line) {
-            Ok((_, who)) => {
-                told.who = Some(who);
-                Ok(true)
-            }
-            Err(_) => Ok(false),
-        },
+        Err(LineRefusal::BadLine) => Ok(false),
     }
 }
 

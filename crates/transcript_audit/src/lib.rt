@@ -10,8 +10,8 @@
 mod audit_result;
 mod group;
 mod group_index;
-mod report_line;
 mod said;
+mod told_line;
 mod transcript;
 mod verdict;
 

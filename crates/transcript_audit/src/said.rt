@@ -3,12 +3,11 @@ ghost use Rattle.ring_points.specs.Limits.{most_nodes};
 ghost use Rattle.text_fields.specs.Fields.{Gives};
 ghost use Rattle.line_format.specs.Readers.{Reads};
 ghost use Rattle.transcript_audit.specs.Places.{summary_of};
-ghost use Rattle.transcript_audit.specs.Said.{clock_at, clocks_on, shown_of, sent_of, section_at, span_of, said_of};
+ghost use Rattle.transcript_audit.specs.Said.{clock_at, clocks_on, shown_of, section_at, said_of};
 
-use crate::report_line::read_report_line;
+use crate::told_line::read_telling;
 use line_format::{BadLine, LineRefusal};
-use report_lines::head_at;
-use ring_points::{MAX_COUNTER, MAX_NODES, Who};
+use ring_points::{MAX_NODES, Who};
 use run_audit::comes_after;
 use std::alloc::Global;
 use text_fields::{after_word, instance_at, last_number, number_in, number_word};
@@ -79,28 +78,8 @@ pub fn read_clocks(line: &[u8], clocks: &mut Vec<(Who, u64)>) -> Result<u64, Lin
     Ok(number)
 }
 
-// Numbers of frames, from 1 and not falling.
-fn span_of(bytes: &[u8]) -> Result<u64, BadLine>
-    ensures { Gives (λ x. x) result (span_of bytes.now) }
-{
-    let (first, rest) = number_in(1, MAX_COUNTER, bytes)?;
-    let rest = after_word(b"-", rest)?;
-    Ok(last_number(first, MAX_COUNTER, rest)?)
-}
-
-/// The LINE and the instance of a line that tells frames that were sent. BadLine comes exactly where the bytes are no
-/// such line.
-#[tactic(auto, unfolding(crate::specs::Said::sent_of))]
-pub fn read_sent(line: &[u8]) -> Result<(u64, Who), BadLine>
-    ensures { Gives (λ x. x) result (sent_of line.now) }
-{
-    let (head, rest) = head_at(line)?;
-    let _last = span_of(after_word(b"sent ", rest)?)?;
-    Ok((head.line, head.who))
-}
-
 /// What a line says. BadLine comes exactly where it is none of a transcript. The list serves each line of clocks.
-#[tactic(auto, unfolding(crate::specs::Said::said_of))]
+#[tactic(auto, using(crate::proofs::SaidSteps::said_telling, crate::proofs::SaidSteps::said_untold))]
 pub fn read_said(
     alloc: Global,
     line: &[u8],
@@ -108,13 +87,10 @@ pub fn read_said(
 ) -> Result<Said, LineRefusal>
     ensures { Reads (λ x. x) result (option_map summary_of (said_of line.now)) }
 {
-    match read_report_line(alloc, line) {
+    match read_telling(alloc, line) {
         Ok((head, _)) => return Ok(Said::Tells(head.line, head.who)),
         Err(LineRefusal::OutOfMemory) => return Err(LineRefusal::OutOfMemory),
         Err(LineRefusal::BadLine) => {}
-    }
-    if let Ok((number, who)) = read_sent(line) {
-        return Ok(Said::Tells(number, who));
     }
     match read_clocks(line, clocks) {
         Ok(number) => return Ok(Said::Shows(number)),
