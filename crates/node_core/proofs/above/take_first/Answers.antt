@@ -16,9 +16,9 @@ returns-else-acts-clause-does c =
     let acts = acts_at n.settings c.args.now n.ring in
     let lets = comes_above n.settings n.ring i in
     let is : row_if (comes_first n.settings c.args.now n.ring i) site c.args.now n.ring s i ≡ still s =
-        elim c.else-acts.branch [
-          else-acts-via-then-acts+then-is_above+else-comes_above w ↦ not_let site c.args.now n.ring s i acts lets (sym w.comes_above.ensures ∙ w.if-comes_above.false)
-        | else-acts-via-then-acts+else-is_above w ↦ nothing_above site c.args.now n.ring s i (comes_first n.settings c.args.now n.ring i) c.requires.first (sym w.is_above.ensures ∙ w.if-is_above.false)
-        | else-acts-via-else-acts w ↦ not_acting site c.args.now n.ring s i acts lets (sym c.acts.ensures.value ∙ w.if-acts.false)
-        ] in
+    elim c.else-acts.branch [
+      | else-acts-via-then-acts+then-is_above+else-comes_above w ↦ not_let site c.args.now n.ring s i acts lets (sym w.comes_above.ensures ∙ w.if-comes_above.false)
+      | else-acts-via-then-acts+else-is_above w ↦ nothing_above site c.args.now n.ring s i (comes_first n.settings c.args.now n.ring i) c.requires.first (sym w.is_above.ensures ∙ w.if-is_above.false)
+      | else-acts-via-else-acts w ↦ not_acting site c.args.now n.ring s i acts lets (sym c.acts.ensures.value ∙ w.if-acts.false)
+    ] in
     leaves_none site c.args.now n.ring s i (comes_first n.settings c.args.now n.ring i) c.args.effects.now is
