@@ -27,6 +27,10 @@ kept_on actor records more a b c k own others later rest = record {
 pub nothing_kept : (actor : ℕ) (a : Told) → KeptMore actor [] a a
 nothing_kept actor a = record { own = grew_none (a.kept actor) (a.kept actor) refl; others = λ other differ. refl; later = omega arith; rest = refl }
 
+pub none_to_keep : (actor : ℕ) (records : List Record) (a : Told) → length records ≡ 0 → KeptMore actor (map spelling records) a a
+none_to_keep actor [] a e = nothing_kept actor a
+none_to_keep actor (r ∷ rs) a e = absurd (omega arith)
+
 pub kept_then : (actor : ℕ) (records more : List (List ℕ)) (a b c : Told) → KeptMore actor records a b → KeptMore actor more b c → KeptMore actor (records ++ more) a c
 kept_then actor records more a b c p q = kept_on actor records more a b c p q.own q.others q.later q.rest
 

@@ -104,6 +104,10 @@ nothing_sent a = record { sent = sent_none a; opened = refl; arrivals = λ any. 
 abbrev pub datagrams_of : FabricConfig → ℕ → List Message → List Datagram
 datagrams_of c actor ms = map (sent_by actor) (posts_of c ms)
 
+pub none_to_send : (c : FabricConfig) (actor : ℕ) (ms : List Message) (a : Told) → length ms ≡ 0 → SentMore (datagrams_of c actor ms) a a
+none_to_send c actor [] a e = nothing_sent a
+none_to_send c actor (m ∷ ms) a e = absurd (omega arith)
+
 posts-append : (c : FabricConfig) (ms ns : List Message) → posts_of c (ms ++ ns) ≡ posts_of c ms ++ posts_of c ns
 posts-append c [] ns = refl
 posts-append c (m ∷ ms) ns =
