@@ -79,7 +79,7 @@ fn a_primary_that_is_down_is_healed(rt: HostRuntime) -> Result<(), Fail> {
     commands(&rt, &mut policy, &world, 1500, Said::Find(1 << 60));
     commands(&rt, &mut policy, &world, 1501, Said::Link(1));
     commands(&rt, &mut policy, &world, 2500, Said::Find(1 << 60));
-    assert_eq!(rt; policy.due(2500), 3000);
+    assert_eq!(rt; policy.due(2500), 2750);
     commands(&rt, &mut policy, &world, 3499, Said::Nothing);
     commands(&rt, &mut policy, &world, 3500, Said::Find(1 << 60));
     commands(&rt, &mut policy, &world, 3501, Said::Link(1));
