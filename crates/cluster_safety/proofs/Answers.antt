@@ -2,8 +2,8 @@
 use Rattle.std.proofs.Common.{arith, ◌≡◌, ℕ, suc, Bool, true, false, List, [], ◌∷◌, length, Option, Some, None, refl, ap, sym, subst, ◌∙◌}
 use Rattle.std.specs.Prelude.{Contains, slice_get}
 use Rattle.std.proofs.lemmas.List.Elements.{All-contains, All-nil}
-use Rattle.cold_start.proofs.Steps.{begun_first}
-use Rattle.cold_start.specs.Starts.{first_whole, node_begun_in}
+use Rattle.world_rules.proofs.Starts.{begun_first}
+use Rattle.world_rules.specs.Starts.{first_whole, node_begun_in}
 use Rattle.edge_io.specs.Readings.{is_fall}
 use Rattle.edge_io.specs.declared.endpoint.Endpoint.{Endpoint}
 use Rattle.epoch_safety.proofs.StepCommits.{asks_in}

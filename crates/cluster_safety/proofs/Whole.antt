@@ -3,8 +3,8 @@ use Rattle.std.proofs.Common.{arith, ◌≡◌, ◌≤◌, ◌<◌, ◌+◌, ℕ
 use Rattle.std.specs.Prelude.{nat_lt, slice_get, if◌then◌else◌}
 use Rattle.std.proofs.lemmas.Bool.Decides.{nat_tests}
 use Rattle.std.proofs.lemmas.Option.{slice_get_within}
-use Rattle.cold_start.proofs.Steps.{begun_first}
-use Rattle.cold_start.specs.Starts.{node_begun_in}
+use Rattle.world_rules.proofs.Starts.{begun_first}
+use Rattle.world_rules.specs.Starts.{node_begun_in}
 use Rattle.edge_io.specs.Readings.{is_fall}
 use Rattle.edge_io.specs.declared.endpoint.Endpoint.{Endpoint}
 use Rattle.fabric_terms.specs.declared.message.Message.{Message}

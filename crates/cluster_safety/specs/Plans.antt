@@ -1,6 +1,6 @@
 -- Which runs are a cluster's: the plan, what is kept, and what is heard.
 use Rattle.std.specs.Prelude.{◌≡◌, ◌≤◌, ◌+◌, ℕ, Bool, true, false, List, [], ◌∷◌, Option, Some, None, Contains, length, slice_get}
-use Rattle.cold_start.specs.Starts.{first_whole}
+use Rattle.world_rules.specs.Starts.{first_whole}
 use Rattle.edge_io.specs.declared.endpoint.Endpoint.{Endpoint}
 use Rattle.fabric_terms.specs.declared.config.FabricConfig.{FabricConfig}
 use Rattle.fabric_terms.specs.declared.message.Message.{Message}

@@ -12,9 +12,10 @@ use Rattle.run_facts.proofs.Kept.{boots_append}
 use Rattle.world_rules.specs.Nodes.{boots_of, instance_begun, is_spent}
 use Rattle.world_rules.specs.Uppers.{Upper}
 use Rattle.cold_start.specs.Laws.{BeginsOnce, NextMayBeAgain, OneBeginsWithTheRing, OneLifeIsASchedule, PastMayNot, begins_with}
-use Rattle.cold_start.specs.Starts.{node_begun_in, start_in}
+use Rattle.world_rules.specs.Starts.{node_begun_in, start_in}
 use Rattle.cold_start.proofs.OneLife.{life_one, run_one, valid_one, whole_one, world_one}
-use Rattle.cold_start.proofs.Steps.{begun_in_boots, node_begun_in-is, started_in-is}
+use Rattle.world_rules.proofs.Starts.{node_begun_in-is, started_in-is}
+use Rattle.run_facts.proofs.Starts.{begun_in_boots}
 
 pub one_life_lem : (a : Upper) → OneLifeIsASchedule a
 one_life_lem a c h = record {

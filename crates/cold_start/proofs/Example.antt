@@ -3,7 +3,7 @@ use Rattle.std.proofs.Common.{refl, None}
 use Rattle.ring_points.specs.Ranges.{whole_ring}
 use Rattle.ring_rules.specs.Starts.{node_started}
 use Rattle.cold_start.specs.Example.{TwoHold}
-use Rattle.cold_start.specs.Starts.{node_begun_in, started_in}
+use Rattle.world_rules.specs.Starts.{node_begun_in, started_in}
 
 pub two_hold_lem : TwoHold
 unfolding node_begun_in started_in node_started

@@ -15,8 +15,9 @@ use Rattle.world_rules.specs.Runs.{moment_of}
 use Rattle.world_rules.specs.Uppers.{Upper, Did}
 use Rattle.world_rules.specs.Worlds.{World, Running, Stepped, clocks_in, kept_of}
 use Rattle.cold_start.specs.Lives.{Comes, Again, Lives, ValidLives, lives_run, lives_world, this_life, whole_after}
-use Rattle.cold_start.specs.Starts.{node_begun_in}
-use Rattle.cold_start.proofs.Steps.{begun_in_accuses, begun_in_boots, begun_in_spent, begun_in_told, life_cases}
+use Rattle.world_rules.specs.Starts.{node_begun_in}
+use Rattle.run_facts.proofs.Starts.{begun_in_accuses, begun_in_boots, begun_in_spent, begun_in_told}
+use Rattle.cold_start.proofs.Steps.{life_cases}
 
 module _ (a : Upper) (stays : StaysAbove a) (c : FabricConfig) where
   abbrev After : ℕ → Run → Stepped a → Type 0

@@ -9,7 +9,7 @@ use Rattle.world_rules.specs.Schedules.{MayCome, Valid}
 use Rattle.world_rules.specs.Uppers.{Upper}
 use Rattle.world_rules.specs.Worlds.{World, Stepped}
 use Rattle.cold_start.specs.Lives.{Comes, Again, Lives, ValidLives, life_step, lives_run, lives_step, lives_world, one_life, this_life, whole_after}
-use Rattle.cold_start.specs.Starts.{first_whole}
+use Rattle.world_rules.specs.Starts.{first_whole}
 use Rattle.cold_start.proofs.Steps.{life_first}
 
 module _ (a : Upper) (c : FabricConfig) where

@@ -12,7 +12,7 @@ use Rattle.world_rules.specs.Schedules.{Valid}
 use Rattle.world_rules.specs.Uppers.{Upper}
 use Rattle.world_rules.specs.Worlds.{World, kept_of}
 use Rattle.cold_start.specs.Lives.{MayBeAgain, ValidLives, lives_run, lives_world, one_life, this_life, whole_after}
-use Rattle.cold_start.specs.Starts.{first_whole, node_begun_in}
+use Rattle.world_rules.specs.Starts.{first_whole, node_begun_in}
 
 -- one life is a schedule: its world, its run, and that it is valid
 pub record OneLife (a : Upper) (c : FabricConfig) (h : History) : Type 0 where

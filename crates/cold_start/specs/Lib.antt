@@ -1,4 +1,3 @@
-pub mod Starts
 pub mod Lives
 pub mod Laws
 pub mod Example

@@ -11,7 +11,7 @@ use Rattle.world_rules.specs.Runs.{History, moment_of}
 use Rattle.world_rules.specs.Schedules.{MayCome}
 use Rattle.world_rules.specs.Uppers.{Upper}
 use Rattle.world_rules.specs.Worlds.{World, Stepped, empty_world, kept_of, node_acted, quiet}
-use Rattle.cold_start.specs.Starts.{first_whole, node_begun_in}
+use Rattle.world_rules.specs.Starts.{first_whole, node_begun_in}
 
 -- an event of a schedule comes, or a new life begins, in which this instance begins with the whole ring
 pub data Happening : Type 0 where

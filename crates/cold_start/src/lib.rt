@@ -8,10 +8,8 @@
 #![tactic(auto)]
 
 mod laws;
-mod whole;
 
 pub use laws::{
     begins_once, next_may_be_again, one_begins_with_the_ring, one_life_is_a_schedule,
     past_may_not_be_again, two_hold_where_one_runs_on,
 };
-pub use whole::first_whole;

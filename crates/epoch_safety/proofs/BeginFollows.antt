@@ -36,8 +36,9 @@ use Rattle.run_facts.proofs.ApartSteps.{starts_apart_lem}
 use Rattle.epoch_safety.proofs.Follows.{Follows, no_units}
 use Rattle.epoch_safety.proofs.NodeFollows.{Follow}
 use Rattle.epoch_safety.proofs.Telling.{Tellings, tells_on, tells_none}
-use Rattle.cold_start.specs.Starts.{start_in, started_in, node_begun_in}
-use Rattle.cold_start.proofs.Steps.{started_in-is, started_in_as, node_begun_in-is}
+use Rattle.world_rules.specs.Starts.{start_in, started_in, node_begun_in}
+use Rattle.world_rules.proofs.Starts.{started_in-is, node_begun_in-is}
+use Rattle.run_facts.proofs.Starts.{started_in_as}
 
 -- where all numbers are used up it has left
 spent_left : (whole : Who) (c : FabricConfig) (me : Who) → is_left (started_in whole c me true).ring.phase ≡ true

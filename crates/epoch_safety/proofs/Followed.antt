@@ -55,10 +55,11 @@ use Rattle.epoch_safety.proofs.NodeFollows.{Named, node_follows}
 use Rattle.epoch_safety.proofs.RuleFollows.{rule_follows, rules_follow}
 use Rattle.epoch_safety.proofs.Telling.{Tellings, tells_after, told_lives, told_of}
 use Rattle.cold_start.specs.Lives.{Again, Comes, Lives, ValidLives, life_step, lives_run, lives_world, one_life, whole_after}
-use Rattle.cold_start.specs.Starts.{node_begun_in, started_in}
+use Rattle.world_rules.specs.Starts.{node_begun_in, started_in}
 use Rattle.cold_start.proofs.Facts.{orderly_lives}
 use Rattle.cold_start.proofs.OneLife.{valid_one, world_one}
-use Rattle.cold_start.proofs.Steps.{IsStart, life_cases, node_begun_in-is}
+use Rattle.world_rules.proofs.Starts.{node_begun_in-is}
+use Rattle.cold_start.proofs.Steps.{IsStart, life_cases}
 use Rattle.epoch_safety.specs.Lives.{lives_log}
 use Rattle.fabric_terms.specs.declared.event.Event.TheVariants.{Start}
 

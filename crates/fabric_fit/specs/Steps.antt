@@ -1,6 +1,6 @@
 -- One step of a node and of an arbitrator of units, in range: whatever came before, in whatever order, no schedule is asked for.
 use Rattle.std.specs.Prelude.{◌≡◌, ℕ, true, false, List, All, IsTrue}
-use Rattle.cold_start.specs.Starts.{node_begun_in}
+use Rattle.world_rules.specs.Starts.{node_begun_in}
 use Rattle.fabric_terms.specs.declared.config.FabricConfig.{FabricConfig}
 use Rattle.fabric_terms.specs.declared.message.Message.{Message}
 use Rattle.fabric_terms.specs.declared.record.Record.{Record}

@@ -3,8 +3,8 @@ use Rattle.std.proofs.Common.{◌≡◌, ℕ, ◌+◌, Bool, true, false, cond, 
 use Rattle.std.specs.Prelude.{All}
 use Rattle.std.proofs.lemmas.Bool.{and_from, leb-false}
 use Rattle.std.proofs.lemmas.List.Elements.{All-append, All-cons, All-nil}
-use Rattle.cold_start.proofs.Steps.{begun_first}
-use Rattle.cold_start.specs.Starts.{first_whole, node_begun_in, start_in, started_in}
+use Rattle.world_rules.proofs.Starts.{begun_first}
+use Rattle.world_rules.specs.Starts.{first_whole, node_begun_in, start_in, started_in}
 use Rattle.fabric_terms.specs.declared.config.FabricConfig.{FabricConfig}
 use Rattle.fabric_terms.specs.declared.record.Record.{Record}
 use Rattle.fabric_terms.specs.declared.record.Record.TheVariants.{Boot}

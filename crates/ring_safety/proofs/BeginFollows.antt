@@ -32,8 +32,9 @@ use Rattle.world_rules.specs.Schedules.{may_start, is_configured_node, node_runs
 use Rattle.world_rules.specs.Uppers.{Upper, Did}
 use Rattle.world_rules.specs.Worlds as real
 use Rattle.world_rules.specs.Worlds.{World, kept_of, node_acted}
-use Rattle.cold_start.specs.Starts.{node_begun_in, started_in}
-use Rattle.cold_start.proofs.Steps.{node_begun_in-is, started_in-is, started_in_as}
+use Rattle.world_rules.specs.Starts.{node_begun_in, started_in}
+use Rattle.world_rules.proofs.Starts.{node_begun_in-is, started_in-is}
+use Rattle.run_facts.proofs.Starts.{started_in_as}
 use Rattle.ring_safety.proofs.ActFollows.{Followed, Numbered, named}
 use Rattle.ring_safety.proofs.Follows.{Follows, ShowsClock, places_in, next_of}
 use Rattle.run_facts.proofs.Kept.{kept_here, kept_there, boots_append}

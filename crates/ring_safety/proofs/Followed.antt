@@ -27,7 +27,7 @@ use Rattle.world_rules.specs.Worlds.{World, Stepped, arbiter_who, empty_world, k
 use Rattle.world_rules.proofs.Rows.{is_there-start, is_there-tick, keeps_bound-tick}
 use Rattle.world_rules.specs.Above.{StaysAbove}
 use Rattle.cold_start.specs.Lives.{Comes, Again, Lives, MayBeAgain, ValidLives, life_step, lives_run, lives_world, this_life, whole_after}
-use Rattle.cold_start.specs.Starts.{first_whole, node_begun_in}
+use Rattle.world_rules.specs.Starts.{first_whole, node_begun_in}
 use Rattle.cold_start.proofs.Facts.{orderly_lives, tabled_lives}
 use Rattle.cold_start.proofs.Steps.{IsStart, life_cases}
 use Rattle.ring_safety.proofs.ActFollows.{Followed, Numbered, acts_follow}

@@ -14,3 +14,4 @@ pub mod ApartSaying
 pub mod ApartSessions
 pub mod ApartCommands
 pub mod ApartSteps
+pub mod Starts

@@ -5,7 +5,6 @@ ghost use Rattle.serve_top.specs.Plans.{PlansFor, address_of, whole_of};
 
 use crate::addresses::short;
 use crate::end::End;
-use cold_start::first_whole;
 use edge_io::{Endpoint, SocketAddress};
 use fabric_status::Status;
 use fabric_terms::FabricConfig;
@@ -13,6 +12,7 @@ use ring_points::{ARBITRATORS, Who};
 use service_file::Again;
 use std::alloc::{AllocError, Global};
 use turn_rules::{Orders, Plan, arbiter_address, node_address};
+use world_rules::first_whole;
 
 /// Who begins with the whole ring: the instance that line 2 names, or else instance 1 of the first node.
 pub fn whole_of(config: &FabricConfig, again: Option<Again>) -> Who

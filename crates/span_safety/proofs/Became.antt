@@ -17,7 +17,7 @@ use Rattle.world_rules.specs.Nodes.{node_step}
 use Rattle.world_rules.specs.Uppers.{Upper}
 use Rattle.world_rules.specs.Worlds.{World, Running, frame_in, kept_of}
 use Rattle.cold_start.specs.Lives.{life_step}
-use Rattle.cold_start.specs.Starts.{node_begun_in}
+use Rattle.world_rules.specs.Starts.{node_begun_in}
 use Rattle.span_safety.specs.Lengths.{begins, brings_length, commands_length, frame_brings, gives_length, names_length}
 
 -- the node's state after its step

@@ -4,7 +4,7 @@ use Rattle.std.proofs.Common.{◌≡◌, ℕ, zero, suc, ◌≤◌, Bool, true, 
 use Rattle.std.proofs.lemmas.Bool.{eqb-true}
 use Rattle.cold_start.proofs.Steps.{life_cases}
 use Rattle.cold_start.specs.Lives.{Comes, Again, Lives, lives_world, whole_after}
-use Rattle.cold_start.specs.Starts.{node_begun_in}
+use Rattle.world_rules.specs.Starts.{node_begun_in}
 use Rattle.fabric_terms.specs.declared.config.FabricConfig.{FabricConfig}
 use Rattle.fabric_terms.specs.declared.event.Event.{Event}
 use Rattle.fabric_terms.specs.declared.message.Body.{Body}

@@ -5,7 +5,7 @@ use Rattle.std.proofs.lemmas.Bool.{both_ways, eq-eqb}
 use Rattle.cold_start.proofs.OneLife.{valid_one, world_one}
 use Rattle.cold_start.proofs.Steps.{life_first}
 use Rattle.cold_start.specs.Lives.{lives_world, one_life}
-use Rattle.cold_start.specs.Starts.{first_whole}
+use Rattle.world_rules.specs.Starts.{first_whole}
 use Rattle.drift_clock.specs.Within.{FitsAll}
 use Rattle.fabric_lemmas.specs.Maps.{at, rises}
 use Rattle.fabric_terms.specs.declared.config.FabricConfig.{FabricConfig}

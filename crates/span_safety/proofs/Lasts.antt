@@ -3,9 +3,9 @@ use Rattle.std.specs.Prelude.{drop}
 use Rattle.std.proofs.Common.{◌≡◌, ℕ, zero, suc, ◌+◌, ◌≤◌, Bool, true, false, cond, ◌||◌, List, [], ◌∷◌, Option, Some, None, refl, sym, ap, ◌∙◌, subst, inr, arith}
 use Rattle.std.specs.List.{list_any}
 use Rattle.cold_start.proofs.OneLife.{valid_before}
-use Rattle.cold_start.proofs.Steps.{begun_in_spent, begun_in_told}
+use Rattle.run_facts.proofs.Starts.{begun_in_spent, begun_in_told}
 use Rattle.cold_start.specs.Lives.{Comes, Again, Lives, ValidLives, lives_run, lives_world, whole_after}
-use Rattle.cold_start.specs.Starts.{node_begun_in}
+use Rattle.world_rules.specs.Starts.{node_begun_in}
 use Rattle.fabric_lemmas.specs.Maps.{at}
 use Rattle.fabric_lemmas.specs.Members.{IsMember}
 use Rattle.fabric_terms.specs.declared.config.FabricConfig.{FabricConfig}

@@ -13,7 +13,7 @@ use Rattle.world_rules.specs.Nodes.{NodeState, instance_begun, is_spent, node_st
 use Rattle.world_rules.specs.Uppers.{Upper}
 use Rattle.world_rules.specs.Worlds.{Running}
 use Rattle.cold_start.specs.Lives.{Comes, Again, Lives, lives_world, whole_after}
-use Rattle.cold_start.specs.Starts.{node_begun_in, started_in}
+use Rattle.world_rules.specs.Starts.{node_begun_in, started_in}
 use Rattle.span_safety.specs.Lengths.{OneLength, UnlessBegun, begins, brings_length, gives_length}
 use Rattle.span_safety.proofs.Lasting.{AllLast}
 use Rattle.span_safety.proofs.FenceSteps.{step_lasts}

@@ -5,8 +5,8 @@ use Rattle.std.specs.Prelude.{All, Err, IfOk, Ok, OnErr, Result, nat_lt}
 use Rattle.std.proofs.lemmas.Bool.Decides.{nat_tests}
 use Rattle.std.proofs.lemmas.List.Elements.{All-cons, All-head, All-nil, All-tail}
 use Rattle.unit_rules.specs.Fabric.{fabric}
-use Rattle.cold_start.proofs.Steps.{begun_in_told}
-use Rattle.cold_start.specs.Starts.{node_begun_in}
+use Rattle.run_facts.proofs.Starts.{begun_in_told}
+use Rattle.world_rules.specs.Starts.{node_begun_in}
 use Rattle.fabric_terms.specs.Messages.{is_sound as is_sound_frame}
 use Rattle.fabric_terms.specs.Ranges.{IsNumber}
 use Rattle.fabric_terms.specs.Sent.{from_all}

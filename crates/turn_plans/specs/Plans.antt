@@ -1,6 +1,6 @@
 -- The plan that the bytes of a source define.
 use Rattle.std.specs.Prelude.{◌≡◌, ℕ, ◌+◌, Bool, true, false, List, [], ◌∷◌, ◌++◌, length, Result, Ok, Err, nat_lt, if◌then◌else◌}
-use Rattle.cold_start.specs.Starts.{first_whole}
+use Rattle.world_rules.specs.Starts.{first_whole}
 use Rattle.edge_io.specs.declared.endpoint.Endpoint.{Endpoint}
 use Rattle.fabric_config.specs.Config.{config_of_line, lacks_address}
 use Rattle.fabric_config.specs.declared.error.ConfigError.{ConfigError}

@@ -11,7 +11,6 @@ use crate::crew::{Crew, is_crew};
 use crate::error::PlanError;
 use crate::given::Given;
 use crate::orders::take_lines;
-use cold_start::first_whole;
 use edge_io::Source;
 use fabric_config::{ConfigError, need_endpoints, read_config};
 use fabric_status::Refusal;
@@ -19,6 +18,7 @@ use fabric_terms::FabricConfig;
 use source_lines::{LineReader, MAX_FIRST_LINE, NextLine};
 use std::alloc::Global;
 use turn_rules::Plan;
+use world_rules::first_whole;
 
 /// The configuration of line 1, where it says where each actor listens, and has whom the words name.
 #[tactic(auto, unfolding(crate::specs::Plans::config_for))]

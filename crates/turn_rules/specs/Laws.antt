@@ -1,7 +1,7 @@
 -- What holds of every run, and examples that are computed.
 use Rattle.std.specs.Prelude.{◌≡◌, ℕ, List, [], ◌∷◌, Some, None, codes, slice_get}
 use Rattle.fabric_status.specs.declared.status.Status.{Status}
-use Rattle.cold_start.specs.Starts.{first_whole}
+use Rattle.world_rules.specs.Starts.{first_whole}
 use Rattle.fabric_terms.specs.declared.command.Command.TheVariants.{Create, Join}
 use Rattle.fabric_terms.specs.declared.config.FabricConfig.{FabricConfig}
 use Rattle.fabric_terms.specs.declared.message.Message.{Message}

@@ -3,7 +3,7 @@ use Rattle.std.specs.Prelude.{ℕ, ◌+◌, Bool, true, false, List, Option, Som
 use Rattle.arbiter_tables.specs.Registers.{registered}
 use Rattle.arbiter_tables.specs.Tables.{entries_of}
 use Rattle.unit_rules.specs.Fabric.{fabric}
-use Rattle.cold_start.specs.Starts.{node_begun_in}
+use Rattle.world_rules.specs.Starts.{node_begun_in}
 use Rattle.fabric_terms.specs.declared.config.FabricConfig.{FabricConfig}
 use Rattle.fabric_terms.specs.declared.message.Body.{Body}
 use Rattle.fabric_terms.specs.declared.record.Record.{Record}

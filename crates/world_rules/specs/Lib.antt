@@ -8,3 +8,4 @@ pub mod Events
 pub mod Runs
 pub mod Schedules
 pub mod EventLimits
+pub mod Starts

@@ -1,6 +1,6 @@
 ghost use Rattle.std.specs.Prelude.{◌≡◌, ◌+◌, ◌≤◌, List, [], IfOk, IsTrue, OnOk, OnErr, false, length, true};
 ghost use Rattle.std.specs.Prelude.{vec_capacity, vec_len};
-ghost use Rattle.cold_start.specs.Starts.{node_begun_in};
+ghost use Rattle.world_rules.specs.Starts.{node_begun_in};
 ghost use Rattle.fabric_lemmas.specs.Maps.{rises};
 ghost use Rattle.fabric_terms.specs.Sound.{IsSound};
 ghost use Rattle.fabric_terms.specs.declared.record.Record.{Record};
@@ -22,7 +22,6 @@ use crate::node_effects::NodeEffects;
 use crate::node_parts::NodeParts;
 use crate::outcome::Outcome;
 use crate::unit_part::UnitNode;
-use cold_start::first_whole;
 use fabric_terms::{FabricConfig, OutOfMemory, Report};
 use keep_log::Kept;
 use ring_node::RingNode;
@@ -30,6 +29,7 @@ use ring_points::Who;
 use std::alloc::Global;
 use std::mem;
 use unit_replica::ReplicaStates;
+use world_rules::first_whole;
 
 /// How a node starts.
 impl NodeCore {

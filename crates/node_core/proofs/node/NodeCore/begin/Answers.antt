@@ -1,7 +1,7 @@
 use Rattle.std.proofs.Common.{◌∙◌, ap, subst}
 use Rattle.unit_rules.specs.Fabric.{fabric}
-use Rattle.cold_start.proofs.Steps.{begun_first}
-use Rattle.cold_start.specs.Starts.{node_begun_in}
+use Rattle.world_rules.proofs.Starts.{begun_first}
+use Rattle.world_rules.specs.Starts.{node_begun_in}
 use Rattle.ring_points.specs.declared.who.Who.{Who}
 use Rattle.world_rules.specs.Nodes.{NodeState}
 use Rattle.world_rules.specs.Uppers.{Did}

@@ -1,7 +1,7 @@
 use Rattle.std.proofs.Common.{◌≡◌, ◌∙◌, ap, sym, subst}
 use Rattle.unit_rules.specs.Fabric.{fabric}
 use Rattle.ring_points.specs.Whos.{node_instance}
-use Rattle.cold_start.specs.Starts.{node_begun_in}
+use Rattle.world_rules.specs.Starts.{node_begun_in}
 use Rattle.node_core.specs.Begins.{part_begun}
 use Rattle.node_core.specs.declared.kept.NodeKept.{NodeKept}
 use Rattle.node_core.specs.Nodes.{Core, Does, GoesBy, core_of, ring_of, with_states}

@@ -2,7 +2,7 @@ use Rattle.std.proofs.Common.{◌∙◌, ap, sym, subst}
 use Rattle.unit_rules.specs.Fabric.{fabric}
 use Rattle.unit_replica.specs.Starts.{states_from}
 use Rattle.unit_replica.proofs.Kept.{starts_lem}
-use Rattle.cold_start.specs.Starts.{node_begun_in}
+use Rattle.world_rules.specs.Starts.{node_begun_in}
 use Rattle.node_core.specs.Nodes.{Core, Does}
 use Rattle.node_core.proofs.node.NodeCore.start_in.Goals as goal
 

@@ -1,5 +1,5 @@
 ghost use Rattle.std.specs.Prelude.{◌≡◌};
-ghost use Rattle.cold_start.specs.Starts.{first_whole};
+ghost use Rattle.world_rules.specs.Starts.{first_whole};
 
 use fabric_terms::FabricConfig;
 use ring_points::Who;
