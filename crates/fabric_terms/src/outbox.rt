@@ -1,21 +1,23 @@
-ghost use Rattle.std.specs.Prelude.{◌≡◌, ◌+◌, ◌≤◌, ◌<◌, ◌∷◌, ◌++◌, [], length, take, vec_capacity, vec_len};
+ghost use Rattle.std.specs.Prelude.{◌≡◌, ◌+◌, ◌≤◌, ◌<◌, ◌∷◌, ◌++◌, [], IfOk, length, take, vec_capacity, vec_len};
 ghost use Rattle.fabric_terms.specs.Sent.{from_all};
 
+use crate::memory::OutOfMemory;
 use crate::message::{Body, Message};
-use arrayvec::ArrayVec;
 use ring_points::{OUTBOX_LIMIT, Who};
+use std::alloc::Global;
 use std::marker::Model;
 use std::mem;
 
 /// What one step sends, in its order, each with its addressee: at most `OUTBOX_LIMIT` messages. Contracts see them as
-/// their list.
+/// their list. An outbox takes the memory for so many when it is made, so that none of the calls that send can run out
+/// of it.
 #[derive(Drop)]
 pub struct Outbox {
-    messages: ArrayVec<(Who, Body), OUTBOX_LIMIT>,
+    messages: Vec<(Who, Body)>,
 }
 
 impl Model for Outbox {
-    ghost use Rattle.std.specs.Prelude.{◌≤◌, List, length};
+    ghost use Rattle.std.specs.Prelude.{◌≤◌, List, length, vec_capacity};
     ghost use Rattle.ring_points.specs.declared.who.Who.{Who};
     ghost use Rattle.fabric_terms.specs.declared.message.Body.{Body};
     ghost use Rattle.ring_points.specs.Limits.{most_messages};
@@ -24,17 +26,17 @@ impl Model for Outbox {
 
     ghost view = { λ o. o.messages.items };
 
-    ghost invariant = { λ o. length o.messages.items ≤ most_messages };
+    ghost invariant = { λ o. (length o.messages.items ≤ most_messages) × (most_messages ≤ vec_capacity o.messages) };
 }
 
 impl Outbox {
-    /// Nothing is sent yet.
-    pub fn new() -> Self
-        ensures { result ≡ [] }
+    /// Nothing is sent yet. It is an error where memory for `OUTBOX_LIMIT` messages is short.
+    pub fn new(alloc: Global) -> Result<Outbox, OutOfMemory>
+        ensures { IfOk result (λ o. o ≡ []) }
     {
-        Outbox {
-            messages: ArrayVec::new(),
-        }
+        Ok(Outbox {
+            messages: Vec::with_capacity(alloc, OUTBOX_LIMIT)?,
+        })
     }
 
     /// Nothing is sent any more.
@@ -79,6 +81,6 @@ impl Outbox {
         requires { length self.old < OUTBOX_LIMIT }
         ensures { self.new ≡ self.old ++ (to, body) ∷ [] }
     {
-        self.messages.push((to, body));
+        self.messages.push_reserved((to, body));
     }
 }

@@ -9,7 +9,10 @@ pub struct LinkSettings {
     pub longest: u64,
     /// The time for an answer.
     pub answer: u64,
+    /// How far clocks may drift.
     pub bound: Bound,
+    /// How many arbitrators there are: they are asked by number, from 1.
     pub arbitrators: u8,
+    /// How many rounds of heirs there may be.
     pub rounds: u8,
 }

@@ -34,17 +34,17 @@ pub struct NodeEffects {
 pub(crate) fn drop_boxed(_effects: Box<NodeEffects>) {}
 
 impl NodeEffects {
-    fn new(alloc: Global) -> NodeEffects
-        ensures { IsClear result }
+    fn new(alloc: Global) -> Result<NodeEffects, OutOfMemory>
+        ensures { IfOk result (λ d. IsClear d) }
     {
-        NodeEffects {
-            out: Outbox::new(),
+        Ok(NodeEffects {
+            out: Outbox::new(alloc)?,
             told: Reports::new(),
-            units: UnitEffects::new(),
+            units: UnitEffects::new(alloc)?,
             records: Vec::new(alloc),
             frames: Vec::new(alloc),
             reports: Vec::new(alloc),
-        }
+        })
     }
 
     /// Effects of no step, without memory for one. It is never inlined into a step, which would then pay at each entry
@@ -53,7 +53,7 @@ impl NodeEffects {
     fn boxed(alloc: Global) -> Result<Box<NodeEffects>, OutOfMemory>
         ensures { IfOk result (λ d. IsClear d.value) }
     {
-        Ok(Box::new(alloc, NodeEffects::new(alloc))?)
+        Ok(Box::new(alloc, NodeEffects::new(alloc)?)?)
     }
 
     /// Takes out the effects that are kept there, or makes some where there are none. It is an error where memory for

@@ -2,9 +2,9 @@ ghost use Rattle.std.specs.Prelude.{◌≡◌, ◌≤◌, IsTrue};
 ghost use Rattle.ring_node.specs.Steps.{is_sound_input};
 ghost use Rattle.ring_points.specs.Whos.{arbiter_actor, node_instance};
 
-use crate::ring::{from, instance, started};
+use crate::ring::{Stepped, from, instance, started, step};
 use fabric_terms::{Body, Command, Outbox, Report};
-use ring_node::{Input, RingNode};
+use ring_node::Input;
 use ring_points::{RangeSet, Ruling, Who};
 use std::alloc::Global;
 use std::process::Abort;
@@ -57,29 +57,28 @@ fn word(out: &Outbox, told: &[Report]) -> Seen {
     }
 }
 
-fn seen(ring: &mut RingNode, now: u64, input: &Input) -> Seen
+fn seen(at: &mut Stepped, now: u64, input: &Input) -> Seen
     requires now { now ≤ 1_000_000_000_000_000 }
     requires sound { IsTrue (is_sound_input input.now) }
 {
-    let mut out = Outbox::new();
-    let told = ring.step(now, input, &mut out);
-    word(&out, told.as_slice())
+    let told = step(at, now, input);
+    word(&at.out, told.as_slice())
 }
 
-fn fire(ring: &mut RingNode, now: u32) -> Seen {
-    seen(ring, now as u64, &Input::Fire)
+fn fire(at: &mut Stepped, now: u32) -> Seen {
+    seen(at, now as u64, &Input::Fire)
 }
 
 /// What a ruling of this arbitrator about node 1 brings about.
-fn rule(rt: &impl Abort, ring: &mut RingNode, number: u16, ruling: Ruling) -> Seen {
+fn rule(rt: &impl Abort, at: &mut Stepped, number: u16, ruling: Ruling) -> Seen {
     assert!(rt; 1 <= number && number <= 3);
     let victim = instance(1);
     let ruled = Body::Ruled { victim, ruling };
-    seen(ring, 3150, &from(arbitrator(number), 2, ruled))
+    seen(at, 3150, &from(arbitrator(number), 2, ruled))
 }
 
 /// What an answer of this arbitrator to a claim about node 1 brings about.
-fn keep(rt: &impl Abort, ring: &mut RingNode, number: u16, round: u8, claimer: u16) -> Seen {
+fn keep(rt: &impl Abort, at: &mut Stepped, number: u16, round: u8, claimer: u16) -> Seen {
     assert!(rt; 1 <= number && number <= 3);
     assert!(rt; 1 <= round && round <= 2 && 2 <= claimer && claimer <= 4);
     let kept = Body::Kept {
@@ -87,14 +86,14 @@ fn keep(rt: &impl Abort, ring: &mut RingNode, number: u16, round: u8, claimer: u
         round,
         claimer: instance(claimer),
     };
-    seen(ring, 3300, &from(arbitrator(number), 2, kept))
+    seen(at, 3300, &from(arbitrator(number), 2, kept))
 }
 
 /// Binds node 2 to node 1, which holds the ring.
-fn bind(ring: &mut RingNode) {
-    seen(ring, 100, &Input::Do(Command::Link(1)));
+fn bind(at: &mut Stepped) {
+    seen(at, 100, &Input::Do(Command::Link(1)));
     let offer = Body::Offer { mine: 1, yours: 1 };
-    seen(ring, 100, &from(instance(1), 2, offer));
+    seen(at, 100, &from(instance(1), 2, offer));
     let renew = Body::Renew {
         mine: 1,
         yours: 1,
@@ -104,72 +103,72 @@ fn bind(ring: &mut RingNode) {
         want: false,
         ranges: RangeSet::whole(),
     };
-    seen(ring, 100, &from(instance(1), 2, renew));
+    seen(at, 100, &from(instance(1), 2, renew));
 }
 
 /// Node 2, bound at reading 100 to node 1, once it has accused node 1.
-fn accuser(rt: &impl Abort, alloc: Global) -> RingNode {
-    let mut ring = started(rt, alloc, instance(2));
-    bind(&mut ring);
-    assert_eq!(rt; fire(&mut ring, 3100), ("accused", 3));
-    assert_eq!(rt; ring.fence(), Some(4100));
-    ring
+fn accuser(rt: &impl Abort, alloc: Global) -> Stepped {
+    let mut at = started(rt, alloc, instance(2));
+    bind(&mut at);
+    assert_eq!(rt; fire(&mut at, 3100), ("accused", 3));
+    assert_eq!(rt; at.ring.fence(), Some(4100));
+    at
 }
 
 /// The arbitrators rule each for another, and the second refusal frees node 2.
-fn split(rt: &impl Abort, ring: &mut RingNode) {
-    assert_eq!(rt; rule(rt, ring, 1, Ruling::Granted), NOTHING);
-    let discharged = rule(rt, ring, 2, Ruling::Taken);
+fn split(rt: &impl Abort, at: &mut Stepped) {
+    assert_eq!(rt; rule(rt, at, 1, Ruling::Granted), NOTHING);
+    let discharged = rule(rt, at, 2, Ruling::Taken);
     assert_eq!(rt; discharged, ("discharged, without a fence", 0));
-    assert_eq!(rt; rule(rt, ring, 3, Ruling::Taken), NOTHING);
+    assert_eq!(rt; rule(rt, at, 3, Ruling::Taken), NOTHING);
 }
 
 /// Node 2 once it has accused node 1, and is discharged by a split of the arbitrators.
-fn discharged(rt: &impl Abort, alloc: Global) -> RingNode {
-    let mut ring = accuser(rt, alloc);
-    split(rt, &mut ring);
-    ring
+fn discharged(rt: &impl Abort, alloc: Global) -> Stepped {
+    let mut at = accuser(rt, alloc);
+    split(rt, &mut at);
+    at
 }
 
 /// Each arbitrator keeps another claimer for the first round, and the last answer begins the second.
-fn first_round(rt: &impl Abort, ring: &mut RingNode) {
+fn first_round(rt: &impl Abort, at: &mut Stepped) {
     for (number, claimer, want) in [
         (1, 2, NOTHING),
         (2, 3, NOTHING),
         (3, 4, ("claims of round 2", 3)),
     ] {
-        let seen = keep(rt, ring, number, 1, claimer);
+        let seen = keep(rt, at, number, 1, claimer);
         assert_eq!(rt; seen, want, "{number} keeps {claimer}");
     }
 }
 
 /// Two arbitrators keep node 2 for the second round, which makes it the heir.
-fn second_round(rt: &impl Abort, ring: &mut RingNode) {
-    assert_eq!(rt; keep(rt, ring, 1, 2, 2), NOTHING);
+fn second_round(rt: &impl Abort, at: &mut Stepped) {
+    assert_eq!(rt; keep(rt, at, 1, 2, 2), NOTHING);
     // 3,300 and the wait for 4,000 ticks: 4,001 * 1,010 / 990 rounded up, and 1.
-    assert_eq!(rt; keep(rt, ring, 2, 2, 2), ("heir", 7383));
+    assert_eq!(rt; keep(rt, at, 2, 2, 2), ("heir", 7383));
 }
 
 /// The heir takes over at its reading, and not one tick before.
-fn inherits(rt: &impl Abort, ring: &mut RingNode) {
-    assert_eq!(rt; fire(ring, 7382), NOTHING);
-    assert_eq!(rt; fire(ring, 7383), ("took over, without a fence", 0));
-    assert_eq!(rt; ring.ranges().intervals().len(), 1);
+fn inherits(rt: &impl Abort, at: &mut Stepped) {
+    assert_eq!(rt; fire(at, 7382), NOTHING);
+    assert_eq!(rt; fire(at, 7383), ("took over, without a fence", 0));
+    assert_eq!(rt; at.ring.ranges().intervals().len(), 1);
 }
 
 #[test]
 fn a_split_is_settled_by_the_second_round(rt: HostRuntime) {
-    let mut ring = discharged(&rt, rt.alloc());
-    assert_eq!(rt; fire(&mut ring, 3200), ("claims of round 1", 3));
-    first_round(&rt, &mut ring);
-    second_round(&rt, &mut ring);
-    inherits(&rt, &mut ring);
+    let mut at = discharged(&rt, rt.alloc());
+    assert_eq!(rt; fire(&mut at, 3200), ("claims of round 1", 3));
+    first_round(&rt, &mut at);
+    second_round(&rt, &mut at);
+    inherits(&rt, &mut at);
 }
 
 #[test]
 fn claims_end_with_the_time_of_the_rounds(rt: HostRuntime) {
-    let mut ring = discharged(&rt, rt.alloc());
+    let mut at = discharged(&rt, rt.alloc());
     // The fence 4,100, and 4,000 for the second round.
-    assert_eq!(rt; fire(&mut ring, 8099), ("claims of round 1", 3));
-    assert_eq!(rt; fire(&mut ring, 8100), NOTHING);
+    assert_eq!(rt; fire(&mut at, 8099), ("claims of round 1", 3));
+    assert_eq!(rt; fire(&mut at, 8100), NOTHING);
 }

@@ -19,6 +19,8 @@ mod node_state;
 #[cfg(test)]
 mod nodes;
 #[cfg(test)]
+mod outboxes;
+#[cfg(test)]
 mod reconfigs;
 #[cfg(test)]
 mod ring;

@@ -1,7 +1,7 @@
 ghost use Rattle.std.specs.Prelude.{IsTrue};
 ghost use Rattle.ring_node.specs.Steps.{is_sound_input};
 
-use crate::ring::{HIGH, LOWER, from, instance, started};
+use crate::ring::{HIGH, LOWER, Stepped, from, instance, started, step};
 use fabric_terms::{Body, Command, Outbox, Reason, Report, Verb};
 use join_phases::Phase;
 use ring_node::{Input, RingNode};
@@ -10,7 +10,7 @@ use std::alloc::Global;
 use std::process::Abort;
 
 /// Node 1, which owns the ring, or seeks its place in it.
-fn one_of_three(rt: &impl Abort, alloc: Global, first: bool) -> RingNode {
+fn one_of_three(rt: &impl Abort, alloc: Global, first: bool) -> Stepped {
     let instance = if first { 1 } else { 2 };
     started(rt, alloc, Who { actor: 1, instance })
 }
@@ -25,40 +25,39 @@ fn sent_to(out: &Outbox) -> Option<(u16, u8)> {
 }
 
 /// Where the only frame goes that the node sends at reading 100, and how many reports it makes.
-fn taken(ring: &mut RingNode, input: &Input) -> (Option<(u16, u8)>, usize)
+fn taken(at: &mut Stepped, input: &Input) -> (Option<(u16, u8)>, usize)
     requires { IsTrue (is_sound_input input.now) }
 {
-    let mut out = Outbox::new();
-    let told = ring.step(100, input, &mut out);
-    (sent_to(&out), told.as_slice().len())
+    let told = step(at, 100, input);
+    (sent_to(&at.out), told.as_slice().len())
 }
 
 /// The node hears that node 3 is up.
-fn hear_from_three(ring: &mut RingNode) {
+fn hear_from_three(at: &mut Stepped) {
     let ack = Body::RenewAck {
         mine: 1,
         yours: 1,
         stamp: 100,
         version: 1,
     };
-    taken(ring, &from(instance(3), 1, ack));
+    taken(at, &from(instance(3), 1, ack));
 }
 
 /// What the node does with a Seek of node 2.
-fn sought(ring: &mut RingNode, key: u64) -> (Option<(u16, u8)>, usize) {
+fn sought(at: &mut Stepped, key: u64) -> (Option<(u16, u8)>, usize) {
     let seek = Body::Seek {
         origin: instance(2),
         key: Point(key),
         hops: 0,
     };
-    taken(ring, &from(instance(2), 1, seek))
+    taken(at, &from(instance(2), 1, seek))
 }
 
 /// What a node that has heard node 3, or owns the ring, does with a Seek of node 2.
 fn seek(rt: &impl Abort, alloc: Global, first: bool, key: u64) -> (Option<(u16, u8)>, usize) {
-    let mut ring = one_of_three(rt, alloc, first);
-    hear_from_three(&mut ring);
-    sought(&mut ring, key)
+    let mut at = one_of_three(rt, alloc, first);
+    hear_from_three(&mut at);
+    sought(&mut at, key)
 }
 
 #[test]
@@ -73,8 +72,8 @@ fn a_seek_goes_on_by_the_nearer_node(rt: HostRuntime) {
 }
 
 /// The only report of a command, where it is a refusal.
-fn refusal(ring: &mut RingNode, command: Command) -> Option<(Verb, Reason)> {
-    let told = ring.step(100, &Input::Do(command), &mut Outbox::new());
+fn refusal(at: &mut Stepped, command: Command) -> Option<(Verb, Reason)> {
+    let told = step(at, 100, &Input::Do(command));
     match told.as_slice() {
         [Report::Refused(verb, reason)] => Some((*verb, *reason)),
         _ => None,
@@ -92,14 +91,14 @@ fn about_two(verb: Verb) -> Command {
 }
 
 /// The commands about node 2, with which it is not bound yet, in this order.
-fn refuses_each(rt: &impl Abort, ring: &mut RingNode) {
+fn refuses_each(rt: &impl Abort, at: &mut Stepped) {
     for (verb, reason) in [
         (Verb::Link, Reason::Linked),
         (Verb::Part, Reason::NotLinked),
         (Verb::Give, Reason::NotLinked),
         (Verb::Join, Reason::Busy),
     ] {
-        let refused = refusal(ring, about_two(verb));
+        let refused = refusal(at, about_two(verb));
         assert_eq!(rt; refused, Some((verb, reason)));
     }
 }
@@ -119,12 +118,12 @@ fn a_seeking_node_gives_nothing(rt: HostRuntime) {
 }
 
 /// Whether a Found of node 3 is all that the node reports.
-fn finds(ring: &mut RingNode) -> bool {
+fn finds(at: &mut Stepped) -> bool {
     let found = Body::Found {
         key: Point(HIGH),
         holder: instance(1),
     };
-    let told = ring.step(100, &from(instance(3), 1, found), &mut Outbox::new());
+    let told = step(at, 100, &from(instance(3), 1, found));
     matches!(told.as_slice(), [Report::Found(..)])
 }
 
@@ -144,10 +143,10 @@ fn forgets_three(rt: &impl Abort, ring: &RingNode) {
 
 #[test]
 fn a_node_is_up_until_it_is_not_heard_for_long(rt: HostRuntime) {
-    let mut ring = one_of_three(&rt, rt.alloc(), true);
-    assert_eq!(rt; up(&ring, 100), (1, Some(1), None));
-    assert!(rt; finds(&mut ring));
-    forgets_three(&rt, &ring);
+    let mut at = one_of_three(&rt, rt.alloc(), true);
+    assert_eq!(rt; up(&at.ring, 100), (1, Some(1), None));
+    assert!(rt; finds(&mut at));
+    forgets_three(&rt, &at.ring);
 }
 
 /// The node has its place, with the whole ring and no fence.
@@ -159,8 +158,8 @@ fn holds_all(rt: &impl Abort, ring: &RingNode) {
 
 #[test]
 fn the_first_node_holds_the_ring(rt: HostRuntime) {
-    let mut ring = one_of_three(&rt, rt.alloc(), true);
-    assert!(rt; ring.holds(100, Point(HIGH)));
-    assert!(rt; finds(&mut ring));
-    holds_all(&rt, &ring);
+    let mut at = one_of_three(&rt, rt.alloc(), true);
+    assert!(rt; at.ring.holds(100, Point(HIGH)));
+    assert!(rt; finds(&mut at));
+    holds_all(&rt, &at.ring);
 }

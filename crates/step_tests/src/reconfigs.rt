@@ -1,5 +1,6 @@
 // Answers that end a reconfiguration: an arbitrator that keeps an epoch which is not below its own, and votes of which
 // none can get a majority.
+use crate::outboxes::outbox;
 use fabric_terms::{Body, Message, Outbox};
 use reconfig_phases::{Progress, Reconfig, Step};
 use replica_place::NodeLoad;
@@ -63,7 +64,12 @@ const NODES: [NodeLoad; 1] = [NodeLoad {
 }];
 
 /// The configuration number that ends the reconfiguration, if one does.
-fn answered(reconfig: &mut Reconfig, arbitrator: u16, answer: ArbiterAnswer) -> Option<u32> {
+fn answered(
+    reconfig: &mut Reconfig,
+    arbitrator: u16,
+    answer: ArbiterAnswer,
+    out: &mut Outbox,
+) -> Option<u32> {
     let message = Message {
         from: Who {
             actor: arbitrator,
@@ -75,27 +81,29 @@ fn answered(reconfig: &mut Reconfig, arbitrator: u16, answer: ArbiterAnswer) -> 
         },
         body: body(answer),
     };
-    match reconfig.answer(&message, &NODES, &mut Outbox::new()) {
+    out.clear();
+    match reconfig.answer(&message, &NODES, out) {
         Progress::Superseded(kept) => Some(kept.configuration),
         _ => None,
     }
 }
 
 /// 1.1 creates partition 1 with one replica in epoch 0.5, by three arbitrators.
-fn begun() -> Reconfig {
+fn begun(out: &mut Outbox) -> Reconfig {
     let me = Who {
         actor: 1,
         instance: 1,
     };
-    Reconfig::begin(1, epoch(5), Kind::Create(1), me, 3, &mut Outbox::new())
+    out.clear();
+    Reconfig::begin(1, epoch(5), Kind::Create(1), me, 3, out)
 }
 
 /// Which configuration number ends it after these answers, if one does.
-fn ended(answers: &[(u16, ArbiterAnswer)]) -> Option<u32> {
-    let mut reconfig = begun();
+fn ended(answers: &[(u16, ArbiterAnswer)], out: &mut Outbox) -> Option<u32> {
+    let mut reconfig = begun(out);
     let mut last = None;
     for (arbitrator, answer) in answers {
-        last = answered(&mut reconfig, *arbitrator, *answer);
+        last = answered(&mut reconfig, *arbitrator, *answer, out);
     }
     last
 }
@@ -140,8 +148,9 @@ const ROWS: [Row; 6] = [
 
 #[test]
 fn a_greater_epoch_or_split_votes_end_it(rt: HostRuntime) {
+    let mut out = outbox(&rt, rt.alloc());
     for (row, (answers, wanted)) in ROWS.iter().enumerate() {
-        assert_eq!(rt; ended(answers), *wanted, "in row {row}, from 0");
+        assert_eq!(rt; ended(answers, &mut out), *wanted, "in row {row}, from 0");
     }
 }
 
@@ -159,7 +168,10 @@ fn the_own_epoch_supersedes(rt: HostRuntime) {
         },
         body: body(ArbiterAnswer::NoPrepare(5)),
     };
-    let step = begun().on(&kept, &NODES, &mut Outbox::new());
+    let mut out = outbox(&rt, rt.alloc());
+    let reconfig = begun(&mut out);
+    out.clear();
+    let step = reconfig.on(&kept, &NODES, &mut out);
     assert!(rt;
         matches!(
             step,

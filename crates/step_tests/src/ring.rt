@@ -1,10 +1,12 @@
-ghost use Rattle.std.specs.Prelude.{◌≡◌};
+ghost use Rattle.std.specs.Prelude.{◌≡◌, ◌≤◌, IsTrue};
 ghost use Rattle.fabric_terms.specs.Sound.{IsSound};
+ghost use Rattle.ring_node.specs.Steps.{is_sound_input};
 ghost use Rattle.ring_points.specs.Whos.{node_instance};
 
+use crate::outboxes::outbox;
 use fabric_config::read_config;
-use fabric_terms::{Body, FabricConfig, Message};
-use ring_node::{Input, RingNode};
+use fabric_terms::{Body, FabricConfig, Message, Outbox};
+use ring_node::{Input, Reports, RingNode};
 use ring_points::Who;
 use std::alloc::Global;
 use std::process::Abort;
@@ -42,10 +44,29 @@ fn begun(rt: &impl Abort, alloc: Global, config: &FabricConfig, me: Who) -> Ring
     }
 }
 
+/// A node's ring, and what its last step sent.
+#[derive(Drop)]
+pub(crate) struct Stepped {
+    pub(crate) ring: RingNode,
+    pub(crate) out: Outbox,
+}
+
 /// An instance of a node as it starts: the first of node 1 owns the ring, and every other looks for its place.
-pub(crate) fn started(rt: &impl Abort, alloc: Global, me: Who) -> RingNode {
+pub(crate) fn started(rt: &impl Abort, alloc: Global, me: Who) -> Stepped {
     let config = config(rt, alloc);
-    begun(rt, alloc, &config, me)
+    Stepped {
+        ring: begun(rt, alloc, &config, me),
+        out: outbox(rt, alloc),
+    }
+}
+
+/// The step of the ring at this reading when this comes. It gives what is reported.
+pub(crate) fn step(at: &mut Stepped, now: u64, input: &Input) -> Reports
+    requires now { now ≤ 1_000_000_000_000_000 }
+    requires sound { IsTrue (is_sound_input input.now) }
+{
+    at.out.clear();
+    at.ring.step(now, input, &mut at.out)
 }
 
 /// A frame of this actor's first instance to whichever instance of this node runs.

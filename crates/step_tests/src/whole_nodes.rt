@@ -170,3 +170,25 @@ fn a_node_starts_again_from_what_it_gave_back(rt: HostRuntime) {
         start_and_stop(&rt, rt.alloc(), &mut kept, instance);
     }
 }
+
+/// The next instance begins in the place of the node, and tells this.
+fn begun_again(rt: &impl Abort, alloc: Global, node: &mut NodeCore) -> (Option<u32>, &'static str) {
+    let config = config(rt, alloc);
+    let mut kept = node.take_kept();
+    match node.begin_again(&config, 1, &mut kept) {
+        Ok(begun) => (booted(&begun), told(&begun)),
+        Err(OutOfMemory) => panic!(rt; "no memory"),
+    }
+}
+
+#[test]
+fn a_node_begins_again_where_a_linked_one_was(rt: HostRuntime) {
+    let mut kept = NodeKept::new(rt.alloc());
+    let (mut node, _, _) = begun(&rt, rt.alloc(), &mut kept);
+    greeting(&rt, &mut node);
+    let (boot, told) = begun_again(&rt, rt.alloc(), &mut node);
+    assert_eq!(rt; (boot, told), (Some(2), "an owner without a fence"));
+    assert!(rt; node.ranges().intervals().is_empty());
+    let greeting = greeting(&rt, &mut node);
+    assert_eq!(rt; greeting, Some((node.me(), (2, 0), 1)));
+}

@@ -1,7 +1,9 @@
+ghost use Rattle.std.specs.Prelude.{IfOk};
 ghost use Rattle.unit_desk.specs.UnitEffects.{IsClear};
 
 use bounded_list::Bounded;
-use fabric_terms::{Outbox, Record, Report};
+use fabric_terms::{OutOfMemory, Outbox, Record, Report};
+use std::alloc::Global;
 
 /// The most records of one row.
 pub const MAX_ROW_RECORDS: usize = 4;
@@ -24,14 +26,14 @@ pub struct UnitEffects {
 }
 
 impl UnitEffects {
-    /// No effects yet.
-    pub fn new() -> Self
-        ensures { IsClear result }
+    /// No effects yet. It is an error where memory for the outbox is short.
+    pub fn new(alloc: Global) -> Result<UnitEffects, OutOfMemory>
+        ensures { IfOk result (λ d. IsClear d) }
     {
-        UnitEffects {
+        Ok(UnitEffects {
             records: Bounded::new(),
-            out: Outbox::new(),
+            out: Outbox::new(alloc)?,
             told: Bounded::new(),
-        }
+        })
     }
 }
