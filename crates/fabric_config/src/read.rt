@@ -17,7 +17,8 @@ use fabric_terms::{Arbiters, FabricConfig, Nodes};
 use serde_json::Value;
 use std::alloc::Global;
 
-/// The JSON object that the bytes spell.
+/// The JSON object that the bytes spell. It is never inlined: the reader of JSON has a large frame of its own.
+#[inline(never)]
 #[tactic(auto, using(crate::proofs::Texts::documents))]
 fn read_document(alloc: Global, line: &[u8]) -> Result<Value, ConfigError>
     ensures { ReadsAs view (document_of line.now) result }
@@ -31,6 +32,7 @@ fn read_document(alloc: Global, line: &[u8]) -> Result<Value, ConfigError>
 }
 
 /// The checks of an object, in their order.
+#[inline(never)]
 #[tactic(auto, unfolding(crate::specs::Config::config_of))]
 fn read_object(alloc: Global, object: &Value) -> Result<FabricConfig, ConfigError>
     ensures { Reads (config_of (view object.now)) result }

@@ -26,7 +26,9 @@ use std::alloc::Global;
 use text_fields::{after_word, push_bytes};
 use unit::{push_entry, push_in, unit_report_of};
 
-// A report that takes no memory.
+// A report that takes no memory. It is never inlined, as is each reader below: the room of one kind is not cleared for
+// another.
+#[inline(never)]
 #[tactic(auto, unfolding(line_format::specs::Readers::plain_report_of))]
 fn plain_report_of(words: &[u8]) -> Result<Report, BadLine>
     ensures { Gives (λ x. x) result (plain_report_of words.now) }

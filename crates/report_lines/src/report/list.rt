@@ -82,6 +82,7 @@ fn value_of(alloc: Global, words: &[u8]) -> Result<NameValue, LineRefusal>
 }
 
 /// What a name stands for, behind the report's word.
+#[inline(never)]
 #[tactic(auto, unfolding(line_format::specs::Readers::named_of))]
 pub fn resolved_of(alloc: Global, words: &[u8]) -> Result<Report, LineRefusal>
     ensures { Reads (λ x. x) result (made resolved_made named_of words.now) }
@@ -177,6 +178,7 @@ fn names_of(alloc: Global, words: &[u8]) -> Result<NameTexts, LineRefusal>
 }
 
 /// The names of a partition, behind the report's word.
+#[inline(never)]
 #[tactic(auto, unfolding(line_format::specs::Readers::name_list_of))]
 pub fn name_list_of(alloc: Global, words: &[u8]) -> Result<Report, LineRefusal>
     ensures { Reads (λ x. x) result (name_list_of words.now) }
