@@ -14,5 +14,5 @@ mod names;
 mod point;
 
 pub use name::Name;
-pub use names::Names;
+pub use names::{MAX_FREED_NAMES, Names};
 pub use point::point_of;

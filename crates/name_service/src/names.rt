@@ -1,4 +1,5 @@
-ghost use Rattle.std.specs.Prelude.{◌≡◌, IfOk, IsTrue, OnOk, OnErr, option_map, true};
+ghost use Rattle.std.specs.Prelude.{◌≡◌, ◌≤◌, ◌+◌, IfOk, IsTrue, OnOk, OnErr, option_map, true};
+ghost use Rattle.std.specs.BTreeMap.{btree_map_len};
 ghost use Rattle.std.specs.Coded.{coded_ℕ, coded_list};
 ghost use Rattle.std.specs.FinMap as finite;
 ghost use Rattle.name_rules.specs.Grammar.{change_of, is_name};
@@ -17,6 +18,10 @@ use ring_points::Interval;
 use std::alloc::Global;
 use std::collections::BTreeMap;
 use std::marker::Model;
+use std::mem;
+
+/// The most names that a step frees of those that were let go.
+pub const MAX_FREED_NAMES: usize = 500;
 
 /// The names that a log's entries leave, each with its value. They stand in the order of their points, then of their
 /// bytes; contracts see the map.
@@ -24,6 +29,8 @@ use std::marker::Model;
 pub struct Names {
     alloc: Global,
     rows: BTreeMap<NameKey, Vec<u8>>,
+    /// Names that were let go and are not freed yet. Contracts do not see them.
+    released: BTreeMap<NameKey, Vec<u8>>,
 }
 
 impl Model for Names {
@@ -43,6 +50,17 @@ fn copy_of(alloc: Global, bytes: &[u8]) -> Result<Vec<u8>, OutOfMemory>
     Ok(bytes.to_vec(alloc)?)
 }
 
+/// Frees names of a map, the last ones first: at most `MAX_FREED_NAMES`.
+fn free_some(released: &mut BTreeMap<NameKey, Vec<u8>>)
+    ensures few { btree_map_len released.old ≤ btree_map_len released.new + MAX_FREED_NAMES }
+{
+    for _ in 0..MAX_FREED_NAMES {
+        if released.pop_last().is_none() {
+            return;
+        }
+    }
+}
+
 impl Names {
     /// No names. The map grows by this allocator.
     pub fn new(alloc: Global) -> Names
@@ -51,6 +69,7 @@ impl Names {
         Names {
             alloc,
             rows: BTreeMap::new(alloc),
+            released: BTreeMap::new(alloc),
         }
     }
 
@@ -109,11 +128,31 @@ impl Names {
         }
     }
 
-    /// No name stands for anything from now on.
+    /// No name stands for anything from now on. Few names are freed at once. Many are let go, and freed later by
+    /// `free_released`. Names that still wait then are freed at once: that needs steps that set many names, or that
+    /// free none.
     pub fn clear(&mut self)
         ensures { self.new ≡ finite.empty }
     {
-        self.rows.clear();
+        if self.rows.len() <= MAX_FREED_NAMES {
+            self.rows.clear();
+        } else {
+            let nothing = BTreeMap::new(self.alloc);
+            self.released = mem::replace(&mut self.rows, nothing);
+        }
+    }
+
+    /// Whether names that were let go are not freed yet.
+    pub fn has_released(&self) -> bool {
+        !self.released.is_empty()
+    }
+
+    /// Frees some of the names that were let go: at most `MAX_FREED_NAMES`. A step calls it, so that no step frees the
+    /// names of a long log at once.
+    pub fn free_released(&mut self)
+        ensures { self.new ≡ self.old }
+    {
+        free_some(&mut self.released);
     }
 
     /// The first `MAX_LISTED_NAMES` names with a point in the range, in their order. It goes to the range's first

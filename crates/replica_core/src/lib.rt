@@ -11,6 +11,7 @@ mod entry;
 mod epoch;
 mod laws;
 mod refusal;
+mod released;
 mod replica;
 mod role;
 
@@ -20,5 +21,6 @@ pub use laws::{
     the_log_of_an_epoch_only_grows, the_promised_epoch_never_falls,
 };
 pub use refusal::{Done, ReplicaRefusal};
+pub use released::MAX_FREED_ENTRIES;
 pub use replica::Replica;
 pub use role::Role;

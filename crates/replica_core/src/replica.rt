@@ -10,10 +10,12 @@ mod collecting;
 use crate::entry::{Entry, EntryBytes};
 use crate::epoch::first_epoch;
 use crate::refusal::{Done, ReplicaRefusal};
+use crate::released::Released;
 use crate::role::Role;
 use ring_points::{Config, Epoch, MAX_LOG_ENTRIES, MAX_WRITE};
 use std::alloc::Global;
 use std::marker::Model;
+use std::mem;
 
 /// A partition's replica at a node. Contracts see the promised epoch, the log and the epoch of which it is, the role,
 /// and the entries that are collected for the promised epoch.
@@ -30,6 +32,8 @@ pub struct Replica {
     role: Role,
     /// The first entries of a log that is to be adopted for the promised epoch.
     collected: Vec<Entry>,
+    /// What was let go and is not freed yet. Contracts do not see it.
+    released: Released,
 }
 
 impl Model for Replica {
@@ -58,6 +62,7 @@ impl Replica {
             log: Vec::new(alloc),
             role: Role::None,
             collected: Vec::new(alloc),
+            released: Released::new(alloc),
         }
     }
 
@@ -112,7 +117,7 @@ impl Replica {
     {
         if self.promised < e {
             self.role = self.role.demoted();
-            self.drop_collected();
+            self.let_go_collected();
         }
         self.promised = e;
     }
@@ -203,7 +208,9 @@ impl Replica {
         }
         if last == 0 {
             self.raise(e);
-            self.log.clear();
+            let nothing = Vec::new(self.alloc);
+            let former = mem::replace(&mut self.log, nothing);
+            self.released.take_in(former);
             self.at = e;
             return Ok(Done::New);
         }
@@ -221,6 +228,19 @@ impl Replica {
         ensures { self.new ≡ begun_again self.old }
     {
         self.role = Role::None;
-        self.collected.clear();
+        self.drop_collected();
+    }
+
+    /// Whether entries that were let go are not freed yet.
+    pub fn has_released(&self) -> bool {
+        !self.released.is_empty()
+    }
+
+    /// Frees some of the entries that were let go: at most `MAX_FREED_ENTRIES`. A step that touches the replica calls
+    /// it, so that no step frees a long log at once.
+    pub fn free_released(&mut self)
+        ensures { self.new ≡ self.old }
+    {
+        self.released.free_some();
     }
 }

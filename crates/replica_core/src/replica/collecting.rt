@@ -7,6 +7,7 @@ ghost use Rattle.replica_core.specs.Memory.{StoresIfShort};
 
 use crate::entry::{Entry, EntryBytes};
 use crate::refusal::{Done, ReplicaRefusal};
+use crate::released::Released;
 use crate::replica::Replica;
 use ring_points::{Epoch, MAX_LOG_ENTRIES, MAX_WRITE};
 use std::mem;
@@ -67,7 +68,8 @@ impl Replica {
             let mut anew = Vec::new(self.alloc);
             anew.push(entry)?;
             self.raise(e);
-            self.collected = anew;
+            let former = mem::replace(&mut self.collected, anew);
+            self.released.take_in(former);
         } else {
             self.collected.push(entry)?;
             self.raise(e);
@@ -80,7 +82,9 @@ impl Replica {
         ensures { self.new ≡ settled self.old.promised self.old }
     {
         let nothing = Vec::new(self.alloc);
-        self.log = mem::replace(&mut self.collected, nothing);
+        let log = mem::replace(&mut self.collected, nothing);
+        let former = mem::replace(&mut self.log, log);
+        self.released.take_in(former);
         self.at = self.promised;
     }
 
@@ -151,10 +155,20 @@ impl Replica {
         Ok(Done::New)
     }
 
-    /// Forgets what is collected.
+    /// Lets go of what is collected.
+    pub(super) fn let_go_collected(&mut self)
+        ensures { self.new ≡ uncollected self.old }
+    {
+        let nothing = Vec::new(self.alloc);
+        let former = mem::replace(&mut self.collected, nothing);
+        self.released.take_in(former);
+    }
+
+    /// Forgets what is collected. Starts do it, so it is freed at once, with all that was let go before.
     pub fn drop_collected(&mut self)
         ensures { self.new ≡ uncollected self.old }
     {
         self.collected.clear();
+        self.released = Released::new(self.alloc);
     }
 }
