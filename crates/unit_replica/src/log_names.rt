@@ -62,6 +62,18 @@ impl LogNames {
         self.count = 0;
     }
 
+    /// Whether forgotten names are not freed yet.
+    pub(crate) fn has_released(&self) -> bool {
+        self.names.has_released()
+    }
+
+    /// Frees some of the names that were forgotten.
+    pub(crate) fn free_released(&mut self)
+        ensures { self.new ≡ self.old }
+    {
+        self.names.free_released();
+    }
+
     /// Goes on with a list that stayed or ended, and has so many entries now.
     pub(crate) fn follow(&mut self, most: usize)
         ensures { (old new : List LogEntry) → most ≡ length new → StayOrEnd old new

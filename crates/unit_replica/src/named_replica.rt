@@ -215,6 +215,20 @@ impl NamedReplica {
         self.coming.forget();
     }
 
+    /// Whether entries or names that were let go are not freed yet.
+    pub(crate) fn has_released(&self) -> bool {
+        self.replica.has_released() || self.names.has_released() || self.coming.has_released()
+    }
+
+    /// Frees some of the entries and of the names that were let go.
+    pub(crate) fn free_released(&mut self)
+        ensures { self.new ≡ self.old }
+    {
+        self.replica.free_released();
+        self.names.free_released();
+        self.coming.free_released();
+    }
+
     /// Applies entries up to number `count` to the kept names, if any are missing. A question that asks after fewer
     /// entries begins anew, so none should come.
     pub(crate) fn go_along(&mut self, count: usize)

@@ -4,10 +4,22 @@ ghost use Rattle.unit_rules.specs.Deeds.{frames_of};
 ghost use Rattle.unit_replica.specs.Tables.{fired};
 
 use crate::progress::MAX_PEERS;
+use crate::replica_state::ReplicaState;
 use crate::replica_states::ReplicaStates;
 use crate::send::state_fired;
 use fabric_terms::{Message, Outbox};
 use ring_points::Who;
+use std::collections::BTreeMap;
+
+/// The partition of the first replica that let something go which is not freed yet.
+fn releasing(states: &BTreeMap<u16, ReplicaState>) -> Option<u16> {
+    for (partition, state) in states {
+        if state.has_released() {
+            return Some(*partition);
+        }
+    }
+    None
+}
 
 impl ReplicaStates {
     /// A firing: each primary sends each other member its next entry, if its log has that entry. The messages are
@@ -25,5 +37,20 @@ impl ReplicaStates {
             state_fired(state, out);
             out.hand_over(from, frames);
         }
+    }
+
+    /// Frees some of what the first replica let go that let something go. A node does it at each firing, so that it
+    /// frees all also where no frame reaches the replica. Where nothing is to be freed, a replica costs three
+    /// comparisons.
+    pub fn free_released(&mut self)
+        ensures { self.new ≡ self.old }
+    {
+        let Some(partition) = releasing(&self.map) else {
+            return;
+        };
+        let Some(state) = self.map.get_mut(&partition) else {
+            return;
+        };
+        state.free_released();
     }
 }

@@ -57,6 +57,18 @@ impl ReplicaState {
         self.replica.go_along(count);
     }
 
+    /// Whether something that the replica let go is not freed yet.
+    pub(crate) fn has_released(&self) -> bool {
+        self.replica.has_released()
+    }
+
+    /// Frees some of what the replica let go.
+    pub(crate) fn free_released(&mut self)
+        ensures { self.new ≡ self.old }
+    {
+        self.replica.free_released();
+    }
+
     /// Forgets the collected entries.
     pub(crate) fn drop_collected(&mut self)
         ensures { self.new ≡ state_uncollected self.old }

@@ -89,7 +89,8 @@ impl ReplicaStates {
         }
     }
 
-    /// The row of a frame at the partition's replica, if the node has one.
+    /// The row of a frame at the partition's replica, if the node has one. Before it, some of what the replica let go
+    /// is freed.
     fn at_standing(
         &mut self,
         me: u16,
@@ -111,6 +112,7 @@ impl ReplicaStates {
         let Some(state) = self.map.get_mut(&partition) else {
             return Ok(());
         };
+        state.free_released();
         row_of(me, from, body, state, effects)
     }
 
@@ -203,7 +205,8 @@ impl ReplicaStates {
         }
     }
 
-    /// The row of a command at the partition's replica. The command is refused if the node has none.
+    /// The row of a command at the partition's replica. The command is refused if the node has none. Before it, some of
+    /// what the replica let go is freed.
     fn command(
         &mut self,
         partition: u16,
@@ -221,6 +224,7 @@ impl ReplicaStates {
             refuse(verb_of(command), Reason::NotPrimary, effects);
             return Ok(());
         };
+        state.free_released();
         commanded(self.alloc, command, state, effects)
     }
 

@@ -1,4 +1,4 @@
-use Rattle.std.proofs.Common.{◌∙◌, [], ap, sym}
+use Rattle.std.proofs.Common.{◌∙◌, Some, [], ap, sym}
 use Rattle.std.specs.Option.{option_copied_mut}
 use Rattle.unit_rules.specs.Deeds.{still}
 use Rattle.unit_replica.specs.Tables.{row_of}
@@ -7,11 +7,11 @@ use Rattle.unit_replica.proofs.Stored.{grows_there}
 use Rattle.unit_replica.proofs.replica_states.ReplicaStates.at_standing.Goals as goal
 use Rattle.unit_replica.proofs.replica_states.ReplicaStates.at_standing.Goals.{After-row_of}
 
-written : (c : After-row_of) → Written c.args.partition c.self.inside.map.entries c.args.self.now (c.get_mut.follows.lender c.row_of.new.state).entries c.in-Some.state.now c.row_of.new.state
+written : (c : After-row_of) → Written c.args.partition c.self.inside.map.entries c.args.self.now (c.get_mut.follows.lender c.row_of.new.state).entries c.free_released.new.self c.row_of.new.state
 written c = record {
   view = c.self.view_is;
   table = c.self.invariant;
-  found = sym c.get_mut.ensures.value ∙ ap option_copied_mut c.in-Some.is;
+  found = sym c.get_mut.ensures.value ∙ (ap option_copied_mut c.in-Some.is ∙ ap (λ s. Some s) (sym c.free_released.ensures));
   set = (c.get_mut.follows.holds c.row_of.new.state).0;
 }
 

@@ -1,4 +1,4 @@
-use Rattle.std.proofs.Common.{◌∙◌, ap, sym, subst, ◌∷◌, []}
+use Rattle.std.proofs.Common.{◌∙◌, Some, ap, sym, subst, ◌∷◌, []}
 use Rattle.std.specs.Option.{option_copied_mut}
 use Rattle.fabric_terms.specs.declared.report.Reason.TheVariants as reason
 use Rattle.fabric_terms.specs.declared.report.Report.TheVariants.{Refused}
@@ -11,11 +11,11 @@ use Rattle.unit_replica.proofs.Stored.{wants_there}
 use Rattle.unit_replica.proofs.replica_states.ReplicaStates.command.Goals as goal
 use Rattle.unit_replica.proofs.replica_states.ReplicaStates.command.Goals.{After-commanded}
 
-written : (c : After-commanded) → Written c.args.partition c.self.inside.map.entries c.args.self.now (c.get_mut.follows.lender c.commanded.new.state).entries c.in-Some.state.now c.commanded.new.state
+written : (c : After-commanded) → Written c.args.partition c.self.inside.map.entries c.args.self.now (c.get_mut.follows.lender c.commanded.new.state).entries c.free_released.new.self c.commanded.new.state
 written c = record {
   view = c.self.view_is;
   table = c.self.invariant;
-  found = sym c.get_mut.ensures.value ∙ ap option_copied_mut c.in-Some.is;
+  found = sym c.get_mut.ensures.value ∙ (ap option_copied_mut c.in-Some.is ∙ ap (λ s. Some s) (sym c.free_released.ensures));
   set = (c.get_mut.follows.holds c.commanded.new.state).0;
 }
 
