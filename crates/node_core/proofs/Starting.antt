@@ -10,7 +10,7 @@ use Rattle.ring_node.specs.Steps.{begun, own_told, started_with}
 use Rattle.ring_points.specs.declared.who.Who.{Who}
 use Rattle.ring_points.specs.Whos.{node_instance, same_who}
 use Rattle.ring_rules.specs.Rings.{Work, settings_of}
-use Rattle.world_rules.specs.Starts.{node_begun_in, start_in, started_in}
+use Rattle.world_rules.specs.Starts.{node_begun_in, started_in}
 use Rattle.ring_rules.specs.Starts.{node_started, start_first}
 use Rattle.token_core.specs.Tokens.{last_number}
 use Rattle.unit_rules.specs.ReplicaStates.{ReplicaState}

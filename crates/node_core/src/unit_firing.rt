@@ -24,4 +24,11 @@ impl UnitNode {
         self.manager.fire(me, out, frames);
         self.states.fire(me, out, frames);
     }
+
+    /// Frees some of what the replicas let go.
+    pub fn free_released(&mut self)
+        ensures { self.new ≡ self.old }
+    {
+        self.states.free_released();
+    }
 }

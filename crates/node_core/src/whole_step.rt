@@ -131,7 +131,7 @@ fn take_answer(
     leave(&parts.ring, &mut parts.owned, effects);
 }
 
-/// The step of a firing. It needs no memory.
+/// The step of a firing. It needs no memory. It frees some of what the replicas let go.
 #[tactic(auto, unfolding(crate::specs::Nodes::most_frames))]
 fn take_firing(parts: &mut NodeParts, now: u64, effects: &mut NodeEffects)
     requires now { now ≤ MAX_READING }
@@ -157,6 +157,7 @@ fn take_firing(parts: &mut NodeParts, now: u64, effects: &mut NodeEffects)
         &mut effects.units.out,
         &mut effects.frames,
     );
+    parts.units.free_released();
     leave(&parts.ring, &mut parts.owned, effects);
 }
 
