@@ -29,31 +29,28 @@ pub struct NodeEffects {
 }
 
 /// Drops effects. It is never inlined: they are moved to the stack where they are dropped, and whoever calls that
-/// inline pays for a quarter of a megabyte each time.
+/// inline pays for their 40 KB each time.
 #[inline(never)]
 pub(crate) fn drop_boxed(_effects: Box<NodeEffects>) {}
 
 impl NodeEffects {
-    fn new(alloc: Global) -> Result<NodeEffects, OutOfMemory>
-        ensures { IfOk result (λ d. IsClear d) }
-    {
-        Ok(NodeEffects {
-            out: Outbox::new(alloc)?,
-            told: Reports::new(),
-            units: UnitEffects::new(alloc)?,
-            records: Vec::new(alloc),
-            frames: Vec::new(alloc),
-            reports: Vec::new(alloc),
-        })
-    }
-
     /// Effects of no step, without memory for one. It is never inlined into a step, which would then pay at each entry
     /// for the room in which they are made.
     #[inline(never)]
     fn boxed(alloc: Global) -> Result<Box<NodeEffects>, OutOfMemory>
         ensures { IfOk result (λ d. IsClear d.value) }
     {
-        Ok(Box::new(alloc, NodeEffects::new(alloc)?)?)
+        let out = Outbox::new(alloc)?;
+        let units = UnitEffects::new(alloc)?;
+        let effects = NodeEffects {
+            out,
+            told: Reports::new(),
+            units,
+            records: Vec::new(alloc),
+            frames: Vec::new(alloc),
+            reports: Vec::new(alloc),
+        };
+        Ok(Box::new(alloc, effects)?)
     }
 
     /// Takes out the effects that are kept there, or makes some where there are none. It is an error where memory for

@@ -1,4 +1,4 @@
-ghost use Rattle.std.specs.Prelude.{◌≡◌, ◌≤◌, [], IfOk, is_ok, length, map, true};
+ghost use Rattle.std.specs.Prelude.{◌≡◌, ◌≤◌, [], IfOk, false, is_ok, length, map, true};
 ghost use Rattle.fabric_terms.specs.Sound.{IsSound};
 ghost use Rattle.link_core.specs.Settings.{AreSoundSettings};
 ghost use Rattle.ring_node.specs.Nodes.{step};
@@ -101,6 +101,17 @@ impl RingNode {
             target: None,
             near: config.near,
         }
+    }
+
+    /// An instance that has not begun, and owns nothing: `begin_again` starts one in its place. Its reports would be a list
+    /// as large as the node, so it makes none.
+    pub fn unbegun(config: &FabricConfig, me: Who) -> RingNode
+        requires { IsSound config.now }
+        ensures settings { result.settings ≡ settings_of config.now me.actor }
+        ensures ring { result.ring ≡ new_ring config.now me (first_phase false) (first_ranges false) }
+    {
+        let (phase, ranges) = first_phase(false);
+        RingNode::in_phase(config, me, phase, ranges)
     }
 
     /// The instance of a node that starts, and what it tells: that it left, where all numbers of instances are spent,

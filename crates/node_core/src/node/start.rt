@@ -47,19 +47,18 @@ impl NodeCore {
             actor: node,
             instance: 0,
         };
-        let (ring, _) = RingNode::begin(config, me, false, false);
+        let ring = RingNode::unbegun(config, me);
         let owned = ring.owned();
-        let parts = NodeParts {
-            ring,
-            owned,
-            units: UnitNode::new(alloc, config),
-        };
-        let core = NodeCore {
+        let units = UnitNode::new(alloc, config);
+        // One value is made, and moved once.
+        Ok(Box::new(
             alloc,
-            parts,
-            effects: None,
-        };
-        Ok(Box::new(alloc, core)?)
+            NodeCore {
+                alloc,
+                parts: NodeParts { ring, owned, units },
+                effects: None,
+            },
+        )?)
     }
 
     /// This instance begins where the ended one was, without replicas and without room for a step. What it tells comes
