@@ -1,6 +1,6 @@
 -- Pieces in a room.
 use Rattle.std.proofs.Common.{◌≡◌, ℕ, ◌+◌, ◌-◌, ◌≤◌, List, ◌++◌, length, take, drop, length-drop, Some, arith, ap, sym, ◌∙◌, zero-add, append_assoc}
-use Rattle.std.proofs.lemmas.List.{take-take, drop-take, length-take-le, take-append-drop}
+use Rattle.std.proofs.lemmas.List.{take-take, drop-take, length-take-le, take-append-drop, take-append-le, take_all}
 use Rattle.std.proofs.lemmas.List.Edits.{take-paste}
 use Rattle.std.proofs.lemmas.Slice.{take-put_mid}
 use Rattle.std.proofs.Math.Seq.{take-append-add, take-add}
@@ -51,3 +51,9 @@ pub front_between : (next end n : ℕ) (room : List ℕ) → next + n ≤ end �
 front_between next end n room within =
     drop-take next n room
     ∙ (sym (take-take n (end - next) (drop next room) (omega arith)) ∙ ap (take n) (between next end room (omega arith)))
+
+-- the front of a room that gets longer
+pub same_front : (n most : ℕ) (room more : List ℕ) → n ≤ length room → length room ≤ most → take n (take most room ++ more) ≡ take n room
+same_front n most room more few short =
+    let all : take most room ≡ room = take_all most room short in
+    ap (λ xs. take n (xs ++ more)) all ∙ take-append-le n room more few

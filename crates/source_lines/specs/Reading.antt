@@ -6,12 +6,13 @@ use Rattle.source_lines.specs.Feeds.{HasNoFeed}
 use Rattle.source_lines.specs.declared.next_line.NextLine.{NextLine}
 use Rattle.source_lines.specs.declared.next_line.NextLine.TheVariants.{Line, TooLong, End}
 
--- the bytes that were read and not yet taken; the line that was taken last, without and with its line feed; and whether the
--- last piece had as many bytes as were asked for
+-- the bytes that were read and not yet taken; the line that was taken last, without and with its line feed; how many bytes
+-- the room has; and whether the room is full and as long as it gets, so that the last piece had as many bytes as were asked for
 pub record Reading : Type 0 where
   pub waiting : List ℕ
   pub line : List ℕ
   pub whole : List ℕ
+  pub long : ℕ
   pub filled : Bool
 
 -- no whole line waits, and the last piece was not filled

@@ -1,4 +1,4 @@
-ghost use Rattle.std.specs.Prelude.{◌≡◌, ◌≤◌, ◌+◌, ◌==◌, ◌++◌, ℕ, List, [], Some, Ok, IfOk, length, position};
+ghost use Rattle.std.specs.Prelude.{◌≡◌, ◌≤◌, ◌<◌, ◌+◌, ◌==◌, ◌++◌, ℕ, List, [], Some, Ok, IfOk, length, position, true};
 ghost use Rattle.edge_io.specs.Edge.{HasCause};
 ghost use Rattle.source_lines.specs.Feeds.{HasNoFeed};
 ghost use Rattle.source_lines.specs.Reading.{IsLineOf, LeavesUnread, TakesOf, may_wait};
@@ -14,7 +14,11 @@ use std::marker::Model;
 /// How many bytes of a source stand in the room at most: the longest line, and a piece.
 const ROOM: usize = 81_920;
 
-/// Reads a source line by line: pieces are read into a room that is made once, and lines are cut from it.
+/// How many bytes stand in the room at first. The room is filled when it is made, which a short source would pay for.
+const FIRST_ROOM: usize = 8_192;
+
+/// Reads a source line by line: pieces are read into a room, and lines are cut from it. The memory of the room is taken
+/// once. The room gets longer when a piece has filled it, or when a line is longer.
 #[derive(Drop)]
 pub struct LineReader {
     room: Vec<u8>,
@@ -27,7 +31,7 @@ pub struct LineReader {
 }
 
 impl Model for LineReader {
-    ghost use Rattle.std.specs.Prelude.{◌≡◌, ◌≤◌, ◌+◌, ◌-◌, ◌==◌, take, drop, length};
+    ghost use Rattle.std.specs.Prelude.{◌≡◌, ◌≤◌, ◌<◌, ◌+◌, ◌-◌, ◌==◌, take, drop, length, vec_capacity};
     ghost use Rattle.source_lines.specs.Reading.{Reading};
 
     ghost Value = { Reading };
@@ -36,11 +40,12 @@ impl Model for LineReader {
       waiting = drop r.next (take r.end r.room.items);
       line = drop r.from (take r.to r.room.items);
       whole = drop r.from (take r.next r.room.items);
+      long = length r.room.items;
       filled = r.end == 81920;
     } };
 
-    ghost invariant = { λ r. (length r.room.items ≡ 81920) × (r.from ≤ r.to) × (r.to ≤ r.next) × (r.next ≤ r.to + 1) ×
-        (r.next ≤ r.end) × (r.end ≤ 81920) };
+    ghost invariant = { λ r. (0 < length r.room.items) × (r.from ≤ r.to) × (r.to ≤ r.next) × (r.next ≤ r.to + 1) ×
+        (r.next ≤ r.end) × (r.end ≤ length r.room.items) × (81920 ≤ vec_capacity r.room) };
 }
 
 impl LineReader {
@@ -48,8 +53,10 @@ impl LineReader {
     pub fn new(alloc: Global) -> Result<LineReader, AllocError>
         ensures { IfOk result (λ r. (r.waiting ≡ []) × (r.line ≡ []) × (r.whole ≡ [])) }
     {
+        let mut room = Vec::with_capacity(alloc, ROOM)?;
+        room.resize(FIRST_ROOM, 0)?;
         Ok(LineReader {
-            room: vec![in alloc; 0u8; ROOM]?,
+            room,
             from: 0,
             to: 0,
             next: 0,
@@ -74,7 +81,8 @@ impl LineReader {
     }
 
     /// Whether the next line may wait for the source: no whole line was read, and the last piece was shorter than was
-    /// asked for, so the source may have no more for now. A file gives whole pieces up to its last one.
+    /// asked for, or filled a room that was still short, so the source may have no more for now. A file gives whole pieces
+    /// up to its last one.
     pub fn may_wait(&self) -> bool
         ensures { result ≡ may_wait self.now }
     {
@@ -146,9 +154,49 @@ impl LineReader {
         }
     }
 
-    /// Reads pieces behind what waits, which has no line feed.
+    /// Makes the room as long as it gets, where that is wanted. Its memory is there.
+    fn widen(&mut self, is_wanted: bool)
+        ensures rest { self.new ≡ record self.old { long = self.new.long } }
+        ensures long { is_wanted ≡ true → ROOM ≤ self.new.long }
+    {
+        if is_wanted && self.room.len() < ROOM {
+            match self.room.resize(ROOM, 0) {
+                Ok(()) => {}
+                Err(_) => unreachable!(),
+            }
+        }
+    }
+
+    /// Reads pieces behind what waits, which has no line feed. The room is made longer only where more comes than has
+    /// place in it.
     fn read_pieces<S: Source>(&mut self, source: &mut S, most: usize) -> Result<PieceEnd, Failed>
         requires most { most ≤ MAX_FIRST_LINE }
+        requires no_feed { HasNoFeed self.old.waiting }
+        ensures bytes { (bytes : List ℕ) → S.left source.old ≡ Some bytes → (rest : List ℕ) ×
+            (S.left source.new ≡ Some rest) × (self.new.waiting ++ rest ≡ self.old.waiting ++ bytes) ×
+            (result ≡ Ok PieceEnd.Ended → rest ≡ []) }
+        ensures stop { StopsAt result most self.new.waiting }
+        ensures cause { HasCause (S.faults source.old) (S.faults source.new) result }
+    {
+        let is_filled = self.end == self.room.len();
+        self.widen(is_filled);
+        let most_here = most.min(self.room.len() - 1);
+        match self.read_up_to(source, most_here)? {
+            PieceEnd::Feed(i) => Ok(PieceEnd::Feed(i)),
+            PieceEnd::Ended => Ok(PieceEnd::Ended),
+            PieceEnd::Full => {
+                if most_here == most {
+                    return Ok(PieceEnd::Full);
+                }
+                self.widen(true);
+                self.read_up_to(source, most)
+            }
+        }
+    }
+
+    /// Reads pieces as `read_pieces` does, into the room as it is, which is longer than so many bytes.
+    fn read_up_to<S: Source>(&mut self, source: &mut S, most: usize) -> Result<PieceEnd, Failed>
+        requires most { most < self.old.long }
         requires no_feed { HasNoFeed self.old.waiting }
         ensures bytes { (bytes : List ℕ) → S.left source.old ≡ Some bytes → (rest : List ℕ) ×
             (S.left source.new ≡ Some rest) × (self.new.waiting ++ rest ≡ self.old.waiting ++ bytes) ×
