@@ -55,8 +55,8 @@ impl<R: LockFiles> Folder<'_, R> {
         Ok(records_in(self.alloc, &bytes_of(self.alloc, &mut file)?)?.0)
     }
 
-    /// Appends a record to the file of an actor, by one write and one sync. File and folder are made where they are
-    /// missing.
+    /// Appends a record to the file of an actor by one write: it is pending until the file is synced. File and folder
+    /// are made where they are missing.
     pub fn append(&mut self, actor: u16, bytes: &[u8]) -> io::Result<()> {
         let Ok(count) = u16::try_from(bytes.len()) else {
             return Err(io::Error::from(ErrorKind::InvalidInput));
@@ -66,6 +66,14 @@ impl<R: LockFiles> Folder<'_, R> {
         match self.files.get_mut(&actor) {
             Some(Standing::Held(file)) => file.append(self.rt, self.alloc, &self.framed),
             _ => Err(io::Error::from(ErrorKind::WouldBlock)),
+        }
+    }
+
+    /// Waits until the records of an actor are kept for good.
+    pub fn sync(&mut self, actor: u16) -> io::Result<()> {
+        match self.files.get_mut(&actor) {
+            Some(Standing::Held(file)) => file.sync(),
+            _ => Ok(()),
         }
     }
 

@@ -1,4 +1,5 @@
 ghost use Rattle.std.specs.Prelude.{◌≡◌};
+ghost use Rattle.edge_io.specs.Edge.{HasCauseOf};
 
 use crate::failures::Failures;
 use crate::folder::Folder;
@@ -37,6 +38,28 @@ impl<'a, R: LockFiles> FolderKeeper<'a, R> {
     }
 }
 
+impl<R: LockFiles> FolderKeeper<'_, R> {
+    /// Adds a record at the end of those of an actor. It is pending until `sync`.
+    pub fn append(&mut self, actor: u16, bytes: &[u8]) -> Result<(), EdgeRefusal>
+        ensures { HasCauseOf EdgeRefusal.Failed self.old self.new result }
+    {
+        match self.folder.append(actor, bytes) {
+            Ok(()) => Ok(()),
+            Err(error) => Err(self.failures.refusal(error)),
+        }
+    }
+
+    /// Waits until the records of an actor are kept for good.
+    pub fn sync(&mut self, actor: u16) -> Result<(), EdgeRefusal>
+        ensures { HasCauseOf EdgeRefusal.Failed self.old self.new result }
+    {
+        match self.folder.sync(actor) {
+            Ok(()) => Ok(()),
+            Err(error) => Err(self.failures.refusal(error)),
+        }
+    }
+}
+
 impl<R: LockFiles> Keeper for FolderKeeper<'_, R> {
     ghost use Rattle.std.specs.Prelude.{None};
 
@@ -54,9 +77,7 @@ impl<R: LockFiles> Keeper for FolderKeeper<'_, R> {
     }
 
     fn append_synced(&mut self, actor: u16, bytes: &[u8]) -> Result<(), EdgeRefusal> {
-        match self.folder.append(actor, bytes) {
-            Ok(()) => Ok(()),
-            Err(error) => Err(self.failures.refusal(error)),
-        }
+        self.append(actor, bytes)?;
+        self.sync(actor)
     }
 }

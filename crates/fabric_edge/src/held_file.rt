@@ -10,7 +10,10 @@ use std::rt::Files;
 #[derive(Drop)]
 pub struct HeldFile<R: Files> {
     file: R::File,
+    /// Whether all bytes of the file are whole records, and its name is kept for good.
     is_settled: bool,
+    /// Whether a record was written since the last sync.
+    is_pending: bool,
 }
 
 impl<R: Files> HeldFile<R> {
@@ -18,6 +21,7 @@ impl<R: Files> HeldFile<R> {
         HeldFile {
             file,
             is_settled: false,
+            is_pending: false,
         }
     }
 
@@ -26,15 +30,27 @@ impl<R: Files> HeldFile<R> {
         Ok(self.file.metadata()?.len() == 0)
     }
 
-    /// Appends a framed record, and waits until it is kept for good.
+    /// Appends a framed record, which is pending until the next sync.
     pub fn append(&mut self, rt: &R, alloc: Global, framed: &[u8]) -> io::Result<()> {
         if !self.is_settled {
             self.settle(rt, alloc)?;
         }
         self.is_settled = false;
         self.file.write_all(framed)?;
+        self.is_settled = true;
+        self.is_pending = true;
+        Ok(())
+    }
+
+    /// Waits until all records are kept for good.
+    pub fn sync(&mut self) -> io::Result<()> {
+        if !self.is_pending {
+            return Ok(());
+        }
+        self.is_settled = false;
         self.file.sync_data()?;
         self.is_settled = true;
+        self.is_pending = false;
         Ok(())
     }
 

@@ -89,3 +89,31 @@ fn a_file_is_synced_and_then_its_folders(rt: HostRuntime) -> Result<(), Fail> {
     syncs_in_order(&rt, rt.alloc(), &notes, &disk);
     remove_folder(&rt)
 }
+
+/// Records that are appended are written, and then synced by one call. Where nothing is pending there is none.
+fn syncs_once<R: LockFiles>(rt: &impl Abort, alloc: Global, notes: &Notes, disk: &R) {
+    let [file, folder, above] = ["sync kept/1", "sync kept", "sync ."];
+    let [write, data] = ["write kept/1", "sync the data of kept/1"];
+    let mut keeper = FolderKeeper::new(disk, alloc);
+    assert_eq!(rt; keeper.append(1, b"one"), Ok(()));
+    notes.are(rt, &["lock kept/1", file, folder, above, write]);
+    assert_eq!(rt; keeper.append(1, b"two"), Ok(()));
+    assert_eq!(rt; keeper.sync(1), Ok(()));
+    notes.are(rt, &[write, data]);
+    assert_eq!(rt; keeper.sync(1), Ok(()));
+    notes.are(rt, &[]);
+    kept_are(rt, alloc, &mut keeper, 1, Some(b"one;two;"));
+}
+
+#[test]
+fn many_records_have_one_sync(rt: HostRuntime) -> Result<(), Fail> {
+    enter_folder(&rt)?;
+    let notes = Notes::new(rt.alloc());
+    let disk = Disk {
+        rt: &rt,
+        notes: &notes,
+        breaks: Cell::new(None),
+    };
+    syncs_once(&rt, rt.alloc(), &notes, &disk);
+    remove_folder(&rt)
+}
