@@ -43,3 +43,13 @@ all_listen plan opened at service place e found =
 pub now_listen : (plan : Plan) (before after : List Endpoint) (actor : ℕ) (at : List ℕ) → IsService plan → actor ≡ actor_of plan → after ≡ before ++ record { actor = actor; at = at } ∷ [] → AllListen plan after
 now_listen plan before after actor at service same grown =
     subst (λ (es : List Endpoint). AllListen plan es) (sym (grown ∙ ap (λ (a : ℕ). before ++ record { actor = a; at = at } ∷ []) same)) (all_listen plan before at service)
+
+one_in : (es : List Endpoint) → length es ≡ 1 → (e : Endpoint) × ((slice_get es 0 ≡ Some e) × (actor_in (slice_get es 0) ≡ e.actor))
+one_in [] one = cc
+one_in (e ∷ es) one = (e, (refl, refl))
+
+-- where each actor of its plan listens, the one actor of a service does
+pub own_listens : (plan : Plan) (opened : List Endpoint) (actor : ℕ) → IsService plan → AllListen plan opened → actor ≡ actor_of plan → IsListening actor opened
+own_listens plan opened actor service listens same =
+    let one = one_in plan.actors service.alone in
+    subst (λ (a : ℕ). IsListening a opened) (sym (same ∙ one.1.1)) (listens 0 one.0 one.1.0)

@@ -36,9 +36,7 @@ pub fn open_endpoint<N: Links>(service: &Service, links: &mut N) -> Result<(), E
 /// Opens the door, in place of a stale one.
 pub fn open_door<'a>(started: Started<'a>) -> Result<Clients<'a>, End> {
     let listener = bind_door(started.rt).map_err(|fault| End::Start(fault))?;
-    let door = SocketDoor::new(started.rt.alloc(), started.board, listener).map_err(|error| short(
-        error,
-    ))?;
+    let door = SocketDoor::new(started.clients, listener);
     let log = StdoutLog::new(started.rt, started.output);
     let devices = ClientDevices {
         door: CountedDoor::new(ServedDoor::new(door, started.parent), started.tally),

@@ -7,11 +7,12 @@ use crate::heard_parent::HeardParent;
 use crate::started::{Keeps, Started, short};
 use client_sessions::Sessions;
 use door_io::Clients;
-use edge_io::{Devices, Links};
+use edge_io::Links;
 use fabric_edge::MonoClock;
 use fabric_status::Status;
 use frame_hold::{HoldingLinks, OneLengthLinks};
-use parent_hold::{HeldDevices, HoldTerms};
+use group_commit::{Commit, GroupDevices, MAX_QUEUED, Outgoing, QueuedLinks};
+use parent_hold::{DevicesBelow, HeldDevices, HoldTerms};
 use serve_edge::{PARENT_CLIENT, ParentStream};
 use serve_lives::{NoSink, Returning, serve as serve_actor};
 use serve_top::{End, FIRST_LINE, TalliedPolicy, status_by};
@@ -36,11 +37,15 @@ fn sessions_of(started: Started<'_>) -> Result<Sessions, End> {
     .map_err(|error| short(error))
 }
 
-/// How the process ends, with what is left to say.
-fn finish(started: Started<'_>, status: Status) -> End {
+/// How the process ends, with what is left to say. Where records could not be synced, nothing is.
+fn finish(started: Started<'_>, status: Status, settled: bool) -> End {
+    if !settled {
+        return End::As(unkept(status));
+    }
     let mut end = End::As(status);
+    started.clients.write_out();
     if let Some(parent) = started.parent {
-        parent.finish();
+        parent.write_out();
         if status == Status::Ok && parent.is_silent() {
             end = End::Silent;
         }
@@ -50,6 +55,15 @@ fn finish(started: Started<'_>, status: Status) -> End {
     }
     started.events.finish();
     end
+}
+
+/// How the process ends whose records could not be synced: it was told to end then, unless something else has stopped it.
+fn unkept(status: Status) -> Status {
+    if status == Status::Ok {
+        Status::KeepFault
+    } else {
+        status
+    }
 }
 
 /// Runs the actor, which listens, over these devices to its end.
@@ -70,9 +84,46 @@ fn run_over<O: Handover, C: Clients + Drop, P: Policy + Returning + Drop, B: Boa
     if let Some(parent) = started.parent {
         started.greeted.set(true);
         parent.say(FIRST_LINE.as_bytes());
+        parent.write_out();
     }
     let end = serve_actor(outside, &mut audience, started.service, board, sessions);
-    Ok(finish(started, status_by(end)))
+    let settled = outside.settle();
+    Ok(finish(started, status_by(end), settled))
+}
+
+/// Runs an actor that has no parent over these links, which hold its frames until its records are synced.
+fn run_grouped<L: Outgoing, C: Clients + Drop, P: Policy + Returning + Drop, B: Board>(
+    started: Started<'_>,
+    policy: P,
+    clients: C,
+    board: &mut B,
+    links: &mut L,
+    keeps: &mut Keeps<'_>,
+) -> Result<End, End>
+    requires service { IsService started.service.now.plan }
+    requires listens { AllListen started.service.now.plan (L.opened links.old) }
+{
+    let mut sink = NoSink {};
+    let mut clock = MonoClock::new(started.rt);
+    let mut devices = GroupDevices {
+        sink: &mut sink,
+        links,
+        keeps,
+        clock: &mut clock,
+        commit: Commit::new(),
+    };
+    run_over(started, policy, clients, board, &mut devices)
+}
+
+/// Links over these, at which the actor listens: they can hold its frames back.
+#[tactic(auto, using(crate::proofs::Listening::own_listens))]
+fn queued<'n, N: Links>(started: Started<'_>, links: &'n mut N) -> QueuedLinks<'n, N>
+    requires service { IsService started.service.now.plan }
+    requires listens { AllListen started.service.now.plan (N.opened links.old) }
+    ensures { result.below.inner.now ≡ links.old }
+{
+    let service = started.service;
+    QueuedLinks::new(service.alloc, links, service.actor(), MAX_QUEUED)
 }
 
 /// Runs an actor that has no parent.
@@ -87,19 +138,12 @@ pub fn run_free<N: Links, C: Clients + Drop, P: Policy + Returning + Drop, B: Bo
     requires service { IsService started.service.now.plan }
     requires listens { AllListen started.service.now.plan (N.opened links.old) }
 {
-    let mut sink = NoSink {};
-    let mut clock = MonoClock::new(started.rt);
-    let mut devices = Devices {
-        sink: &mut sink,
-        links,
-        keeps,
-        clock: &mut clock,
-    };
-    run_over(started, policy, clients, board, &mut devices)
+    let mut waiting = queued(started, links);
+    run_grouped(started, policy, clients, board, &mut waiting, keeps)
 }
 
 /// Runs a node for its parent over these links: what the node has given up is owed to them, and they hold its frames.
-fn run_holding<N: Links, C: Clients + Drop, P: Policy + Returning + Drop, B: Board>(
+fn run_holding<N: Outgoing, C: Clients + Drop, P: Policy + Returning + Drop, B: Board>(
     started: Started<'_>,
     parent: &ParentStream<'_>,
     policy: P,
@@ -113,7 +157,7 @@ fn run_holding<N: Links, C: Clients + Drop, P: Policy + Returning + Drop, B: Boa
 {
     let mut sink = NoSink {};
     let mut clock = MonoClock::new(started.rt);
-    let devices = Devices {
+    let devices = DevicesBelow {
         sink: &mut sink,
         links,
         keeps,
@@ -128,8 +172,8 @@ fn run_holding<N: Links, C: Clients + Drop, P: Policy + Returning + Drop, B: Boa
     run_over(started, policy, clients, board, &mut held)
 }
 
-/// Runs a node for its parent over links of one length. A frame by which another node could take over what the node has
-/// given up waits until the parent has let go.
+/// Runs a node for its parent over links of one length, which hold its frames until its records are synced. A frame by
+/// which another node could take over what the node has given up waits until the parent has let go.
 fn run_held<N: Links, C: Clients + Drop, P: Policy + Returning + Drop, B: Board>(
     started: Started<'_>,
     parent: &ParentStream<'_>,
@@ -142,7 +186,8 @@ fn run_held<N: Links, C: Clients + Drop, P: Policy + Returning + Drop, B: Board>
     requires service { IsService started.service.now.plan }
     requires listens { AllListen started.service.now.plan (N.opened links.old) }
 {
-    let mut holding = HoldingLinks::new(started.service.alloc, links);
+    let mut waiting = queued(started, links);
+    let mut holding = HoldingLinks::new(started.service.alloc, &mut waiting);
     run_holding(started, parent, policy, clients, board, &mut holding, keeps)
 }
 

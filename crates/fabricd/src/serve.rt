@@ -11,17 +11,18 @@ use crate::serving::Serving;
 use crate::start::read_given;
 use crate::started::{Keeps, Started, read_records, short};
 use edge_io::Links;
-use fabric_edge::{FolderKeeper, MonoClock};
+use fabric_edge::MonoClock;
 use frame_seal::{SealKey, SealedLinks};
 use ring_points::Who;
 use serve_edge::{
-    LogOutput, PageSockets, ParentStream, PollBoard, PollRest, STANDARD_ERROR, STANDARD_INPUT,
-    STANDARD_OUTPUT, ServedLinks, StartFault, StdoutLog, enter_folder,
+    DoorClients, GroupFolder, LogOutput, PageSockets, ParentStream, PollBoard, PollRest,
+    STANDARD_ERROR, STANDARD_INPUT, STANDARD_OUTPUT, ServedLinks, StartFault, StdoutLog,
+    WritingRest, enter_folder,
 };
 use serve_lives::{NoPolicy, NodePolicy};
 use serve_top::{
-    Begins, BoardDevices, BoardFacts, End, NotedKeeper, StatusBoard, TalliedLinks, Tally, plan_of,
-    whole_of,
+    Begins, BoardDevices, BoardFacts, End, NotedKeeper, Setup, StatusBoard, TalliedLinks, Tally,
+    plan_of, whole_of,
 };
 use serve_turns::Service;
 use service_file::{ActorFile, ServiceSettings};
@@ -35,13 +36,14 @@ fn board_of<'a>(
 ) -> StatusBoard<
     'a,
     PageSockets<'a>,
-    PollRest<'a, HostRuntime>,
+    WritingRest<'a, PollRest<'a, HostRuntime>>,
     MonoClock<'a, HostRuntime>,
     StdoutLog<'a, HostRuntime>,
 > {
+    let rest = PollRest::new(started.rt, started.board, started.output);
     let devices = BoardDevices {
         page,
-        rest: PollRest::new(started.rt, started.board, started.output),
+        rest: WritingRest::new(rest, started.clients, started.parent),
         clock: MonoClock::new(started.rt),
         log: StdoutLog::new(started.rt, started.output),
     };
@@ -117,6 +119,18 @@ fn declared_in(alloc: Global, settings: &ServiceSettings) -> Result<Vec<u16>, Al
     Ok(declared)
 }
 
+/// What the page and the log say that does not change.
+fn facts_of(alloc: Global, serving: Serving<'_>, setup: &Setup) -> Result<BoardFacts, End> {
+    Ok(BoardFacts {
+        arbiter: serving.arbiter,
+        checksum: setup.checksum,
+        sealed: serving.options.key.is_some(),
+        declared: declared_in(alloc, &setup.settings).map_err(|error| short(error))?,
+        lease: setup.config.lease,
+        grain: setup.config.bound.grain,
+    })
+}
+
 /// Where the log of the process goes: standard output has the lines of a parent, if there is one.
 fn log_of(hold: Option<u64>) -> i32 {
     match hold {
@@ -157,7 +171,7 @@ fn keep_and_run<'a>(
     requires service { IsService started.service.now.plan }
     requires settings { IsSoundService started.service.now.plan.config started.settings.now }
 {
-    let files = FolderKeeper::new(started.rt, started.rt.alloc());
+    let files = GroupFolder::new(started.rt, started.rt.alloc(), started.service.actor());
     let mut keeps = NotedKeeper::new(files, actor, started.tally);
     let begins = read_records(started, &mut keeps, file)?;
     let passed = begins == Begins::Passed;
@@ -169,16 +183,9 @@ fn keep_and_run<'a>(
 fn run<'a>(rt: &'a HostRuntime, serving: Serving<'a>) -> Result<End, End> {
     let alloc = rt.alloc();
     let given = read_given(rt, serving)?;
+    let facts = facts_of(alloc, serving, &given.setup)?;
     let (checksum, settings) = (given.setup.checksum, given.setup.settings);
     let config = given.setup.config;
-    let facts = BoardFacts {
-        arbiter: serving.arbiter,
-        checksum,
-        sealed: serving.options.key.is_some(),
-        declared: declared_in(alloc, &settings).map_err(|error| short(error))?,
-        lease: config.lease,
-        grain: config.bound.grain,
-    };
     let whole = whole_of(&config, settings.again);
     let plan = plan_of(alloc, config, whole, serving.actor)?;
     let service = Service { alloc, plan };
@@ -186,6 +193,7 @@ fn run<'a>(rt: &'a HostRuntime, serving: Serving<'a>) -> Result<End, End> {
     enter_folder(rt, folder).map_err(|fault| End::Start(fault))?;
     let tally = Tally::new(alloc);
     let board = PollBoard::new(alloc).map_err(|error| short(error))?;
+    let clients = DoorClients::new(alloc, &board).map_err(|error| short(error))?;
     let stream = open_parent(alloc, &board, given.hold)?;
     let output = LogOutput::new(alloc, &board, log_of(given.hold)).map_err(|error| short(error))?;
     let events = Events::new(rt, &output);
@@ -199,6 +207,7 @@ fn run<'a>(rt: &'a HostRuntime, serving: Serving<'a>) -> Result<End, End> {
         board: &board,
         output: &output,
         events: &events,
+        clients: &clients,
         parent: stream.as_ref(),
         greeted: serving.greeted,
         listen: serving.options.listen,

@@ -5,10 +5,9 @@ use crate::actor_start::NotedActor;
 use crate::events::Events;
 use crate::recalling::recall_by;
 use edge_io::EdgeRefusal;
-use fabric_edge::FolderKeeper;
 use fabric_status::Status;
 use keep_log::Kept;
-use serve_edge::{LogOutput, ParentStream, PollBoard, StartFault};
+use serve_edge::{DoorClients, GroupFolder, LogOutput, ParentStream, PollBoard, StartFault};
 use serve_top::{
     Begins, BoardFacts, End, NotedKeeper, Tally, is_nothing, judge_beginning, status_of,
 };
@@ -27,6 +26,8 @@ pub struct Started<'a> {
     pub board: &'a PollBoard,
     pub output: &'a LogOutput<'a>,
     pub events: &'a Events<'a>,
+    /// The clients of the door.
+    pub clients: &'a DoorClients<'a>,
     /// The stream of the parent, if the process has one.
     pub parent: Option<&'a ParentStream<'a>>,
     /// Whether the parent was told its first line.
@@ -36,7 +37,7 @@ pub struct Started<'a> {
 }
 
 /// The records of the actor.
-pub type Keeps<'a> = NotedKeeper<'a, FolderKeeper<'a, HostRuntime>, NotedActor<'a>>;
+pub type Keeps<'a> = NotedKeeper<'a, GroupFolder<'a, HostRuntime>, NotedActor<'a>>;
 
 /// Want of memory, in whatever form it is told.
 pub fn short<T: Drop>(_error: T) -> End {

@@ -14,18 +14,20 @@ use crate::holding::Holding;
 use crate::losses::GivesUp;
 use edge_io::{DATAGRAM_BYTES, Datagram, EdgeRefusal, Failed, Links};
 use fabric_terms::OutOfMemory;
+use group_commit::Outgoing;
 use std::alloc::Global;
 
-/// Links over links: a frame that waits for a `done` counts as sent, and is late. Of equal frames to one address one is
-/// kept.
+/// Links over links that can hold frames back: a frame that waits for a `done` counts as sent, and is late. Of equal frames
+/// to one address one is kept. Whoever syncs records settles the links below. Where they hold frames back, a frame that
+/// waits for no `done` waits there.
 #[derive(Drop)]
-pub struct HoldingLinks<'n, N: Links> {
-    inner: &'n mut N,
+pub struct HoldingLinks<'n, N: Outgoing> {
+    pub inner: &'n mut N,
     holding: Holding,
     held: HeldFrames,
 }
 
-impl<'n, N: Links> HoldingLinks<'n, N> {
+impl<'n, N: Outgoing> HoldingLinks<'n, N> {
     /// Links over these. No number is open.
     pub fn new(alloc: Global, inner: &'n mut N) -> HoldingLinks<'n, N>
         ensures inner { result.inner.now ≡ inner.old }
@@ -99,6 +101,9 @@ impl<'n, N: Links> HoldingLinks<'n, N> {
         ensures opened { N.opened self.new.inner.now ≡ N.opened self.old.inner.now }
         ensures arrivals { (any : ℕ) → N.arrivals self.new.inner.now any ≡ N.arrivals self.old.inner.now any }
         ensures later { N.faults self.old.inner.now ≤ N.faults self.new.inner.now }
+        ensures holds { N.holds self.new.inner.now ≡ N.holds self.old.inner.now }
+        ensures queue { N.holds self.old.inner.now ≡ false → N.queue self.new.inner.now ≡ N.queue self.old.inner.now }
+        ensures left { N.holds self.old.inner.now ≡ true → N.left self.new.inner.now ≡ N.left self.old.inner.now }
     {
         give_free(self.inner, actor, &self.holding, self.held.as_slice())?;
         self.held.drop_free(actor, &self.holding);
@@ -122,9 +127,12 @@ impl<'n, N: Links> HoldingLinks<'n, N> {
         ensures opened { N.opened self.new.inner.now ≡ N.opened self.old.inner.now }
         ensures arrivals { (any : ℕ) → N.arrivals self.new.inner.now any ≡ N.arrivals self.old.inner.now any }
         ensures cause { HasCauseOf EdgeRefusal.Failed (N.faults self.old.inner.now) (N.faults self.new.inner.now) result }
+        ensures holds { N.holds self.new.inner.now ≡ N.holds self.old.inner.now }
+        ensures queue { N.holds self.old.inner.now ≡ false → N.queue self.new.inner.now ≡ N.queue self.old.inner.now }
+        ensures left { N.holds self.old.inner.now ≡ true → N.left self.new.inner.now ≡ N.left self.old.inner.now }
     {
         if !frame_waits(&self.holding, bytes) {
-            return self.inner.send(from, to, bytes);
+            return self.inner.pass_or_queue(from, to, bytes);
         }
         match self.held.keep(from, to, bytes) {
             Ok(()) => Ok(()),
@@ -152,14 +160,17 @@ impl<'n, N: Links> HoldingLinks<'n, N> {
             N.arrivals self.new.inner.now other ≡ N.arrivals self.old.inner.now other }
         ensures opened { N.opened self.new.inner.now ≡ N.opened self.old.inner.now }
         ensures cause { HasCause (N.faults self.old.inner.now) (N.faults self.new.inner.now) result }
+        ensures holds { N.holds self.new.inner.now ≡ N.holds self.old.inner.now }
+        ensures queue { N.holds self.old.inner.now ≡ false → N.queue self.new.inner.now ≡ N.queue self.old.inner.now }
+        ensures left { N.holds self.old.inner.now ≡ true → N.left self.new.inner.now ≡ N.left self.old.inner.now }
     {
         let _ = self.let_out(actor);
-        self.inner.receive(actor, into)
+        self.inner.take_next(actor, into)
     }
 }
 
 /// Gives the links a datagram. What they fail to send is lost.
-fn give_one<N: Links>(links: &mut N, datagram: &Datagram) -> Result<(), OutOfMemory>
+fn give_one<N: Outgoing>(links: &mut N, datagram: &Datagram) -> Result<(), OutOfMemory>
     requires { IsListening datagram.now.from (N.opened links.old) }
     ensures given { IfOk result (λ _. Given (datagram.now ∷ []) (N.sent links.old) (N.sent links.new)
         (N.faults links.old) (N.faults links.new)) }
@@ -167,9 +178,12 @@ fn give_one<N: Links>(links: &mut N, datagram: &Datagram) -> Result<(), OutOfMem
     ensures opened { N.opened links.new ≡ N.opened links.old }
     ensures arrivals { (any : ℕ) → N.arrivals links.new any ≡ N.arrivals links.old any }
     ensures later { N.faults links.old ≤ N.faults links.new }
+    ensures holds { N.holds links.new ≡ N.holds links.old }
+    ensures queue { N.holds links.old ≡ false → N.queue links.new ≡ N.queue links.old }
+    ensures left { N.holds links.old ≡ true → N.left links.new ≡ N.left links.old }
 {
     let bytes = datagram.bytes.as_slice();
-    match links.send(datagram.from, datagram.to.as_str(), bytes) {
+    match links.pass_or_queue(datagram.from, datagram.to.as_str(), bytes) {
         Ok(()) => Ok(()),
         Err(EdgeRefusal::Failed) => Ok(()),
         Err(EdgeRefusal::OutOfMemory) => Err(OutOfMemory),
@@ -177,7 +191,7 @@ fn give_one<N: Links>(links: &mut N, datagram: &Datagram) -> Result<(), OutOfMem
 }
 
 /// Gives the links what the actor may send of these, in their order.
-fn give_free<N: Links>(
+fn give_free<N: Outgoing>(
     links: &mut N,
     actor: u16,
     holding: &Holding,
@@ -190,6 +204,9 @@ fn give_free<N: Links>(
     ensures opened { N.opened links.new ≡ N.opened links.old }
     ensures arrivals { (any : ℕ) → N.arrivals links.new any ≡ N.arrivals links.old any }
     ensures later { N.faults links.old ≤ N.faults links.new }
+    ensures holds { N.holds links.new ≡ N.holds links.old }
+    ensures queue { N.holds links.old ≡ false → N.queue links.new ≡ N.queue links.old }
+    ensures left { N.holds links.old ≡ true → N.left links.new ≡ N.left links.old }
 {
     for datagram in held {
         if is_free(actor, holding, datagram) {
@@ -199,7 +216,7 @@ fn give_free<N: Links>(
     Ok(())
 }
 
-impl<N: Links> Links for HoldingLinks<'_, N> {
+impl<N: Outgoing> Links for HoldingLinks<'_, N> {
     ghost use Rattle.std.specs.Prelude.{None};
 
     ghost opened = { λ l. N.opened l.inner.now };

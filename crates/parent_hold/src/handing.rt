@@ -1,12 +1,13 @@
 // The devices of a node that has a parent, as the outside of its process.
 use crate::held_devices::HeldDevices;
 use crate::parent_lines::ParentLines;
-use edge_io::{Clock, DATAGRAM_BYTES, EdgeRefusal, Failed, Keeper, Links, Outside, Sink};
+use edge_io::{Clock, DATAGRAM_BYTES, EdgeRefusal, Failed, Links, Outside, Sink};
 use fabric_terms::OutOfMemory;
+use group_commit::{GroupKeeper, Outgoing};
 use serve_turns::Handover;
 use turn_members::{Deed, Member};
 
-impl<'k, 'h, 'n, 'd, 'c, K: Sink, N: Links, D: Keeper, C: Clock, P: ParentLines> Outside
+impl<'k, 'h, 'n, 'd, 'c, K: Sink, N: Outgoing, D: GroupKeeper, C: Clock, P: ParentLines> Outside
     for HeldDevices<'k, 'h, 'n, 'd, 'c, K, N, D, C, P> {
     ghost use Rattle.std.specs.Prelude.{None};
 
@@ -19,8 +20,8 @@ impl<'k, 'h, 'n, 'd, 'c, K: Sink, N: Links, D: Keeper, C: Clock, P: ParentLines>
       };
       held = K.held d.sink.now;
       sink_faults = K.faults d.sink.now;
-      kept = D.kept d.keeps.now;
-      keep_faults = D.faults d.keeps.now;
+      kept = D.appended d.keeps.now;
+      keep_faults = d.commit.faults;
       opened = N.opened d.links.now.inner.now;
       arrivals = N.arrivals d.links.now.inner.now;
       sent = None;
@@ -35,7 +36,7 @@ impl<'k, 'h, 'n, 'd, 'c, K: Sink, N: Links, D: Keeper, C: Clock, P: ParentLines>
     }
 
     fn send(&mut self, from: u16, to: &str, bytes: &[u8]) -> Result<(), EdgeRefusal> {
-        self.send_or_keep(from, to, bytes)
+        self.send_behind(from, to, bytes)
     }
 
     fn receive(
@@ -43,15 +44,16 @@ impl<'k, 'h, 'n, 'd, 'c, K: Sink, N: Links, D: Keeper, C: Clock, P: ParentLines>
         actor: u16,
         into: &mut [u8; DATAGRAM_BYTES],
     ) -> Result<Option<usize>, Failed> {
-        self.let_out_and_take(actor, into)
+        self.take_behind(actor, into)
     }
 
     fn records(&mut self, actor: u16) -> Result<Vec<Vec<u8>>, EdgeRefusal> {
-        self.keeps.records(actor)
+        self.commit.records(self.keeps, actor)
     }
 
     fn append_synced(&mut self, actor: u16, bytes: &[u8]) -> Result<(), EdgeRefusal> {
-        self.keeps.append_synced(actor, bytes)
+        self.commit
+            .append(self.keeps, self.links.inner, actor, bytes)
     }
 
     fn now(&mut self) -> u64 {
@@ -65,7 +67,7 @@ impl<'k, 'h, 'n, 'd, 'c, K: Sink, N: Links, D: Keeper, C: Clock, P: ParentLines>
     }
 }
 
-impl<'k, 'h, 'n, 'd, 'c, K: Sink, N: Links, D: Keeper, C: Clock, P: ParentLines> Handover
+impl<'k, 'h, 'n, 'd, 'c, K: Sink, N: Outgoing, D: GroupKeeper, C: Clock, P: ParentLines> Handover
     for HeldDevices<'k, 'h, 'n, 'd, 'c, K, N, D, C, P> {
     fn gather(&mut self) {
         self.gather_lines();
@@ -81,5 +83,9 @@ impl<'k, 'h, 'n, 'd, 'c, K: Sink, N: Links, D: Keeper, C: Clock, P: ParentLines>
 
     fn let_go(&mut self, number: u64) {
         self.close_number(number);
+    }
+
+    fn settle(&mut self) -> bool {
+        self.settle_all()
     }
 }

@@ -1,9 +1,6 @@
-ghost use Rattle.std.specs.Prelude.{◌≡◌, ◌≢◌, ◌≤◌, ◌++◌, ◌∷◌, [], ℕ, false, true, IfOk, IfSome, IsErr, OnErr, OnOk};
-ghost use Rattle.edge_io.specs.Arrivals.{IsListening, Receives};
-ghost use Rattle.edge_io.specs.Edge.{Grew, HasCause, HasCauseOf};
-ghost use Rattle.frame_hold.specs.Kept.{held_with};
-ghost use Rattle.frame_hold.specs.Promises.{LetsOut, NeverBeforeDone};
-ghost use Rattle.frame_hold.specs.Waits.{frame_waits, is_overdue, without};
+ghost use Rattle.std.specs.Prelude.{◌≡◌, ◌≢◌, ◌++◌, true, IfOk, OnErr, OnOk};
+ghost use Rattle.edge_io.specs.Edge.{Grew};
+ghost use Rattle.frame_hold.specs.Waits.{is_overdue, without};
 ghost use Rattle.parent_hold.specs.Had.{IsSeen, had_of};
 ghost use Rattle.parent_hold.specs.Handing.{had_by, held_by, owed_by, telling_by};
 ghost use Rattle.parent_hold.specs.Lines.{after_step, fresh_telling, step_owed, step_text};
@@ -11,9 +8,10 @@ ghost use Rattle.parent_hold.specs.Lines.{after_step, fresh_telling, step_owed, 
 use crate::parent_lines::ParentLines;
 use crate::seen::{Seen, nothing, see};
 use crate::step_lines::{StepOf, Telling, tell_step};
-use edge_io::{Clock, DATAGRAM_BYTES, Devices, EdgeRefusal, Failed, Keeper, Links, Sink};
+use edge_io::{Clock, Sink};
 use fabric_terms::OutOfMemory;
 use frame_hold::{Before, HoldingLinks};
+use group_commit::{Commit, GroupKeeper, Outgoing};
 use std::alloc::Global;
 use std::mem;
 use turn_members::{Deed, Member};
@@ -26,14 +24,36 @@ pub struct HoldTerms {
     pub hold: u64,
 }
 
-/// The devices of a node that has a parent.
+/// The devices below those of a node that has a parent.
 #[derive(Drop)]
-pub struct HeldDevices<'k, 'h, 'n, 'd, 'c, K: Sink, N: Links, D: Keeper, C: Clock, P: ParentLines> {
+pub struct DevicesBelow<'k, 'h, 'n, 'd, 'c, K: Sink, N: Outgoing, D: GroupKeeper, C: Clock> {
+    pub sink: &'k mut K,
+    pub links: &'h mut HoldingLinks<'n, N>,
+    pub keeps: &'d mut D,
+    pub clock: &'c mut C,
+}
+
+/// The devices of a node that has a parent. The records of many steps are synced by one call, and their frames wait for
+/// it; so do the lines of the parent, in its stream.
+#[derive(Drop)]
+pub struct HeldDevices<
+    'k,
+    'h,
+    'n,
+    'd,
+    'c,
+    K: Sink,
+    N: Outgoing,
+    D: GroupKeeper,
+    C: Clock,
+    P: ParentLines,
+> {
     alloc: Global,
     pub(crate) sink: &'k mut K,
     pub(crate) links: &'h mut HoldingLinks<'n, N>,
     pub(crate) keeps: &'d mut D,
     pub(crate) clock: &'c mut C,
+    pub(crate) commit: Commit,
     parent: P,
     telling: Telling,
     /// What the node had before the step that is under way.
@@ -43,22 +63,22 @@ pub struct HeldDevices<'k, 'h, 'n, 'd, 'c, K: Sink, N: Links, D: Keeper, C: Cloc
     pub(crate) last: u64,
 }
 
-impl<'k, 'h, 'n, 'd, 'c, K: Sink, N: Links, D: Keeper, C: Clock, P: ParentLines> HeldDevices<
+impl<
     'k,
     'h,
     'n,
     'd,
     'c,
-    K,
-    N,
-    D,
-    C,
-    P,
-> {
+    K: Sink,
+    N: Outgoing,
+    D: GroupKeeper,
+    C: Clock,
+    P: ParentLines,
+> HeldDevices<'k, 'h, 'n, 'd, 'c, K, N, D, C, P> {
     /// Nothing was told to the parent.
     pub fn new(
         alloc: Global,
-        devices: Devices<'k, 'h, 'd, 'c, K, HoldingLinks<'n, N>, D, C>,
+        devices: DevicesBelow<'k, 'h, 'n, 'd, 'c, K, N, D, C>,
         parent: P,
         terms: HoldTerms,
     ) -> Self
@@ -70,7 +90,7 @@ impl<'k, 'h, 'n, 'd, 'c, K: Sink, N: Links, D: Keeper, C: Clock, P: ParentLines>
         ensures telling { result.telling ≡ fresh_telling terms.all_lines }
         ensures seen { result.seen ≡ Seen.Nobody }
     {
-        let Devices {
+        let DevicesBelow {
             sink,
             links,
             keeps,
@@ -82,6 +102,7 @@ impl<'k, 'h, 'n, 'd, 'c, K: Sink, N: Links, D: Keeper, C: Clock, P: ParentLines>
             links,
             keeps,
             clock,
+            commit: Commit::new(),
             parent,
             telling: Telling::new(terms.all_lines),
             seen: Seen::Nobody,
@@ -187,66 +208,5 @@ impl<'k, 'h, 'n, 'd, 'c, K: Sink, N: Links, D: Keeper, C: Clock, P: ParentLines>
         tell_step(self.links, &mut self.telling, &step, &mut text)?;
         self.parent.say(&text);
         Ok(())
-    }
-
-    /// Sends a frame that waits for nothing. Another one is kept for later, as if it were sent.
-    pub fn send_or_keep(&mut self, from: u16, to: &str, bytes: &[u8]) -> Result<(), EdgeRefusal>
-        requires { IsListening from (N.opened self.old.links.now.inner.now) }
-        ensures passed { frame_waits self.old.links.now.holding bytes.now ≡ false → OnOk result
-            (Grew (N.sent self.old.links.now.inner.now) (N.sent self.new.links.now.inner.now)
-            (record { from = from; to = to.now; bytes = bytes.now } ∷ [])) }
-        ensures kept { frame_waits self.old.links.now.holding bytes.now ≡ true → OnOk result
-            (self.new.links.now.held
-            ≡ held_with (record { from = from; to = to.now; bytes = bytes.now }) self.old.links.now.held) }
-        ensures waits { frame_waits self.old.links.now.holding bytes.now ≡ true →
-            self.new.links.now.inner.now ≡ self.old.links.now.inner.now }
-        ensures never { NeverBeforeDone self.old.links.now.holding
-            (N.sent self.old.links.now.inner.now) (N.sent self.new.links.now.inner.now) }
-        ensures holding { self.new.links.now.holding ≡ self.old.links.now.holding }
-        ensures opened { N.opened self.new.links.now.inner.now
-            ≡ N.opened self.old.links.now.inner.now }
-        ensures arrivals { (any : ℕ) → N.arrivals self.new.links.now.inner.now any
-            ≡ N.arrivals self.old.links.now.inner.now any }
-        ensures cause { HasCauseOf EdgeRefusal.Failed (N.faults self.old.links.now.inner.now)
-            (N.faults self.new.links.now.inner.now) result }
-        ensures same { self.new.links.ghost_name ≡ self.old.links.ghost_name }
-        ensures rest { self.new ≡ record self.old {
-          links = self.new.links;
-        } }
-    {
-        self.links.pass_or_keep(from, to, bytes)
-    }
-
-    /// Sends what may leave now, and then takes the next datagram that has arrived at the actor.
-    pub fn let_out_and_take(
-        &mut self,
-        actor: u16,
-        into: &mut [u8; DATAGRAM_BYTES],
-    ) -> Result<Option<usize>, Failed>
-        requires { IsListening actor (N.opened self.old.links.now.inner.now) }
-        ensures lets_out { LetsOut actor self.old.links.now.holding self.old.links.now.held
-            self.new.links.now.held (N.sent self.old.links.now.inner.now)
-            (N.sent self.new.links.now.inner.now) (N.faults self.old.links.now.inner.now)
-            (N.faults self.new.links.now.inner.now) }
-        ensures never { NeverBeforeDone self.old.links.now.holding
-            (N.sent self.old.links.now.inner.now) (N.sent self.new.links.now.inner.now) }
-        ensures holding { self.new.links.now.holding ≡ self.old.links.now.holding }
-        ensures length { IfOk result (λ answer. IfSome answer (λ n. n ≤ DATAGRAM_BYTES)) }
-        ensures ok { IfOk result (λ answer. Receives (N.arrivals self.old.links.now.inner.now actor) answer
-            into.new (N.arrivals self.new.links.now.inner.now actor)) }
-        ensures err { OnErr result (N.arrivals self.new.links.now.inner.now actor
-            ≡ N.arrivals self.old.links.now.inner.now actor) }
-        ensures others { (other : ℕ) → other ≢ actor → N.arrivals self.new.links.now.inner.now other
-            ≡ N.arrivals self.old.links.now.inner.now other }
-        ensures opened { N.opened self.new.links.now.inner.now
-            ≡ N.opened self.old.links.now.inner.now }
-        ensures cause { HasCause (N.faults self.old.links.now.inner.now)
-            (N.faults self.new.links.now.inner.now) result }
-        ensures same { self.new.links.ghost_name ≡ self.old.links.ghost_name }
-        ensures rest { self.new ≡ record self.old {
-          links = self.new.links;
-        } }
-    {
-        self.links.let_out_and_take(actor, into)
     }
 }

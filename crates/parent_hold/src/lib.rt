@@ -13,8 +13,9 @@ mod held_devices;
 mod laws;
 mod parent_lines;
 mod seen;
+mod sending;
 mod step_lines;
 
-pub use held_devices::{HeldDevices, HoldTerms};
+pub use held_devices::{DevicesBelow, HeldDevices, HoldTerms};
 pub use laws::each_loss_has_its_number;
 pub use parent_lines::ParentLines;

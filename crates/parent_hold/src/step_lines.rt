@@ -6,9 +6,9 @@ ghost use Rattle.parent_hold.specs.Lines.{after_report, after_step, begun_again,
 ghost use Rattle.parent_hold.specs.Lines.{owed_at, report_text, step_owed, step_text};
 
 use door_lines::push_given_up;
-use edge_io::Links;
 use fabric_terms::{Head, OutOfMemory, Report};
 use frame_hold::{Before, GivesUp, HoldingLinks, gives_up};
+use group_commit::Outgoing;
 use log_lines::{Asking, Written};
 use report_lines::print_report;
 use ring_points::Point;
@@ -104,7 +104,7 @@ impl Telling {
 }
 
 /// Opens the next number for what a report gives up, and appends the report's line.
-fn open<N: Links>(
+fn open<N: Outgoing>(
     links: &mut HoldingLinks<'_, N>,
     telling: &mut Telling,
     step: &StepOf<'_>,
@@ -127,7 +127,7 @@ fn open<N: Links>(
 
 /// Tells a report, the next one of the step: a line with a number where it gives something up, else a plain line if the
 /// parent hears it.
-fn tell_report<N: Links>(
+fn tell_report<N: Outgoing>(
     links: &mut HoldingLinks<'_, N>,
     telling: &mut Telling,
     step: &StepOf<'_>,
@@ -153,7 +153,7 @@ fn tell_report<N: Links>(
 }
 
 /// Tells a step: its lines are appended, and each number of them is owed from its reading on.
-pub fn tell_step<N: Links>(
+pub fn tell_step<N: Outgoing>(
     links: &mut HoldingLinks<'_, N>,
     telling: &mut Telling,
     step: &StepOf<'_>,

@@ -1,6 +1,6 @@
 //! Tests of the parts of a node, from range sets to replicas, and of the devices, those in memory and the real ones
 //! over files, sockets, a clock and fake machines: worked examples from outside, and that each public call answers
-//! where memory is ample.
+//! where memory is ample. Records that are synced by one call, and the frames that wait for it.
 //!
 //! What each call of a part does is proved where it stands; here is what no clause says. What a real device does is no
 //! matter of a proof; here it is seen once, each with a failure in mid-stream. The crate has no code of its own, so
@@ -15,6 +15,8 @@ mod disks;
 mod fakes;
 #[cfg(test)]
 mod folders;
+#[cfg(test)]
+mod groups;
 #[cfg(test)]
 mod in_memory;
 #[cfg(test)]

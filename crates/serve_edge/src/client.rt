@@ -59,12 +59,10 @@ impl Client {
         })
     }
 
-    /// Takes what comes next of it, a line into the front of the buffer. What waits for it is written before, as far as
-    /// it takes it.
+    /// Takes what comes next of it, a line into the front of the buffer.
     pub fn next(&mut self, into: &mut [u8; MAX_ASKED]) -> Came
         ensures { FitsLine result }
     {
-        self.flush();
         if self.stage == Stage::Over {
             return Came::Gone;
         }
@@ -79,9 +77,8 @@ impl Client {
         came
     }
 
-    /// Takes in what it has said by now, as much as there is room for. What waits for it is written before.
+    /// Takes in what it has said by now, as much as there is room for.
     pub fn gather(&mut self) {
-        self.flush();
         if self.stage == Stage::Open {
             self.read();
         }
@@ -106,14 +103,13 @@ impl Client {
         self.stage = Stage::Over;
     }
 
-    /// Says the text to it: the text waits, and is written as far as the client takes it. A client for which too much
-    /// waits is dropped. Says whether it is.
+    /// Says the text to it: the text waits, until it is written as far as the client takes it. A client for which too
+    /// much waits is dropped. Says whether it is.
     pub fn hear(&mut self, text: &[u8]) -> bool {
         if self.stage == Stage::Over {
             return false;
         }
         if self.unread.push(text) {
-            self.flush();
             return false;
         }
         self.stage = Stage::Over;

@@ -1,5 +1,5 @@
 use crate::board::PollBoard;
-use crate::limits::{MAX_PAUSE_TICKS, MAX_PIECE, MAX_WRITES};
+use crate::limits::{MAX_PAUSE_TICKS, MAX_WRITES};
 use crate::ready::may_write;
 use crate::seats::OUTPUT;
 use crate::standard::write_front;
@@ -43,13 +43,10 @@ impl<'a> LogOutput<'a> {
 }
 
 impl LogOutput<'_> {
-    /// Adds a line behind its time. Where many bytes wait, some are written first.
+    /// Adds a line behind its time. It waits until the process rests.
     pub fn push(&self, time: &[u8], line: &[u8]) -> Pushed {
         if self.closed.get() {
             return Pushed::Dropped;
-        }
-        if self.waiting() >= MAX_PIECE {
-            self.write_ready();
         }
         let pushed = match self.queue.try_borrow_mut() {
             Ok(mut queue) => queue.push(time, line),
@@ -60,7 +57,7 @@ impl LogOutput<'_> {
     }
 
     /// Writes some of what waits. The output is ready.
-    pub fn write_some(&self) {
+    fn write_some(&self) {
         if let Ok(mut queue) = self.queue.try_borrow_mut() {
             match write_front(self.descriptor, queue.front()) {
                 Ok(count) if count > 0 => queue.taken(count),

@@ -5,9 +5,9 @@ ghost use Rattle.serve_edge.specs.Unreads;
 
 use crate::board::PollBoard;
 use crate::client::{Came, Client};
+use crate::door_clients::said_by;
 use crate::limits::MAX_WRITES;
 use crate::seats::{ANSWERS, PARENT};
-use crate::socket_door::said_by;
 use crate::waits::later;
 use crate::watch::Watch;
 use crate::wire::Wire;
@@ -18,8 +18,8 @@ use std::cell::{Cell, RefCell};
 /// The number of the parent among the clients. No client of the socket has it.
 pub const PARENT_CLIENT: u32 = 0;
 
-/// The line that stands for the end of a parent.
-const END: &[u8; 6] = b"@0 end";
+/// The line that stands for the end of a parent, and for a sync that has failed.
+pub const END: &[u8; 6] = b"@0 end";
 
 /// What the parent of a process writes and reads: its lines as far as they were gathered, and the text that waits for
 /// it. The door and the devices share it: the door gives the lines and answers them, and the devices write reports. A
@@ -89,8 +89,8 @@ impl ParentStream<'_> {
         }
     }
 
-    /// Says the text to the parent: it waits, and is written as far as the parent takes it. Once the end of the parent
-    /// was said, nothing is said to it any more: it has not asked the line that stands for its end.
+    /// Says the text to the parent: it waits for the next rest. Once the end of the parent was said, nothing is said to it
+    /// any more: it has not asked the line that stands for its end.
     pub fn say(&self, text: &[u8]) {
         if self.ended.get() {
             return;
@@ -119,16 +119,14 @@ impl ParentStream<'_> {
         self.note();
     }
 
-    /// Writes what waits, as far as the parent takes it at once: the process ends.
-    pub fn finish(&self) {
+    /// Writes what was said to the parent, as far as it takes it at once.
+    pub fn write_out(&self) {
         if let Ok(mut parent) = self.parent.try_borrow_mut() {
             for _ in 0..MAX_WRITES {
-                if parent.waiting() == 0 {
-                    return;
-                }
                 parent.flush();
             }
         }
+        self.note();
     }
 
     /// Takes the next of the lines that were gathered, or the end of the parent.

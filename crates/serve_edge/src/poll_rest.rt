@@ -7,7 +7,7 @@ use edge_io::Clock;
 use fabric_edge::{BootClock, MonoClock};
 
 /// The rest of a served process: one call of the system waits for all that the devices await, and for the first reading
-/// at which something is due. What waits for the log is written as its output takes it.
+/// at which something is due. What waits for the log is written as its output takes it, and at no other time.
 #[derive(Drop)]
 pub struct PollRest<'a, R: BootClock> {
     board: &'a PollBoard,
@@ -31,7 +31,7 @@ impl<R: BootClock> Rest for PollRest<'_, R> {
         self.output.watch();
         let ticks = rest_ticks(most, self.board.due(), self.clock.now());
         if self.board.poll(ticks, OUTPUT) {
-            self.output.write_some();
+            self.output.write_ready();
         }
         self.board.set_now(self.clock.now());
     }

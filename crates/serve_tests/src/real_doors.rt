@@ -2,7 +2,8 @@
 use crate::temporary::{enter, remove};
 use door_io::{Door, MAX_ASKED, MAX_CLIENTS, Said};
 use serve_edge::{
-    DOOR_NAME, PARENT_CLIENT, ParentStream, PollBoard, ServedDoor, SocketDoor, bind_door,
+    DOOR_NAME, DoorClients, PARENT_CLIENT, ParentStream, PollBoard, ServedDoor, SocketDoor,
+    bind_door,
 };
 use std::io::{Read, Write};
 use std::os::fd::AsRawFd;
@@ -11,10 +12,10 @@ use std::process::Abort;
 use std::test::Fail;
 use std::time::Duration;
 
-/// The door of the current folder.
-fn door<'a>(rt: &HostRuntime, board: &'a PollBoard) -> Result<SocketDoor<'a>, Fail> {
+/// The door of the current folder, for these clients.
+fn door<'a>(rt: &HostRuntime, clients: &'a DoorClients<'a>) -> Result<SocketDoor<'a>, Fail> {
     let listener = bind_door(rt)?;
-    Ok(SocketDoor::new(rt.alloc(), board, listener)?)
+    Ok(SocketDoor::new(clients, listener))
 }
 
 /// A client of the door, which waits for 5 seconds.
@@ -46,7 +47,8 @@ fn reads(rt: &impl Abort, client: &mut UnixStream, want: &[u8]) -> Result<(), Fa
 fn lines_of_clients_come_in_rotation(rt: HostRuntime) -> Result<(), Fail> {
     enter(&rt)?;
     let board = PollBoard::new(rt.alloc())?;
-    let mut door = door(&rt, &board)?;
+    let clients = DoorClients::new(rt.alloc(), &board)?;
+    let mut door = door(&rt, &clients)?;
     let (mut first, mut second) = (client(&rt)?, client(&rt)?);
     first.write_all(b"one\ntwo\nthr")?;
     second.write_all(b"uno\n")?;
@@ -63,12 +65,14 @@ fn lines_of_clients_come_in_rotation(rt: HostRuntime) -> Result<(), Fail> {
 fn an_answer_goes_to_its_client(rt: HostRuntime) -> Result<(), Fail> {
     enter(&rt)?;
     let board = PollBoard::new(rt.alloc())?;
-    let mut door = door(&rt, &board)?;
+    let clients = DoorClients::new(rt.alloc(), &board)?;
+    let mut door = door(&rt, &clients)?;
     let (mut first, mut second) = (client(&rt)?, client(&rt)?);
     gives(&rt, &mut door, Said::Quiet, b"");
     door.answer(65, b"done 2\n");
     door.answer(64, b"done 1\n");
     door.answer(66, b"done 3\n");
+    clients.write_out();
     reads(&rt, &mut first, b"done 1\n")?;
     reads(&rt, &mut second, b"done 2\n")?;
     remove(&rt)
@@ -78,7 +82,8 @@ fn an_answer_goes_to_its_client(rt: HostRuntime) -> Result<(), Fail> {
 fn a_client_that_ends_is_gone_behind_its_lines(rt: HostRuntime) -> Result<(), Fail> {
     enter(&rt)?;
     let board = PollBoard::new(rt.alloc())?;
-    let mut door = door(&rt, &board)?;
+    let clients = DoorClients::new(rt.alloc(), &board)?;
+    let mut door = door(&rt, &clients)?;
     let mut first = client(&rt)?;
     first.write_all(b"one\npart")?;
     drop(first);
@@ -95,7 +100,8 @@ fn a_client_that_ends_is_gone_behind_its_lines(rt: HostRuntime) -> Result<(), Fa
 fn a_line_that_is_too_long_is_said_once(rt: HostRuntime) -> Result<(), Fail> {
     enter(&rt)?;
     let board = PollBoard::new(rt.alloc())?;
-    let mut door = door(&rt, &board)?;
+    let clients = DoorClients::new(rt.alloc(), &board)?;
+    let mut door = door(&rt, &clients)?;
     let mut first = client(&rt)?;
     first.write_all(&[b'x'; 5000])?;
     first.write_all(b"\nshort\n")?;
@@ -108,7 +114,8 @@ fn a_line_that_is_too_long_is_said_once(rt: HostRuntime) -> Result<(), Fail> {
 fn a_client_that_does_not_read_is_dropped(rt: HostRuntime) -> Result<(), Fail> {
     enter(&rt)?;
     let board = PollBoard::new(rt.alloc())?;
-    let mut door = door(&rt, &board)?;
+    let clients = DoorClients::new(rt.alloc(), &board)?;
+    let mut door = door(&rt, &clients)?;
     let _client = client(&rt)?;
     gives(&rt, &mut door, Said::Quiet, b"");
     let text = vec![in rt.alloc(); b'x'; 250_000]?;
@@ -123,10 +130,11 @@ fn a_client_that_does_not_read_is_dropped(rt: HostRuntime) -> Result<(), Fail> {
 fn a_client_more_than_there_are_places_is_closed(rt: HostRuntime) -> Result<(), Fail> {
     enter(&rt)?;
     let board = PollBoard::new(rt.alloc())?;
-    let mut door = door(&rt, &board)?;
-    let mut clients = Vec::new(rt.alloc());
+    let clients = DoorClients::new(rt.alloc(), &board)?;
+    let mut door = door(&rt, &clients)?;
+    let mut connected = Vec::new(rt.alloc());
     for _ in 0..MAX_CLIENTS {
-        clients.push(client(&rt)?)?;
+        connected.push(client(&rt)?)?;
         gives(&rt, &mut door, Said::Quiet, b"");
     }
     let mut further = client(&rt)?;
@@ -146,16 +154,16 @@ fn stream_of<'a>(
     Ok(ParentStream::new(rt.alloc(), board, streams, 100)?)
 }
 
-/// A board, and the stream of a parent on it.
+/// The clients of a door, and the stream of a parent.
 #[derive(Clone, Copy)]
 struct Parts<'a> {
-    board: &'a PollBoard,
+    clients: &'a DoorClients<'a>,
     stream: &'a ParentStream<'a>,
 }
 
 /// The door of the current folder, for a parent and for clients.
 fn served_door<'a>(rt: &HostRuntime, parts: Parts<'a>) -> Result<ServedDoor<'a>, Fail> {
-    let door = door(rt, parts.board)?;
+    let door = door(rt, parts.clients)?;
     Ok(ServedDoor::new(door, Some(parts.stream)))
 }
 
@@ -165,8 +173,9 @@ fn a_parent_and_clients_come_in_turn(rt: HostRuntime) -> Result<(), Fail> {
     let board = PollBoard::new(rt.alloc())?;
     let (mut parent, child) = UnixStream::pair(&rt)?;
     let stream = stream_of(&rt, &board, &child)?;
+    let clients = DoorClients::new(rt.alloc(), &board)?;
     let parts = Parts {
-        board: &board,
+        clients: &clients,
         stream: &stream,
     };
     let mut door = served_door(&rt, parts)?;
@@ -181,6 +190,7 @@ fn a_parent_and_clients_come_in_turn(rt: HostRuntime) -> Result<(), Fail> {
     gives(&rt, &mut door, Said::Line(64, 3), b"two");
     gives(&rt, &mut door, Said::Quiet, b"");
     door.answer(PARENT_CLIENT, b"done 1\n");
+    stream.write_out();
     reads(&rt, &mut parent, b"done 1\n")?;
     drop(parent);
     stream.gather();
@@ -197,8 +207,9 @@ fn a_parent_may_read_late_but_not_too_late(rt: HostRuntime) -> Result<(), Fail> 
     let board = PollBoard::new(rt.alloc())?;
     let (_parent, child) = UnixStream::pair(&rt)?;
     let stream = stream_of(&rt, &board, &child)?;
+    let clients = DoorClients::new(rt.alloc(), &board)?;
     let parts = Parts {
-        board: &board,
+        clients: &clients,
         stream: &stream,
     };
     let mut door = served_door(&rt, parts)?;

@@ -1,5 +1,10 @@
+ghost use Rattle.std.specs.Prelude.{◌≡◌, ◌+◌, OnOk};
+ghost use Rattle.edge_io.specs.Edge.{HasCauseOf};
+ghost use Rattle.group_commit.specs.Groups.{AllKept};
+
 use crate::tally::Tally;
 use edge_io::{EdgeRefusal, Keeper};
+use group_commit::GroupKeeper;
 use service_file::Again;
 
 /// What hears of each record of the actor that was synced.
@@ -17,16 +22,17 @@ pub trait Synced {
 /// How many bytes the length of a record has in its file.
 const LENGTH_BYTES: u64 = 2;
 
-/// Records that are counted. Behind the first one it is noted that the actor has begun, before anything rests on it.
+/// Records that are counted. Once the first one is synced it is noted that the actor has begun, before anything rests on
+/// it. It reads its records as a keeper, before the actor runs, and appends them as one that syncs many by one call.
 #[derive(Drop)]
-pub struct NotedKeeper<'a, K: Keeper, S: Synced> {
+pub struct NotedKeeper<'a, K, S: Synced> {
     inner: K,
     synced: S,
     tally: &'a Tally,
     failed: u64,
 }
 
-impl<'a, K: Keeper, S: Synced> NotedKeeper<'a, K, S> {
+impl<'a, K, S: Synced> NotedKeeper<'a, K, S> {
     /// The records of this keeper.
     pub fn new(inner: K, synced: S, tally: &'a Tally) -> Self {
         NotedKeeper {
@@ -38,7 +44,34 @@ impl<'a, K: Keeper, S: Synced> NotedKeeper<'a, K, S> {
     }
 }
 
-impl<K: Keeper, S: Synced> NotedKeeper<'_, K, S> {
+impl<K, S: Synced> NotedKeeper<'_, K, S> {
+    /// A record of these bytes was appended.
+    fn count(&self, bytes: &[u8]) {
+        self.tally
+            .count_record((bytes.len() as u64).saturating_add(LENGTH_BYTES));
+        if bytes.first() == Some(&SPLIT) {
+            self.tally.count(|counters| counters.count_split_grant());
+        }
+        if let Some(instance) = instance_in(bytes) {
+            self.synced.tell_begin(instance);
+        }
+    }
+
+    /// Notes that the actor has begun: its records are synced.
+    fn begin(&mut self) -> Result<(), EdgeRefusal>
+        ensures inner { self.new.inner ≡ self.old.inner }
+        ensures cause { HasCauseOf EdgeRefusal.Failed self.old.failed self.new.failed result }
+    {
+        match self.synced.note_begun() {
+            Ok(()) => Ok(()),
+            Err(EdgeRefusal::OutOfMemory) => Err(EdgeRefusal::OutOfMemory),
+            Err(EdgeRefusal::Failed) => {
+                self.failed = self.failed.saturating_add(1);
+                Err(EdgeRefusal::Failed)
+            }
+        }
+    }
+
     /// Notes that the actor has begun: its records are there already.
     pub fn note_begun(&mut self) -> Result<(), EdgeRefusal> {
         self.synced.note_begun()
@@ -92,23 +125,51 @@ impl<K: Keeper, S: Synced> Keeper for NotedKeeper<'_, K, S> {
 
     fn append_synced(&mut self, actor: u16, bytes: &[u8]) -> Result<(), EdgeRefusal> {
         self.inner.append_synced(actor, bytes)?;
-        self.tally
-            .count_record((bytes.len() as u64).saturating_add(LENGTH_BYTES));
-        if bytes.first() == Some(&SPLIT) {
-            self.tally.count(|counters| counters.count_split_grant());
+        self.begin()?;
+        self.count(bytes);
+        Ok(())
+    }
+}
+
+impl<K: GroupKeeper, S: Synced> NotedKeeper<'_, K, S> {
+    /// Syncs the records, and then notes that the actor has begun.
+    fn sync_and_begin(&mut self) -> Result<(), EdgeRefusal>
+        ensures ok { OnOk result (AllKept (K.kept self.new.inner) (K.appended self.new.inner)) }
+        ensures appended { K.appended self.new.inner ≡ K.appended self.old.inner }
+        ensures cause { HasCauseOf EdgeRefusal.Failed (K.faults self.old.inner + self.old.failed)
+            (K.faults self.new.inner + self.new.failed) result }
+    {
+        self.inner.sync()?;
+        self.begin()
+    }
+}
+
+impl<K: GroupKeeper, S: Synced> GroupKeeper for NotedKeeper<'_, K, S> {
+    ghost use Rattle.std.specs.Prelude.{◌+◌};
+
+    ghost kept = { λ k. K.kept k.inner };
+
+    ghost appended = { λ k. K.appended k.inner };
+
+    ghost faults = { λ k. K.faults k.inner + k.failed };
+
+    fn records(&mut self, actor: u16) -> Result<Vec<Vec<u8>>, EdgeRefusal> {
+        let records = self.inner.records(actor)?;
+        self.tally.set_record_bytes(bytes_of(&records));
+        Ok(records)
+    }
+
+    fn append(&mut self, actor: u16, bytes: &[u8]) -> Result<(), EdgeRefusal> {
+        self.inner.append(actor, bytes)?;
+        self.count(bytes);
+        Ok(())
+    }
+
+    fn sync(&mut self) -> Result<(), EdgeRefusal> {
+        let synced = self.sync_and_begin();
+        if synced.is_err() {
+            self.tally.set_unkept();
         }
-        match self.synced.note_begun() {
-            Ok(()) => {
-                if let Some(instance) = instance_in(bytes) {
-                    self.synced.tell_begin(instance);
-                }
-                Ok(())
-            }
-            Err(EdgeRefusal::OutOfMemory) => Err(EdgeRefusal::OutOfMemory),
-            Err(EdgeRefusal::Failed) => {
-                self.failed = self.failed.saturating_add(1);
-                Err(EdgeRefusal::Failed)
-            }
-        }
+        synced
     }
 }

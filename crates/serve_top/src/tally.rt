@@ -21,6 +21,8 @@ pub struct Tally {
     leaving: Cell<bool>,
     /// Whether the endpoint has failed so often that the log says so.
     deaf: Cell<bool>,
+    /// Whether records could not be synced: the process ends, and says nothing more.
+    unkept: Cell<bool>,
 }
 
 impl Tally {
@@ -36,6 +38,7 @@ impl Tally {
             parent_asks: Cell::new(false),
             leaving: Cell::new(false),
             deaf: Cell::new(false),
+            unkept: Cell::new(false),
         }
     }
 
@@ -156,6 +159,16 @@ impl Tally {
 
     pub fn is_deaf(&self) -> bool {
         self.deaf.get()
+    }
+
+    /// Records could not be synced.
+    pub fn set_unkept(&self) {
+        self.unkept.set(true);
+    }
+
+    /// Whether records could not be synced.
+    pub fn is_unkept(&self) -> bool {
+        self.unkept.get()
     }
 
     /// What was counted.

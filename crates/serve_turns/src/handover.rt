@@ -2,6 +2,7 @@ ghost use Rattle.std.specs.Prelude.{◌≡◌};
 
 use edge_io::{Clock, Devices, Keeper, Links, Outside, Sink};
 use fabric_terms::OutOfMemory;
+use group_commit::{GroupDevices, GroupKeeper, Outgoing};
 use turn_members::{Deed, Member};
 
 /// The outside of a process whose actor may give something up, of which a parent must let go before the frames of the
@@ -23,6 +24,11 @@ pub trait Handover: Outside {
     /// The parent has let go of what was given up by this number.
     fn let_go(&mut self, number: u64)
         ensures { Self.told self.new ≡ Self.told self.old };
+
+    /// The process is about to rest. Devices that told a record as kept which is pending, or a frame as sent which waits,
+    /// make it so. Says whether the process may rest: where a sync has failed, it ends before it says anything more.
+    fn settle(&mut self) -> bool
+        ensures { Self.told self.new ≡ Self.told self.old };
 }
 
 /// A process without a parent gives up what it gives up at once.
@@ -37,4 +43,26 @@ impl<'k, 'n, 'd, 'c, K: Sink, N: Links, D: Keeper, C: Clock> Handover
     }
 
     fn let_go(&mut self, _number: u64) {}
+
+    fn settle(&mut self) -> bool {
+        true
+    }
+}
+
+/// The same of a process that syncs the records of many steps by one call.
+impl<'k, 'n, 'd, 'c, K: Sink, L: Outgoing, D: GroupKeeper, C: Clock> Handover
+    for GroupDevices<'k, 'n, 'd, 'c, K, L, D, C> {
+    fn gather(&mut self) {}
+
+    fn see(&mut self, _actor: &Member) {}
+
+    fn hand_over(&mut self, _deed: &Deed, _now: u64) -> Result<(), OutOfMemory> {
+        Ok(())
+    }
+
+    fn let_go(&mut self, _number: u64) {}
+
+    fn settle(&mut self) -> bool {
+        GroupDevices::settle(self)
+    }
 }

@@ -92,7 +92,7 @@ fn rest_at<B: Board>(board: &mut B, live: &Live, most: u64)
     board.rest(most, Some(&shown));
 }
 
-/// All turns, until the process is told to end: it says so. Before each of them the process rests.
+/// All turns, until the process is told to end: it says so. Before each of them the process settles and rests.
 fn take_turns<O: Handover, C: Clients, P: Policy, B: Board>(
     outside: &mut O,
     audience: &mut Audience<C, P>,
@@ -110,7 +110,9 @@ fn take_turns<O: Handover, C: Clients, P: Policy, B: Board>(
     let mut buffer = [0u8; DATAGRAM_BYTES];
     for number in 0..u64::MAX {
         let most = longest_rest(audience, service, live);
-        rest_at(board, live, most);
+        if outside.settle() {
+            rest_at(board, live, most);
+        }
         if take_turn(outside, audience, service, live, number + 1, &mut buffer)? {
             return Ok(true);
         }

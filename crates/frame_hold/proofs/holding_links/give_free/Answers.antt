@@ -1,4 +1,4 @@
-use Rattle.std.proofs.Common.{◌≡◌, ◌≤◌, ◌+◌, ℕ, List, Option, take, sym, subst, arith, ◌∙◌}
+use Rattle.std.proofs.Common.{◌≡◌, ◌≤◌, ◌+◌, ℕ, false, true, List, Option, take, sym, subst, arith, ◌∙◌}
 use Rattle.edge_io.specs.declared.datagram.Datagram.{Datagram}
 use Rattle.frame_hold.specs.Kept.{free_of}
 use Rattle.frame_hold.specs.Promises.{Given, NeverBeforeDone}
@@ -24,11 +24,15 @@ loop-datagram-preserved g c =
     let start = c.args.links.now in
     let l = c.loop-datagram in
     let owed = c.args.holding.now in
+    let holds = g.N.Outgoing.holds in
     let P : g.row.N.Denot → Type 0 = λ links.
     Given (free_of c.args.actor owed (take (l.datagram-index + 1) c.args.held.now)) (sent start) (sent links) (faults start) (faults links)
     × (g.N.Links.opened links ≡ g.N.Links.opened start)
     × ((any : ℕ) → g.N.Links.arrivals links any ≡ g.N.Links.arrivals start any)
-    × (faults start ≤ faults links) in
+    × (faults start ≤ faults links)
+    × (holds links ≡ holds start)
+    × (holds start ≡ false → g.N.Outgoing.queue links ≡ g.N.Outgoing.queue start)
+    × (holds start ≡ true → g.N.Outgoing.left links ≡ g.N.Outgoing.left start) in
     elim c.if-is_free.branch [
       | then-is_free+in_ok-give_one w ↦ subst P (sym w.links-is) (
         given_next c.args.actor owed c.args.held.now l.datagram-index c.datagram-item.result (sent start) (sent l.links) (sent w.give_one.new.links) (faults start) (faults l.links) (faults w.give_one.new.links)
@@ -36,6 +40,9 @@ loop-datagram-preserved g c =
         w.give_one.ensures.opened ∙ l.invariant.1,
         λ any. w.give_one.ensures.arrivals any ∙ l.invariant.2 any,
         omega (arith, l.invariant.3, w.give_one.ensures.later),
+        w.give_one.ensures.holds ∙ l.invariant.4,
+        λ free. w.give_one.ensures.queue (l.invariant.4 ∙ free) ∙ l.invariant.5 free,
+        λ waits. w.give_one.ensures.left (l.invariant.4 ∙ waits) ∙ l.invariant.6 waits,
       )
       | else-is_free w ↦ subst P (sym w.links-is) (
         given_over c.args.actor owed c.args.held.now l.datagram-index c.datagram-item.result (sent start) (sent l.links) (faults start) (faults l.links)
@@ -43,6 +50,9 @@ loop-datagram-preserved g c =
         l.invariant.1,
         l.invariant.2,
         l.invariant.3,
+        l.invariant.4,
+        l.invariant.5,
+        l.invariant.6,
       )
     ]
 

@@ -1,4 +1,4 @@
-use Rattle.std.proofs.Common.{◌≡◌, ◌≤◌, ℕ, take}
+use Rattle.std.proofs.Common.{◌≡◌, ◌≤◌, ℕ, false, true, take}
 use Rattle.frame_hold.specs.Kept.{free_of}
 use Rattle.frame_hold.specs.Promises.{Given}
 use Rattle.frame_hold.proofs.holding_links.give_free.Given as goal
@@ -10,3 +10,6 @@ invariant-loop-datagram g l =
     × (g.N.Links.opened l.links ≡ g.N.Links.opened l.fn.links)
     × ((any : ℕ) → g.N.Links.arrivals l.links any ≡ g.N.Links.arrivals l.fn.links any)
     × (g.N.Links.faults l.fn.links ≤ g.N.Links.faults l.links)
+    × (g.N.Outgoing.holds l.links ≡ g.N.Outgoing.holds l.fn.links)
+    × (g.N.Outgoing.holds l.fn.links ≡ false → g.N.Outgoing.queue l.links ≡ g.N.Outgoing.queue l.fn.links)
+    × (g.N.Outgoing.holds l.fn.links ≡ true → g.N.Outgoing.left l.links ≡ g.N.Outgoing.left l.fn.links)

@@ -4,5 +4,5 @@ use Rattle.frame_hold.proofs.holding_links.HoldingLinks.pass_or_keep.Goals as go
 
 pub returns-then-not-frame_waits-clause-never : goal.returns-then-not-frame_waits-clause-never
 returns-then-not-frame_waits-clause-never g c =
-    never_passed c.args.self.now.holding (record { from = c.args.from; to = c.args.to.now; bytes = c.args.bytes.now }) (g.N.Links.sent c.args.self.now.inner.now) (g.N.Links.sent c.send.new.self) c.send.result
-    (sym c.frame_waits.ensures ∙ c.if-not-frame_waits.true) c.send.ensures.ok c.send.ensures.err
+    never_passed c.args.self.now.holding (record { from = c.args.from; to = c.args.to.now; bytes = c.args.bytes.now }) (g.N.Links.sent c.args.self.now.inner.now) (g.N.Links.sent c.pass_or_queue.new.self) c.pass_or_queue.result
+    (sym c.frame_waits.ensures ∙ c.if-not-frame_waits.true) c.pass_or_queue.ensures.sent c.pass_or_queue.ensures.same

@@ -1,5 +1,5 @@
 use Rattle.serve_lives.proofs.Going.{reads_more, reads_once}
-use Rattle.serve_lives.proofs.pausing.pass_time.Goals as goal
+use Rattle.serve_lives.proofs.pausing.pass_ticks.Goals as goal
 
 pub loop-look-init : goal.loop-look-init
 loop-look-init g c = reads_once _ _ _ c.now-begun.ensures
