@@ -22,7 +22,7 @@ use std::alloc::Global;
 /// waits for no `done` waits there.
 #[derive(Drop)]
 pub struct HoldingLinks<'n, N: Outgoing> {
-    pub inner: &'n mut N,
+    pub(crate) inner: &'n mut N,
     holding: Holding,
     held: HeldFrames,
 }

@@ -13,6 +13,7 @@ mod holding;
 mod holding_links;
 mod losses;
 mod one_length_links;
+mod settling;
 
 pub use held_frames::MAX_HELD;
 pub use holding::Holding;

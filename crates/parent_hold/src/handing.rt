@@ -52,8 +52,8 @@ impl<'k, 'h, 'n, 'd, 'c, K: Sink, N: Outgoing, D: GroupKeeper, C: Clock, P: Pare
     }
 
     fn append_synced(&mut self, actor: u16, bytes: &[u8]) -> Result<(), EdgeRefusal> {
-        self.commit
-            .append(self.keeps, self.links.inner, actor, bytes)
+        self.links
+            .append(&mut self.commit, self.keeps, actor, bytes)
     }
 
     fn now(&mut self) -> u64 {

@@ -58,7 +58,7 @@ impl<
           commit = self.new.commit;
         } }
     {
-        self.commit.settle(self.keeps, self.links.inner)
+        self.links.settle(&mut self.commit, self.keeps)
     }
 
     /// Sends a frame that waits for nothing. Another one is kept for later, as if it were sent.
@@ -163,7 +163,7 @@ impl<
           commit = self.new.commit;
         } }
     {
-        if self.links.inner.is_full() {
+        if self.links.is_full() {
             self.settle_all();
         }
         self.send_or_keep(from, to, bytes)
@@ -207,7 +207,7 @@ impl<
           commit = self.new.commit;
         } }
     {
-        if self.links.inner.is_full() {
+        if self.links.is_full() {
             self.settle_all();
         }
         self.let_out_and_take(actor, into)
