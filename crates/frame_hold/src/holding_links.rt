@@ -17,9 +17,9 @@ use fabric_terms::OutOfMemory;
 use group_commit::Outgoing;
 use std::alloc::Global;
 
-/// Links over links that can hold frames back: a frame that waits for a `done` counts as sent, and is late. Of equal frames
-/// to one address one is kept. Whoever syncs records settles the links below. Where they hold frames back, a frame that
-/// waits for no `done` waits there.
+/// Links over links that can hold frames back: a frame that waits for a `done` counts as sent, and is late. Of equal
+/// frames to one address one is kept. Whoever syncs records settles the links below. Where they hold frames back, a
+/// frame that waits for no `done` waits there.
 #[derive(Drop)]
 pub struct HoldingLinks<'n, N: Outgoing> {
     pub(crate) inner: &'n mut N,
@@ -87,8 +87,8 @@ impl<'n, N: Outgoing> HoldingLinks<'n, N> {
         self.holding.is_overdue(now, hold)
     }
 
-    /// Gives the links below what the actor may send now, the oldest first. What they fail to send is lost. Where memory
-    /// runs out, a part of it was given, and all of it waits still.
+    /// Gives the links below what the actor may send now, the oldest first. What they fail to send is lost. Where
+    /// memory runs out, a part of it was given, and all of it waits still.
     pub fn let_out(&mut self, actor: u16) -> Result<(), OutOfMemory>
         requires { IsListening actor (N.opened self.old.inner.now) }
         ensures given { IfOk result (λ _. Given (free_of actor self.old.holding self.old.held)

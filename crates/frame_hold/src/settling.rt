@@ -38,20 +38,22 @@ impl<N: Outgoing> HoldingLinks<'_, N> {
         ensures faults { N.faults self.new.inner.now ≡ N.faults self.old.inner.now }
         ensures failed { OnErr result (commit.new.failed ≡ true) }
         ensures went_well { OnOk result (commit.old.failed ≡ false) }
-        ensures sound { IsSound commit.new.failed (N.holds self.new.inner.now) (N.queue self.new.inner.now) (D.kept keeps.new)
-            (D.appended keeps.new) }
+        ensures sound { IsSound commit.new.failed (N.holds self.new.inner.now) (N.queue self.new.inner.now)
+            (D.kept keeps.new) (D.appended keeps.new) }
         ensures holding { self.new.holding ≡ self.old.holding }
         ensures held { self.new.held ≡ self.old.held }
     {
         commit.append(keeps, self.inner, actor, bytes)
     }
 
-    /// Syncs what is pending, by one call, and then sends what waits for that. What waits for a `done` goes on to wait.
+    /// Syncs what is pending, by one call, and then sends what waits for that. Says whether it went well: then all that
+    /// was appended is kept for good. What waits for a `done` goes on to wait.
     pub fn settle<D: GroupKeeper>(&mut self, commit: &mut Commit, keeps: &mut D) -> bool
         ensures settled { result ≡ true → N.holds self.new.inner.now ≡ false }
-        ensures given { result ≡ true → N.holds self.old.inner.now ≡ true → Given (N.queue self.old.inner.now) (N.left self.old.inner.now)
-            (N.left self.new.inner.now) (N.lost self.old.inner.now) (N.lost self.new.inner.now) }
-        ensures kept { result ≡ true → N.holds self.old.inner.now ≡ true → AllKept (D.kept keeps.new) (D.appended keeps.new) }
+        ensures given { result ≡ true → N.holds self.old.inner.now ≡ true →
+            Given (N.queue self.old.inner.now) (N.left self.old.inner.now) (N.left self.new.inner.now)
+            (N.lost self.old.inner.now) (N.lost self.new.inner.now) }
+        ensures kept { result ≡ true → AllKept (D.kept keeps.new) (D.appended keeps.new) }
         ensures idle { N.holds self.old.inner.now ≡ false → N.left self.new.inner.now ≡ N.left self.old.inner.now }
         ensures failed { result ≡ false → N.left self.new.inner.now ≡ N.left self.old.inner.now }
         ensures waits { result ≡ false → N.queue self.new.inner.now ≡ N.queue self.old.inner.now }
@@ -60,9 +62,10 @@ impl<N: Outgoing> HoldingLinks<'_, N> {
         ensures appended { D.appended keeps.new ≡ D.appended keeps.old }
         ensures never { NeverBeforeSync (N.left self.old.inner.now) (N.left self.new.inner.now) (D.kept keeps.new)
             (D.appended keeps.new) }
-        ensures sound { IsSound commit.old.failed (N.holds self.old.inner.now) (N.queue self.old.inner.now) (D.kept keeps.old)
-            (D.appended keeps.old) → IsSound commit.new.failed (N.holds self.new.inner.now) (N.queue self.new.inner.now)
-            (D.kept keeps.new) (D.appended keeps.new) }
+        ensures sound { IsSound commit.old.failed (N.holds self.old.inner.now) (N.queue self.old.inner.now)
+            (D.kept keeps.old) (D.appended keeps.old) →
+            IsSound commit.new.failed (N.holds self.new.inner.now) (N.queue self.new.inner.now) (D.kept keeps.new)
+            (D.appended keeps.new) }
         ensures opened { N.opened self.new.inner.now ≡ N.opened self.old.inner.now }
         ensures arrivals { N.arrivals self.new.inner.now ≡ N.arrivals self.old.inner.now }
         ensures faults { N.faults self.new.inner.now ≡ N.faults self.old.inner.now }

@@ -24,8 +24,8 @@ abbrev pub with_queue : Option (List Datagram) → List Datagram → Option (Lis
 with_queue None queue = None
 with_queue (Some sent) queue = Some (sent ++ queue)
 
--- How a process stands: a frame leaves at once only where nothing waits before it and nothing is pending, and after a failure
--- no frame does.
+-- How a process stands: a frame leaves at once only where nothing waits before it and nothing is pending, and after a
+-- failure no frame does.
 pub record IsSound (failed holds : Bool) (queue : List Datagram) (kept appended : Records) : Type 0 where
   pub settled : holds ≡ false → AllKept kept appended
   pub empty : holds ≡ false → queue ≡ []

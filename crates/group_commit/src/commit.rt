@@ -103,13 +103,14 @@ impl Commit {
         }
     }
 
-    /// Syncs what is pending, by one call, and then sends what waits. Says whether it went well: where it did not, what
-    /// waits goes on to wait, now and after each later call.
+    /// Syncs what is pending, by one call, and then sends what waits. Says whether it went well: then all that was
+    /// appended is kept for good, and nothing waits. Where it did not, what waits goes on to wait, now and after each
+    /// later call.
     pub fn settle<D: GroupKeeper, L: Outgoing>(&mut self, keeps: &mut D, links: &mut L) -> bool
         ensures settled { result ≡ true → L.holds links.new ≡ false }
+        ensures kept { result ≡ true → AllKept (D.kept keeps.new) (D.appended keeps.new) }
         ensures given { result ≡ true → L.holds links.old ≡ true → Given (L.queue links.old) (L.left links.old)
             (L.left links.new) (L.lost links.old) (L.lost links.new) }
-        ensures kept { result ≡ true → L.holds links.old ≡ true → AllKept (D.kept keeps.new) (D.appended keeps.new) }
         ensures idle { L.holds links.old ≡ false → L.left links.new ≡ L.left links.old }
         ensures failed { result ≡ false → L.left links.new ≡ L.left links.old }
         ensures waits { result ≡ false → L.queue links.new ≡ L.queue links.old }
@@ -129,18 +130,14 @@ impl Commit {
         if self.failed {
             return false;
         }
-        if !links.is_holding() {
-            return true;
+        if keeps.sync().is_err() {
+            links.hold_back();
+            self.failed = true;
+            return false;
         }
-        match keeps.sync() {
-            Ok(()) => {
-                links.release();
-                true
-            }
-            Err(_) => {
-                self.failed = true;
-                false
-            }
+        if links.is_holding() {
+            links.release();
         }
+        true
     }
 }

@@ -30,14 +30,14 @@ impl<'k, 'n, 'd, 'c, K: Sink, L: Outgoing, D: GroupKeeper, C: Clock> GroupDevice
     D,
     C,
 > {
-    /// Syncs what is pending, by one call, and then sends what waits, in its order. Says whether it went well.
+    /// Syncs what is pending, by one call, and then sends what waits, in its order. Says whether it went well: then all
+    /// that was appended is kept for good, and nothing waits.
     pub fn settle(&mut self) -> bool
         ensures settled { result ≡ true → L.holds self.new.links.now ≡ false }
         ensures given { result ≡ true → L.holds self.old.links.now ≡ true →
             Given (L.queue self.old.links.now) (L.left self.old.links.now) (L.left self.new.links.now)
             (L.lost self.old.links.now) (L.lost self.new.links.now) }
-        ensures kept { result ≡ true → L.holds self.old.links.now ≡ true →
-            AllKept (D.kept self.new.keeps.now) (D.appended self.new.keeps.now) }
+        ensures kept { result ≡ true → AllKept (D.kept self.new.keeps.now) (D.appended self.new.keeps.now) }
         ensures failed { result ≡ false → L.left self.new.links.now ≡ L.left self.old.links.now }
         ensures waits { result ≡ false → L.queue self.new.links.now ≡ L.queue self.old.links.now }
         ensures ended { result ≡ false → self.new.commit.failed ≡ true }
@@ -63,7 +63,8 @@ impl<'k, 'n, 'd, 'c, K: Sink, L: Outgoing, D: GroupKeeper, C: Clock> GroupDevice
         self.commit.settle(self.keeps, self.links)
     }
 
-    /// Sends a frame, or queues it where something is pending. Where so many wait that they should leave, they do before.
+    /// Sends a frame, or queues it where something is pending. Where so many wait that they should leave, they do
+    /// before.
     pub fn send_or_wait(&mut self, from: u16, to: &str, bytes: &[u8]) -> Result<(), EdgeRefusal>
         requires { IsListening from (L.opened self.old.links.now) }
         ensures never { IsSound self.old.commit.failed (L.holds self.old.links.now) (L.queue self.old.links.now)

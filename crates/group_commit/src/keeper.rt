@@ -33,7 +33,8 @@ pub trait GroupKeeper {
         ensures kept { (any : ℕ) → kept self.new any ≡ kept self.old any }
         ensures cause { HasCauseOf EdgeRefusal.Failed (faults self.old) (faults self.new) result };
 
-    /// Waits until all that was appended is kept for good. After a refusal nobody knows how much of it is.
+    /// Waits until all that was appended is kept for good; not at all where nothing is pending. After a refusal nobody
+    /// knows how much of it is.
     fn sync(&mut self) -> Result<(), EdgeRefusal>
         ensures ok { OnOk result (AllKept (kept self.new) (appended self.new)) }
         ensures appended { appended self.new ≡ appended self.old }

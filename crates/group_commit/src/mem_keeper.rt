@@ -61,7 +61,7 @@ impl MemGroupKeeper {
         self.synced
     }
 
-    /// How often there was a sync that went well.
+    /// How often there was a sync that kept something more.
     pub fn syncs(&self) -> u64 {
         self.syncs
     }
@@ -141,8 +141,10 @@ impl GroupKeeper for MemGroupKeeper {
         if self.next_fails() {
             return Err(EdgeRefusal::Failed);
         }
+        if self.synced < self.entries.len() {
+            self.syncs = risen(self.syncs);
+        }
         self.synced = self.entries.len();
-        self.syncs = risen(self.syncs);
         Ok(())
     }
 }
