@@ -12,10 +12,10 @@ use door_io::{MAX_ASKED, MAX_CLIENTS, MAX_UNREAD, Said};
 use std::alloc::{AllocError, Global};
 use std::cell::{Cell, RefCell};
 
-/// The clients of a door on a socket, each at its place. The door and the rest share them: the door takes their lines and
-/// says what they are answered, and the rest writes it, since the records on which it rests are synced before a rest. A
-/// client for which more than `MAX_UNREAD` bytes wait is dropped, and one that has ended is gone as soon as nothing waits
-/// for it.
+/// The clients of a door on a socket, each at its place. The door and the rest share them: the door takes their lines
+/// and says what they are answered, and the rest writes it, since the records on which it rests are synced before a
+/// rest. A client for which more than `MAX_UNREAD` bytes wait is dropped, and one that has ended is gone as soon as
+/// nothing waits for it.
 #[derive(Drop)]
 pub struct DoorClients<'a> {
     alloc: Global,

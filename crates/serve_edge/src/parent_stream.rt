@@ -89,8 +89,8 @@ impl ParentStream<'_> {
         }
     }
 
-    /// Says the text to the parent: it waits for the next rest. Once the end of the parent was said, nothing is said to it
-    /// any more: it has not asked the line that stands for its end.
+    /// Says the text to the parent: it waits for the next rest. Once the end of the parent was said, nothing is said to
+    /// it any more: it has not asked the line that stands for its end.
     pub fn say(&self, text: &[u8]) {
         if self.ended.get() {
             return;

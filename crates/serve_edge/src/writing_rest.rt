@@ -2,8 +2,8 @@ use crate::door_clients::DoorClients;
 use crate::parent_stream::ParentStream;
 use door_io::Rest;
 
-/// A rest before which it is written what was said to the clients of the door, and to the parent, if there is one. At no
-/// other time is it: before a rest the records on which it rests are synced.
+/// A rest before which it is written what was said to the clients of the door, and to the parent, if there is one. At
+/// no other time is it: before a rest the records on which it rests are synced.
 #[derive(Drop)]
 pub struct WritingRest<'a, R: Rest> {
     rest: R,
