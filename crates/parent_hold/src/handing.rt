@@ -69,6 +69,8 @@ impl<'k, 'h, 'n, 'd, 'c, K: Sink, N: Outgoing, D: GroupKeeper, C: Clock, P: Pare
 
 impl<'k, 'h, 'n, 'd, 'c, K: Sink, N: Outgoing, D: GroupKeeper, C: Clock, P: ParentLines> Handover
     for HeldDevices<'k, 'h, 'n, 'd, 'c, K, N, D, C, P> {
+    ghost synced = { λ d. D.kept d.keeps.now };
+
     fn gather(&mut self) {
         self.gather_lines();
     }

@@ -6,7 +6,7 @@ ghost use Rattle.frame_hold.specs.Kept.{held_with};
 ghost use Rattle.frame_hold.specs.Promises.{LetsOut, NeverBeforeDone};
 ghost use Rattle.frame_hold.specs.Waits.{frame_waits};
 ghost use Rattle.group_commit.specs.Given.{Given};
-ghost use Rattle.group_commit.specs.Groups.{IsSound, NeverBeforeSync};
+ghost use Rattle.group_commit.specs.Groups.{AllKept, IsSound, NeverBeforeSync};
 
 use crate::held_devices::HeldDevices;
 use crate::parent_lines::ParentLines;
@@ -25,10 +25,11 @@ impl<
     C: Clock,
     P: ParentLines,
 > HeldDevices<'k, 'h, 'n, 'd, 'c, K, N, D, C, P> {
-    /// Syncs what is pending, by one call, and then sends what waits for that, in its order. Says whether it went well.
-    /// What waits for a `done` goes on to wait.
+    /// Syncs what is pending, by one call, and then sends what waits for that, in its order. Says whether it went well:
+    /// then all that was appended is kept for good. What waits for a `done` goes on to wait.
     pub fn settle_all(&mut self) -> bool
         ensures settled { result ≡ true → N.holds self.new.links.now.inner.now ≡ false }
+        ensures kept { result ≡ true → AllKept (D.kept self.new.keeps.now) (D.appended self.new.keeps.now) }
         ensures given { result ≡ true → N.holds self.old.links.now.inner.now ≡ true →
             Given (N.queue self.old.links.now.inner.now) (N.left self.old.links.now.inner.now)
             (N.left self.new.links.now.inner.now) (N.lost self.old.links.now.inner.now)
@@ -37,6 +38,8 @@ impl<
             (D.kept self.new.keeps.now) (D.appended self.new.keeps.now) }
         ensures failed { result ≡ false →
             N.left self.new.links.now.inner.now ≡ N.left self.old.links.now.inner.now }
+        ensures waits { result ≡ false →
+            N.queue self.new.links.now.inner.now ≡ N.queue self.old.links.now.inner.now }
         ensures ended { result ≡ false → self.new.commit.failed ≡ true }
         ensures silent { self.old.commit.failed ≡ true → result ≡ false }
         ensures sound { IsSound self.old.commit.failed (N.holds self.old.links.now.inner.now)
@@ -132,7 +135,8 @@ impl<
         self.links.let_out_and_take(actor, into)
     }
 
-    /// Sends a frame as `send_or_keep` does. Where so many wait for a sync that they should leave, they do before.
+    /// Sends a frame as `send_or_keep` does. Where so many wait for a sync that they should leave, they do before: each
+    /// of them was given to the links below by an earlier call.
     pub fn send_behind(&mut self, from: u16, to: &str, bytes: &[u8]) -> Result<(), EdgeRefusal>
         requires { IsListening from (N.opened self.old.links.now.inner.now) }
         ensures never_sync { IsSound self.old.commit.failed (N.holds self.old.links.now.inner.now)
@@ -146,6 +150,16 @@ impl<
         ensures appended { D.appended self.new.keeps.now ≡ D.appended self.old.keeps.now }
         ensures counted { self.new.commit.faults ≡ self.old.commit.faults }
         ensures keeps { self.new.keeps.ghost_name ≡ self.old.keeps.ghost_name }
+        ensures passed { N.full self.old.links.now.inner.now ≡ false →
+            frame_waits self.old.links.now.holding bytes.now ≡ false → OnOk result
+            (Grew (N.sent self.old.links.now.inner.now) (N.sent self.new.links.now.inner.now)
+            (record { from = from; to = to.now; bytes = bytes.now } ∷ [])) }
+        ensures waits { N.full self.old.links.now.inner.now ≡ false →
+            frame_waits self.old.links.now.holding bytes.now ≡ true →
+            self.new.links.now.inner.now ≡ self.old.links.now.inner.now }
+        ensures never_done { N.full self.old.links.now.inner.now ≡ false →
+            NeverBeforeDone self.old.links.now.holding (N.sent self.old.links.now.inner.now)
+            (N.sent self.new.links.now.inner.now) }
         ensures kept { frame_waits self.old.links.now.holding bytes.now ≡ true → OnOk result
             (self.new.links.now.held
             ≡ held_with (record { from = from; to = to.now; bytes = bytes.now }) self.old.links.now.held) }
@@ -188,6 +202,13 @@ impl<
         ensures appended { D.appended self.new.keeps.now ≡ D.appended self.old.keeps.now }
         ensures counted { self.new.commit.faults ≡ self.old.commit.faults }
         ensures keeps { self.new.keeps.ghost_name ≡ self.old.keeps.ghost_name }
+        ensures lets_out { N.full self.old.links.now.inner.now ≡ false →
+            LetsOut actor self.old.links.now.holding self.old.links.now.held self.new.links.now.held
+            (N.sent self.old.links.now.inner.now) (N.sent self.new.links.now.inner.now)
+            (N.faults self.old.links.now.inner.now) (N.faults self.new.links.now.inner.now) }
+        ensures never_done { N.full self.old.links.now.inner.now ≡ false →
+            NeverBeforeDone self.old.links.now.holding (N.sent self.old.links.now.inner.now)
+            (N.sent self.new.links.now.inner.now) }
         ensures holding { self.new.links.now.holding ≡ self.old.links.now.holding }
         ensures length { IfOk result (λ answer. IfSome answer (λ n. n ≤ DATAGRAM_BYTES)) }
         ensures ok { IfOk result (λ answer. Receives (N.arrivals self.old.links.now.inner.now actor) answer

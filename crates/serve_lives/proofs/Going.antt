@@ -48,13 +48,9 @@ reads_more n a b c p r = record {
   rest = r.rest ∙ ap (λ (x : Told). record x { readings = c.readings; last = c.last; falls = c.falls }) p.rest;
 }
 
--- nothing was told, and then nothing
-pub reads_none : (a b : Told) → b ≡ a → OnlyRead a b
-reads_none a b same = subst (λ (t : Told). OnlyRead a t) (sym same) (record { later = omega arith; rest = refl })
-
--- nothing was told, and then the clock was read
-pub reads_behind : (a b c : Told) → b ≡ a → OnlyRead b c → OnlyRead a c
-reads_behind a b c same p = subst (λ (t : Told). OnlyRead t c) same p
+-- the clock was read, and then nothing
+pub reads_same : (a b c : Told) → OnlyRead a b → c ≡ b → OnlyRead a c
+reads_same a b c p same = subst (λ (t : Told). OnlyRead a t) (sym same) p
 
 -- The records are read.
 

@@ -3,7 +3,7 @@ use crate::page::PageOf;
 use crate::tally::Tally;
 use door_io::{MAX_HEAD, MAX_PAGE_CLIENTS, PageDoor, ReportLog, Rest};
 use edge_io::Clock;
-use serve_turns::{Board, Shown};
+use serve_turns::{Board, Handover, Shown};
 use status_page::request_of;
 use std::alloc::Global;
 
@@ -113,7 +113,7 @@ impl<G: PageDoor, R: Rest, C: Clock, L: ReportLog> StatusBoard<'_, G, R, C, L> {
 }
 
 impl<G: PageDoor, R: Rest, C: Clock, L: ReportLog> Board for StatusBoard<'_, G, R, C, L> {
-    fn rest(&mut self, most: u64, shown: Option<&Shown<'_>>) {
+    fn rest<O: Handover>(&mut self, _outside: &O, most: u64, shown: Option<&Shown<'_>>) {
         self.end_turn();
         self.notices.tell(&mut self.devices.log, self.tally);
         if let Some(shown) = shown {

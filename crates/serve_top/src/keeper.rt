@@ -22,13 +22,15 @@ pub trait Synced {
 /// How many bytes the length of a record has in its file.
 const LENGTH_BYTES: u64 = 2;
 
-/// Records that are counted. Once the first one is synced it is noted that the actor has begun, before anything rests on
-/// it. It reads its records as a keeper, before the actor runs, and appends them as one that syncs many by one call.
+/// Records that are counted. Once the first one is synced it is noted that the actor has begun, before anything rests
+/// on it. It reads its records as a keeper, before the actor runs, and appends them as one that syncs many by one call.
 #[derive(Drop)]
 pub struct NotedKeeper<'a, K, S: Synced> {
     inner: K,
     synced: S,
     tally: &'a Tally,
+    /// Whether a record was appended since the last sync.
+    is_pending: bool,
     failed: u64,
 }
 
@@ -39,6 +41,7 @@ impl<'a, K, S: Synced> NotedKeeper<'a, K, S> {
             inner,
             synced,
             tally,
+            is_pending: false,
             failed: 0,
         }
     }
@@ -132,7 +135,7 @@ impl<K: Keeper, S: Synced> Keeper for NotedKeeper<'_, K, S> {
 }
 
 impl<K: GroupKeeper, S: Synced> NotedKeeper<'_, K, S> {
-    /// Syncs the records, and then notes that the actor has begun.
+    /// Syncs the records, and then notes that the actor has begun, if there were any.
     fn sync_and_begin(&mut self) -> Result<(), EdgeRefusal>
         ensures ok { OnOk result (AllKept (K.kept self.new.inner) (K.appended self.new.inner)) }
         ensures appended { K.appended self.new.inner ≡ K.appended self.old.inner }
@@ -140,7 +143,11 @@ impl<K: GroupKeeper, S: Synced> NotedKeeper<'_, K, S> {
             (K.faults self.new.inner + self.new.failed) result }
     {
         self.inner.sync()?;
-        self.begin()
+        if self.is_pending {
+            self.begin()?;
+        }
+        self.is_pending = false;
+        Ok(())
     }
 }
 
@@ -161,6 +168,7 @@ impl<K: GroupKeeper, S: Synced> GroupKeeper for NotedKeeper<'_, K, S> {
 
     fn append(&mut self, actor: u16, bytes: &[u8]) -> Result<(), EdgeRefusal> {
         self.inner.append(actor, bytes)?;
+        self.is_pending = true;
         self.count(bytes);
         Ok(())
     }

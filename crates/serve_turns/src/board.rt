@@ -1,3 +1,6 @@
+ghost use Rattle.group_commit.specs.Groups.{AllKept};
+
+use crate::handover::Handover;
 use state_lines::{ChangeTimes, SessionFacts};
 use turn_members::Member;
 
@@ -16,6 +19,8 @@ pub struct Shown<'a> {
 
 /// What passes the time between two turns, and meanwhile shows the process to whoever asks.
 pub trait Board {
-    /// Returns when something may have come, or after so many ticks. Between two lives there is nothing to show.
-    fn rest(&mut self, most: u64, shown: Option<&Shown<'_>>);
+    /// Returns when something may have come, or after so many ticks. Between two lives there is nothing to show. What
+    /// was said leaves then, so each record that these devices told as kept is synced before.
+    fn rest<O: Handover>(&mut self, outside: &O, most: u64, shown: Option<&Shown<'_>>)
+        requires { AllKept (O.synced outside.now) (O.told outside.now).kept };
 }

@@ -1,4 +1,5 @@
-ghost use Rattle.std.specs.Prelude.{◌≡◌};
+ghost use Rattle.std.specs.Prelude.{◌≡◌, ℕ, List, Option, true};
+ghost use Rattle.group_commit.specs.Groups.{AllKept};
 
 use edge_io::{Clock, Devices, Keeper, Links, Outside, Sink};
 use fabric_terms::OutOfMemory;
@@ -8,6 +9,9 @@ use turn_members::{Deed, Member};
 /// The outside of a process whose actor may give something up, of which a parent must let go before the frames of the
 /// step leave. No call changes what the devices tell.
 pub trait Handover: Outside {
+    /// The records of each actor that are synced, oldest first, where it tells.
+    ghost synced: { Self → ℕ → Option (List (List ℕ)) };
+
     /// Takes in what the parent has sent by now. Its lines are taken in the turn of a reading that comes after.
     fn gather(&mut self)
         ensures { Self.told self.new ≡ Self.told self.old };
@@ -25,15 +29,19 @@ pub trait Handover: Outside {
     fn let_go(&mut self, number: u64)
         ensures { Self.told self.new ≡ Self.told self.old };
 
-    /// The process is about to rest. Devices that told a record as kept which is pending, or a frame as sent which waits,
-    /// make it so. Says whether the process may rest: where a sync has failed, it ends before it says anything more.
+    /// The process is about to rest. Devices that told a record as kept which is pending, or a frame as sent which
+    /// waits, make it so. Says whether the process may rest: then each record that they told as kept is synced. Where a
+    /// sync has failed, the process ends before it says anything more.
     fn settle(&mut self) -> bool
-        ensures { Self.told self.new ≡ Self.told self.old };
+        ensures told { Self.told self.new ≡ Self.told self.old }
+        ensures settled { result ≡ true → AllKept (synced self.new) (Self.told self.new).kept };
 }
 
 /// A process without a parent gives up what it gives up at once.
 impl<'k, 'n, 'd, 'c, K: Sink, N: Links, D: Keeper, C: Clock> Handover
     for Devices<'k, 'n, 'd, 'c, K, N, D, C> {
+    ghost synced = { λ d. D.kept d.keeps.now };
+
     fn gather(&mut self) {}
 
     fn see(&mut self, _actor: &Member) {}
@@ -52,6 +60,8 @@ impl<'k, 'n, 'd, 'c, K: Sink, N: Links, D: Keeper, C: Clock> Handover
 /// The same of a process that syncs the records of many steps by one call.
 impl<'k, 'n, 'd, 'c, K: Sink, L: Outgoing, D: GroupKeeper, C: Clock> Handover
     for GroupDevices<'k, 'n, 'd, 'c, K, L, D, C> {
+    ghost synced = { λ d. D.kept d.keeps.now };
+
     fn gather(&mut self) {}
 
     fn see(&mut self, _actor: &Member) {}

@@ -3,6 +3,7 @@ ghost use Rattle.std.specs.Prelude.{◌≡◌, ◌≤◌, ◌+◌, ◌-◌, List
 ghost use Rattle.edge_io.specs.Told.{Told};
 ghost use Rattle.fabric_terms.specs.declared.record.Record.{Record};
 ghost use Rattle.fabric_turns.specs.Runs.{AreMembers, IsKeptAt};
+ghost use Rattle.group_commit.specs.Groups.{AllKept};
 ghost use Rattle.serve_rules.specs.Served.{Served as ServedProcess, next_firing};
 ghost use Rattle.serve_rules.specs.Services.{IsService};
 ghost use Rattle.serve_turns.specs.Lives.{CanLive, ClosesFor, IsLife, most_turns};
@@ -77,9 +78,10 @@ fn longest_rest<C: Clients, P: Policy>(
     }
 }
 
-/// The board shows the process, and passes the time until something comes.
-fn rest_at<B: Board>(board: &mut B, live: &Live, most: u64)
-    requires { length live.now.run.members ≡ 1 }
+/// The board shows the process, and passes the time until something comes. All that these devices told is settled.
+fn rest_at<O: Handover, B: Board>(outside: &O, board: &mut B, live: &Live, most: u64)
+    requires runs { length live.now.run.members ≡ 1 }
+    requires settled { AllKept (O.synced outside.now) (O.told outside.now).kept }
 {
     let actor = live.run.member_at(0);
     let changes = &live.changes;
@@ -89,10 +91,11 @@ fn rest_at<B: Board>(board: &mut B, live: &Live, most: u64)
         changes,
         now: live.present(),
     };
-    board.rest(most, Some(&shown));
+    board.rest(outside, most, Some(&shown));
 }
 
-/// All turns, until the process is told to end: it says so. Before each of them the process settles and rests.
+/// All turns, until the process is told to end: it says so. Before each of them the process settles and rests; where a
+/// sync has failed, it does not rest.
 fn take_turns<O: Handover, C: Clients, P: Policy, B: Board>(
     outside: &mut O,
     audience: &mut Audience<C, P>,
@@ -111,7 +114,7 @@ fn take_turns<O: Handover, C: Clients, P: Policy, B: Board>(
     for number in 0..u64::MAX {
         let most = longest_rest(audience, service, live);
         if outside.settle() {
-            rest_at(board, live, most);
+            rest_at(outside, board, live, most);
         }
         if take_turn(outside, audience, service, live, number + 1, &mut buffer)? {
             return Ok(true);
@@ -156,8 +159,8 @@ fn close_answers<C: Clients, P: Policy>(
     }
 }
 
-/// A life of the process, from what is kept of its actor to its end. Where the actor has left, each open answer ends with
-/// `unknown`, and the sessions go on in the next life.
+/// A life of the process, from what is kept of its actor to its end. Where the actor has left, each open answer ends
+/// with `unknown`, and the sessions go on in the next life.
 pub fn live_on<O: Handover, C: Clients, P: Policy, B: Board>(
     outside: &mut O,
     audience: &mut Audience<C, P>,

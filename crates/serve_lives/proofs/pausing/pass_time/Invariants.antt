@@ -1,4 +1,4 @@
-use Rattle.serve_lives.proofs.pausing.pass_ticks.Given as goal
+use Rattle.serve_lives.proofs.pausing.pass_time.Given as goal
 use Rattle.serve_lives.specs.Rows.{OnlyRead}
 
 abbrev pub invariant-loop-look : goal.invariant-loop-look

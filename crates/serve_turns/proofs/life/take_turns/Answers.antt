@@ -13,7 +13,7 @@ pub loop-number-init : goal.loop-number-init
 loop-number-init g c = record { done = λ o es t. (es, t); can = c.requires.can }
 
 pub take_turn-requires-clause-can : goal.take_turn-requires-clause-can
-take_turn-requires-clause-can g c = subst (λ (t : Told). CanGoOn c.args.service.now.plan c.loop-number.live t) (sym c.settle.ensures) c.loop-number.invariant.can
+take_turn-requires-clause-can g c = subst (λ (t : Told). CanGoOn c.args.service.now.plan c.loop-number.live t) (sym c.settle.ensures.told) c.loop-number.invariant.can
 
 pub loop-number-preserved : goal.loop-number-preserved
 loop-number-preserved g c = record {
@@ -21,7 +21,7 @@ loop-number-preserved g c = record {
       let l = c.loop-number in
       let plan = c.args.service.now.plan in
       let k = l.invariant.done o es t in
-      let before = subst (λ (b : Told). At plan o (around b (g.C.Clients.told l.audience.clients) (g.P.Policy.advised l.audience.policy)) l.live k.0 (arrive plan (l.number + 1) 0)) (sym c.settle.ensures) k.1 in
+      let before = subst (λ (b : Told). At plan o (around b (g.C.Clients.told l.audience.clients) (g.P.Policy.advised l.audience.policy)) l.live k.0 (arrive plan (l.number + 1) 0)) (sym c.settle.ensures.told) k.1 in
       goes_when plan o _ _ _ c.in_ok-take_turn.field-0 (search rules) (c.in_ok-take_turn.ensures.done o k.0 before);
   can = can_when c.args.service.now.plan _ _ c.in_ok-take_turn.field-0 (search rules) c.in_ok-take_turn.ensures.can;
 }
@@ -33,7 +33,7 @@ returns-in_err-take_turn g c =
     let l = c.loop-number in
     let plan = c.args.service.now.plan in
     let k = l.invariant.done o es t in
-    let before = subst (λ (b : Told). At plan o (around b (g.C.Clients.told l.audience.clients) (g.P.Policy.advised l.audience.policy)) l.live k.0 (arrive plan (l.number + 1) 0)) (sym c.settle.ensures) k.1 in
+    let before = subst (λ (b : Told). At plan o (around b (g.C.Clients.told l.audience.clients) (g.P.Policy.advised l.audience.policy)) l.live k.0 (arrive plan (l.number + 1) 0)) (sym c.settle.ensures.told) k.1 in
     rw (p.1, p.2) (c.in_err-take_turn.ensures.done o k.0 before)
 
 pub returns-then-branch : goal.returns-then-branch
@@ -41,7 +41,7 @@ returns-then-branch g c = λ o es t.
     let l = c.loop-number in
     let plan = c.args.service.now.plan in
     let k = l.invariant.done o es t in
-    let before = subst (λ (b : Told). At plan o (around b (g.C.Clients.told l.audience.clients) (g.P.Policy.advised l.audience.policy)) l.live k.0 (arrive plan (l.number + 1) 0)) (sym c.settle.ensures) k.1 in
+    let before = subst (λ (b : Told). At plan o (around b (g.C.Clients.told l.audience.clients) (g.P.Policy.advised l.audience.policy)) l.live k.0 (arrive plan (l.number + 1) 0)) (sym c.settle.ensures.told) k.1 in
     told_when plan o _ _ _ c.in_ok-take_turn.field-0 (search rules) (c.in_ok-take_turn.ensures.done o k.0 before)
 
 pub returns : goal.returns
