@@ -2,8 +2,8 @@ use door_io::{Door, MAX_ASKED, Said};
 use serve_edge::{END, PARENT_CLIENT, ServedDoor};
 use serve_top::Tally;
 
-/// The door of the process, whose clients are counted. Where records could not be synced, it gives the line that ends the
-/// process, and nothing else.
+/// The door of the process, whose clients are counted. Where records could not be synced, it gives the line that ends
+/// the process, and nothing else.
 #[derive(Drop)]
 pub struct CountedDoor<'a> {
     inner: ServedDoor<'a>,

@@ -1,6 +1,7 @@
 // A served process that has started, to its end: over its devices, or over those that hold frames for a parent.
 ghost use Rattle.std.specs.Prelude.{◌≡◌, None};
 ghost use Rattle.fabric_turns.specs.Runs.{AllListen};
+ghost use Rattle.group_commit.specs.Groups.{AllKept};
 ghost use Rattle.serve_rules.specs.Services.{IsService};
 
 use crate::heard_parent::HeardParent;
@@ -37,11 +38,10 @@ fn sessions_of(started: Started<'_>) -> Result<Sessions, End> {
     .map_err(|error| short(error))
 }
 
-/// How the process ends, with what is left to say. Where records could not be synced, nothing is.
-fn finish(started: Started<'_>, status: Status, settled: bool) -> End {
-    if !settled {
-        return End::As(unkept(status));
-    }
+/// How the process ends, with what is left to say: each record that these devices told as kept is synced.
+fn say_rest<O: Handover>(started: Started<'_>, _settled: &O, status: Status) -> End
+    requires { AllKept (O.synced _settled.now) (O.told _settled.now).kept }
+{
     let mut end = End::As(status);
     started.clients.write_out();
     if let Some(parent) = started.parent {
@@ -57,12 +57,22 @@ fn finish(started: Started<'_>, status: Status, settled: bool) -> End {
     end
 }
 
-/// How the process ends whose records could not be synced: it was told to end then, unless something else has stopped it.
+/// How the process ends whose records could not be synced: it was told to end then, unless something else has stopped
+/// it.
 fn unkept(status: Status) -> Status {
     if status == Status::Ok {
         Status::KeepFault
     } else {
         status
+    }
+}
+
+/// Settles, and says what is left to say. Where records could not be synced, nothing is said.
+fn finish<O: Handover>(started: Started<'_>, outside: &mut O, status: Status) -> End {
+    if outside.settle() {
+        say_rest(started, outside, status)
+    } else {
+        End::As(unkept(status))
     }
 }
 
@@ -87,8 +97,7 @@ fn run_over<O: Handover, C: Clients + Drop, P: Policy + Returning + Drop, B: Boa
         parent.write_out();
     }
     let end = serve_actor(outside, &mut audience, started.service, board, sessions);
-    let settled = outside.settle();
-    Ok(finish(started, status_by(end), settled))
+    Ok(finish(started, outside, status_by(end)))
 }
 
 /// Runs an actor that has no parent over these links, which hold its frames until its records are synced.
