@@ -1,7 +1,10 @@
 //! Records that are synced by one call, and the frames that wait for it: a turn of several steps, a sync that fails, a
 //! full queue, and a crash between the steps and their sync.
+ghost use Rattle.std.specs.Prelude.{◌≡◌};
+ghost use Rattle.edge_io.specs.Arrivals.{IsListening};
+
 use edge_io::{EdgeRefusal, Links, MemClock, MemLinks, MemSink, Outside};
-use group_commit::{Commit, GroupDevices, MAX_QUEUED, MemGroupKeeper, QueuedLinks};
+use group_commit::{Commit, GroupDevices, MAX_QUEUED, MemGroupKeeper, Outgoing, QueuedLinks};
 use std::alloc::Global;
 use std::process::Abort;
 
@@ -40,8 +43,14 @@ fn frames_of(rt: &impl Abort, alloc: Global, links: &MemLinks) -> Vec<u8> {
     frames
 }
 
+/// The devices in memory over these links.
+type Group<'k, 'n, 'd, 'c, L> = GroupDevices<'k, 'n, 'd, 'c, MemSink, L, MemGroupKeeper, MemClock>;
+
 /// Makes a call, and compares its answer.
-fn make(rt: &impl Abort, outside: &mut Group<'_, '_, '_, '_, '_>, call: Call) {
+fn make<L: Outgoing>(rt: &impl Abort, outside: &mut Group<'_, '_, '_, '_, L>, call: Call)
+    requires { IsListening NODE (L.opened outside.old.links.now) }
+    ensures { L.opened outside.new.links.now ≡ L.opened outside.old.links.now }
+{
     match call {
         Call::Append(bytes, answer) => assert_eq!(rt; outside.append_synced(NODE, bytes), answer),
         Call::Send(bytes) => assert_eq!(rt; outside.send(NODE, "127.0.0.1:1", bytes), Ok(())),
@@ -49,19 +58,32 @@ fn make(rt: &impl Abort, outside: &mut Group<'_, '_, '_, '_, '_>, call: Call) {
     }
 }
 
-type Group<'k, 'n, 'l, 'd, 'c> = GroupDevices<
-    'k,
-    'n,
-    'd,
-    'c,
-    MemSink,
-    QueuedLinks<'l, MemLinks>,
-    MemGroupKeeper,
-    MemClock,
->;
+/// Makes these calls, one after another, over these links and this keeper.
+fn make_all<L: Outgoing>(
+    rt: &impl Abort,
+    alloc: Global,
+    links: &mut L,
+    keeps: &mut MemGroupKeeper,
+    calls: &[Call],
+)
+    requires { IsListening NODE (L.opened links.old) }
+{
+    let mut sink = MemSink::new(alloc, Vec::new(alloc));
+    let mut clock = MemClock::new(Vec::new(alloc));
+    let mut outside = GroupDevices {
+        sink: &mut sink,
+        links,
+        keeps,
+        clock: &mut clock,
+        commit: Commit::new(),
+    };
+    for call in calls {
+        make(rt, &mut outside, *call);
+    }
+}
 
-/// Makes these calls, one after another, over a keeper whose calls of these numbers fail, and over links of which the
-/// calls of these numbers do. So many frames may wait.
+/// Makes these calls over a keeper whose calls of these numbers fail, and over links of which the calls of these numbers
+/// do. So many frames may wait.
 fn after(
     rt: &impl Abort,
     alloc: Global,
@@ -70,22 +92,13 @@ fn after(
     calls: &[Call],
 ) -> Left {
     let mut links = MemLinks::new(alloc, Vec::new(alloc), numbers(rt, alloc, failing.1));
-    assert_eq!(rt; links.listen(NODE, "127.0.0.1:7"), Ok(()));
-    let mut sink = MemSink::new(alloc, Vec::new(alloc));
-    let mut clock = MemClock::new(Vec::new(alloc));
+    links
+        .listen(NODE, "127.0.0.1:7")
+        .expect(rt, "the node listens");
     let mut keeps = MemGroupKeeper::new(alloc, numbers(rt, alloc, failing.0));
     {
         let mut waiting = QueuedLinks::new(alloc, &mut links, NODE, most);
-        let mut outside = GroupDevices {
-            sink: &mut sink,
-            links: &mut waiting,
-            keeps: &mut keeps,
-            clock: &mut clock,
-            commit: Commit::new(),
-        };
-        for call in calls {
-            make(rt, &mut outside, *call);
-        }
+        make_all(rt, alloc, &mut waiting, &mut keeps, calls);
     }
     Left {
         kept: keeps.synced(),
