@@ -149,9 +149,11 @@ class Process(Actor):
             return False
         size = draws.randint(2, 600)
         part = size.to_bytes(2, "big") + draws.randbytes(size)
-        with open(path, "ab") as file:
-            file.write(part[:draws.randint(1, size + 1)])
-        return True
+        try:
+            with open(path, "ab", buffering=0) as file:
+                return file.write(part[:draws.randint(1, size + 1)]) > 0
+        except OSError:  # the disk is full
+            return False
 
     def fill_disk(self):
         """A file that takes all that is left of the disk."""
