@@ -5,5 +5,6 @@
 #![tactic(auto)]
 
 mod bag;
+mod run;
 
 pub use bag::FrameBag;

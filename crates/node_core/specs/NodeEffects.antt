@@ -14,7 +14,7 @@ left_in d = record { records = d.records.items; frames = d.frames.items; reports
 -- nothing of an earlier step is there
 pub record IsClear (d : NodeEffects) : Type 0 where
   pub out : d.out ≡ []
-  pub told : d.told ≡ []
+  pub told : d.told.value ≡ []
   pub units : IsClearAbove d.units
   pub left : IsNothing (left_in d)
 
@@ -33,7 +33,7 @@ pub record IsReady (most : ℕ) (d : NodeEffects) : Type 0 where
 pub record HasPlace (d : NodeEffects) : Type 0 where
   pub records : vec_len d.records + most_row_records ≤ vec_capacity d.records
   pub frames : vec_len d.frames + (length d.out + length d.units.out) ≤ vec_capacity d.frames
-  pub reports : vec_len d.reports + (length d.told + most_row_reports + 1) ≤ vec_capacity d.reports
+  pub reports : vec_len d.reports + (length d.told.value + most_row_reports + 1) ≤ vec_capacity d.reports
 
 -- the memory is as much as before, or more
 pub record IsAsLarge (before after : NodeEffects) : Type 0 where

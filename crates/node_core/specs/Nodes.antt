@@ -49,7 +49,7 @@ pub record GoesBy (c : FabricConfig) (n : Core) : Type 0 where
 
 -- the node of these parts, without room
 abbrev pub core_in : NodeParts → Core
-core_in p = core_of p.ring p.units
+core_in p = core_of p.ring.value p.units
 
 -- The node is now as the rules say, and the outcome has what they record, send and tell.
 pub record Does (d : Did (NodeState fabric)) (new : Core) (o : Outcome) : Type 0 where

@@ -47,7 +47,7 @@ impl Model for NodeCore {
 
     ghost view = { λ n. record (core_in n.parts) { has_room = is_some n.effects } };
 
-    ghost invariant = { λ n. (n.parts.owned ≡ owned_of n.parts.ring) ×
+    ghost invariant = { λ n. (n.parts.owned ≡ owned_of n.parts.ring.value) ×
         IfSome n.effects (λ d. HasRoom (most_frames (core_in n.parts).state) d.value) };
 }
 

@@ -20,7 +20,9 @@ const _: () = prove!(MAX_RING_REPORTS + MAX_ROW_REPORTS + 1 <= MAX_STEP_REPORTS)
 #[derive(Drop)]
 pub struct NodeEffects {
     pub(crate) out: Outbox,
-    pub(crate) told: Reports,
+    /// What the ring's step tells. The list is boxed, because its room is in the value itself and takes 35 KB: the rest is
+    /// small to move.
+    pub(crate) told: Box<Reports>,
     /// What is done above the ring.
     pub(crate) units: UnitEffects,
     pub(crate) records: Vec<Record>,
@@ -28,8 +30,8 @@ pub struct NodeEffects {
     pub(crate) reports: Vec<Report>,
 }
 
-/// Drops effects. It is never inlined: they are moved to the stack where they are dropped, and whoever calls that
-/// inline pays for their 40 KB each time.
+/// Drops effects. It is never inlined: their list of reports is moved to the stack where it is dropped, and whoever calls that
+/// inline pays for 35 KB each time.
 #[inline(never)]
 pub(crate) fn drop_boxed(_effects: Box<NodeEffects>) {}
 
@@ -42,15 +44,18 @@ impl NodeEffects {
     {
         let out = Outbox::new(alloc)?;
         let units = UnitEffects::new(alloc)?;
-        let effects = NodeEffects {
-            out,
-            told: Reports::new(),
-            units,
-            records: Vec::new(alloc),
-            frames: Vec::new(alloc),
-            reports: Vec::new(alloc),
-        };
-        Ok(Box::new(alloc, effects)?)
+        let told = Box::new(alloc, Reports::new())?;
+        Ok(Box::new(
+            alloc,
+            NodeEffects {
+                out,
+                told,
+                units,
+                records: Vec::new(alloc),
+                frames: Vec::new(alloc),
+                reports: Vec::new(alloc),
+            },
+        )?)
     }
 
     /// Takes out the effects that are kept there, or makes some where there are none. It is an error where memory for

@@ -27,13 +27,13 @@ fn leave(ring: &RingNode, owned: &mut Owned, effects: &mut NodeEffects)
     ensures records { effects.new.records.items ≡ effects.old.records.items ++ effects.old.units.records }
     ensures frames { effects.new.frames.items ≡ (effects.old.frames.items ++ from_all ring.now.ring.me effects.old.out)
         ++ from_all ring.now.ring.me effects.old.units.out }
-    ensures reports { effects.new.reports.items ≡ ((effects.old.reports.items ++ effects.old.told)
+    ensures reports { effects.new.reports.items ≡ ((effects.old.reports.items ++ effects.old.told.value)
         ++ effects.old.units.told) ++ own_since owned.old ring.now }
     ensures few_records { length effects.new.records.items ≤ vec_len effects.old.records + MAX_ROW_RECORDS }
     ensures few_frames { length effects.new.frames.items ≤ vec_len effects.old.frames +
         (length effects.old.out + length effects.old.units.out) }
     ensures few_reports { length effects.new.reports.items ≤ vec_len effects.old.reports +
-        (length effects.old.told + MAX_ROW_REPORTS + 1) }
+        (length effects.old.told.value + MAX_ROW_REPORTS + 1) }
     ensures owned { owned.new ≡ owned_of ring.now }
     ensures room { IsAsLarge effects.old effects.new }
 {
@@ -63,16 +63,16 @@ fn take_input(
     requires now { now ≤ MAX_READING }
     requires input { FitsInput input.now }
     requires first { is_later input.now ≡ false }
-    requires owned { parts.old.owned ≡ owned_of parts.old.ring }
+    requires owned { parts.old.owned ≡ owned_of parts.old.ring.value }
     requires ready { IsReady (most_frames (core_in parts.old).state) effects.old }
     requires limit { most_frames (core_in parts.old).state ≤ frames_limit }
     ensures does { OnOk result ((c : Configuration) → GoesBy c (core_in parts.old) →
         Does (node_step fabric c now input.now (core_in parts.old).state) (core_in parts.new) (left_in effects.new)) }
     ensures small { OnOk result (IsSmall (core_in parts.old).state (left_in effects.new)) }
-    ensures settings { parts.new.ring.settings ≡ parts.old.ring.settings }
+    ensures settings { parts.new.ring.value.settings ≡ parts.old.ring.value.settings }
     ensures domains { parts.new.units.domains ≡ parts.old.units.domains }
-    ensures me { parts.new.ring.ring.me ≡ parts.old.ring.ring.me }
-    ensures owned { parts.new.owned ≡ owned_of parts.new.ring }
+    ensures me { parts.new.ring.value.ring.me ≡ parts.old.ring.value.ring.me }
+    ensures owned { parts.new.owned ≡ owned_of parts.new.ring.value }
     ensures refused { OnErr result ((parts.new ≡ parts.old) × (effects.new ≡ effects.old)) }
     ensures memory { OnErr result (may_store now input.now (core_in parts.old) ≡ true) }
     ensures room { IsAsLarge effects.old effects.new }
@@ -84,10 +84,9 @@ fn take_input(
         input,
         &mut effects.units,
     )?;
-    parts
-        .ring
-        .advance(now, input, &mut effects.out, &mut effects.told);
-    leave(&parts.ring, &mut parts.owned, effects);
+    let ring = &mut *parts.ring;
+    ring.advance(now, input, &mut effects.out, &mut effects.told);
+    leave(ring, &mut parts.owned, effects);
     Ok(())
 }
 
@@ -104,61 +103,59 @@ fn take_answer(
     requires input { input.now ≡ inputs.Frame message.now }
     requires sound { IsTrue (is_sound message.now) }
     requires answer { is_some (answered_unit message.now.body) ≡ true }
-    requires owned { parts.old.owned ≡ owned_of parts.old.ring }
+    requires owned { parts.old.owned ≡ owned_of parts.old.ring.value }
     requires ready { IsReady (most_frames (core_in parts.old).state) effects.old }
     requires limit { most_frames (core_in parts.old).state ≤ frames_limit }
     ensures does { (c : Configuration) → GoesBy c (core_in parts.old) →
         Does (node_step fabric c now input.now (core_in parts.old).state) (core_in parts.new) (left_in effects.new) }
     ensures small { IsSmall (core_in parts.old).state (left_in effects.new) }
-    ensures settings { parts.new.ring.settings ≡ parts.old.ring.settings }
+    ensures settings { parts.new.ring.value.settings ≡ parts.old.ring.value.settings }
     ensures domains { parts.new.units.domains ≡ parts.old.units.domains }
-    ensures me { parts.new.ring.ring.me ≡ parts.old.ring.ring.me }
-    ensures owned { parts.new.owned ≡ owned_of parts.new.ring }
+    ensures me { parts.new.ring.value.ring.me ≡ parts.old.ring.value.ring.me }
+    ensures owned { parts.new.owned ≡ owned_of parts.new.ring.value }
     ensures room { IsAsLarge effects.old effects.new }
 {
-    let comes = parts.ring.passes(message);
-    parts
-        .ring
-        .advance(now, input, &mut effects.out, &mut effects.told);
+    let ring = &mut *parts.ring;
+    let comes = ring.passes(message);
+    ring.advance(now, input, &mut effects.out, &mut effects.told);
     answer_later(
         now,
-        &parts.ring,
+        ring,
         comes,
         &mut parts.units,
         message,
         &mut effects.units,
     );
-    leave(&parts.ring, &mut parts.owned, effects);
+    leave(ring, &mut parts.owned, effects);
 }
 
 /// The step of a firing. It needs no memory. It frees some of what the replicas let go.
 #[tactic(auto, unfolding(crate::specs::Nodes::most_frames))]
 fn take_firing(parts: &mut NodeParts, now: u64, effects: &mut NodeEffects)
     requires now { now ≤ MAX_READING }
-    requires owned { parts.old.owned ≡ owned_of parts.old.ring }
+    requires owned { parts.old.owned ≡ owned_of parts.old.ring.value }
     requires ready { IsReady (most_frames (core_in parts.old).state) effects.old }
     requires limit { most_frames (core_in parts.old).state ≤ frames_limit }
     ensures does { (c : Configuration) → GoesBy c (core_in parts.old) →
         Does (node_step fabric c now inputs.Fire (core_in parts.old).state) (core_in parts.new) (left_in effects.new) }
     ensures small { IsSmall (core_in parts.old).state (left_in effects.new) }
-    ensures settings { parts.new.ring.settings ≡ parts.old.ring.settings }
+    ensures settings { parts.new.ring.value.settings ≡ parts.old.ring.value.settings }
     ensures units { parts.new.units ≡ parts.old.units }
-    ensures me { parts.new.ring.ring.me ≡ parts.old.ring.ring.me }
-    ensures owned { parts.new.owned ≡ owned_of parts.new.ring }
+    ensures me { parts.new.ring.value.ring.me ≡ parts.old.ring.value.ring.me }
+    ensures owned { parts.new.owned ≡ owned_of parts.new.ring.value }
     ensures room { IsAsLarge effects.old effects.new }
 {
-    parts
-        .ring
-        .advance(now, &Input::Fire, &mut effects.out, &mut effects.told);
-    effects.out.hand_over(parts.ring.me(), &mut effects.frames);
+    let ring = &mut *parts.ring;
+    ring.advance(now, &Input::Fire, &mut effects.out, &mut effects.told);
+    effects.out.hand_over(ring.me(), &mut effects.frames);
     fire_later(
-        &parts.ring,
+        ring,
         &parts.units,
         &mut effects.units.out,
         &mut effects.frames,
     );
     parts.units.free_released();
-    leave(&parts.ring, &mut parts.owned, effects);
+    leave(ring, &mut parts.owned, effects);
 }
 
 /// The step of a whole node, into effects that are ready for it. It is an error where memory is short for what a row
@@ -171,16 +168,16 @@ pub(crate) fn step_at(
 ) -> Result<(), OutOfMemory>
     requires now { now ≤ MAX_READING }
     requires input { FitsInput input.now }
-    requires owned { parts.old.owned ≡ owned_of parts.old.ring }
+    requires owned { parts.old.owned ≡ owned_of parts.old.ring.value }
     requires ready { IsReady (most_frames (core_in parts.old).state) effects.old }
     requires limit { most_frames (core_in parts.old).state ≤ frames_limit }
     ensures does { OnOk result ((c : Configuration) → GoesBy c (core_in parts.old) →
         Does (node_step fabric c now input.now (core_in parts.old).state) (core_in parts.new) (left_in effects.new)) }
     ensures small { OnOk result (IsSmall (core_in parts.old).state (left_in effects.new)) }
-    ensures settings { parts.new.ring.settings ≡ parts.old.ring.settings }
+    ensures settings { parts.new.ring.value.settings ≡ parts.old.ring.value.settings }
     ensures domains { parts.new.units.domains ≡ parts.old.units.domains }
-    ensures me { parts.new.ring.ring.me ≡ parts.old.ring.ring.me }
-    ensures owned { parts.new.owned ≡ owned_of parts.new.ring }
+    ensures me { parts.new.ring.value.ring.me ≡ parts.old.ring.value.ring.me }
+    ensures owned { parts.new.owned ≡ owned_of parts.new.ring.value }
     ensures refused { OnErr result ((parts.new ≡ parts.old) × (effects.new ≡ effects.old)) }
     ensures memory { OnErr result (may_store now input.now (core_in parts.old) ≡ true) }
     ensures room { IsAsLarge effects.old effects.new }

@@ -1,6 +1,7 @@
 ghost use Rattle.std.specs.Prelude.{◌≡◌, ◌≤◌, [], IfOk, false, is_ok, length, map, true};
 ghost use Rattle.fabric_terms.specs.Sound.{IsSound};
 ghost use Rattle.link_core.specs.Settings.{AreSoundSettings};
+ghost use Rattle.ring_node.specs.Begins.{unbegun};
 ghost use Rattle.ring_node.specs.Nodes.{step};
 ghost use Rattle.ring_node.specs.Steps.{begun, first_phase, first_ranges, started};
 ghost use Rattle.ring_rules.specs.Rings.{longest_of, points_of, settings_of};
@@ -9,6 +10,7 @@ ghost use Rattle.ring_rules.specs.Starts.{new_ring};
 use crate::node::{Mark, RingNode};
 use crate::reports::Reports;
 use arrayvec::ArrayVec;
+use drift_clock::Bound;
 use fabric_terms::{FabricConfig, NodeEntry, OutOfMemory, Report, Why};
 use join_phases::{Booting, Phase};
 use link_core::{LinkSettings, Links16};
@@ -103,15 +105,24 @@ impl RingNode {
         }
     }
 
-    /// An instance that has not begun, and owns nothing: `begin_again` starts one in its place. Its reports would be a list
-    /// as large as the node, so it makes none.
-    pub fn unbegun(config: &FabricConfig, me: Who) -> RingNode
-        requires { IsSound config.now }
-        ensures settings { result.settings ≡ settings_of config.now me.actor }
-        ensures ring { result.ring ≡ new_ring config.now me (first_phase false) (first_ranges false) }
+    /// A node of no cluster, which has not begun: `begin_again` starts an instance in its place. All of it is fixed and lies
+    /// in the value itself, so that whoever boxes it writes it once, where it stays.
+    pub fn unbegun() -> RingNode
+        ensures { result ≡ unbegun }
     {
-        let (phase, ranges) = first_phase(false);
-        RingNode::in_phase(config, me, phase, ranges)
+        let nobody = Who {
+            actor: 0,
+            instance: 0,
+        };
+        RingNode {
+            links: Links16::new(nobody, 0, 0, 0, Bound { d: 0, grain: 0 }, 0, 0),
+            token: Token::new(RangeSet::new()),
+            routes: RouteTable::new(nobody, &[]),
+            points: ArrayVec::new(),
+            phase: Phase::Seeking(Booting::new(false, 1).seek()),
+            target: None,
+            near: 0,
+        }
     }
 
     /// The instance of a node that starts, and what it tells: that it left, where all numbers of instances are spent,

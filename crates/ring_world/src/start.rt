@@ -49,8 +49,8 @@ fn put_in<T: Drop>(items: &mut Vec<T>, place: usize, item: T)
     }
 }
 
-/// Begins the next instance of the node, in the place of a node that has ended where there is one: a node is 36 KB, and
-/// most of it stays where it lies then. It is an error where memory is short, and then nothing is changed.
+/// Begins the next instance of the node, in the place of a node that has ended where there is one: a node is 36 KB in all,
+/// and most of it stays where it lies then. It is an error where memory is short, and then nothing is changed.
 fn begin_node(
     alloc: Global,
     ended: &mut Vec<Box<NodeCore>>,
@@ -147,7 +147,7 @@ impl World {
     }
 
     /// An actor's process begins: a node's with the reading of its clock, an arbitrator's without one. It is never
-    /// inlined, for the room in which a node is made.
+    /// inlined into the taking of an event, which would then pay for its room.
     #[inline(never)]
     pub(crate) fn start(
         &mut self,

@@ -19,18 +19,13 @@ fn stopped(alloc: Global) -> Result<Batch<Report>, OutOfMemory>
     Ok(Batch::new(reports))
 }
 
-/// Drops a node. It is never inlined: a node is moved to the stack where it is dropped, and whoever calls that inline pays
-/// for 36 KB each time.
-#[inline(never)]
-fn drop_node(_node: Box<NodeCore>) {}
-
 /// Keeps a node that has ended, for a start to come. Where memory is short for one more, it is dropped.
 fn keep_ended(ended: &mut Vec<Box<NodeCore>>, node: Box<NodeCore>)
     ensures { vec_len ended.old < vec_capacity ended.old → ended.new.items ≡ ended.old.items ++ node ∷ [] }
 {
     match ended.reserve(1) {
         Ok(()) => ended.push_reserved(node),
-        Err(_) => drop_node(node),
+        Err(_) => drop(node),
     }
 }
 

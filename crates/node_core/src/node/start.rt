@@ -33,24 +33,14 @@ use world_rules::first_whole;
 
 /// How a node starts.
 impl NodeCore {
-    /// A node that has not begun. It is never inlined, for the room in which it is made.
-    #[inline(never)]
-    fn unbegun(
-        alloc: Global,
-        config: &FabricConfig,
-        node: u16,
-    ) -> Result<Box<NodeCore>, OutOfMemory>
+    /// A node that has not begun.
+    fn unbegun(alloc: Global, config: &FabricConfig) -> Result<Box<NodeCore>, OutOfMemory>
         requires { IsSound config.now }
         ensures { IfOk result (λ n. n.value.has_room ≡ false) }
     {
-        let me = Who {
-            actor: node,
-            instance: 0,
-        };
-        let ring = RingNode::unbegun(config, me);
+        let ring = Box::new(alloc, RingNode::unbegun())?;
         let owned = ring.owned();
         let units = UnitNode::new(alloc, config);
-        // One value is made, and moved once.
         Ok(Box::new(
             alloc,
             NodeCore {
@@ -143,7 +133,7 @@ impl NodeCore {
         ensures taken { OnOk result (kept.new ≡ nothing_kept) }
         ensures refused { OnErr result (kept.new ≡ kept.old) }
     {
-        let mut core = NodeCore::unbegun(alloc, config, node)?;
+        let mut core = NodeCore::unbegun(alloc, config)?;
         let outcome = core.begin_again_in(config, whole, node, kept)?;
         Ok((core, outcome))
     }

@@ -18,19 +18,21 @@ use Rattle.node_core.proofs.whole_step.take_answer.Goals as goal
 
 pub returns-clause-does : goal.returns-clause-does
 returns-clause-does c = λ config by.
-    let n : Node = c.args.parts.now.ring in
+    let n : Node = c.args.parts.now.ring.value in
     let p : Part = c.args.parts.now.units in
     let m : Message = c.args.message.now in
     let new : Node = c.advance.new.self in
-    let made : step new c.advance.new.out c.advance.new.told ≡ taken c.args.now (input.Frame m) n = c.advance.ensures.step ∙ ap (λ (i : Input). taken c.args.now i n) c.requires.input in
+    let made : step new c.advance.new.out c.advance.new.told ≡ taken c.args.now (input.Frame m) n = c.advance.ensures.step ∙ ap (λ (o : Node). taken c.args.now c.args.input.now o) c.deref_mut-ring.ensures.value ∙ ap (λ (i : Input). taken c.args.now i n) c.requires.input in
     subst (λ (i : Input). Does (node_step fabric config c.args.now i (core_of n p).state) (core_of new c.answer_later.new.units) (left_in c.leave.new.effects)) (sym c.requires.input)
     (does_left config c.args.now (input.Frame m) n p new c.answer_later.new.units c.advance.new.out c.advance.new.told (left_in c.leave.new.effects)
     (row_if (comes_later (passes n.settings n.ring m) new.ring) (site_at new.settings p) c.args.now new.ring p.state (input.Frame m))
     c.args.effects.now c.answer_later.new.effects c.args.parts.now.owned by made
     (answer_above config c.args.now m n p new c.advance.new.out c.advance.new.told by made)
     c.requires.ready.clear
-    (subst (λ b. DoesAbove (row_if (comes_later b new.ring) (site_at new.settings p) c.args.now new.ring p.state (input.Frame m)) c.answer_later.new.units.state c.args.effects.now.units c.answer_later.new.effects) c.passes-comes.ensures c.answer_later.ensures.does)
+    (subst (λ b. DoesAbove (row_if (comes_later b new.ring) (site_at new.settings p) c.args.now new.ring p.state (input.Frame m)) c.answer_later.new.units.state c.args.effects.now.units c.answer_later.new.effects) (c.passes-comes.ensures ∙ ap (λ (o : Node). passes o.settings o.ring m) c.deref_mut-ring.ensures.value) c.answer_later.ensures.does)
     c.requires.owned c.leave.ensures.records c.leave.ensures.frames c.leave.ensures.reports)
 
 pub returns-clause-me : goal.returns-clause-me
-returns-clause-me c = name_stays c.args.now c.args.input.now c.args.parts.now.ring c.advance.new.self c.advance.new.out c.advance.new.told c.advance.ensures.step
+returns-clause-me c =
+    name_stays c.args.now c.args.input.now c.args.parts.now.ring.value c.advance.new.self c.advance.new.out c.advance.new.told
+    (c.advance.ensures.step ∙ ap (λ (n : Node). taken c.args.now c.args.input.now n) c.deref_mut-ring.ensures.value)
