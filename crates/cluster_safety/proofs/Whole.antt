@@ -1,6 +1,7 @@
 -- Whatever comes to a process in order, comes to a cluster.
-use Rattle.std.proofs.Common.{arith, ◌≡◌, ◌≤◌, ◌<◌, ◌+◌, ℕ, Bool, true, false, not, List, [], ◌∷◌, length, Option, Some, None, refl, ap, sym, subst, ◌∙◌}
+use Rattle.std.proofs.Common.{arith, ◌≡◌, ◌≤◌, ◌<◌, ◌+◌, ℕ, Bool, true, false, List, [], ◌∷◌, length, Option, Some, None, refl, ap, sym, subst, ◌∙◌}
 use Rattle.std.specs.Prelude.{nat_lt, slice_get, if◌then◌else◌}
+use Rattle.std.proofs.lemmas.Bool.{not-false, not-true}
 use Rattle.std.proofs.lemmas.Bool.Decides.{nat_tests}
 use Rattle.std.proofs.lemmas.Option.{slice_get_within}
 use Rattle.world_rules.proofs.Starts.{begun_first}
@@ -86,14 +87,6 @@ still_settled plan at p q unsettled settled h = by_test (is_node_at plan at) ref
 
 -- Starts.
 
-not_false : (b : Bool) → not b ≡ false → b ≡ true
-not_false true h = refl
-not_false false h = cc
-
-not_true : (b : Bool) → not b ≡ true → b ≡ false
-not_true true h = cc
-not_true false h = refl
-
 -- the next actor starts, or the first turn comes
 live_started : (plan : Plan) (turn at : ℕ) (q : Process) → turn ≡ 0 → (at + 1 < length plan.actors → length q.members ≡ at + 1) →
     (length plan.actors ≤ at + 1 → length plan.actors ≤ length q.members) → last_reading q.steps ≡ present q.last → Live plan (onward plan turn at) q
@@ -162,7 +155,7 @@ module _ (s : Setting) (cp : IsClusterPlan s.plan) (kn : KeepsNothing s) (turn a
           let past = none_past s.plan.actors at none in
           record { joined = j; live = λ h. live_started s.plan turn at p zero (λ k. absurd (omega (arith, k, past))) (λ k. omega (arith, first, past)) reading }
       by_actor (Some e) here =
-          let kind : is_arbiter_actor e.actor ≡ true = not_false (is_arbiter_actor e.actor) (sym (ap is_of_node here) ∙ no_node) in
+          let kind : is_arbiter_actor e.actor ≡ true = not-false (is_arbiter_actor e.actor) (sym (ap is_of_node here) ∙ no_node) in
           subst (λ (o : Option (List Record)). GoesOn s (onward s.plan turn at) (joins_at s turn p (Some e) o)) (sym (nothing_of e here (slice_get s.kept at) refl)) (joins_arbiter e here kind)
 
   pub begins_node : (r : ℕ) → is_node_at s.plan at ≡ true → GoesOn s (onward s.plan turn at) (begins s turn at p (Some r))
@@ -172,7 +165,7 @@ module _ (s : Setting) (cp : IsClusterPlan s.plan) (kn : KeepsNothing s) (turn a
           GoesOn s (onward s.plan turn at) (joins_at s turn (record p { last = Some (clamped r) }) o (slice_get s.kept at))
       joins_here None none le = let no : true ≡ false = sym node ∙ ap is_of_node none in cc
       joins_here (Some e) here le =
-          let kind : is_arbiter_actor e.actor ≡ false = not_true (is_arbiter_actor e.actor) (sym (ap is_of_node here) ∙ node) in
+          let kind : is_arbiter_actor e.actor ≡ false = not-true (is_arbiter_actor e.actor) (sym (ap is_of_node here) ∙ node) in
           subst (λ (o : Option (List Record)). GoesOn s (onward s.plan turn at) (joins_at s turn (record p { last = Some (clamped r) }) (Some e) o))
           (sym (nothing_of e here (slice_get s.kept at) refl)) (joins_node e (clamped r) le here kind)
 
