@@ -1,6 +1,5 @@
 use crate::events::Events;
 use edge_io::EdgeRefusal;
-use fabric_status::Status;
 use ring_points::Who;
 use serve_edge::{HeldActor, StartFault, hold_actor};
 use serve_top::{End, FolderFault, Synced, judge_actor};
@@ -24,13 +23,11 @@ pub fn take_actor<'a>(
     actor: u16,
     checksum: &[u8; 32],
 ) -> Result<(NotedActor<'a>, ActorFile), End> {
-    let mut held = hold_actor(rt).map_err(|fault| End::Start(fault))?;
-    let mut bytes = held.read(rt.alloc()).map_err(|fault| End::Start(fault))?;
+    let mut held = hold_actor(rt)?;
+    let mut bytes = held.read(rt.alloc())?;
     if bytes.is_empty() {
-        let line = head_line(rt.alloc(), actor, checksum).map_err(|_| End::As(
-            Status::OutOfMemory,
-        ))?;
-        held.append(&line).map_err(|fault| End::Start(fault))?;
+        let line = head_line(rt.alloc(), actor, checksum)?;
+        held.append(&line)?;
         bytes = line;
     }
     let file = judge_actor(rt.alloc(), &bytes, actor, checksum)?;

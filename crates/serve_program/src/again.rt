@@ -26,22 +26,18 @@ fn look_at(rt: &HostRuntime, board: &PollBoard, folder: &str) -> Result<Found, E
 
 /// What each of the folders is found to be.
 fn look_at_all(rt: &HostRuntime, folders: &[String]) -> Result<Vec<Found>, End> {
-    let Ok(board) = PollBoard::new(rt.alloc()) else {
-        return Err(End::As(Status::OutOfMemory));
-    };
+    let board = PollBoard::new(rt.alloc())?;
     let mut all = Vec::new(rt.alloc());
     for folder in folders {
         let found = look_at(rt, &board, folder.as_str())?;
-        if all.push(found).is_err() {
-            return Err(End::As(Status::OutOfMemory));
-        }
+        all.push(found)?;
     }
     Ok(all)
 }
 
 /// The line 2 of FILE by which the ring of these folders begins again.
 fn line_for(rt: &HostRuntime, path: &str, folders: &[String]) -> Result<Vec<u8>, End> {
-    let bytes = read_file(rt, rt.alloc(), path).map_err(|fault| End::Start(fault))?;
+    let bytes = read_file(rt, rt.alloc(), path)?;
     let setup = read_setup(rt.alloc(), &bytes)?;
     let found = look_at_all(rt, folders)?;
     again_line(rt.alloc(), setup, &found, folders)

@@ -27,9 +27,7 @@ fn asked(rt: &HostRuntime, lines: &[String]) -> Result<Vec<u8>, End> {
     let mut tag = 0u64;
     for line in lines {
         tag = tag.saturating_add(1);
-        if push_asked(&mut text, tag, line.as_bytes()).is_err() {
-            return Err(End::As(Status::OutOfMemory));
-        }
+        push_asked(&mut text, tag, line.as_bytes())?;
     }
     Ok(text)
 }
@@ -49,9 +47,7 @@ fn take_lines(cut: &mut StreamCut, replies: &mut Replies) {
 fn hear(rt: &HostRuntime, stream: &mut UnixStream, replies: &mut Replies) -> Result<(), End> {
     let mut clock = MonoClock::new(rt);
     let until = clock.now().saturating_add(MAX_ASK_TICKS);
-    let Ok(mut cut) = StreamCut::new(rt.alloc(), MAX_CUT) else {
-        return Err(End::As(Status::OutOfMemory));
-    };
+    let mut cut = StreamCut::new(rt.alloc(), MAX_CUT)?;
     let mut piece = [0u8; 4096];
     for _ in 0..MAX_PIECES {
         if replies.is_done() {

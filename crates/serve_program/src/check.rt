@@ -16,18 +16,18 @@ fn good_line(alloc: Global, checksum: &[u8; 32]) -> Result<Vec<u8>, OutOfMemory>
     Ok(text)
 }
 
+/// The line for a FILE that a start would take.
+fn judge_file(rt: &HostRuntime, path: &str) -> Result<Vec<u8>, End> {
+    let bytes = read_file(rt, rt.alloc(), path)?;
+    let setup = read_setup(rt.alloc(), &bytes)?;
+    Ok(good_line(rt.alloc(), &setup.checksum)?)
+}
+
 /// Reads FILE as a start does, and writes its checksum.
 pub fn check_file(rt: &HostRuntime, path: &str) -> End {
-    let bytes = match read_file(rt, rt.alloc(), path) {
-        Ok(bytes) => bytes,
-        Err(fault) => return End::Start(fault),
-    };
-    let setup = match read_setup(rt.alloc(), &bytes) {
-        Ok(setup) => setup,
+    let text = match judge_file(rt, path) {
+        Ok(text) => text,
         Err(end) => return end,
-    };
-    let Ok(text) = good_line(rt.alloc(), &setup.checksum) else {
-        return End::As(Status::OutOfMemory);
     };
     let mut sink = StdoutSink::new(rt);
     match write_all(&mut sink, &text) {

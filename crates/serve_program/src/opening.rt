@@ -5,7 +5,7 @@ ghost use Rattle.serve_rules.specs.Services.{IsService};
 
 use crate::counted_door::CountedDoor;
 use crate::counted_log::CountedLog;
-use crate::started::{Started, short};
+use crate::started::Started;
 use door_io::ClientDevices;
 use edge_io::{EdgeRefusal, Links};
 use fabric_status::Status;
@@ -35,7 +35,7 @@ pub fn open_endpoint<N: Links>(service: &Service, links: &mut N) -> Result<(), E
 
 /// Opens the door, in place of a stale one.
 pub fn open_door<'a>(started: Started<'a>) -> Result<Clients<'a>, End> {
-    let listener = bind_door(started.rt).map_err(|fault| End::Start(fault))?;
+    let listener = bind_door(started.rt)?;
     let door = SocketDoor::new(started.clients, listener);
     let log = StdoutLog::new(started.rt, started.output);
     let devices = ClientDevices {
@@ -53,9 +53,7 @@ pub fn open_page<'a>(
     let Some(address) = address else {
         return Ok(None);
     };
-    let listener = bind_page(started.rt, address).map_err(|fault| End::Start(fault))?;
-    let page = PageSockets::new(started.rt.alloc(), started.board, listener).map_err(|error| short(
-        error,
-    ))?;
+    let listener = bind_page(started.rt, address)?;
+    let page = PageSockets::new(started.rt.alloc(), started.board, listener)?;
     Ok(Some(page))
 }

@@ -5,7 +5,7 @@ ghost use Rattle.group_commit.specs.Groups.{AllKept};
 ghost use Rattle.serve_rules.specs.Services.{IsService};
 
 use crate::heard_parent::HeardParent;
-use crate::started::{Keeps, Started, short};
+use crate::started::{Keeps, Started};
 use client_sessions::Sessions;
 use door_io::Clients;
 use edge_io::Links;
@@ -29,13 +29,8 @@ fn has_all_lines(started: Started<'_>) -> bool {
 fn sessions_of(started: Started<'_>) -> Result<Sessions, End> {
     let service = started.service;
     let parent = started.parent.map(|_| PARENT_CLIENT);
-    Sessions::new(
-        service.alloc,
-        service.config().lease,
-        has_all_lines(started),
-        parent,
-    )
-    .map_err(|error| short(error))
+    let lease = service.config().lease;
+    Ok(Sessions::new(service.alloc, lease, has_all_lines(started), parent)?)
 }
 
 /// How the process ends, with what is left to say: each record that these devices told as kept is synced.
@@ -79,8 +74,7 @@ fn finish<O: Handover>(started: Started<'_>, outside: &mut O, status: Status) ->
 /// Runs the actor, which listens, over these devices to its end.
 fn run_over<O: Handover, C: Clients + Drop, P: Policy + Returning + Drop, B: Board>(
     started: Started<'_>,
-    policy: P,
-    clients: C,
+    audience: Audience<C, P>,
     board: &mut B,
     outside: &mut O,
 ) -> Result<End, End>
@@ -88,6 +82,7 @@ fn run_over<O: Handover, C: Clients + Drop, P: Policy + Returning + Drop, B: Boa
     requires listens { AllListen started.service.now.plan (O.told outside.old).opened }
     requires silent { (o : O) → (O.told o).held ≡ None }
 {
+    let Audience { clients, policy } = audience;
     let policy = TalliedPolicy::new(started.service.alloc, policy, started.tally);
     let mut audience = Audience { clients, policy };
     let sessions = sessions_of(started)?;
@@ -103,8 +98,7 @@ fn run_over<O: Handover, C: Clients + Drop, P: Policy + Returning + Drop, B: Boa
 /// Runs an actor that has no parent over these links, which hold its frames until its records are synced.
 fn run_grouped<L: Outgoing, C: Clients + Drop, P: Policy + Returning + Drop, B: Board>(
     started: Started<'_>,
-    policy: P,
-    clients: C,
+    audience: Audience<C, P>,
     board: &mut B,
     links: &mut L,
     keeps: &mut Keeps<'_>,
@@ -121,7 +115,7 @@ fn run_grouped<L: Outgoing, C: Clients + Drop, P: Policy + Returning + Drop, B: 
         clock: &mut clock,
         commit: Commit::new(),
     };
-    run_over(started, policy, clients, board, &mut devices)
+    run_over(started, audience, board, &mut devices)
 }
 
 /// Links over these, at which the actor listens: they can hold its frames back.
@@ -138,8 +132,7 @@ fn queued<'n, N: Links>(started: Started<'_>, links: &'n mut N) -> QueuedLinks<'
 /// Runs an actor that has no parent.
 pub fn run_free<N: Links, C: Clients + Drop, P: Policy + Returning + Drop, B: Board>(
     started: Started<'_>,
-    policy: P,
-    clients: C,
+    audience: Audience<C, P>,
     board: &mut B,
     links: &mut N,
     keeps: &mut Keeps<'_>,
@@ -148,15 +141,14 @@ pub fn run_free<N: Links, C: Clients + Drop, P: Policy + Returning + Drop, B: Bo
     requires listens { AllListen started.service.now.plan (N.opened links.old) }
 {
     let mut waiting = queued(started, links);
-    run_grouped(started, policy, clients, board, &mut waiting, keeps)
+    run_grouped(started, audience, board, &mut waiting, keeps)
 }
 
 /// Runs a node for its parent over these links: what the node has given up is owed to them, and they hold its frames.
 fn run_holding<N: Outgoing, C: Clients + Drop, P: Policy + Returning + Drop, B: Board>(
     started: Started<'_>,
     parent: &ParentStream<'_>,
-    policy: P,
-    clients: C,
+    audience: Audience<C, P>,
     board: &mut B,
     links: &mut HoldingLinks<'_, N>,
     keeps: &mut Keeps<'_>,
@@ -178,7 +170,7 @@ fn run_holding<N: Outgoing, C: Clients + Drop, P: Policy + Returning + Drop, B: 
     };
     let heard = HeardParent::new(parent, started.tally);
     let mut held = HeldDevices::new(started.service.alloc, devices, heard, terms);
-    run_over(started, policy, clients, board, &mut held)
+    run_over(started, audience, board, &mut held)
 }
 
 /// Runs a node for its parent over links of one length, which hold its frames until its records are synced. A frame by
@@ -186,8 +178,7 @@ fn run_holding<N: Outgoing, C: Clients + Drop, P: Policy + Returning + Drop, B: 
 fn run_held<N: Links, C: Clients + Drop, P: Policy + Returning + Drop, B: Board>(
     started: Started<'_>,
     parent: &ParentStream<'_>,
-    policy: P,
-    clients: C,
+    audience: Audience<C, P>,
     board: &mut B,
     links: &mut N,
     keeps: &mut Keeps<'_>,
@@ -197,15 +188,14 @@ fn run_held<N: Links, C: Clients + Drop, P: Policy + Returning + Drop, B: Board>
 {
     let mut waiting = queued(started, links);
     let mut holding = HoldingLinks::new(started.service.alloc, &mut waiting);
-    run_holding(started, parent, policy, clients, board, &mut holding, keeps)
+    run_holding(started, parent, audience, board, &mut holding, keeps)
 }
 
 /// Runs a node for its parent. Its links have one length.
 pub fn run_for_parent<N: Links, C: Clients + Drop, P: Policy + Returning + Drop, B: Board>(
     started: Started<'_>,
     parent: &ParentStream<'_>,
-    policy: P,
-    clients: C,
+    audience: Audience<C, P>,
     board: &mut B,
     links: &mut N,
     keeps: &mut Keeps<'_>,
@@ -214,13 +204,5 @@ pub fn run_for_parent<N: Links, C: Clients + Drop, P: Policy + Returning + Drop,
     requires listens { AllListen started.service.now.plan (N.opened links.old) }
 {
     let mut one_length = OneLengthLinks::new(links);
-    run_held(
-        started,
-        parent,
-        policy,
-        clients,
-        board,
-        &mut one_length,
-        keeps,
-    )
+    run_held(started, parent, audience, board, &mut one_length, keeps)
 }

@@ -9,7 +9,7 @@ use crate::opening::{open_door, open_endpoint, open_page};
 use crate::running::{run_for_parent, run_free};
 use crate::serving::Serving;
 use crate::start::read_given;
-use crate::started::{Keeps, Started, read_records, short};
+use crate::started::{Keeps, Started, read_records};
 use edge_io::Links;
 use fabric_edge::MonoClock;
 use frame_seal::{SealKey, SealedLinks};
@@ -24,7 +24,7 @@ use serve_top::{
     Begins, BoardDevices, BoardFacts, End, NotedKeeper, Setup, StatusBoard, TalliedLinks, Tally,
     plan_of, whole_of,
 };
-use serve_turns::Service;
+use serve_turns::{Audience, Service};
 use service_file::{ActorFile, ServiceSettings};
 use std::alloc::{AllocError, Global};
 use std::net::SocketAddr;
@@ -73,17 +73,16 @@ fn open_and_run<N: Links + Drop>(
             actor: service.actor(),
             instance: 0,
         });
-        return run_free(started, NoPolicy {}, clients, &mut board, &mut links, keeps);
+        let policy = NoPolicy {};
+        let audience = Audience { clients, policy };
+        return run_free(started, audience, &mut board, &mut links, keeps);
     }
     let config = service.config();
-    let policy = NodePolicy::new(service.alloc, config, started.settings, service.actor()).map_err(
-        |error| short(error),
-    )?;
+    let policy = NodePolicy::new(service.alloc, config, started.settings, service.actor())?;
+    let audience = Audience { clients, policy };
     match started.parent {
-        None => run_free(started, policy, clients, &mut board, &mut links, keeps),
-        Some(parent) => run_for_parent(
-            started, parent, policy, clients, &mut board, &mut links, keeps,
-        ),
+        None => run_free(started, audience, &mut board, &mut links, keeps),
+        Some(parent) => run_for_parent(started, parent, audience, &mut board, &mut links, keeps),
     }
 }
 
@@ -125,7 +124,7 @@ fn facts_of(alloc: Global, serving: Serving<'_>, setup: &Setup) -> Result<BoardF
         arbiter: serving.arbiter,
         checksum: setup.checksum,
         sealed: serving.options.key.is_some(),
-        declared: declared_in(alloc, &setup.settings).map_err(|error| short(error))?,
+        declared: declared_in(alloc, &setup.settings)?,
         lease: setup.config.lease,
         grain: setup.config.bound.grain,
     })
@@ -149,7 +148,7 @@ fn open_parent<'a>(
         return Ok(None);
     };
     let streams = (STANDARD_INPUT, STANDARD_OUTPUT);
-    let stream = ParentStream::new(alloc, board, streams, hold).map_err(|error| short(error))?;
+    let stream = ParentStream::new(alloc, board, streams, hold)?;
     Ok(Some(stream))
 }
 
@@ -175,7 +174,7 @@ fn keep_and_run<'a>(
     let mut keeps = NotedKeeper::new(files, actor, started.tally);
     let begins = read_records(started, &mut keeps, file)?;
     let passed = begins == Begins::Passed;
-    let key = opened.key.map_err(|fault| End::Start(fault))?;
+    let key = opened.key?;
     run_sealed(started, opened.page, opened.listen, key, &mut keeps, passed)
 }
 
@@ -190,12 +189,12 @@ fn run<'a>(rt: &'a HostRuntime, serving: Serving<'a>) -> Result<End, End> {
     let plan = plan_of(alloc, config, whole, serving.actor)?;
     let service = Service { alloc, plan };
     let folder = serving.options.folder.unwrap_or(".");
-    enter_folder(rt, folder).map_err(|fault| End::Start(fault))?;
+    enter_folder(rt, folder)?;
     let tally = Tally::new(alloc);
-    let board = PollBoard::new(alloc).map_err(|error| short(error))?;
-    let clients = DoorClients::new(alloc, &board).map_err(|error| short(error))?;
+    let board = PollBoard::new(alloc)?;
+    let clients = DoorClients::new(alloc, &board)?;
     let stream = open_parent(alloc, &board, given.hold)?;
-    let output = LogOutput::new(alloc, &board, log_of(given.hold)).map_err(|error| short(error))?;
+    let output = LogOutput::new(alloc, &board, log_of(given.hold))?;
     let events = Events::new(rt, &output);
     let (actor, file) = take_actor(rt, &events, serving.actor, &checksum)?;
     let started = Started {

@@ -63,10 +63,7 @@ pub fn read_given(rt: &HostRuntime, serving: Serving<'_>) -> Result<Given, End>
     ensures sound { IfOk result (λ g. IsSound g.setup.config) }
     ensures settings { IfOk result (λ g. IsSoundService g.setup.config g.setup.settings) }
 {
-    let bytes = match read_file(rt, rt.alloc(), serving.file) {
-        Ok(bytes) => bytes,
-        Err(fault) => return Err(End::Start(fault)),
-    };
+    let bytes = read_file(rt, rt.alloc(), serving.file)?;
     let setup = read_setup(rt.alloc(), &bytes)?;
     let hold = match serving.parent {
         None => None,

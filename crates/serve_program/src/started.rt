@@ -39,11 +39,6 @@ pub struct Started<'a> {
 /// The records of the actor.
 pub type Keeps<'a> = NotedKeeper<'a, GroupFolder<'a, HostRuntime>, NotedActor<'a>>;
 
-/// Want of memory, in whatever form it is told.
-pub fn short<T: Drop>(_error: T) -> End {
-    End::As(Status::OutOfMemory)
-}
-
 /// What is kept of the actor.
 fn recall_kept(started: Started<'_>, keeps: &mut Keeps<'_>) -> Result<Kept, End>
     requires { IsService started.service.now.plan }

@@ -1,20 +1,11 @@
 // The addresses of a start: those of FILE, and those of options.
 ghost use Rattle.std.specs.Prelude.{◌≡◌, map, option_map};
 ghost use Rattle.serve_top.specs.Addresses.{FindsBad, NeedsAddress, NeedsAddresses, RefusesAddress, addresses_of};
-ghost use Rattle.serve_top.specs.Addresses.{short};
 
-use crate::end::End;
-use fabric_status::Status;
+use crate::end::{End, short};
 use fabric_terms::{Address, FabricConfig, NodeEntry};
 use serve_edge::{read_address, shown};
 use std::alloc::Global;
-
-/// The end at want of memory.
-pub(crate) fn short() -> End
-    ensures { result ≡ short }
-{
-    End::As(Status::OutOfMemory)
-}
 
 /// The end of a start that is given this text, which is no address.
 fn refuse_address(alloc: Global, text: &str) -> End

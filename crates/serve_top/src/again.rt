@@ -3,7 +3,6 @@ ghost use Rattle.std.specs.Prelude.{◌≡◌, ◌++◌, IfErr, IfOk, codes, map
 ghost use Rattle.serve_top.specs.Addresses.{short as at_want};
 ghost use Rattle.serve_top.specs.Agains.{IsAgainLine, IsRefusedAgain};
 
-use crate::addresses::short;
 use crate::again_refusal::refuse_again;
 use crate::end::End;
 use crate::setup::Setup;
@@ -16,10 +15,8 @@ fn bytes_of(line: String) -> Result<Vec<u8>, End>
     ensures memory { IfErr result (λ e. e ≡ at_want) }
 {
     let mut bytes = line.into_bytes();
-    match bytes.push(b'\n') {
-        Ok(()) => Ok(bytes),
-        Err(_) => Err(short()),
-    }
+    bytes.push(b'\n')?;
+    Ok(bytes)
 }
 
 /// The line 2 by which the ring of these folders begins again, with its line feed; or why the folders do not lead to

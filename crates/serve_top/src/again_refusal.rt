@@ -3,8 +3,7 @@ ghost use Rattle.std.specs.Prelude.{◌≡◌, ◌≢◌, ◌++◌, OnOk, decima
 ghost use Rattle.std.specs.List.{list_all};
 ghost use Rattle.serve_top.specs.Agains.{RefusesAgain, again_words, folder_at, is_plain_sign, shown_folder};
 
-use crate::addresses::short;
-use crate::end::End;
+use crate::end::{End, short};
 use again_choice::AgainRefusal;
 use fabric_terms::OutOfMemory;
 use std::alloc::Global;

@@ -1,12 +1,14 @@
 ghost use Rattle.std.specs.Prelude.{◌≡◌, ◌++◌, OnOk};
+ghost use Rattle.serve_top.specs.Addresses.{short};
 ghost use Rattle.serve_top.specs.Ends.{code_of, folder_word, last_line, named};
+ghost use Rattle.serve_top.specs.declared.end.End.TheVariants as end;
 ghost use Rattle.text_fields.specs.Texts.{Keeps};
 
 use fabric_status::{Status, push_fault};
 use fabric_terms::OutOfMemory;
 use serve_edge::StartFault;
 use service_file::ServiceField;
-use std::alloc::Global;
+use std::alloc::{AllocError, AllocFailed, Global};
 use text_fields::push_bytes;
 
 /// Why the folder of an actor is refused, beside what its files and locks say.
@@ -43,6 +45,45 @@ pub enum End {
     Again(Vec<u8>),
     /// There is no process behind the door, or it does not answer.
     NoDoor,
+}
+
+/// The end at want of memory.
+pub(crate) fn short() -> End
+    ensures { result ≡ short }
+{
+    End::As(Status::OutOfMemory)
+}
+
+impl From<OutOfMemory> for End {
+    ghost from_gives = { λ _ gives. gives ≡ short };
+
+    fn from(_refused: OutOfMemory) -> End {
+        short()
+    }
+}
+
+impl From<AllocError> for End {
+    ghost from_gives = { λ _ gives. gives ≡ short };
+
+    fn from(_refused: AllocError) -> End {
+        short()
+    }
+}
+
+impl<T: Drop> From<AllocFailed<T>> for End {
+    ghost from_gives = { λ _ gives. gives ≡ short };
+
+    fn from(_refused: AllocFailed<T>) -> End {
+        short()
+    }
+}
+
+impl From<StartFault> for End {
+    ghost from_gives = { λ fault gives. gives ≡ end.Start fault };
+
+    fn from(fault: StartFault) -> End {
+        End::Start(fault)
+    }
 }
 
 impl End {

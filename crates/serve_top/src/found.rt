@@ -3,9 +3,8 @@ ghost use Rattle.std.specs.Prelude.{◌≡◌, Some, not};
 ghost use Rattle.std.specs.List.{list_all};
 ghost use Rattle.serve_top.specs.Founds.{ReadsActor, found_at, found_by, found_whole, is_emptied, is_whole};
 
-use crate::addresses::short;
 use crate::beginning::last_of;
-use crate::end::End;
+use crate::end::{End, short};
 use again_choice::{Folder, Found};
 use keep_log::Kept;
 use serve_edge::LookFault;

@@ -3,8 +3,7 @@ ghost use Rattle.fabric_terms.specs.Sound.{IsSound};
 ghost use Rattle.serve_rules.specs.Services.{IsService, actor_of};
 ghost use Rattle.serve_top.specs.Plans.{PlansFor, address_of, whole_of};
 
-use crate::addresses::short;
-use crate::end::End;
+use crate::end::{End, short};
 use edge_io::{Endpoint, SocketAddress};
 use fabric_status::Status;
 use fabric_terms::FabricConfig;

@@ -4,8 +4,8 @@ ghost use Rattle.service_file.specs.Sound.{IsSoundService};
 ghost use Rattle.serve_top.specs.Setups.{Judges, JudgesFile, config_in, lines_in, settings_in};
 ghost use Rattle.serve_top.specs.Actors.{JudgesActor};
 
-use crate::addresses::{need_addresses, short};
-use crate::end::{End, FolderFault};
+use crate::addresses::need_addresses;
+use crate::end::{End, FolderFault, short};
 use crate::file_lines::{MAX_FILE_LINE, has_two, split_file};
 use fabric_config::{ConfigError, need_endpoints, read_config};
 use fabric_status::Status;
@@ -82,10 +82,7 @@ pub fn read_setup(alloc: Global, bytes: &[u8]) -> Result<Setup, End>
 {
     let (config, settings) = lines_in(alloc, bytes)?;
     need_addresses(alloc, &config)?;
-    let checksum = match checksum_of(alloc, &config) {
-        Ok(checksum) => checksum,
-        Err(_) => return Err(short()),
-    };
+    let checksum = checksum_of(alloc, &config)?;
     Ok(Setup {
         config,
         settings,
