@@ -24,7 +24,8 @@ abbrev pub unit_due : (now lease heal_after : ℕ) → UnitWatch → (due : ℕ)
 unit_due now lease heal_after w due =
     sooner_after now w.pause w.commanded (
     sooner_after now (lease * 2) w.commanded (
-    sooner_after now heal_after w.down (sooner_after now heal_after w.few due)))
+    sooner_after now heal_after w.down (
+    sooner_after now heal_after w.few (sooner_after now heal_after w.missed due))))
 
 abbrev pub units_due : (now lease heal_after : ℕ) → List UnitWatch → (due : ℕ) → ℕ
 units_due now lease heal_after [] due = due

@@ -2,6 +2,7 @@ pub mod Facts
 pub mod Times
 pub mod Policies
 pub mod Domains
+pub mod RollCalls
 pub mod Watching
 pub mod Greetings
 pub mod Rules

@@ -10,6 +10,7 @@ use Rattle.fabric_terms.specs.declared.report.Report.{Report}
 use Rattle.fabric_terms.specs.declared.report.Report.TheVariants.{Configured, Superseded, Refused}
 use Rattle.ring_rules.specs.declared.input.Input.{Input}
 use Rattle.ring_rules.specs.declared.input.Input.TheVariants.{Fire, Frame, Do}
+use Rattle.fabric_steward.specs.declared.roll_call.RollCall.TheVariants.{NotBegun}
 use Rattle.fabric_steward.specs.declared.unit_watch.UnitWatch.{UnitWatch}
 use Rattle.fabric_steward.specs.Policies.{Policy}
 use Rattle.fabric_steward.specs.Times.{doubled, first_pause}
@@ -40,6 +41,8 @@ unit_configured lease w = record w {
   served_by = None;
   down = None;
   few = None;
+  roll = NotBegun;
+  missed = None;
 }
 
 abbrev pub unit_slowed : (lease : ℕ) → UnitWatch → UnitWatch

@@ -5,6 +5,7 @@ use Rattle.fabric_terms.specs.declared.config.NodeEntry.{NodeEntry}
 use Rattle.service_file.specs.declared.settings.Declared.{Declared}
 use Rattle.service_file.specs.declared.settings.ServiceSettings.{ServiceSettings}
 use Rattle.fabric_steward.specs.declared.node_watch.NodeWatch.{NodeWatch}
+use Rattle.fabric_steward.specs.declared.roll_call.RollCall.TheVariants.{NotBegun}
 use Rattle.fabric_steward.specs.declared.unit_watch.UnitWatch.{UnitWatch}
 use Rattle.fabric_steward.specs.Times.{first_pause}
 
@@ -42,6 +43,8 @@ unit_watched lease d = record {
   served_by = None;
   down = None;
   few = None;
+  roll = NotBegun;
+  missed = None;
 }
 
 -- nothing has happened yet

@@ -95,9 +95,10 @@ abbrev pub began_again : Facts → Option Who → Bool
 began_again f None = false
 began_again f (Some who) = is_another who (f.heard who.actor 0)
 
--- the primary is down, it began again, or too few members are up
+-- the primary is down, it began again, too few members are up, or one may have missed the configuration
 abbrev pub has_cause : Facts → (now heal_after : ℕ) → UnitWatch → Bool
-has_cause f now heal_after w = lasts now heal_after w.down || began_again f w.served_by || lasts now heal_after w.few
+has_cause f now heal_after w =
+    lasts now heal_after w.down || began_again f w.served_by || lasts now heal_after w.few || lasts now heal_after w.missed
 
 abbrev pub is_to_heal : Facts → (now : ℕ) → Policy → UnitWatch → Bool
 is_to_heal f now s w = w.learnt && is_free f now w && has_cause f now s.heal_after w

@@ -2,10 +2,12 @@
 use Rattle.std.specs.Prelude.{ℕ, ◌==◌, Bool, true, false, not, ◌&&◌, nat_lt, List, map, Option, Some, None, if◌then◌else◌}
 use Rattle.ring_points.specs.declared.unit.Config.{Config}
 use Rattle.ring_points.specs.declared.who.Who.{Who}
+use Rattle.fabric_steward.specs.declared.roll_call.RollCall.TheVariants.{NotBegun}
 use Rattle.fabric_steward.specs.declared.unit_watch.UnitWatch.{UnitWatch}
 use Rattle.fabric_steward.specs.Domains.{domains_up, nodes_up}
 use Rattle.fabric_steward.specs.Facts.{Facts}
 use Rattle.fabric_steward.specs.Policies.{Policy}
+use Rattle.fabric_steward.specs.RollCalls.{is_missed, roll_seen}
 use Rattle.fabric_steward.specs.Times.{first_pause, since}
 
 -- fewer members are up than there are to be, and there are domains for more
@@ -18,11 +20,13 @@ first_heard node heard None = heard
 first_heard node heard (Some who) = if who.actor == node then Some who else heard
 
 abbrev pub unit_seen : Facts → (now domains : ℕ) → Option Config → UnitWatch → UnitWatch
-unit_seen f now domains None w = record w { down = None; few = None }
+unit_seen f now domains None w = record w { down = None; few = None; missed = None }
 unit_seen f now domains (Some c) w = record w {
   served_by = first_heard c.primary (f.heard c.primary 0) w.served_by;
   down = since (not (f.is_up c.primary now)) now w.down;
   few = since (is_few w.replicas domains (nodes_up f now c.members)) now w.few;
+  roll = roll_seen f now c.members w.roll;
+  missed = since (is_missed f c.members (roll_seen f now c.members w.roll)) now w.missed;
 }
 
 -- what the policy began is over once nothing is under way
@@ -42,6 +46,8 @@ unit_forgotten lease w = record w {
   served_by = None;
   down = None;
   few = None;
+  roll = NotBegun;
+  missed = None;
 }
 
 abbrev pub units_observed : Facts → (now domains lease : ℕ) → (manages : Bool) → List UnitWatch → List UnitWatch

@@ -1,5 +1,5 @@
 -- A worked cluster of three nodes in three domains, and one declared partition. The policy is that of node 3.
-use Rattle.std.specs.Prelude.{ℕ, ◌==◌, true, false, if◌then◌else◌, [], ◌∷◌, Some, None}
+use Rattle.std.specs.Prelude.{ℕ, ◌==◌, ◌&&◌, nat_lt, true, false, if◌then◌else◌, [], ◌∷◌, Some, None}
 use Rattle.ring_points.specs.declared.unit.Config.{Config}
 use Rattle.fabric_terms.specs.declared.command.Command.TheVariants as command
 use Rattle.fabric_terms.specs.declared.report.Reason.TheVariants.{NoUnit}
@@ -68,6 +68,16 @@ without_primary = record known_whole { is_up = λ node now. if node == 1 then fa
 abbrev pub primary_anew : Facts
 primary_anew = record known_whole { heard = λ node since. Some (record { actor = node; instance = 2 }) }
 
+-- node 2 was heard last at 250
+abbrev pub silent_two : Facts
+silent_two = record known_whole {
+  heard = λ node since. if node == 2 && nat_lt 250 since then None else Some (record { actor = node; instance = 1 });
+}
+
+-- node 2 began again
+abbrev pub two_anew : Facts
+two_anew = record known_whole { heard = λ node since. Some (record { actor = node; instance = if node == 2 then 2 else 1 }) }
+
 -- the policy that joined node 1, and then node 2
 abbrev pub joined_once : Policy
 joined_once = advised seeking 0 worked_policy
@@ -86,6 +96,14 @@ created = noted Fire (Configured 7 (record { data_loss = 0; configuration = 1 })
 -- it has seen the primary up at 300, and down at 400
 abbrev pub seen_down : Policy
 seen_down = advised without_primary 400 (advised known_whole 300 created)
+
+-- node 2 was not heard since 7 was configured, and then began again
+abbrev pub seen_missing : Policy
+seen_missing = advised two_anew 400 (advised silent_two 300 created)
+
+-- all were heard since then, and node 2 began again later
+abbrev pub seen_whole : Policy
+seen_whole = advised two_anew 500 (advised known_whole 400 (advised known_whole 300 created))
 
 -- node 1 is gone: two domains are up, and nothing is known of partition 7
 abbrev pub without_one : Facts

@@ -47,7 +47,8 @@ fn unit_due(now: u64, lease: u64, heal_after: u64, unit: &UnitWatch, due: u64) -
     requires { lease ≤ MAX_LEASE }
     ensures { result ≡ unit_due now lease heal_after unit.now due }
 {
-    let few = sooner_after(now, heal_after, unit.few, due);
+    let missed = sooner_after(now, heal_after, unit.missed, due);
+    let few = sooner_after(now, heal_after, unit.few, missed);
     let down = sooner_after(now, heal_after, unit.down, few);
     let held_up = sooner_after(now, lease * 2, unit.commanded, down);
     sooner_after(now, unit.pause, unit.commanded, held_up)

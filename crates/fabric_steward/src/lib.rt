@@ -23,6 +23,7 @@ mod linked;
 mod node_watch;
 mod noting;
 mod observing;
+mod roll_call;
 mod rules;
 mod steward;
 mod times;
@@ -40,6 +41,9 @@ pub use laws::{
 pub use leaving::Parting;
 pub use leaving_units::MIN_SPARED;
 pub use linked::Linked;
+pub use roll_call::RollCall;
 pub use rules::MAX_AT_ONCE;
 pub use steward::Steward;
-pub use worked::{worked_joins, worked_learning, worked_management, worked_waiting};
+pub use worked::{
+    worked_joins, worked_learning, worked_management, worked_roll_call, worked_waiting,
+};

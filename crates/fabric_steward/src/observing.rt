@@ -34,11 +34,14 @@ fn seen<K: Known>(
         return UnitWatch {
             down: None,
             few: None,
+            missed: None,
             ..unit
         };
     };
-    let up = nodes_up(known, now, config.members.as_slice());
+    let members = config.members.as_slice();
+    let up = nodes_up(known, now, members);
     let is_few = up < unit.replicas as usize && up < domains;
+    let roll = unit.roll.seen(known, now, members);
     UnitWatch {
         served_by: first_heard(
             config.primary,
@@ -47,6 +50,8 @@ fn seen<K: Known>(
         ),
         down: since(!known.is_up(config.primary, now), now, unit.down),
         few: since(is_few, now, unit.few),
+        roll,
+        missed: since(roll.is_missed(known, members), now, unit.missed),
         ..unit
     }
 }

@@ -43,13 +43,14 @@ fn began_again<K: Known>(known: &K, served_by: Option<Who>) -> bool
     }
 }
 
-/// Whether the primary is down, it began again, or too few members are up.
+/// Whether the primary is down, it began again, too few members are up, or one may have missed the configuration.
 fn has_cause<K: Known>(known: &K, now: u64, heal_after: u64, unit: &UnitWatch) -> bool
     ensures { result ≡ has_cause (K.facts known.now) now heal_after unit.now }
 {
     lasts(now, heal_after, unit.down)
         || began_again(known, unit.served_by)
         || lasts(now, heal_after, unit.few)
+        || lasts(now, heal_after, unit.missed)
 }
 
 impl Steward {

@@ -6,6 +6,7 @@ ghost use Rattle.fabric_steward.specs.Policies.{unit_watched};
 ghost use Rattle.fabric_steward.specs.Watching.{unit_forgotten};
 
 use crate::advice::Deed;
+use crate::roll_call::RollCall;
 use crate::times::{doubled, first_pause};
 use fabric_terms::Reason;
 use ring_points::{MAX_LEASE, Who};
@@ -32,6 +33,10 @@ pub struct UnitWatch {
     pub down: Option<u64>,
     /// Since when too few members are up.
     pub few: Option<u64>,
+    /// Which members were heard since it was configured.
+    pub roll: RollCall,
+    /// Since when a member is there that may have missed the configuration.
+    pub missed: Option<u64>,
 }
 
 impl UnitWatch {
@@ -50,6 +55,8 @@ impl UnitWatch {
             served_by: None,
             down: None,
             few: None,
+            roll: RollCall::NotBegun,
+            missed: None,
         }
     }
 
@@ -65,6 +72,8 @@ impl UnitWatch {
             served_by: None,
             down: None,
             few: None,
+            roll: RollCall::NotBegun,
+            missed: None,
             ..self
         }
     }
@@ -109,6 +118,8 @@ impl UnitWatch {
             served_by: None,
             down: None,
             few: None,
+            roll: RollCall::NotBegun,
+            missed: None,
             ..self
         }
     }

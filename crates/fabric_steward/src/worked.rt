@@ -3,6 +3,7 @@ ghost use Rattle.fabric_terms.specs.declared.command.Command.TheVariants.{Create
 ghost use Rattle.fabric_steward.specs.Afterwards.{advised, command_given};
 ghost use Rattle.fabric_steward.specs.Worked.{created, first_asked, first_waits, greeted_one, joined_once, joined_twice};
 ghost use Rattle.fabric_steward.specs.Worked.{known_whole, managing, primary_anew, seeking, seen_down, told_later, told_missing};
+ghost use Rattle.fabric_steward.specs.Worked.{seen_missing, seen_whole, two_anew};
 ghost use Rattle.fabric_steward.specs.Worked.{without_one, without_primary, worked_policy};
 
 /// Whom a node joins that does not route, computed: a law of the definition.
@@ -23,6 +24,14 @@ pub fn worked_management()
     ensures down { command_given without_primary 1399 seen_down ≡ None }
     ensures heals { command_given without_primary 1400 seen_down ≡ Some (Heal 7 2) }
     ensures anew { command_given primary_anew 500 (advised known_whole 300 created) ≡ Some (Heal 7 3) }
+{}
+
+/// A member that was not heard since the partition was configured, and then began again, computed: a law of the
+/// definition. One that was heard since then may begin again: it has the log of the epoch.
+pub fn worked_roll_call()
+    ensures waits { command_given two_anew 1399 seen_missing ≡ None }
+    ensures heals { command_given two_anew 1400 seen_missing ≡ Some (Heal 7 3) }
+    ensures whole { command_given two_anew 10000 seen_whole ≡ None }
 {}
 
 /// How a new manager learns of a partition while too few domains are up for it, computed: a law of the definition. It asks
