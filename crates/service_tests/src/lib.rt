@@ -1,7 +1,7 @@
 //! Tests of the parts of the service: the test vectors of the keyed hash, what a seal opens and what it does not, that
 //! the lines of a stream do not depend on the pieces in which it comes, and spans by hand. The refusals of the service
 //! object, the checksum of a configuration, and the file `actor`. The lines of the door, read and spoilt, and which
-//! report ends which answer. Doors and logs in memory, the queue of the log, and when firings are due.
+//! report ends which answer. Doors, pages and logs in memory, the queue of the log, and when firings are due.
 //!
 //! What each call does is proved where it stands; here is what no clause says. The crate has no code of its own.
 #![tactic(auto)]
@@ -18,6 +18,8 @@ mod ending;
 mod logs;
 #[cfg(test)]
 mod paces;
+#[cfg(test)]
+mod page_doors;
 #[cfg(test)]
 mod requests;
 #[cfg(test)]
