@@ -68,6 +68,10 @@ impl<T: Default + Drop, const N: usize> Bounded<T, N> {
         ensures room { vec_capacity to.new ≡ vec_capacity to.old }
         ensures emptied { self.new ≡ [] }
     {
+        // Most lists of a step are empty.
+        if self.items.is_empty() {
+            return;
+        }
         let items = self.items.as_mut_slice();
         for i in 0..items.len() {
             to.push_reserved(mem::take(&mut items[i]));
