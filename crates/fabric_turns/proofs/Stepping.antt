@@ -24,12 +24,12 @@ module _ (turn place now : ℕ) (i : Input) (old : Run) (xs : List Running) (las
   there : slice_get old.members place ≡ Some member
   there = ap (λ (r : Run). slice_get r.members place) view ∙ here
 
-  pub made_step : (r : Result Deed ArbiterError)
-      → IfOk r (λ deed. (c : FabricConfig) (l : Option ℕ) → GoesOn c member → present l ≡ now → Does (stepped c turn l i (seen member)) (seen next) deed)
-      → IfOk r (λ deed. (c : FabricConfig) (actor : ℕ) → IsOf c actor member → IsDeedOf actor deed)
+  pub made_step : {T : Type 0} (of : T → Deed) (r : Result T ArbiterError)
+      → IfOk r (λ x. (c : FabricConfig) (l : Option ℕ) → GoesOn c member → present l ≡ now → Does (stepped c turn l i (seen member)) (seen next) (of x))
+      → IfOk r (λ x. (c : FabricConfig) (actor : ℕ) → IsOf c actor member → IsDeedOf actor (of x))
       → ((c : FabricConfig) (actor : ℕ) → IsOf c actor member → IsOf c actor next)
-      → IfOk r (λ deed. (plan : Plan) → AreMembers plan old.members → StepsAt plan turn place i old deed (record { members = slice_set xs place next; last = last }))
-  made_step (Ok deed) does own runs = λ plan are.
+      → IfOk r (λ x. (plan : Plan) → AreMembers plan old.members → StepsAt plan turn place i old (of x) (record { members = slice_set xs place next; last = last }))
+  made_step of (Ok x) does own runs = λ plan are.
       let e = are place member there in
       record {
         member = member;
@@ -42,8 +42,8 @@ module _ (turn place now : ℕ) (i : Input) (old : Run) (xs : List Running) (las
         runs = runs plan.config e.0.actor e.1.1;
         own = own plan.config e.0.actor e.1.1;
       }
-  made_step (Err e) does own runs = does
+  made_step of (Err e) does own runs = does
 
-  pub refused_step : (r : Result Deed ArbiterError) → (IsErrOf r TableFull → (c : FabricConfig) (l : Option ℕ) → exceeds (stepped c turn l i (seen member)).member ≡ true)
+  pub refused_step : {T : Type 0} (r : Result T ArbiterError) → (IsErrOf r TableFull → (c : FabricConfig) (l : Option ℕ) → exceeds (stepped c turn l i (seen member)).member ≡ true)
       → IsErrOf r TableFull → (plan : Plan) → AreMembers plan old.members → RefusedAt plan turn place i old
   refused_step r full is plan are = record { member = member; here = there; full = full is plan.config old.last }

@@ -5,6 +5,7 @@ ghost use Rattle.fabric_terms.specs.declared.record.Record.{Record};
 ghost use Rattle.fabric_turns.specs.Moves.{Reaches};
 ghost use Rattle.fabric_turns.specs.Runs.{IsReady, IsStep, Meets};
 ghost use Rattle.fabric_turns.specs.Steps.{CarriesThrough, left_at, work_in};
+ghost use Rattle.node_core.specs.NodeEffects.{left_in};
 ghost use Rattle.node_core.specs.Nodes.{FitsInput};
 ghost use Rattle.edge_io.specs.Told.{Told};
 ghost use Rattle.turn_effects.specs.Carried.{CarriesOut};
@@ -15,51 +16,52 @@ ghost use Rattle.turn_rules.specs.Whole.{setting};
 
 use crate::run::Run;
 use crate::turn::ActorTurn;
+use crate::workspace::Workspace;
 use edge_io::Outside;
-use fabric_terms::FabricConfig;
+use fabric_terms::{FabricConfig, Head};
 use ring_node::Input;
-use std::alloc::Global;
 use turn_effects::{StepEffects, carry_out};
-use turn_members::{ArbiterError, Deed};
+use turn_members::ArbiterError;
 use turn_rules::{Plan, StopCause};
 
-/// Does what a deed leaves to do.
-fn carry_deed<O: Outside>(
+/// Does what a step under this head has left in the workspace to do.
+fn carry_left<O: Outside>(
     outside: &mut O,
-    alloc: Global,
     config: &FabricConfig,
-    deed: Deed,
+    head: &Head,
+    work: &mut Workspace,
 ) -> Result<(), StopCause>
-    requires listens { IsListening deed.head.who.actor (O.told outside.old).opened }
-    requires deed { (actor : ℕ) × IsDeedOf actor deed }
-    ensures { CarriesOut (work_in config.now deed) (O.told outside.old) (O.told outside.new) result }
+    requires listens { IsListening head.now.who.actor (O.told outside.old).opened }
+    requires deed { (actor : ℕ) × IsDeedOf actor (record { head = head.now; outcome = left_in work.old.effects.value }) }
+    ensures { CarriesOut (work_in config.now (record { head = head.now; outcome = left_in work.old.effects.value }))
+        (O.told outside.old) (O.told outside.new) result }
 {
-    let outcome = &deed.outcome;
     let effects = StepEffects {
-        head: &deed.head,
-        records: outcome.records.as_slice(),
-        frames: outcome.frames.as_slice(),
-        reports: outcome.reports.as_slice(),
+        head,
+        records: work.effects.records(),
+        frames: work.effects.frames(),
+        reports: work.effects.reports(),
     };
-    carry_out(outside, alloc, config, &effects)
+    carry_out(outside, config, &effects, &mut work.buffers)
 }
 
-/// Does what a deed of the actor at a place leaves to do, and ends the run where the actor has left.
+/// Does what a step of the actor at a place has left to do, and ends the run where the actor has left.
 pub(crate) fn carry_through<O: Outside>(
     outside: &mut O,
-    alloc: Global,
     plan: &Plan,
     run: &Run,
     place: usize,
-    deed: Deed,
+    head: &Head,
+    work: &mut Workspace,
 ) -> Result<(), StopCause>
     requires place { place < length run.now.members }
-    requires listens { IsListening deed.head.who.actor (O.told outside.old).opened }
-    requires deed { (actor : ℕ) × IsDeedOf actor deed }
-    ensures { CarriesThrough (work_in plan.now.config deed) (left_at run.now.members place) (O.told outside.old)
-        (O.told outside.new) result }
+    requires listens { IsListening head.now.who.actor (O.told outside.old).opened }
+    requires deed { (actor : ℕ) × IsDeedOf actor (record { head = head.now; outcome = left_in work.old.effects.value }) }
+    ensures { CarriesThrough
+        (work_in plan.now.config (record { head = head.now; outcome = left_in work.old.effects.value }))
+        (left_at run.now.members place) (O.told outside.old) (O.told outside.new) result }
 {
-    carry_deed(outside, alloc, plan.config(), deed)?;
+    carry_left(outside, plan.config(), head, work)?;
     match run.left_at(place) {
         None => Ok(()),
         Some(why) => Err(StopCause::Left(why)),
@@ -69,11 +71,11 @@ pub(crate) fn carry_through<O: Outside>(
 /// The step of an actor in a turn, carried out.
 pub(crate) fn act<O: Outside>(
     outside: &mut O,
-    alloc: Global,
     plan: &Plan,
     run: &mut Run,
     at: ActorTurn,
     input: &Input,
+    work: &mut Workspace,
 ) -> Result<(), StopCause>
     requires place { at.place < length run.old.members }
     requires ready { IsReady plan.now run.old (O.told outside.old) }
@@ -85,9 +87,9 @@ pub(crate) fn act<O: Outside>(
     ensures ready { IsReady plan.now run.new (O.told outside.new) }
     ensures same { length run.new.members ≡ length run.old.members }
 {
-    match run.step(alloc, at.turn.number, at.place, input) {
+    match run.step_into(at.turn.number, at.place, input, work) {
         Err(ArbiterError::OutOfMemory) => Err(StopCause::OutOfMemory),
         Err(ArbiterError::TableFull) => Err(StopCause::TableFull),
-        Ok(deed) => carry_through(outside, alloc, plan, run, at.place, deed),
+        Ok(head) => carry_through(outside, plan, run, at.place, &head, work),
     }
 }

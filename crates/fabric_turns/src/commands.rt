@@ -14,20 +14,20 @@ ghost use Rattle.turn_rules.specs.declared.order.Order.{Order as OrderOf};
 use crate::actor_step::act;
 use crate::run::Run;
 use crate::turn::ActorTurn;
+use crate::workspace::Workspace;
 use edge_io::Outside;
 use fabric_terms::Command;
 use ring_node::Input;
-use std::alloc::Global;
 use turn_rules::{Plan, StopCause};
 
 /// One command of the node at a place.
 fn bid<O: Outside>(
     outside: &mut O,
-    alloc: Global,
     plan: &Plan,
     run: &mut Run,
     at: ActorTurn,
     command: Command,
+    work: &mut Workspace,
 ) -> Result<(), StopCause>
     requires place { at.place < length run.old.members }
     requires ready { IsReady plan.now run.old (O.told outside.old) }
@@ -39,17 +39,17 @@ fn bid<O: Outside>(
     ensures ready { IsReady plan.now run.new (O.told outside.new) }
     ensures same { length run.new.members ≡ length run.old.members }
 {
-    act(outside, alloc, plan, run, at, &Input::Do(command))
+    act(outside, plan, run, at, &Input::Do(command), work)
 }
 
 /// One of the turn's commands, if it is for the node at this place.
 fn bid_order<O: Outside>(
     outside: &mut O,
-    alloc: Global,
     plan: &Plan,
     run: &mut Run,
     at: ActorTurn,
     index: usize,
+    work: &mut Workspace,
 ) -> Result<(), StopCause>
     requires place { at.place < length run.old.members }
     requires ready { IsReady plan.now run.old (O.told outside.old) }
@@ -66,7 +66,7 @@ fn bid_order<O: Outside>(
 {
     let orders = plan.orders();
     if orders.place_at(index) == at.place {
-        bid(outside, alloc, plan, run, at, orders.command_at(index))
+        bid(outside, plan, run, at, orders.command_at(index), work)
     } else {
         Ok(())
     }
@@ -75,10 +75,10 @@ fn bid_order<O: Outside>(
 /// The commands of a node's turn.
 pub(crate) fn bid_all<O: Outside>(
     outside: &mut O,
-    alloc: Global,
     plan: &Plan,
     run: &mut Run,
     at: ActorTurn,
+    work: &mut Workspace,
 ) -> Result<(), StopCause>
     requires place { at.place < length run.old.members }
     requires ready { IsReady plan.now run.old (O.told outside.old) }
@@ -91,7 +91,7 @@ pub(crate) fn bid_all<O: Outside>(
     ensures same { length run.new.members ≡ length run.old.members }
 {
     for index in at.turn.first..at.turn.end {
-        bid_order(outside, alloc, plan, run, at, index)?;
+        bid_order(outside, plan, run, at, index, work)?;
     }
     Ok(())
 }

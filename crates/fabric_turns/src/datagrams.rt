@@ -11,12 +11,12 @@ ghost use Rattle.turn_rules.specs.Whole.{setting};
 use crate::actor_step::act;
 use crate::run::Run;
 use crate::turn::ActorTurn;
+use crate::workspace::Workspace;
 use edge_io::{DATAGRAM_BYTES, Outside};
 use fabric_terms::{Body, Message};
 use ring_node::Input;
 use ring_points::{FRAME_LIMIT, Who};
 use ring_wire::decode_into;
-use std::alloc::Global;
 use turn_rules::{Plan, StopCause};
 
 /// A place that a frame is read into.
@@ -35,11 +35,11 @@ fn empty_place() -> Message {
 /// A datagram that has come to the actor at a place. What is no frame changes nothing.
 fn take_datagram<O: Outside>(
     outside: &mut O,
-    alloc: Global,
     plan: &Plan,
     run: &mut Run,
     at: ActorTurn,
     bytes: &[u8],
+    work: &mut Workspace,
 ) -> Result<(), StopCause>
     requires place { at.place < length run.old.members }
     requires ready { IsReady plan.now run.old (O.told outside.old) }
@@ -51,10 +51,14 @@ fn take_datagram<O: Outside>(
     ensures ready { IsReady plan.now run.new (O.told outside.new) }
     ensures same { length run.new.members ≡ length run.old.members }
 {
-    let mut message = empty_place();
-    match decode_into(bytes, &mut message) {
+    // The frame is read where the step finds it: a message is half a kilobyte.
+    let mut input = Input::Frame(empty_place());
+    let Input::Frame(message) = &mut input else {
+        unreachable!()
+    };
+    match decode_into(bytes, message) {
         Err(_) => Ok(()),
-        Ok(()) => act(outside, alloc, plan, run, at, &Input::Frame(message)),
+        Ok(()) => act(outside, plan, run, at, &input, work),
     }
 }
 
@@ -67,11 +71,11 @@ const _: () = prove!(FRAME_LIMIT <= DATAGRAM_BYTES);
 /// Asks the links once what has come to the actor at a place. Says whether it was a datagram.
 fn hear_one<O: Outside>(
     outside: &mut O,
-    alloc: Global,
     plan: &Plan,
     run: &mut Run,
     at: ActorTurn,
     buffer: &mut [u8; DATAGRAM_BYTES],
+    work: &mut Workspace,
 ) -> Result<bool, StopCause>
     requires place { at.place < length run.old.members }
     requires ready { IsReady plan.now run.old (O.told outside.old) }
@@ -87,7 +91,7 @@ fn hear_one<O: Outside>(
         Err(_) => Ok(false),
         Ok(None) => Ok(false),
         Ok(Some(count)) => {
-            take_datagram(outside, alloc, plan, run, at, &buffer[..count])?;
+            take_datagram(outside, plan, run, at, &buffer[..count], work)?;
             Ok(true)
         }
     }
@@ -96,11 +100,11 @@ fn hear_one<O: Outside>(
 /// Hears what has come to the actor at a place: at most `MAX_DATAGRAMS` datagrams.
 pub(crate) fn hear<O: Outside>(
     outside: &mut O,
-    alloc: Global,
     plan: &Plan,
     run: &mut Run,
     at: ActorTurn,
     buffer: &mut [u8; DATAGRAM_BYTES],
+    work: &mut Workspace,
 ) -> Result<(), StopCause>
     requires place { at.place < length run.old.members }
     requires ready { IsReady plan.now run.old (O.told outside.old) }
@@ -113,7 +117,7 @@ pub(crate) fn hear<O: Outside>(
     ensures same { length run.new.members ≡ length run.old.members }
 {
     for _heard in 0..MAX_DATAGRAMS {
-        if !hear_one(outside, alloc, plan, run, at, buffer)? {
+        if !hear_one(outside, plan, run, at, buffer, work)? {
             return Ok(());
         }
     }

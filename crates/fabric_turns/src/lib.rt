@@ -18,6 +18,7 @@ mod startup;
 mod turn;
 mod turns;
 mod whole_run;
+mod workspace;
 
 pub use clock::read_clock;
 pub use recovery::recall;

@@ -4,11 +4,13 @@ ghost use Rattle.fabric_terms.specs.Ranges.{most};
 ghost use Rattle.fabric_terms.specs.declared.record.Record.{Record};
 ghost use Rattle.fabric_turns.specs.Runs.{AreMembers, IsKeptAt};
 ghost use Rattle.fabric_turns.specs.Steps.{StepsAt, RefusedAt, JoinsAt, NotJoinsAt, left_at};
+ghost use Rattle.node_core.specs.NodeEffects.{left_in};
 ghost use Rattle.node_core.specs.Nodes.{FitsInput};
 ghost use Rattle.turn_rules.specs.Plans.{IsPlan, Plan as PlanOf};
 ghost use Rattle.turn_rules.specs.Steps.{present};
 
-use fabric_terms::{OutOfMemory, Why};
+use crate::workspace::Workspace;
+use fabric_terms::{Head, OutOfMemory, Why};
 use keep_log::Kept;
 use ring_node::Input;
 use std::alloc::Global;
@@ -84,6 +86,31 @@ impl Run {
     {
         let now = self.present();
         self.members[place].step(alloc, turn, now, input)
+    }
+
+    /// The step of the actor at a place in a turn as `step` does it, left in the workspace. It gives the head of the
+    /// actor's reports.
+    pub(crate) fn step_into(
+        &mut self,
+        turn: u64,
+        place: usize,
+        input: &Input,
+        work: &mut Workspace,
+    ) -> Result<Head, ArbiterError>
+        requires place { place < length self.old.members }
+        requires members { (plan : PlanOf) × AreMembers plan self.old.members }
+        requires last { IfSome self.old.last (λ reading. reading ≤ most) }
+        requires input { FitsInput input.now }
+        ensures does { IfOk result (λ head. (plan : PlanOf) → AreMembers plan self.old.members →
+            StepsAt plan turn place input.now self.old
+            (record { head = head; outcome = left_in work.new.effects.value }) self.new) }
+        ensures refused { OnErr result (self.new ≡ self.old) }
+        ensures full { IsErrOf result ArbiterError.TableFull → (plan : PlanOf) → AreMembers plan self.old.members →
+            RefusedAt plan turn place input.now self.old }
+        ensures same { length self.new.members ≡ length self.old.members }
+    {
+        let now = self.present();
+        self.members[place].step_into(work.alloc, turn, now, input, &mut work.effects)
     }
 
     /// Puts an actor behind those that run.

@@ -11,20 +11,20 @@ ghost use Rattle.turn_rules.specs.Whole.{setting};
 use crate::actor_step::carry_through;
 use crate::clock::read_clock;
 use crate::run::Run;
+use crate::workspace::Workspace;
 use edge_io::Outside;
 use keep_log::Kept;
-use std::alloc::Global;
 use turn_members::ArbiterError;
 use turn_rules::{Plan, StopCause};
 
 /// The start of the actor at a place, carried out.
 fn join<O: Outside>(
     outside: &mut O,
-    alloc: Global,
     plan: &Plan,
     kept: Kept,
     run: &mut Run,
     place: usize,
+    work: &mut Workspace,
 ) -> Result<(), StopCause>
     requires place { place < length plan.now.actors }
     requires kept { (records : List Record) × IsKeptAt plan.now place records kept }
@@ -38,21 +38,24 @@ fn join<O: Outside>(
     ensures ready { OnOk result (IsReady plan.now run.new (O.told outside.new)) }
     ensures more { OnOk result (length run.new.members ≡ place + 1) }
 {
-    match run.join(alloc, plan, kept, place) {
+    match run.join(work.alloc, plan, kept, place) {
         Err(ArbiterError::OutOfMemory) => Err(StopCause::OutOfMemory),
         Err(ArbiterError::TableFull) => Err(StopCause::TableFull),
-        Ok(deed) => carry_through(outside, alloc, plan, run, place, deed),
+        Ok(deed) => {
+            work.effects.hold(deed.outcome);
+            carry_through(outside, plan, run, place, &deed.head, work)
+        }
     }
 }
 
 /// The start of the node at a place.
 fn start_node<O: Outside>(
     outside: &mut O,
-    alloc: Global,
     plan: &Plan,
     kept: Kept,
     run: &mut Run,
     place: usize,
+    work: &mut Workspace,
 ) -> Result<(), StopCause>
     requires place { place < length plan.now.actors }
     requires node { is_node_at plan.now place ≡ true }
@@ -68,18 +71,18 @@ fn start_node<O: Outside>(
 {
     match read_clock(outside, run) {
         Err(stop) => Err(stop),
-        Ok(_) => join(outside, alloc, plan, kept, run, place),
+        Ok(_) => join(outside, plan, kept, run, place, work),
     }
 }
 
 /// The start of the actor at a place: a node reads the clock first.
 fn start<O: Outside>(
     outside: &mut O,
-    alloc: Global,
     plan: &Plan,
     kept: Kept,
     run: &mut Run,
     place: usize,
+    work: &mut Workspace,
 ) -> Result<(), StopCause>
     requires place { place < length plan.now.actors }
     requires kept { (records : List Record) × IsKeptAt plan.now place records kept }
@@ -93,20 +96,20 @@ fn start<O: Outside>(
     ensures more { OnOk result (length run.new.members ≡ place + 1) }
 {
     if plan.is_node_at(place) {
-        start_node(outside, alloc, plan, kept, run, place)
+        start_node(outside, plan, kept, run, place, work)
     } else {
-        join(outside, alloc, plan, kept, run, place)
+        join(outside, plan, kept, run, place, work)
     }
 }
 
 /// The start of the actor at a place, from what is kept of it. That is not there any more then.
 fn start_next<O: Outside>(
     outside: &mut O,
-    alloc: Global,
     plan: &Plan,
     kept: &mut Vec<Option<Kept>>,
     run: &mut Run,
     place: usize,
+    work: &mut Workspace,
 ) -> Result<(), StopCause>
     requires place { place < length plan.now.actors }
     requires next { length run.old.members ≡ place }
@@ -122,17 +125,17 @@ fn start_next<O: Outside>(
 {
     match kept[place].take() {
         None => unreachable!(),
-        Some(kept) => start(outside, alloc, plan, kept, run, place),
+        Some(kept) => start(outside, plan, kept, run, place, work),
     }
 }
 
 /// The starts of all actors, each from what is kept of it.
 pub(crate) fn start_all<O: Outside>(
     outside: &mut O,
-    alloc: Global,
     plan: &Plan,
     kept: Vec<Option<Kept>>,
     run: &mut Run,
+    work: &mut Workspace,
 ) -> Result<(), StopCause>
     requires next { length run.old.members ≡ 0 }
     requires ready { IsReady plan.now run.old (O.told outside.old) }
@@ -145,7 +148,7 @@ pub(crate) fn start_all<O: Outside>(
 {
     let mut kept = kept;
     for place in 0..plan.len() {
-        start_next(outside, alloc, plan, &mut kept, run, place)?;
+        start_next(outside, plan, &mut kept, run, place, work)?;
     }
     Ok(())
 }

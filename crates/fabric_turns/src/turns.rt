@@ -13,18 +13,18 @@ use crate::commands::bid_all;
 use crate::datagrams::hear;
 use crate::run::Run;
 use crate::turn::{ActorTurn, Turn, turn_of};
+use crate::workspace::Workspace;
 use edge_io::{DATAGRAM_BYTES, Outside};
 use ring_node::Input;
-use std::alloc::Global;
 use turn_rules::{Plan, StopCause};
 
 /// The firing of the node at a place.
 fn fire<O: Outside>(
     outside: &mut O,
-    alloc: Global,
     plan: &Plan,
     run: &mut Run,
     at: ActorTurn,
+    work: &mut Workspace,
 ) -> Result<(), StopCause>
     requires place { at.place < length run.old.members }
     requires ready { IsReady plan.now run.old (O.told outside.old) }
@@ -35,17 +35,17 @@ fn fire<O: Outside>(
     ensures ready { IsReady plan.now run.new (O.told outside.new) }
     ensures same { length run.new.members ≡ length run.old.members }
 {
-    act(outside, alloc, plan, run, at, &Input::Fire)
+    act(outside, plan, run, at, &Input::Fire, work)
 }
 
 /// The turn of the node at a place.
 fn node_turn<O: Outside>(
     outside: &mut O,
-    alloc: Global,
     plan: &Plan,
     run: &mut Run,
     at: ActorTurn,
     buffer: &mut [u8; DATAGRAM_BYTES],
+    work: &mut Workspace,
 ) -> Result<(), StopCause>
     requires place { at.place < length run.old.members }
     requires ready { IsReady plan.now run.old (O.told outside.old) }
@@ -60,19 +60,19 @@ fn node_turn<O: Outside>(
     ensures same { OnOk result (length run.new.members ≡ length run.old.members) }
 {
     read_clock(outside, run)?;
-    bid_all(outside, alloc, plan, run, at)?;
-    hear(outside, alloc, plan, run, at, buffer)?;
-    fire(outside, alloc, plan, run, at)
+    bid_all(outside, plan, run, at, work)?;
+    hear(outside, plan, run, at, buffer, work)?;
+    fire(outside, plan, run, at, work)
 }
 
 /// The turn of the actor at a place: an arbitrator only hears. Turns count from 1.
 fn take_turn<O: Outside>(
     outside: &mut O,
-    alloc: Global,
     plan: &Plan,
     run: &mut Run,
     at: ActorTurn,
     buffer: &mut [u8; DATAGRAM_BYTES],
+    work: &mut Workspace,
 ) -> Result<(), StopCause>
     requires place { at.place < length run.old.members }
     requires ready { IsReady plan.now run.old (O.told outside.old) }
@@ -87,20 +87,20 @@ fn take_turn<O: Outside>(
     ensures same { OnOk result (length run.new.members ≡ length run.old.members) }
 {
     if plan.is_node_at(at.place) {
-        node_turn(outside, alloc, plan, run, at, buffer)
+        node_turn(outside, plan, run, at, buffer, work)
     } else {
-        hear(outside, alloc, plan, run, at, buffer)
+        hear(outside, plan, run, at, buffer, work)
     }
 }
 
 /// A turn of each actor.
 fn turn_all<O: Outside>(
     outside: &mut O,
-    alloc: Global,
     plan: &Plan,
     run: &mut Run,
     turn: Turn,
     buffer: &mut [u8; DATAGRAM_BYTES],
+    work: &mut Workspace,
 ) -> Result<(), StopCause>
     requires all { length run.old.members ≡ length plan.now.actors }
     requires ready { IsReady plan.now run.old (O.told outside.old) }
@@ -114,7 +114,7 @@ fn turn_all<O: Outside>(
     ensures same { OnOk result (length run.new.members ≡ length run.old.members) }
 {
     for place in 0..plan.len() {
-        take_turn(outside, alloc, plan, run, ActorTurn { turn, place }, buffer)?;
+        take_turn(outside, plan, run, ActorTurn { turn, place }, buffer, work)?;
     }
     Ok(())
 }
@@ -122,9 +122,9 @@ fn turn_all<O: Outside>(
 /// All turns.
 pub(crate) fn take_turns<O: Outside>(
     outside: &mut O,
-    alloc: Global,
     plan: &Plan,
     run: &mut Run,
+    work: &mut Workspace,
 ) -> Result<(), StopCause>
     requires all { length run.old.members ≡ length plan.now.actors }
     requires ready { IsReady plan.now run.old (O.told outside.old) }
@@ -136,7 +136,7 @@ pub(crate) fn take_turns<O: Outside>(
     let mut first = 0;
     for number in 0..plan.turns() {
         let turn = turn_of(plan.orders(), number + 1, first);
-        turn_all(outside, alloc, plan, run, turn, &mut buffer)?;
+        turn_all(outside, plan, run, turn, &mut buffer, work)?;
         first = turn.end;
     }
     Ok(())

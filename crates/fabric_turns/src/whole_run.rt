@@ -8,6 +8,7 @@ use crate::recovery::{open_all, recall_all};
 use crate::run::Run;
 use crate::startup::start_all;
 use crate::turns::take_turns;
+use crate::workspace::Workspace;
 use edge_io::{Clock, Devices, Keeper, Links, Outside, Sink};
 use fabric_status::Status;
 use std::alloc::Global;
@@ -21,8 +22,11 @@ fn run_plan<O: Outside>(outside: &mut O, alloc: Global, plan: &Plan) -> Result<(
     let kept = recall_all(outside, alloc, plan)?;
     open_all(outside, plan)?;
     let mut run = Run::new(alloc);
-    start_all(outside, alloc, plan, kept, &mut run)?;
-    take_turns(outside, alloc, plan, &mut run)
+    let Ok(mut work) = Workspace::new(alloc) else {
+        return Err(StopCause::OutOfMemory);
+    };
+    start_all(outside, plan, kept, &mut run, &mut work)?;
+    take_turns(outside, plan, &mut run, &mut work)
 }
 
 /// The run of a plan.

@@ -179,6 +179,15 @@ impl NodeEffects {
         kept.clear();
     }
 
+    /// Holds this in the place of what the last step left.
+    pub fn hold(&mut self, outcome: Outcome)
+        ensures { left_in self.new ≡ outcome }
+    {
+        self.records = outcome.records.into_vec();
+        self.frames = outcome.frames.into_vec();
+        self.reports = outcome.reports.into_vec();
+    }
+
     /// Gives away what the last step left. Nothing is left then.
     pub(crate) fn give_away(&mut self, alloc: Global) -> Outcome
         ensures given { result ≡ left_in self.old }

@@ -5,22 +5,22 @@ ghost use Rattle.keep_log.specs.Spellings.{is_sound as is_sound_record};
 ghost use Rattle.turn_effects.specs.Carried.{CarriesOut};
 ghost use Rattle.turn_rules.specs.Works.{work_with};
 
-use crate::frames::send_all;
+use crate::buffers::Buffers;
+use crate::frames::send_each;
 use crate::records::keep_all;
 use crate::reports::write_reports;
 use crate::step_effects::StepEffects;
 use edge_io::Outside;
 use fabric_terms::FabricConfig;
-use std::alloc::Global;
 use turn_rules::StopCause;
 
 /// Does what a step of the actor in the head leaves to do. It keeps the records, then sends the frames, then writes the
 /// reports. If it stops before the end, a front of that is done: frames go out only if all records are kept.
 pub fn carry_out<O: Outside>(
     outside: &mut O,
-    alloc: Global,
     config: &FabricConfig,
     effects: &StepEffects<'_>,
+    buffers: &mut Buffers,
 ) -> Result<(), StopCause>
     requires listens { IsListening effects.now.head.now.who.actor (O.told outside.old).opened }
     requires records { All (λ r. IsTrue (is_sound_record r)) effects.now.records.now }
@@ -30,6 +30,6 @@ pub fn carry_out<O: Outside>(
 {
     let actor = effects.head.who.actor;
     keep_all(outside, actor, effects.records)?;
-    send_all(outside, config, actor, effects.frames)?;
-    write_reports(outside, alloc, effects.head, effects.reports)
+    send_each(outside, config, actor, effects.frames, &mut buffers.frame)?;
+    write_reports(outside, effects.head, effects.reports, &mut buffers.text)
 }

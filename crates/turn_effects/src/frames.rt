@@ -53,6 +53,25 @@ fn send_one<O: Outside>(
     }
 }
 
+/// Sends frames of an actor, one after another. The bytes of each are made in the buffer.
+pub(crate) fn send_each<O: Outside>(
+    outside: &mut O,
+    config: &FabricConfig,
+    actor: u16,
+    frames: &[Message],
+    buffer: &mut [u8; FRAME_LIMIT],
+) -> Result<(), StopCause>
+    requires listens { IsListening actor (O.told outside.old).opened }
+    requires sound { All (λ m. IsTrue (is_sound m)) frames.now }
+    ensures { SendsAll (map (sent_by actor) (posts_of config.now frames.now)) (O.told outside.old) (O.told outside.new)
+        result }
+{
+    for frame in frames {
+        send_one(outside, config, actor, frame, buffer)?;
+    }
+    Ok(())
+}
+
 /// Sends frames of an actor, one after another. What the links fail to send is left out. `OutOfMemory` is the only refusal.
 pub fn send_all<O: Outside>(
     outside: &mut O,
@@ -69,9 +88,5 @@ pub fn send_all<O: Outside>(
     if frames.is_empty() {
         return Ok(());
     }
-    let mut buffer = [0u8; FRAME_LIMIT];
-    for frame in frames {
-        send_one(outside, config, actor, frame, &mut buffer)?;
-    }
-    Ok(())
+    send_each(outside, config, actor, frames, &mut [0u8; FRAME_LIMIT])
 }

@@ -8,12 +8,14 @@
 #![tactic(auto)]
 
 mod address;
+mod buffers;
 mod execution;
 mod frames;
 mod records;
 mod reports;
 mod step_effects;
 
+pub use buffers::Buffers;
 pub use execution::carry_out;
 pub use frames::send_all;
 pub use records::keep_all;

@@ -219,11 +219,11 @@ pub ok_map : {T E : Type 0} {P Q : T → Type 0} (r : Result T E) → ((x : T) �
 ok_map (Ok x) f h = f x h
 ok_map (Err e) f h = h
 
-pub runs_by : (c : FabricConfig) (actor turn now : ℕ) (i : Input) (old new : Running) (r : Result Deed ArbiterError) → IsNumber now → FitsInput i
-    → IfOk r (λ deed. (f : FabricConfig) (last : Option ℕ) → GoesOn f old → present last ≡ now → Does (stepped f turn last i (seen old)) (seen new) deed)
+pub runs_by : {T : Type 0} (deed : T → Deed) (c : FabricConfig) (actor turn now : ℕ) (i : Input) (old new : Running) (r : Result T ArbiterError) → IsNumber now → FitsInput i
+    → IfOk r (λ x. (f : FabricConfig) (last : Option ℕ) → GoesOn f old → present last ≡ now → Does (stepped f turn last i (seen old)) (seen new) (deed x))
     → OnErr r (new ≡ old) → GoesOn c new → IsOf c actor old → IsOf c actor new
-runs_by c actor turn now i old new (Ok deed) reads fits k same on of = lives_on c actor turn (Some now) i old new deed of reads fits (k c (Some now) of.goes_on refl) on
-runs_by c actor turn now i old new (Err e) reads fits k same on of = subst (λ (m : Running). IsOf c actor m) (sym same) of
+runs_by deed c actor turn now i old new (Ok x) reads fits k same on of = lives_on c actor turn (Some now) i old new (deed x) of reads fits (k c (Some now) of.goes_on refl) on
+runs_by deed c actor turn now i old new (Err e) reads fits k same on of = subst (λ (m : Running). IsOf c actor m) (sym same) of
 
 pub both_map : {T E : Type 0} {P R Q : T → Type 0} (r : Result T E) → ((x : T) → P x → R x → Q x) → IfOk r P → IfOk r R → IfOk r Q
 both_map (Ok x) f h k = f x h k

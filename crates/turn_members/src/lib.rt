@@ -8,6 +8,7 @@
 #![tactic(auto)]
 
 mod answer;
+mod arbiter_steps;
 mod deed;
 mod member;
 mod start;

@@ -1,17 +1,16 @@
-ghost use Rattle.std.specs.Prelude.{◌≡◌, ◌≤◌, [], ℕ, Option, IfOk, OnErr, IsErrOf, true, false};
+ghost use Rattle.std.specs.Prelude.{◌≡◌, ◌≤◌, ℕ, Option, IfOk, OnErr, IsErrOf, true, false};
 ghost use Rattle.fabric_terms.specs.declared.config.FabricConfig.{FabricConfig as Configuration};
-ghost use Rattle.node_core.specs.Nodes.{FitsInput};
-ghost use Rattle.turn_members.specs.Members.{Does, GoesOn, IsDeedOf, IsOf, seen, state_of};
-ghost use Rattle.turn_rules.specs.Steps.{Node, Arbiter as Arbitrator, exceeds, left_of, present, stepped};
-ghost use Rattle.node_core.specs.Nodes.{GoesBy};
-ghost use Rattle.ring_points.specs.Whos.{arbiter_actor};
+ghost use Rattle.node_core.specs.NodeEffects.{left_in};
+ghost use Rattle.node_core.specs.Nodes.{FitsInput, GoesBy};
+ghost use Rattle.turn_members.specs.Members.{Does, GoesOn, IsDeedOf, IsOf, seen};
+ghost use Rattle.turn_rules.specs.Steps.{Node, exceeds, left_of, present, stepped};
 
-use crate::answer::Room;
+use crate::arbiter_steps::arbiter_step;
 use crate::deed::Deed;
 use arbiter_core::{Arbiter, ArbiterError};
-use fabric_terms::{Head, Message, OutOfMemory, Why};
+use fabric_terms::{Head, OutOfMemory, Why};
 use join_phases::Phase;
-use node_core::{Batch, NodeCore, Outcome};
+use node_core::{NodeCore, NodeEffects};
 use ring_node::Input;
 use ring_points::{MAX_READING, Who};
 use std::alloc::Global;
@@ -25,19 +24,6 @@ pub enum Member {
     Arbiter(u16, Arbiter),
 }
 
-/// Nothing is left to do.
-pub(crate) fn nothing(alloc: Global) -> Outcome
-    ensures records { result.records ≡ [] }
-    ensures frames { result.frames ≡ [] }
-    ensures reports { result.reports ≡ [] }
-{
-    Outcome {
-        records: Batch::new(Vec::new(alloc)),
-        frames: Batch::new(Vec::new(alloc)),
-        reports: Batch::new(Vec::new(alloc)),
-    }
-}
-
 /// The head of a node's reports.
 pub(crate) fn node_head(turn: u64, who: Who, now: u64) -> Head
     ensures { result ≡ record { line = turn; time = None; who = who; reading = Some now } }
@@ -47,23 +33,6 @@ pub(crate) fn node_head(turn: u64, who: Who, now: u64) -> Head
         time: None,
         who,
         reading: Some(now),
-    }
-}
-
-/// The head of an arbitrator's reports.
-pub(crate) fn arbiter_head(turn: u64, actor: u16) -> Head
-    ensures { result ≡ record {
-      line = turn;
-      time = None;
-      who = record { actor = actor; instance = 0 };
-      reading = None;
-    } }
-{
-    Head {
-        line: turn,
-        time: None,
-        who: Who { actor, instance: 0 },
-        reading: None,
     }
 }
 
@@ -82,73 +51,25 @@ fn node_step(core: &mut NodeCore, turn: u64, now: u64, input: &Input) -> Result<
     Ok(Deed { head, outcome })
 }
 
-/// An arbitrator hears a message.
-fn arbiter_hear(
-    arbiter: &mut Arbiter,
-    actor: u16,
-    alloc: Global,
+/// The step of a node, left in effects.
+#[tactic(auto, unfolding(turn_rules::specs::Steps::stepped, turn_rules::specs::Steps::exceeds))]
+fn node_step_into(
+    core: &mut NodeCore,
     turn: u64,
-    message: &Message,
-) -> Result<Deed, ArbiterError>
-    requires named { actor ≡ arbiter_actor arbiter.old.number }
-    requires room { exceeds (Arbitrator arbiter.old.number (state_of arbiter.old)) ≡ false }
-    ensures does { IfOk result (λ deed. (c : Configuration) (last : Option ℕ) →
-        Does (stepped c turn last (Input.Frame message.now) (Arbitrator arbiter.old.number (state_of arbiter.old)))
-        (Arbitrator arbiter.new.number (state_of arbiter.new)) deed) }
-    ensures full { IsErrOf result ArbiterError.TableFull → (c : Configuration) (last : Option ℕ) →
-        exceeds (stepped c turn last (Input.Frame message.now)
-        (Arbitrator arbiter.old.number (state_of arbiter.old))).member ≡ true }
-    ensures number { (c : Configuration) → arbiter.new.number ≡ arbiter.old.number }
-    ensures refused { OnErr result (arbiter.new ≡ arbiter.old) }
-{
-    let room = Room::new(alloc)?;
-    let answer = arbiter.on_frame(message)?;
-    let head = arbiter_head(turn, actor);
-    let outcome = room.taking(alloc, head.who, answer);
-    Ok(Deed { head, outcome })
-}
-
-/// An arbitrator does nothing but hear.
-fn arbiter_idle(actor: u16, alloc: Global, turn: u64) -> Deed
-    ensures head { result.head ≡ record {
-      line = turn;
-      time = None;
-      who = record { actor = actor; instance = 0 };
-      reading = None;
-    } }
-    ensures records { result.outcome.records ≡ [] }
-    ensures frames { result.outcome.frames ≡ [] }
-    ensures reports { result.outcome.reports ≡ [] }
-{
-    Deed {
-        head: arbiter_head(turn, actor),
-        outcome: nothing(alloc),
-    }
-}
-
-/// The step of an arbitrator.
-fn arbiter_step(
-    arbiter: &mut Arbiter,
-    actor: u16,
-    alloc: Global,
-    turn: u64,
+    now: u64,
     input: &Input,
-) -> Result<Deed, ArbiterError>
-    requires named { actor ≡ arbiter_actor arbiter.old.number }
-    requires room { exceeds (Arbitrator arbiter.old.number (state_of arbiter.old)) ≡ false }
-    ensures does { IfOk result (λ deed. (c : Configuration) (last : Option ℕ) →
-        Does (stepped c turn last input.now (Arbitrator arbiter.old.number (state_of arbiter.old)))
-        (Arbitrator arbiter.new.number (state_of arbiter.new)) deed) }
-    ensures full { IsErrOf result ArbiterError.TableFull → (c : Configuration) (last : Option ℕ) →
-        exceeds (stepped c turn last input.now (Arbitrator arbiter.old.number (state_of arbiter.old))).member ≡ true }
-    ensures number { (c : Configuration) → arbiter.new.number ≡ arbiter.old.number }
-    ensures refused { OnErr result (arbiter.new ≡ arbiter.old) }
+    effects: &mut NodeEffects,
+) -> Result<Head, OutOfMemory>
+    requires now { now ≤ MAX_READING }
+    requires input { FitsInput input.now }
+    ensures does { IfOk result (λ head. (c : Configuration) (last : Option ℕ) → GoesBy c core.old → present last ≡ now →
+        Does (stepped c turn last input.now (Node core.old.state)) (Node core.new.state)
+        (record { head = head; outcome = left_in effects.new })) }
+    ensures goes_by { (c : Configuration) → GoesBy c core.old → GoesBy c core.new }
+    ensures refused { OnErr result (core.new ≡ core.old) }
 {
-    match input {
-        Input::Frame(message) => arbiter_hear(arbiter, actor, alloc, turn, message),
-        Input::Fire => Ok(arbiter_idle(actor, alloc, turn)),
-        Input::Do(_) => Ok(arbiter_idle(actor, alloc, turn)),
-    }
+    core.step_into(now, input, effects)?;
+    Ok(node_head(turn, core.me(), now))
 }
 
 impl Member {
@@ -202,6 +123,66 @@ impl Member {
         ensures refused { OnErr result (self.new ≡ self.old) }
     {
         self.act(alloc, turn, now, input)
+    }
+
+    /// The actor's step, whatever kind it is of, left in effects.
+    fn act_into(
+        &mut self,
+        alloc: Global,
+        turn: u64,
+        now: u64,
+        input: &Input,
+        effects: &mut NodeEffects,
+    ) -> Result<Head, ArbiterError>
+        requires now { now ≤ MAX_READING }
+        requires input { FitsInput input.now }
+        requires goes_on { (c : Configuration) × GoesOn c self.old }
+        requires room { exceeds (seen self.old) ≡ false }
+        ensures does { IfOk result (λ head. (c : Configuration) (last : Option ℕ) → GoesOn c self.old →
+            present last ≡ now → Does (stepped c turn last input.now (seen self.old)) (seen self.new)
+            (record { head = head; outcome = left_in effects.new })) }
+        ensures goes_on { (c : Configuration) → GoesOn c self.old → GoesOn c self.new }
+        ensures full { IsErrOf result ArbiterError.TableFull → (c : Configuration) (last : Option ℕ) →
+            exceeds (stepped c turn last input.now (seen self.old)).member ≡ true }
+        ensures refused { OnErr result (self.new ≡ self.old) }
+    {
+        match self {
+            Member::Node(core) => match node_step_into(core, turn, now, input, effects) {
+                Ok(head) => Ok(head),
+                Err(_) => Err(ArbiterError::OutOfMemory),
+            },
+            Member::Arbiter(actor, arbiter) => {
+                let deed = arbiter_step(arbiter, *actor, alloc, turn, input)?;
+                effects.hold(deed.outcome);
+                Ok(deed.head)
+            }
+        }
+    }
+
+    /// The actor's step as `step` does it, left in effects that whoever runs it keeps. It gives the head of the actor's
+    /// reports.
+    pub fn step_into(
+        &mut self,
+        alloc: Global,
+        turn: u64,
+        now: u64,
+        input: &Input,
+        effects: &mut NodeEffects,
+    ) -> Result<Head, ArbiterError>
+        requires now { now ≤ MAX_READING }
+        requires input { FitsInput input.now }
+        requires runs { (c : Configuration) × (actor : ℕ) × IsOf c actor self.old }
+        ensures does { IfOk result (λ head. (c : Configuration) (last : Option ℕ) → GoesOn c self.old →
+            present last ≡ now → Does (stepped c turn last input.now (seen self.old)) (seen self.new)
+            (record { head = head; outcome = left_in effects.new })) }
+        ensures deed { IfOk result (λ head. (c : Configuration) (actor : ℕ) → IsOf c actor self.old →
+            IsDeedOf actor (record { head = head; outcome = left_in effects.new })) }
+        ensures runs { (c : Configuration) (actor : ℕ) → IsOf c actor self.old → IsOf c actor self.new }
+        ensures full { IsErrOf result ArbiterError.TableFull → (c : Configuration) (last : Option ℕ) →
+            exceeds (stepped c turn last input.now (seen self.old)).member ≡ true }
+        ensures refused { OnErr result (self.new ≡ self.old) }
+    {
+        self.act_into(alloc, turn, now, input, effects)
     }
 
     /// Why the actor has left the ring, if it has.

@@ -16,8 +16,9 @@ ghost use Rattle.turn_rules.specs.Steps.{begun, begun_as, exceeds, present};
 ghost use Rattle.unit_replica.specs.Starts.{states_of};
 ghost use Rattle.world_rules.specs.Schedules.{is_configured_node};
 
+use crate::arbiter_steps::{arbiter_head, nothing};
 use crate::deed::Deed;
-use crate::member::{Member, arbiter_head, node_head, nothing};
+use crate::member::{Member, node_head};
 use arbiter_core::{Arbiter, ArbiterError};
 use fabric_terms::{FabricConfig, OutOfMemory};
 use keep_log::Kept;

@@ -25,18 +25,18 @@ carry_through-requires-clause-listens g c =
     named_join c.args.plan.now k.0 c.args.run.now _ c.args.place c.in-Ok.deed c.join.new.self c.requires.ready (c.in-Ok.ensures.does k.0 k.1)
 
 pub carry_through-requires-clause-deed : goal.carry_through-requires-clause-deed
-carry_through-requires-clause-deed g c = let k = c.requires.kept in let t = c.in-Ok.ensures.does k.0 k.1 in (t.endpoint.actor, t.own)
+carry_through-requires-clause-deed g c = let k = c.requires.kept in let t = c.in-Ok.ensures.does k.0 k.1 in (t.endpoint.actor, rw (c.hold.ensures) t.own)
 
 pub returns-in-Ok-clause-done : goal.returns-in-Ok-clause-done
 returns-in-Ok-clause-done g c = λ list records a h x q here is m.
-    join_through (setting c.args.plan.now list) a _ _ c.args.run.now c.join.new.self h x q c.args.place records c.in-Ok.deed here m (c.in-Ok.ensures.does records is) c.carry_through.result c.carry_through.ensures
+    join_through (setting c.args.plan.now list) a _ _ c.args.run.now c.join.new.self h x q c.args.place records c.in-Ok.deed here m (c.in-Ok.ensures.does records is) c.carry_through.result (rw (← c.hold.ensures) c.carry_through.ensures)
 
 pub returns-in-Ok-clause-ready : goal.returns-in-Ok-clause-ready
 returns-in-Ok-clause-ready g c =
     let k = c.requires.kept in
     on_ok c.carry_through.result
     (ready_join c.args.plan.now k.0 c.args.run.now _ c.args.place c.in-Ok.deed c.join.new.self _ c.requires.next c.requires.ready (c.in-Ok.ensures.does k.0 k.1)
-    (through_opened (work_in c.args.plan.now.config c.in-Ok.deed) (left_at c.join.new.self.members c.args.place) _ _ c.carry_through.result c.carry_through.ensures))
+    (through_opened (work_in c.args.plan.now.config c.in-Ok.deed) (left_at c.join.new.self.members c.args.place) (g.O.Outside.told c.args.outside.now) (g.O.Outside.told c.carry_through.new.outside) c.carry_through.result (rw (← c.hold.ensures) c.carry_through.ensures)))
 
 pub returns-in-Ok-clause-more : goal.returns-in-Ok-clause-more
 returns-in-Ok-clause-more g c =

@@ -11,4 +11,4 @@ returns-clause-deed c =
 
 pub returns-clause-runs : goal.returns-clause-runs
 returns-clause-runs c = λ c' actor of.
-    runs_by c' actor c.args.turn c.args.now c.args.input.now c.args.self.now c.act.new.self c.act.result c.requires.now c.requires.input c.act.ensures.does c.act.ensures.refused (c.act.ensures.goes_on c' of.goes_on) of
+    runs_by (λ deed. deed) c' actor c.args.turn c.args.now c.args.input.now c.args.self.now c.act.new.self c.act.result c.requires.now c.requires.input c.act.ensures.does c.act.ensures.refused (c.act.ensures.goes_on c' of.goes_on) of

@@ -1,7 +1,7 @@
 use Rattle.std.proofs.Common.{take}
 use Rattle.turn_effects.specs.Carried.{SentMore}
 use Rattle.turn_effects.proofs.Sending.{datagrams_of}
-use Rattle.turn_effects.proofs.frames.send_all.Given as goal
+use Rattle.turn_effects.proofs.frames.send_each.Given as goal
 
 -- the datagrams so far were to be sent
 abbrev pub invariant-loop-frame : goal.invariant-loop-frame

@@ -1,6 +1,6 @@
 use Rattle.std.proofs.Common.{arith}
 use Rattle.turn_effects.proofs.Reporting.{lines_next}
-use Rattle.turn_effects.proofs.reports.lines_of.Goals as goal
+use Rattle.turn_effects.proofs.reports.put_lines.Goals as goal
 
 pub loop-report-preserved : goal.loop-report-preserved
 loop-report-preserved c =

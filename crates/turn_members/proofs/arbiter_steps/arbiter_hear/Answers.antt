@@ -4,7 +4,7 @@ use Rattle.arbiter_core.specs.declared.answer.ArbiterError.TheVariants.{TableFul
 use Rattle.fabric_terms.specs.declared.report.Head.{Head}
 use Rattle.ring_points.specs.declared.who.Who.{Who}
 use Rattle.turn_members.proofs.Rulings.{full_step, heard, number_kept}
-use Rattle.turn_members.proofs.member.arbiter_hear.Goals as goal
+use Rattle.turn_members.proofs.arbiter_steps.arbiter_hear.Goals as goal
 use Rattle.turn_members.specs.Answers.{answer_frames}
 
 pub returns-in_err-answer-clause-full : goal.returns-in_err-answer-clause-full

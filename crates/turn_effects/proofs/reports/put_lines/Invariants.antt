@@ -1,6 +1,6 @@
 use Rattle.std.proofs.Common.{◌≡◌, take}
 use Rattle.line_format.specs.Reports.{lines_of_reports}
-use Rattle.turn_effects.proofs.reports.lines_of.Given as goal
+use Rattle.turn_effects.proofs.reports.put_lines.Given as goal
 
 -- the lines so far
 abbrev pub invariant-loop-report : goal.invariant-loop-report

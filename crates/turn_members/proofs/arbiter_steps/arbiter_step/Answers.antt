@@ -1,6 +1,6 @@
 use Rattle.std.proofs.Common.{ap, ◌∙◌, ℕ, None}
 use Rattle.turn_members.proofs.Begins.{bid_does, fire_does}
-use Rattle.turn_members.proofs.member.arbiter_step.Goals as goal
+use Rattle.turn_members.proofs.arbiter_steps.arbiter_step.Goals as goal
 
 pub returns-in-Fire-clause-does : goal.returns-in-Fire-clause-does
 returns-in-Fire-clause-does c = λ c' last.
