@@ -36,7 +36,10 @@ impl<'n, N: Links> QueuedLinks<'n, N> {
         ensures same { result.below.inner.ghost_name ≡ inner.entry.ghost_name }
         ensures actor { result.below.actor ≡ actor }
         ensures queue { result.queue.items ≡ [] }
+        ensures most { result.most ≡ most }
         ensures held { result.held ≡ false }
+        ensures lost { result.lost ≡ 0 }
+        ensures faults { result.faults ≡ 0 }
     {
         QueuedLinks {
             alloc,

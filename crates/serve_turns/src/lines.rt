@@ -112,12 +112,10 @@ fn take_other<O: Handover, C: Clients, P: Policy>(
     service: &Service,
     live: &mut Live,
     turn: u64,
-    speaker: Speaker,
     spoken: Spoken<'_>,
 ) -> Result<(), StopCause>
     requires can { CanGoOn service.now.plan live.old (O.told outside.old) }
-    requires speaker { speaker ≡ speaker_of service.now.plan live.old.sessions spoken.client }
-    requires other { let_go_by speaker spoken.line.now ≡ None }
+    requires other { let_go_by (speaker_of service.now.plan live.old.sessions spoken.client) spoken.line.now ≡ None }
     ensures done { Takes service.now.plan (AskedAtDoor spoken.entry.client (Some spoken.entry.line.now) ∷ [])
         (around (O.told outside.old) (C.told audience.old.clients) (P.advised audience.old.policy)) live.old
         (at_place turn 0 (Busy [] 0))
@@ -129,7 +127,11 @@ fn take_other<O: Handover, C: Clients, P: Policy>(
         tag: 0,
         request: Request::End,
     };
-    match read_asked(speaker, spoken.line, &mut asked) {
+    match read_asked(
+        service.speaker(live, spoken.client),
+        spoken.line,
+        &mut asked,
+    ) {
         Err(bad) => {
             refuse_line(audience, live, spoken.client, bad.tag, Fault::Line);
             Ok(())
@@ -161,9 +163,8 @@ fn take_line<O: Handover, C: Clients, P: Policy>(
         (at_place turn 0 (Busy [] 0)) result }
     ensures can { live.new.ending ≡ false → CanGoOn service.now.plan live.new (O.told outside.new) }
 {
-    let speaker = service.speaker(live, spoken.client);
-    match let_go_by(speaker, spoken.line) {
-        None => take_other(outside, audience, service, live, turn, speaker, spoken),
+    match let_go_by(service.speaker(live, spoken.client), spoken.line) {
+        None => take_other(outside, audience, service, live, turn, spoken),
         Some(number) => {
             outside.let_go(number);
             Ok(())
